@@ -1,0 +1,8 @@
+use Rattle.muni_dec.proofs.GrammarLemmas.{reading-written, written-reading, signed_reading-written, written-signed_reading}
+use Rattle.muni_dec.proofs.grammar.reads_the_format.Goals as goal
+
+pub returns-clause-unsigned : goal.returns-clause-unsigned
+returns-clause-unsigned c = λ places text units. (reading-written places text units, written-reading places text units)
+
+pub returns-clause-signed : goal.returns-clause-signed
+returns-clause-signed c = λ places text units. (signed_reading-written places text units, written-signed_reading places text units)

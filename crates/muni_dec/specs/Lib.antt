@@ -1,0 +1,6 @@
+pub mod Digits
+pub mod Decimal
+pub mod Ranges
+pub mod Capped
+pub mod Values
+pub mod Grammar

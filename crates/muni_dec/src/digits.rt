@@ -1,0 +1,56 @@
+//! Digits, as decimals and dates read and write them.
+
+ghost use Rattle.std.specs.Prelude.{◌≡◌, ◌+◌, ◌≤◌, ◌++◌, min, decimal, true, false, length, MatchResult};
+ghost use Rattle.arrayvec.specs.ArrayVec.{array_vec_len};
+ghost use Rattle.muni_dec.specs.Digits.{are_digits, digits_end, number, last_digits};
+
+use arrayvec::ArrayVec;
+use itoa::Buffer;
+
+/// The greatest number that is told apart. It lies past every range of the desk.
+pub const LIMIT: u64 = 100_000_000_000;
+
+/// The number that a run of digits writes, or [`LIMIT`] where it is greater.
+///
+/// Another text is refused with the place of the first byte that is no digit, or with its length.
+pub fn read_digits(text: &[u8]) -> Result<u64, usize>
+    ensures { MatchResult result
+        (λ n. (are_digits text.now ≡ true) × (n ≡ min LIMIT (number text.now))
+        × (digits_end text.now ≡ length text.now))
+        (λ at. (are_digits text.now ≡ false) × (at ≡ digits_end text.now)
+        × (at ≤ length text.now)) }
+{
+    if text.is_empty() {
+        return Err(0);
+    }
+    let mut value = 0;
+    for (i, b) in text.iter().enumerate() {
+        if !b.is_ascii_digit() {
+            return Err(i);
+        }
+        value = (value * 10 + u64::from(*b - b'0')).min(LIMIT);
+    }
+    Ok(value)
+}
+
+/// Appends a number in decimal digits.
+pub fn push_number(text: &mut ArrayVec<u8, 32>, number: u64)
+    requires { array_vec_len text.old ≤ 12 }
+    ensures items { text.new.items ≡ text.old.items ++ decimal number }
+    ensures len { array_vec_len text.new ≤ array_vec_len text.old + 20 }
+{
+    let mut buffer = Buffer::new();
+    let _ = text.try_extend_from_slice(buffer.format(number).as_bytes());
+}
+
+/// Appends the last so many digits of a number, with the zeros before it.
+pub fn push_last_digits(text: &mut ArrayVec<u8, 32>, number: u64, count: usize)
+    requires { array_vec_len text.old + count ≤ 32 }
+    ensures items { text.new.items ≡ text.old.items ++ last_digits count number }
+    ensures len { array_vec_len text.new ≡ array_vec_len text.old + count }
+{
+    if count > 0 {
+        push_last_digits(text, number / 10, count - 1);
+        text.push(b'0' + (number % 10) as u8);
+    }
+}

@@ -1,0 +1,10 @@
+//! What the reading of decimals means, in the words of their format.
+
+ghost use Rattle.muni_dec.specs.Grammar.{ReadsDecimals, ReadsSigned};
+
+/// A law of the definitions that the readers' contracts cite: exactly the format's texts are read,
+/// each as the number that it writes.
+pub fn reads_the_format()
+    ensures unsigned { ReadsDecimals }
+    ensures signed { ReadsSigned }
+{}

@@ -1,0 +1,22 @@
+-- The 30/360 day count (MSRB Rule G-33(e)): a month counts 30 days and a year 360.
+use Rattle.std.specs.Prelude.{ℕ, ◌+◌, ◌*◌, ◌==◌, ◌&&◌, ◌||◌, if◌then◌else◌, ℤ, pos, ◌-ℤ◌}
+use Rattle.muni_rule.specs.Civil.{Civil}
+
+-- the day that begins a count: the 31st counts as the 30th
+abbrev pub first_counted : ℕ → ℕ
+first_counted first = if first == 31 then 30 else first
+
+-- the day that ends a count: the 31st counts as the 30th where the count begins on a 30th or a 31st
+abbrev pub last_counted : ℕ → ℕ → ℕ
+last_counted first last = if (last == 31) && ((first == 30) || (first == 31)) then 30 else last
+
+-- the days of 30/360 from the year 0 up to this day of a date's month
+abbrev pub days_up_to : Civil → ℕ → ℕ
+days_up_to date day = date.year * 360 + date.month * 30 + day
+
+-- the days from one date to another, (Y2 - Y1) * 360 + (M2 - M1) * 30 + (D2 - D1):
+-- the first day is counted and the last is not
+abbrev pub days360 : Civil → Civil → ℤ
+days360 first last =
+    pos (days_up_to last (last_counted first.day last.day))
+    -ℤ pos (days_up_to first (first_counted first.day))

@@ -1,0 +1,6 @@
+pub mod Civil
+pub mod DayCount
+pub mod Accuracy
+pub mod Ranges
+pub mod SinglePayment
+pub mod Printed

@@ -1,0 +1,10 @@
+-- The yields that may be given, in 10^-6.
+use Rattle.std.specs.Prelude.{ℤ, pos, negsuc, ◌≤ℤ◌}
+
+-- from -90 to 999.999 percent, with six months or less to redemption
+abbrev pub IsOnePeriodYield : ℤ → Type 0
+IsOnePeriodYield y = (negsuc 899_999 ≤ℤ y) × (y ≤ℤ pos 9_999_990)
+
+-- from -45 to 999.999 percent, with interest at redemption
+abbrev pub IsAtRedemptionYield : ℤ → Type 0
+IsAtRedemptionYield y = (negsuc 449_999 ≤ℤ y) × (y ≤ℤ pos 9_999_990)

@@ -1,0 +1,19 @@
+-- A security with one payment left (MSRB Rule G-33(b)(i)): one with periodic interest and six months
+-- or less to redemption, or one with interest at redemption.
+-- Amounts are whole numbers of 1/(360 * 10^9) dollars per 100 of par, yields of 10^-6.
+use Rattle.std.specs.Prelude.{ℤ, pos, ◌+ℤ◌, ◌*ℤ◌, ◌≤ℤ◌}
+
+-- the redemption with the interest that is paid with it, the accrued interest, and the days left
+pub record SinglePayment : Type 0 where
+  pub due : ℤ
+  pub accrued : ℤ
+  pub left : ℤ
+
+-- one and the yield of the days left, of a year of 360 days, in 1/360,000,000
+abbrev pub growth : SinglePayment → ℤ → ℤ
+growth payment y = pos 360_000_000 +ℤ (payment.left *ℤ y)
+
+-- the price at a yield, due / growth - accrued, is at least an amount
+abbrev pub AtLeast : SinglePayment → ℤ → ℤ → Type 0
+AtLeast payment y amount =
+    ((amount +ℤ payment.accrued) *ℤ growth payment y) ≤ℤ (payment.due *ℤ pos 360_000_000)
