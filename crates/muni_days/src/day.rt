@@ -1,0 +1,149 @@
+ghost use Rattle.std.specs.Prelude.{◌≡◌, ◌≤ℤ◌, pos, nat_eq};
+ghost use Rattle.std.specs.Cmp.{partial_order_from_own_ties};
+ghost use Rattle.std.specs.Cmp.Rules.{comparing};
+ghost use Rattle.std.specs.Option.{option_map};
+ghost use Rattle.std.specs.Ordering.{on, nat_cmp, as_partial_cmp};
+ghost use Rattle.std.proofs.Common.{rules};
+
+use jiff::civil::Date;
+use muni_dec::digits::read_digits;
+use std::cmp::Ordering;
+use std::marker::Model;
+
+/// A day of the civil calendar from 1900-01-01 to 2199-12-31. Days are ordered by date.
+#[derive(Clone, Copy, Debug)]
+pub struct Day {
+    date: Date,
+}
+
+impl Model for Day {
+    ghost use Rattle.jiff.specs.declared.civil.dates.Date.{Date as Plain};
+    ghost use Rattle.muni_days.specs.Range.{IsDeskDate};
+
+    ghost Value = { Plain };
+
+    ghost view = { λ day. day.date };
+
+    ghost invariant = { λ day. IsDeskDate day.date };
+
+    ghost inverse = { λ date. record { date = date } };
+}
+
+/// Why a text names no day.
+#[derive(Clone, Copy, Debug, PartialEq, Eq)]
+pub enum DayFault {
+    /// The text is not four digits, a dash, two digits, a dash and two digits.
+    Form,
+    /// There is no such day from 1900-01-01 to 2199-12-31.
+    NoSuchDay,
+}
+
+impl Day {
+    ghost use Rattle.muni_days.specs.Day.{civil, civil_read, place_of, if_day, day_reading};
+
+    /// Reads a day as `2024-02-29`.
+    pub fn read(text: &[u8]) -> Result<Day, DayFault>
+        ensures { civil_read result ≡ day_reading text.now }
+    {
+        if text.len() != 10 || text[4] != b'-' || text[7] != b'-' {
+            return Err(DayFault::Form);
+        }
+        let year = read_digits(&text[..4]);
+        let month = read_digits(&text[5..7]);
+        let day = read_digits(&text[8..10]);
+        let (Ok(year), Ok(month), Ok(day)) = (year, month, day) else {
+            return Err(DayFault::Form);
+        };
+        match Day::of(year, month, day) {
+            Some(day) => Ok(day),
+            None => Err(DayFault::NoSuchDay),
+        }
+    }
+
+    /// The day of a year, a month from 1 and a day from 1, if the calendar and the desk have it.
+    pub fn of(year: u64, month: u64, day: u64) -> Option<Day>
+        ensures { option_map civil result
+            ≡ if_day (record { year = year; month = month; day = day }) }
+    {
+        if year < 1900 || year > 2199 || month > 12 || day > 31 {
+            return None;
+        }
+        let date = Date::new(year as i16, month as i8, day as i8).ok()?;
+        Some(Day { date })
+    }
+
+    /// The year, from 1900 to 2199.
+    pub fn year(&self) -> i32
+        ensures value { result ≡ pos (civil self.now).year }
+        ensures range { (pos 1900 ≤ℤ result) × (result ≤ℤ pos 2199) }
+    {
+        i32::from(self.date.year())
+    }
+
+    /// The month, from 1 to 12.
+    pub fn month(&self) -> i32
+        ensures value { result ≡ pos (civil self.now).month }
+        ensures range { (pos 1 ≤ℤ result) × (result ≤ℤ pos 12) }
+    {
+        i32::from(self.date.month())
+    }
+
+    /// The day of the month, from 1 to 31.
+    pub fn day(&self) -> i32
+        ensures value { result ≡ pos (civil self.now).day }
+        ensures range { (pos 1 ≤ℤ result) × (result ≤ℤ pos 31) }
+    {
+        i32::from(self.date.day())
+    }
+
+    fn place(&self) -> u32
+        ensures { result ≡ place_of self.now }
+    {
+        (self.year() * 372 + self.month() * 31 + self.day()) as u32
+    }
+}
+
+impl PartialEq for Day {
+    ghost use Rattle.muni_days.specs.Day.{place_of};
+
+    ghost eq = { on place_of nat_eq };
+
+    ghost laws = { Prim.search (comparing, rules) };
+
+    fn eq(&self, other: &Day) -> bool {
+        self.place() == other.place()
+    }
+}
+
+impl Eq for Day {
+    ghost laws = { Prim.search (comparing, rules) };
+}
+
+impl Ord for Day {
+    ghost use Rattle.muni_days.specs.Day.{place_of};
+
+    ghost cmp = { on place_of nat_cmp };
+
+    ghost total = { Prim.search (comparing, rules) };
+
+    ghost matches_partial_cmp = { Prim.search (comparing, rules) };
+
+    ghost matches_eq = { Prim.search (comparing, rules) };
+
+    fn cmp(&self, other: &Day) -> Ordering {
+        self.place().cmp(&other.place())
+    }
+}
+
+impl PartialOrd for Day {
+    ghost use Rattle.muni_days.specs.Day.{place_of};
+
+    ghost partial_cmp = { as_partial_cmp (on place_of nat_cmp) };
+
+    ghost laws = { partial_order_from_own_ties (Prim.search (comparing, rules))
+        (Prim.search (comparing, rules)) };
+
+    fn partial_cmp(&self, other: &Day) -> Option<Ordering> {
+        Some(self.cmp(other))
+    }
+}
