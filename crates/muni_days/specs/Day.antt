@@ -1,5 +1,5 @@
 -- Days as the rules see them, and as texts name them.
-use Rattle.std.specs.Prelude.{ℕ, ◌+◌, ◌==◌, ◌&&◌, Bool, nat_le, if◌then◌else◌, pos, unsigned_abs, List, length, take, drop, slice_index, Option, Some, None, Result, Ok, Err}
+use Rattle.std.specs.Prelude.{ℕ, ◌==◌, ◌&&◌, Bool, nat_le, if◌then◌else◌, pos, unsigned_abs, List, length, take, drop, slice_index, Option, Some, None, Result, Ok, Err}
 use Rattle.jiff.specs.Words.{days_in_month}
 use Rattle.muni_rule.specs.Civil.{Civil, order_of}
 use Rattle.muni_dec.specs.Digits.{are_digits, number}
@@ -43,7 +43,7 @@ abbrev pub numbers : List ℕ → Civil
 numbers text = record {
   year = number (take 4 text);
   month = number (take 2 (drop 5 text));
-  day = number (take 2 (drop 8 text))
+  day = number (take 2 (drop 8 text));
 }
 
 -- what a text says: a day, or that it has no such form, or that there is no such day

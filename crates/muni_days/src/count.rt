@@ -28,12 +28,20 @@ fn first_counted(first: Day) -> u32
     ensures value { result ≡ rule.first_counted first.day }
     ensures range { result ≤ 30 }
 {
-    if first.day() == 31 { 30 } else { first.day() as u32 }
+    if first.day() == 31 {
+        30
+    } else {
+        first.day() as u32
+    }
 }
 
 fn last_counted(first: Day, last: Day) -> u32
     ensures value { result ≡ rule.last_counted first.day last.day }
     ensures range { result ≤ 31 }
 {
-    if last.day() == 31 && first.day() >= 30 { 30 } else { last.day() as u32 }
+    if last.day() == 31 && first.day() >= 30 {
+        30
+    } else {
+        last.day() as u32
+    }
 }

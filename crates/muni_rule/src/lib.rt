@@ -3,3 +3,5 @@
 //! They stand in `specs/`, one file a subject, and know nothing of the program's types: a date is
 //! three numbers, an amount a whole number of 1/(360 * 10^9) dollars per 100 of par.
 #![tactic(auto)]
+
+pub mod printed;

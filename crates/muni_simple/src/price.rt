@@ -1,0 +1,89 @@
+//! The dollar price at a yield.
+
+ghost use Rattle.std.specs.Prelude.{◌≡◌, ◌↔◌, ◌+◌, ◌*◌, ◌<◌, ◌≤◌, ◌≤ℤ◌, pos, MatchOption, IfSome};
+ghost use Rattle.muni_rule.specs.Printed.{IsPrintedPrice, IsBelowZero};
+ghost use Rattle.muni_rule.specs.SinglePayment as rule;
+ghost use Rattle.muni_simple.specs.Single.{IsSingle, IsGivenYield, IsPriceAnswer, payment_of};
+
+use crate::{Shape1, Single};
+use muni_dec::{Price3, Yield};
+
+/// The price at a yield.
+#[derive(Clone, Copy, Debug, PartialEq, Eq)]
+pub enum SimplePrice {
+    /// The exact price, truncated to thousandths of a dollar per 100 of par.
+    Price(Price3),
+    /// The exact price is below zero.
+    BelowZero,
+}
+
+// One year, in units of 10^-6 and days of 30/360.
+const YEAR: u128 = 360_000_000;
+
+/// The dollar price at a yield of one payment to come (MSRB Rule G-33(b)(i)).
+///
+/// A yield is from -90 to 999.999 percent, and from -45 with interest at redemption.
+pub fn single_price(single: &Single, shape: Shape1, y: Yield) -> SimplePrice
+    requires single { IsSingle shape single.now }
+    requires y { IsGivenYield shape y }
+    ensures exact { IsPriceAnswer (rule.AtLeast (payment_of single.now) y) result }
+    ensures below_zero { (result ≡ SimplePrice.BelowZero)
+        ↔ IsBelowZero (rule.AtLeast (payment_of single.now) y) }
+{
+    match thousandths_reached(single, shape, y) {
+        Some(thousandths) => SimplePrice::Price(price_of(thousandths)),
+        None => SimplePrice::BelowZero,
+    }
+}
+
+// None where the exact price is below zero.
+fn thousandths_reached(single: &Single, shape: Shape1, y: Yield) -> Option<u64>
+    requires single { IsSingle shape single.now }
+    requires y { IsGivenYield shape y }
+    ensures small { IfSome result (λ t. t ≤ 1_000_000_000_000_000) }
+    ensures exact { MatchOption result (IsBelowZero (rule.AtLeast (payment_of single.now) y))
+        (IsPrintedPrice (rule.AtLeast (payment_of single.now) y)) }
+{
+    truncated(
+        single.due as u64,
+        single.accrued as u64,
+        growth(single, shape, y),
+    )
+}
+
+fn growth(single: &Single, shape: Shape1, y: Yield) -> u64
+    requires single { IsSingle shape single.now }
+    requires y { IsGivenYield shape y }
+    ensures value { pos result ≡ rule.growth (payment_of single.now) y }
+    ensures range { (1 ≤ result) × (result ≤ 7_600_000_000) }
+{
+    (YEAR as i64 + i64::from(single.left) * y.units()) as u64
+}
+
+// due / growth - accrued in thousandths, if it is not below zero.
+fn truncated(due: u64, accrued: u64, growth: u64) -> Option<u64>
+    requires due { due ≤ 1_000_000_000_000_000 }
+    requires accrued { accrued ≤ 1_000_000_000_000_000 }
+    requires growth { (1 ≤ growth) × (growth ≤ 7_600_000_000) }
+    ensures small { IfSome result (λ t. t ≤ 1_000_000_000_000_000) }
+    ensures exact { MatchOption result (due * 360_000_000 < accrued * growth)
+        (λ t. ((360_000_000 * t + accrued) * growth ≤ due * 360_000_000)
+        × (due * 360_000_000 < (360_000_000 * (t + 1) + accrued) * growth)) }
+{
+    let worth = u128::from(due) * YEAR;
+    let taken_off = u128::from(accrued) * u128::from(growth);
+    if worth < taken_off {
+        return None;
+    }
+    Some(((worth - taken_off) / (u128::from(growth) * YEAR)) as u64)
+}
+
+fn price_of(thousandths: u64) -> Price3
+    requires { thousandths ≤ 1_000_000_000_000_000 }
+    ensures { result ≡ thousandths }
+{
+    match Price3::of(thousandths as i64) {
+        Some(price) => price,
+        None => unreachable!(),
+    }
+}
