@@ -1,0 +1,7 @@
+pub mod Calls
+pub mod Sink
+pub mod MemSource
+pub mod MemSink
+pub mod MemLink
+pub mod Door
+pub mod MemDoor

@@ -1,0 +1,108 @@
+//! What bytes are taken from.
+
+ghost use Rattle.std.specs.Prelude.{◌≡◌, ◌<◌, ◌≤◌, ◌++◌, ℕ, List, Option, Some, length, min, take, drop, is_some, is_ok, not, OnErr, IfOk};
+ghost use Rattle.std.specs.Io.KnownBytes.{Consumes, IsAtEnd};
+ghost use Rattle.muni_edge.specs.Calls.{is_listed};
+ghost use Rattle.muni_edge.specs.Sink.{Rose};
+ghost use Rattle.muni_edge.specs.MemSource.{new_source, after_take};
+
+use crate::fault::{Calls, Failed, NoMemory};
+use std::alloc::Global;
+use std::marker::Model;
+
+/// What bytes are taken from.
+pub trait Source {
+    /// The bytes that are left, where it tells them.
+    ghost left: { Self → Option (List ℕ) };
+
+    /// How often it has failed.
+    ghost faults: { Self → ℕ };
+
+    /// How a take leaves the rest of the object, said of it before and after. A source has no rest.
+    ghost take_keeps: { Self → Self → Type 0 } = { λ _ _. Unit {0} };
+
+    /// Moves the next bytes to the front of `room`, and returns how many. At 0 the input has ended.
+    ///
+    /// After a failure `room` may hold anything.
+    fn take(&mut self, room: &mut [u8]) -> Result<usize, Failed>
+        requires { 0 < length room.old }
+
+        ensures tells { is_some (left self.new) ≡ is_some (left self.old) }
+        ensures within { IfOk result (λ count. count ≤ length room.old) }
+        ensures moved { IfOk result
+            (λ count. Consumes (left self.old) (left self.new) (take count room.new)) }
+        ensures beyond { IfOk result (λ count. drop count room.new ≡ drop count room.old) }
+        ensures end { IfOk result (λ count. count ≡ 0 → IsAtEnd (left self.new)) }
+        ensures unchanged { OnErr result (left self.new ≡ left self.old) }
+        ensures later { faults self.old ≤ faults self.new }
+        ensures failed { OnErr result (Rose (faults self.old) (faults self.new)) }
+        ensures keeps { take_keeps self.old self.new };
+}
+
+/// A source in memory. The takes of the listed numbers fail, counted from 0.
+#[derive(Drop)]
+pub struct MemSource {
+    bytes: Vec<u8>,
+    taken: usize,
+    calls: Calls,
+}
+
+impl Model for MemSource {
+    ghost use Rattle.std.specs.Prelude.{◌≤◌, drop, vec_len};
+    ghost use Rattle.muni_edge.specs.MemSource.{SourceState};
+
+    ghost Value = { SourceState };
+
+    ghost view = { λ s. record { left = drop s.taken s.bytes.items; calls = s.calls } };
+
+    ghost invariant = { λ s. s.taken ≤ vec_len s.bytes };
+}
+
+impl MemSource {
+    /// A source of `bytes`.
+    pub fn new(alloc: Global, bytes: &[u8], failing: &[u64]) -> Result<MemSource, NoMemory>
+        ensures { IfOk result (λ source. source ≡ new_source bytes.now failing.now) }
+    {
+        Ok(MemSource {
+            bytes: bytes.to_vec(alloc)?,
+            taken: 0,
+            calls: Calls::new(alloc, failing)?,
+        })
+    }
+}
+
+impl Source for MemSource {
+    ghost left = { λ source. Some source.left };
+
+    ghost faults = { λ source. source.calls.faults };
+
+    fn take(&mut self, room: &mut [u8]) -> Result<usize, Failed>
+        requires { 0 < length room.old }
+
+        // It fails exactly at the listed calls, and else moves all that is left and fits.
+        ensures fails { is_ok result ≡ not (is_listed self.old.calls) }
+        ensures count { IfOk result
+            (λ count. count ≡ min (length room.old) (length self.old.left)) }
+        ensures moved { IfOk result
+            (λ count. self.old.left ≡ take count room.new ++ self.new.left) }
+        ensures beyond { IfOk result (λ count. drop count room.new ≡ drop count room.old) }
+        ensures after { self.new ≡ after_take self.old (length room.old) }
+        ensures later { self.old.calls.faults ≤ self.new.calls.faults }
+    {
+        self.calls.make()?;
+        let count = fill_front(room, &self.bytes[self.taken..]);
+        self.taken += count;
+        Ok(count)
+    }
+}
+
+/// Copies the bytes that fit to the front of `room`, and returns how many.
+fn fill_front(room: &mut [u8], bytes: &[u8]) -> usize
+    ensures count { result ≡ min (length room.old) (length bytes.now) }
+    ensures front { take result room.new ≡ take result bytes.now }
+    ensures beyond { drop result room.new ≡ drop result room.old }
+{
+    let count = room.len().min(bytes.len());
+    room[..count].copy_from_slice(&bytes[..count]);
+    count
+}
