@@ -1,5 +1,5 @@
 -- What a door in memory does.
-use Rattle.std.specs.Prelude.{ℕ, List, [], Option, None}
+use Rattle.std.specs.Prelude.{ℕ, List, [], None}
 use Rattle.muni_edge.specs.Calls.{CallState, none_made}
 use Rattle.muni_edge.specs.MemLink.{LinkState}
 use Rattle.muni_edge.specs.Door.{DoorState}

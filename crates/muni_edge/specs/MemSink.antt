@@ -1,5 +1,5 @@
 -- What a sink in memory does.
-use Rattle.std.specs.Prelude.{ℕ, ◌+◌, ◌-◌, Bool, ◌||◌, nat_lt, List, [], ◌++◌, take, length, if◌then◌else◌}
+use Rattle.std.specs.Prelude.{ℕ, ◌-◌, Bool, ◌||◌, nat_lt, List, [], ◌++◌, take, length, if◌then◌else◌}
 use Rattle.muni_edge.specs.Calls.{CallState, one_more, none_made, is_listed}
 
 -- the bytes that were written, the room for all of them, and the calls

@@ -1,5 +1,5 @@
 -- What a source in memory does.
-use Rattle.std.specs.Prelude.{ℕ, ◌+◌, ◌-◌, List, drop, if◌then◌else◌}
+use Rattle.std.specs.Prelude.{ℕ, List, drop, if◌then◌else◌}
 use Rattle.muni_edge.specs.Calls.{CallState, none_made, is_listed, after_call}
 
 -- the bytes that are left, and the calls

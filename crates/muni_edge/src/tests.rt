@@ -1,6 +1,8 @@
 //! The objects in memory, each served to its end and through its faults.
 
-ghost use Rattle.std.specs.Prelude.{◌≡◌, ◌<◌};
+ghost use Rattle.std.specs.Prelude.{◌≡◌, ◌<◌, ◌≤◌, ◌⊎◌, ◌++◌, ℕ, List, IfOk, IfSome, OnErr, OnOk};
+ghost use Rattle.std.specs.Io.KnownBytes.{Consumes};
+ghost use Rattle.muni_edge.specs.Sink.{Rose, HasWritten};
 
 use crate::{
     Door, Failed, Gate, Link, MemDoor, MemLink, MemSink, MemSource, NoGate, Sink, Source, Steps,
@@ -50,30 +52,45 @@ fn a_sink_holds_all_but_the_listed_puts_and_what_is_past_its_room(
     Ok(())
 }
 
-/// Takes up to four bytes and puts them back, twice.
-fn echo<L: Link>(link: &mut L) -> Result<usize, Failed> {
+/// Takes up to four bytes and puts them back.
+fn echo<L: Link>(link: &mut L) -> Result<usize, Failed>
+    ensures echoed { IfOk result (λ count. (piece : List ℕ)
+        × Consumes (L.left link.old) (L.left link.new) piece
+        × HasWritten (L.bytes link.old) (L.bytes link.new) piece) }
+    ensures takes { L.Source.faults link.old ≤ L.Source.faults link.new }
+    ensures puts { L.Sink.faults link.old ≤ L.Sink.faults link.new }
+    ensures cause { OnErr result (Rose (L.Source.faults link.old) (L.Source.faults link.new)
+        ⊎ Rose (L.Sink.faults link.old) (L.Sink.faults link.new)) }
+{
     let mut room = [0u8; 4];
     let count = link.take(&mut room)?;
-    link.put(&room[..count])?;
     link.put(&room[..count])?;
     Ok(count)
 }
 
 #[test]
 fn a_link_counts_its_takes_and_its_puts_apart(rt: HostRuntime) -> Result<(), Fail> {
-    let mut link = MemLink::new(rt.alloc(), b"abcdefg", 20, &[1], &[3])?;
-    assert_eq!(rt; echo(&mut link), Ok(4));
-    assert_eq!(rt; link.written(), b"abcdabcd".as_slice());
-    assert_eq!(rt; echo(&mut link), Err(Failed));
-    assert_eq!(rt; link.written(), b"abcdabcd".as_slice());
-    assert_eq!(rt; echo(&mut link), Err(Failed));
-    assert_eq!(rt; link.written(), b"abcdabcdefg".as_slice());
-    assert_eq!(rt; echo(&mut link), Ok(0));
+    let mut link = MemLink::new(rt.alloc(), b"abcdefghij", 20, &[1], &[1])?;
+    let turns: [(Result<usize, Failed>, &[u8]); 5] = [
+        (Ok(4), b"abcd"),
+        (Err(Failed), b"abcd"),
+        (Err(Failed), b"abcd"),
+        (Ok(2), b"abcdij"),
+        (Ok(0), b"abcdij"),
+    ];
+    for (number, (want, written)) in turns.iter().enumerate() {
+        assert_eq!(rt; echo(&mut link), *want, "turn {number}");
+        assert_eq!(rt; link.written(), *written, "turn {number}");
+    }
     Ok(())
 }
 
 /// Serves the link that waits first. Answers whether there was one.
-fn serve_first<D: Door>(door: &mut D, port: u16) -> Result<bool, Failed> {
+fn serve_first<D: Door>(door: &mut D, port: u16) -> Result<bool, Failed>
+    ensures cause { OnErr result (Rose (D.faults door.old) (D.faults door.new)) }
+    ensures all_in { OnOk result (IfSome (D.state door.old)
+        (λ old. IfSome (D.state door.new) (λ new. new.out ≡ old.out))) }
+{
     door.bind(port)?;
     let Some(mut link) = door.accept()? else {
         return Ok(false);
@@ -88,7 +105,7 @@ fn a_door_is_served_to_its_end_past_its_faults(rt: HostRuntime) -> Result<(), Fa
     let alloc = rt.alloc();
     let waiting = vec![in alloc;
         MemLink::new(alloc, b"one", 8, &[], &[])?,
-        MemLink::new(alloc, b"two", 8, &[], &[1])?,
+        MemLink::new(alloc, b"two", 2, &[], &[])?,
     ]?;
     let mut door = MemDoor::new(alloc, waiting, &[0, 4])?;
     let answers = [Err(Failed), Ok(true), Err(Failed), Ok(true), Ok(false)];
@@ -96,8 +113,8 @@ fn a_door_is_served_to_its_end_past_its_faults(rt: HostRuntime) -> Result<(), Fa
         assert_eq!(rt; serve_first(&mut door, 80), *want, "turn {number}");
     }
     assert_eq!(rt; door.served().len(), 2);
-    assert_eq!(rt; door.served()[0].written(), b"oneone".as_slice());
-    assert_eq!(rt; door.served()[1].written(), b"two".as_slice());
+    assert_eq!(rt; door.served()[0].written(), b"one".as_slice());
+    assert_eq!(rt; door.served()[1].written(), b"tw".as_slice());
     Ok(())
 }
 
