@@ -1,0 +1,44 @@
+ghost use Rattle.std.specs.Prelude.{◌≡◌};
+ghost use Rattle.muni_desk.specs.Status.{number_of};
+
+/// How a command ended.
+#[derive(Clone, Copy, Debug, PartialEq, Eq)]
+pub enum Status {
+    /// It did what was asked.
+    Done,
+    /// The words are no command.
+    Usage,
+    /// The answer is a refusal.
+    Refused,
+    /// The input failed.
+    ReadFault,
+    /// The output failed.
+    WriteFault,
+    /// The store failed.
+    StoreFault,
+    /// The door failed.
+    DoorFault,
+    /// No memory was left.
+    NoMemory,
+    /// The input is too long.
+    TooLarge,
+}
+
+impl Status {
+    /// The exit status of the program, from 0 to 9.
+    pub fn number(self) -> u8
+        ensures { result ≡ number_of self }
+    {
+        match self {
+            Status::Done => 0,
+            Status::Usage => 2,
+            Status::Refused => 3,
+            Status::ReadFault => 4,
+            Status::WriteFault => 5,
+            Status::StoreFault => 6,
+            Status::DoorFault => 7,
+            Status::NoMemory => 8,
+            Status::TooLarge => 9,
+        }
+    }
+}
