@@ -8,3 +8,6 @@ mod months;
 pub use count::days360;
 pub use day::{Day, DayFault};
 pub use months::months_on;
+
+#[cfg(test)]
+mod tests;

@@ -13,3 +13,6 @@ pub use coupon::Coupon;
 pub use fault::DecFault;
 pub use price::{Price, Price3};
 pub use yields::Yield;
+
+#[cfg(test)]
+mod tests;

@@ -10,7 +10,6 @@ use Rattle.muni_rule.specs.Printed.{IsPrintedPrice, IsBelowZero}
 use Rattle.muni_dec.specs.Decimal.{decimal_text}
 use Rattle.muni_dec.specs.Values.{coupon_reading, price_reading, yield_reading}
 use Rattle.muni_days.specs.Day.{day_reading}
-use Rattle.muni_desk.specs.declared.refusal.Range.{Range}
 use Rattle.muni_desk.specs.declared.refusal.Range.TheVariants.{Below, Above, PriceBelowZero}
 use Rattle.muni_desk.specs.declared.refusal.Refusal.{Refusal}
 use Rattle.muni_desk.specs.declared.refusal.Refusal.TheVariants.{SettleOutside, GivenOutOfRange}
@@ -77,7 +76,7 @@ abbrev pub payment_of : Job → SinglePayment
 payment_of job = record {
   due = pos (18_000 * job.coupon + 360_000 * job.redemption);
   accrued = pos (100 * job.coupon) *ℤ accrued_days job;
-  left = pos 180 -ℤ accrued_days job
+  left = pos 180 -ℤ accrued_days job;
 }
 
 -- the yields that may be given with six months or less to redemption
@@ -98,8 +97,8 @@ IsPrice job t = (early_refusal job ≡ None) × IsPrintedPrice (AtLeast (payment
 abbrev pub IsRefusal : Job → Refusal → Type 0
 IsRefusal job refusal =
     MatchOption (early_refusal job)
-        (IsBelowZero (AtLeast (payment_of job) job.yld) × (refusal ≡ GivenOutOfRange PriceBelowZero))
-        (λ early. refusal ≡ early)
+    (IsBelowZero (AtLeast (payment_of job) job.yld) × (refusal ≡ GivenOutOfRange PriceBelowZero))
+    (λ early. refusal ≡ early)
 
 -- the line of a price: its three decimals
 abbrev pub price_line : ℕ → List ℕ

@@ -12,7 +12,7 @@ job held = record {
   next = civil held.next;
   settlement = civil held.settlement;
   redemption = held.redemption;
-  yld = held.yld
+  yld = held.yld;
 }
 
 -- the answer is right

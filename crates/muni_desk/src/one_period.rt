@@ -238,3 +238,8 @@ fn write_line<O: Sink>(output: &mut O, line: &[u8], status: Status) -> Status
         Err(_) => Status::WriteFault,
     }
 }
+
+#[cfg(test)]
+mod cases;
+#[cfg(test)]
+mod tests;

@@ -6,3 +6,6 @@ mod single;
 
 pub use price::{SimplePrice, single_price};
 pub use single::{Shape1, Single};
+
+#[cfg(test)]
+mod tests;

@@ -1,0 +1,101 @@
+use crate::{Coupon, DecFault, Price, Price3, Yield};
+use arrayvec::ArrayVec;
+use std::test::Fail;
+
+#[test]
+fn texts_are_read_as_units(rt: HostRuntime) -> Result<(), Fail> {
+    for (text, units) in [
+        ("0", 0),
+        ("4.125", 41_250_000),
+        ("0004.0000001", 40_000_001),
+        ("30", 300_000_000),
+    ] {
+        let coupon = Coupon::read(text.as_bytes()).ok().ok_or("a coupon")?;
+        assert_eq!(rt; coupon.units(), units, "{text}");
+    }
+    for (text, units) in [
+        ("0", 0),
+        ("100", 100_000_000),
+        ("101.5", 101_500_000),
+        ("999.999999", 999_999_999),
+    ] {
+        let price = Price::read(text.as_bytes()).ok().ok_or("a price")?;
+        assert_eq!(rt; price.units(), units, "{text}");
+    }
+    for (text, units) in [
+        ("-0", 0),
+        ("4", 40_000),
+        ("-99.9999", -999_999),
+        ("999.9999", 9_999_999),
+    ] {
+        let yld = Yield::read(text.as_bytes()).ok().ok_or("a yield")?;
+        assert_eq!(rt; yld.units(), units, "{text}");
+    }
+    Ok(())
+}
+
+#[test]
+fn faults_tell_their_kind_and_place(rt: HostRuntime) -> Result<(), Fail> {
+    for (text, fault) in [
+        ("", DecFault::Empty),
+        ("+5", DecFault::NotADigit { at: 0 }),
+        ("-", DecFault::NotADigit { at: 1 }),
+        ("--5", DecFault::NotADigit { at: 1 }),
+        ("5.", DecFault::NotADigit { at: 2 }),
+        (".5", DecFault::NotADigit { at: 0 }),
+        ("-1.2.3", DecFault::NotADigit { at: 4 }),
+        ("4.1234x", DecFault::NotADigit { at: 6 }),
+        ("4.12345", DecFault::TooManyDecimals { at: 6 }),
+        ("-4.12345x", DecFault::TooManyDecimals { at: 7 }),
+        ("1000", DecFault::OutOfRange),
+        ("-100", DecFault::OutOfRange),
+        ("99999999999999999999999999", DecFault::OutOfRange),
+    ] {
+        assert_eq!(rt; Yield::read(text.as_bytes()).err(), Some(fault), "{text}");
+    }
+    assert_eq!(rt;
+        Price::read(b"1.1234567").err(),
+        Some(DecFault::TooManyDecimals { at: 8 })
+    );
+    assert_eq!(rt;
+        Price::read(b"-1").err(),
+        Some(DecFault::NotADigit { at: 0 })
+    );
+    assert_eq!(rt;
+        Coupon::read(b"30.0000001").err(),
+        Some(DecFault::OutOfRange)
+    );
+    Ok(())
+}
+
+#[test]
+fn units_outside_a_range_are_no_value(rt: HostRuntime) -> Result<(), Fail> {
+    assert!(rt; Coupon::of(300_000_001).is_none() && Coupon::of(-1).is_none());
+    assert!(rt; Price::of(1_000_000_000).is_none() && Price::of(-1).is_none());
+    assert!(rt; Yield::of(10_000_000).is_none() && Yield::of(-1_000_000).is_none());
+    assert!(rt; Price3::of(-1).is_none());
+    assert_eq!(rt;
+        Coupon::of(300_000_000).map(|c| c.units()),
+        Some(300_000_000)
+    );
+    assert_eq!(rt; Price::of(0).map(|p| p.units()), Some(0));
+    assert_eq!(rt; Yield::of(-999_999).map(|y| y.units()), Some(-999_999));
+    assert_eq!(rt; Price3::of(100_235).map(|p| p.units()), Some(100_235));
+    Ok(())
+}
+
+#[test]
+fn a_printed_price_has_three_decimals(rt: HostRuntime) -> Result<(), Fail> {
+    let mut text = ArrayVec::new();
+    for (units, printed) in [
+        (0, "0.000"),
+        (7, "0.007"),
+        (99_999, "99.999"),
+        (100_235, "100.235"),
+        (9_223_372_036_854_775_807, "9223372036854775.807"),
+    ] {
+        Price3::of(units).ok_or("a price")?.print_into(&mut text);
+        assert_eq!(rt; text.as_slice(), printed.as_bytes());
+    }
+    Ok(())
+}

@@ -1,0 +1,24 @@
+//! The program: the words that it was started with, and the real output.
+#![tactic(auto)]
+
+mod output;
+
+use muni_desk::{Status, quote_one};
+use output::Output;
+use std::{env, io};
+use std::process::ExitCode;
+
+fn main(rt: HostRuntime) -> ExitCode {
+    ExitCode::from(run(&rt).number())
+}
+
+// Words that are no text are no command.
+fn run(rt: &HostRuntime) -> Status {
+    let Ok(args) = env::args(rt) else {
+        return Status::Usage;
+    };
+    let Ok(words) = args.skip(1).collect::<Vec<String>>(rt.alloc()) else {
+        return Status::NoMemory;
+    };
+    quote_one(words.as_slice(), &mut Output::new(io::writer(rt)))
+}

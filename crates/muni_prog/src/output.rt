@@ -1,0 +1,35 @@
+//! Standard output as a sink.
+
+ghost use Rattle.std.specs.Prelude.{◌≡◌, None};
+
+use muni_edge::{Failed, Sink};
+use std::io;
+
+/// What is written goes to the writer at once. It does not tell what it holds.
+#[derive(Drop)]
+pub struct Output<W> {
+    writer: W,
+    faults: u64,
+}
+
+impl<W> Output<W> {
+    pub fn new(writer: W) -> Output<W>
+        ensures { result.faults ≡ 0 }
+    {
+        Output { writer, faults: 0 }
+    }
+}
+
+impl<W: io::Write> Sink for Output<W> {
+    ghost bytes = { λ _. None };
+
+    ghost faults = { λ output. output.faults };
+
+    fn put(&mut self, piece: &[u8]) -> Result<(), Failed> {
+        if self.writer.write_all(piece).is_err() || self.writer.flush().is_err() {
+            self.faults = self.faults.saturating_add(1);
+            return Err(Failed);
+        }
+        Ok(())
+    }
+}
