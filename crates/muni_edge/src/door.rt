@@ -17,13 +17,13 @@ use std::marker::Model;
 pub trait Door {
     type L: Link;
 
-    /// Its port, the links that wait, those that are served and how many are out, where it tells.
+    /// The port, the links that wait and are served, and how many are out, where it tells them.
     ghost state: { Self → Option (DoorState Self.L) };
 
     /// How often it has failed.
     ghost faults: { Self → ℕ };
 
-    /// Binds the door to a port.
+    /// Binds the door to a port, and leaves the links where they are.
     fn bind(&mut self, port: u16) -> Result<(), Failed>
         ensures tells { is_some (state self.new) ≡ is_some (state self.old) }
         ensures bound { OnOk result (state self.new ≡ option_map (bound_to port) (state self.old)) }
@@ -31,20 +31,20 @@ pub trait Door {
         ensures later { faults self.old ≤ faults self.new }
         ensures failed { OnErr result (Rose (faults self.old) (faults self.new)) };
 
-    /// Gives the first link that waits, or `None` where none does.
+    /// Gives out the first link that waits, or `None` where none does. A port has to be bound.
     fn accept(&mut self) -> Result<Option<Self::L>, Failed>
         requires { IfSome (state self.old) (λ door. IsSome door.port) }
 
         ensures tells { is_some (state self.new) ≡ is_some (state self.old) }
         ensures first { IfOk result
             (λ given. IfSome (state self.old) (λ door. given ≡ slice_get door.waiting 0)) }
-        ensures given { IfOk result
+        ensures given_out { IfOk result
             (λ given. state self.new ≡ option_map (after_accept given) (state self.old)) }
         ensures unchanged { OnErr result (state self.new ≡ state self.old) }
         ensures later { faults self.old ≤ faults self.new }
         ensures failed { OnErr result (Rose (faults self.old) (faults self.new)) };
 
-    /// Takes back a link that is served.
+    /// Takes back a link that was served. One has to be out.
     fn hand_back(&mut self, link: Self::L)
         requires { IfSome (state self.old) (λ door. 0 < door.out) }
 
@@ -132,7 +132,8 @@ impl Door for MemDoor {
         requires { IsSome self.old.door.port }
 
         ensures first { IfOk result (λ given. given ≡ slice_get self.old.door.waiting 0) }
-        ensures given { IfOk result (λ given. self.new.door ≡ after_accept given self.old.door) }
+        ensures given_out { IfOk result
+            (λ given. self.new.door ≡ after_accept given self.old.door) }
         ensures unchanged { OnErr result (self.new.door ≡ self.old.door) }
         ensures later { self.old.calls.faults ≤ self.new.calls.faults }
 

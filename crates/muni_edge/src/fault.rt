@@ -6,7 +6,7 @@ ghost use Rattle.muni_edge.specs.Calls.{none_made, is_listed, after_call, after_
 use std::alloc::{AllocError, Global};
 use std::marker::Model;
 
-/// A call on something outside failed.
+/// A call on something outside failed. The count of faults of what was called rose.
 #[derive(Clone, Copy, Debug, PartialEq, Eq)]
 pub struct Failed;
 

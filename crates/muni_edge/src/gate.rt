@@ -1,9 +1,9 @@
-//! Who is told that a worker begins.
+//! Who is told when a worker begins.
 
-/// What a worker tells that it begins a candidate.
+/// Is told by the workers of a search when they begin.
 pub trait Gate {
-    /// The candidate at `place` is begun in this round. Of the call no more is known than that it
-    /// returns.
+    /// A worker begins the candidate at `place` in this round. Of the call no more is known than
+    /// that it returns.
     fn start(&self, round: u32, place: usize);
 }
 

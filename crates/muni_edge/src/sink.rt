@@ -16,7 +16,8 @@ pub trait Sink {
     /// How often it has failed.
     ghost faults: { Self → ℕ };
 
-    /// How a put leaves the rest of the object, said of it before and after. A sink has no rest.
+    /// What a put leaves alone beside the bytes, said of the object before and after: for a sink
+    /// that is nothing else, nothing.
     ghost put_keeps: { Self → Self → Type 0 } = { λ _ _. Unit {0} };
 
     /// Appends the piece, or after a failure a prefix of it.

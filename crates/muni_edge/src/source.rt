@@ -18,12 +18,13 @@ pub trait Source {
     /// How often it has failed.
     ghost faults: { Self → ℕ };
 
-    /// How a take leaves the rest of the object, said of it before and after. A source has no rest.
+    /// What a take leaves alone beside the bytes, said of the object before and after: for a source
+    /// that is nothing else, nothing.
     ghost take_keeps: { Self → Self → Type 0 } = { λ _ _. Unit {0} };
 
-    /// Moves the next bytes to the front of `room`, and returns how many. At 0 the input has ended.
+    /// Moves the next bytes to the front of `room`, and returns how many. 0 is the end of input.
     ///
-    /// After a failure `room` may hold anything.
+    /// A failure takes none, and may leave anything in `room`.
     fn take(&mut self, room: &mut [u8]) -> Result<usize, Failed>
         requires { 0 < length room.old }
 

@@ -23,7 +23,7 @@ impl<L: Ledger> Model for Steps<L> {
 }
 
 impl<L: Ledger> Steps<L> {
-    /// A counter at 0, on a ledger that nothing was counted on.
+    /// A counter at 0, on a new ledger.
     pub fn open(blank: Blank) -> Steps<L>
         requires name { blank.name ≡ L.name }
         requires parts { blank.parts ≡ L.parts }

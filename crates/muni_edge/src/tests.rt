@@ -1,6 +1,6 @@
 //! The objects in memory, each served to its end and through its faults.
 
-ghost use Rattle.std.specs.Prelude.{◌≡◌, ◌<◌, ◌≤◌, ◌⊎◌, ◌++◌, ℕ, List, IfOk, IfSome, OnErr, OnOk};
+ghost use Rattle.std.specs.Prelude.{◌≡◌, ◌+◌, ◌^◌, ◌<◌, ◌≤◌, ◌⊎◌, ℕ, List, IfOk, IfSome, OnErr, OnOk};
 ghost use Rattle.std.specs.Io.KnownBytes.{Consumes};
 ghost use Rattle.muni_edge.specs.Sink.{Rose, HasWritten};
 
@@ -132,21 +132,28 @@ fn each_object_may_cross_threads(rt: HostRuntime) -> Result<(), Fail> {
     Ok(())
 }
 
-/// Ticks as often as asked, on a counter of its own.
-fn ticks<L: Ledger>(blank: Blank, times: u32) -> u32
+fn tick_often<L: Ledger>(times: u32, steps: &mut Steps<L>)
+    requires { steps.old < 2 ^ 63 }
+    ensures { steps.new ≡ steps.old + times }
+{
+    for _turn in 0..times {
+        steps.tick();
+    }
+}
+
+/// Counts on a counter of its own.
+fn count<L: Ledger>(blank: Blank, times: u32) -> u32
     requires name { blank.name ≡ L.name }
     requires parts { blank.parts ≡ L.parts }
     requires some { 0 < blank.parts }
 {
     let mut steps = Steps::<L>::open(blank);
-    for _turn in 0..times {
-        steps.tick();
-    }
+    tick_often(times, &mut steps);
     times
 }
 
 #[test]
 fn a_counter_of_steps_takes_no_bytes(rt: HostRuntime) {
     assert_eq!(rt; size_of::<Steps<Brand>>(), 0);
-    assert_eq!(rt; ticks::<Brand>(Blank::new(1), 3), 3);
+    assert_eq!(rt; count::<Brand>(Blank::new(1), 3), 3);
 }

@@ -1,4 +1,4 @@
 use Rattle.muni_edge.proofs.tests.a_counter_of_steps_takes_no_bytes.Given as goal
 
-abbrev pub ghosts-ticks : goal.ghosts-ticks
-ghosts-ticks g a = record { name = a.blank.name; parts = a.blank.parts }
+abbrev pub ghosts-count : goal.ghosts-count
+ghosts-count g a = record { name = a.blank.name; parts = a.blank.parts }
