@@ -24,7 +24,7 @@ pub trait Source {
 
     /// Moves the next bytes to the front of `room`, and returns how many. 0 is the end of input.
     ///
-    /// A failure takes none, and may leave anything in `room`.
+    /// The rest of `room`, and after a failure all of it, may hold anything.
     fn take(&mut self, room: &mut [u8]) -> Result<usize, Failed>
         requires { 0 < length room.old }
 
@@ -32,7 +32,6 @@ pub trait Source {
         ensures within { IfOk result (λ count. count ≤ length room.old) }
         ensures moved { IfOk result
             (λ count. Consumes (left self.old) (left self.new) (take count room.new)) }
-        ensures beyond { IfOk result (λ count. drop count room.new ≡ drop count room.old) }
         ensures end { IfOk result (λ count. count ≡ 0 → IsAtEnd (left self.new)) }
         ensures unchanged { OnErr result (left self.new ≡ left self.old) }
         ensures later { faults self.old ≤ faults self.new }
