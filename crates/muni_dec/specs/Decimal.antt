@@ -1,6 +1,6 @@
 -- Decimals, read and written: digits, and optionally a point and at most so many digits. Numbers are
 -- in units of the last of these places.
-use Rattle.std.specs.Prelude.{ℕ, ◌+◌, ◌-◌, ◌*◌, ◌^◌, ◌/◌, ◌==◌, nat_lt, if◌then◌else◌, List, ◌∷◌, ◌++◌, length, take, drop, slice_index, position, decimal, Option, Some, None, Result, Ok, Err, ℤ, pos, neg_ℤ}
+use Rattle.std.specs.Prelude.{ℕ, ◌+◌, ◌-◌, ◌*◌, ◌^◌, ◌/◌, ◌==◌, nat_lt, if◌then◌else◌, List, [], ◌∷◌, ◌++◌, length, take, drop, slice_index, position, decimal, Option, Some, None, Result, Ok, Err, ℤ, pos, negsuc, neg_ℤ, unsigned_abs}
 use Rattle.muni_dec.specs.Digits.{are_digits, digits_end, number, last_digits}
 use Rattle.muni_dec.specs.declared.fault.DecFault.{DecFault}
 use Rattle.muni_dec.specs.declared.fault.DecFault.TheVariants.{Empty, NotADigit, TooManyDecimals, OutOfRange}
@@ -36,6 +36,10 @@ unfoldable pub reading : ℕ → List ℕ → Result ℕ DecFault
 reading places text =
     if length text == 0 then Err Empty else reading_at places text (position (λ b. b == 46) text)
 
+-- what a text of digits alone says
+abbrev pub digits_reading : List ℕ → Result ℕ DecFault
+digits_reading text = if length text == 0 then Err Empty else whole_reading 0 text
+
 -- where a fault stands, if it has a place
 abbrev pub place_of : DecFault → ℕ
 place_of (NotADigit at) = at
@@ -64,3 +68,12 @@ signed_reading places text =
 -- a number of units as a decimal with all its places
 abbrev pub decimal_text : ℕ → ℕ → List ℕ
 decimal_text places units = decimal (units / 10 ^ places) ++ 46 ∷ last_digits places units
+
+-- a minus sign before a number below zero
+abbrev pub sign_text : ℤ → List ℕ
+sign_text (pos units) = []
+sign_text (negsuc less) = 45 ∷ []
+
+-- a number of units on either side of zero as a decimal with all its places
+abbrev pub signed_text : ℕ → ℤ → List ℕ
+signed_text places units = sign_text units ++ decimal_text places (unsigned_abs units)

@@ -12,3 +12,11 @@ IsCoupon units = (pos 0 ≤ℤ units) × (units ≤ℤ pos 300_000_000)
 -- from -99.9999 to 999.9999 percent
 abbrev pub IsYield : ℤ → Type 0
 IsYield units = (negsuc 999_998 ≤ℤ units) × (units ≤ℤ pos 9_999_999)
+
+-- from 1 to 1,000,000,000 dollars
+abbrev pub IsPar : ℤ → Type 0
+IsPar units = (pos 1 ≤ℤ units) × (units ≤ℤ pos 1_000_000_000)
+
+-- from -90.000 to 999.999 percent
+abbrev pub IsPrintedYield : ℤ → Type 0
+IsPrintedYield units = (negsuc 89_999 ≤ℤ units) × (units ≤ℤ pos 999_999)

@@ -1,9 +1,12 @@
-ghost use Rattle.std.specs.Prelude.{◌≡◌, ◌↔◌, pos, IsSome, IfSome};
+ghost use Rattle.std.specs.Prelude.{◌≡◌, ◌↔◌, ◌≤◌, pos, IsSome, IfSome};
+ghost use Rattle.arrayvec.specs.ArrayVec.{array_vec_len};
+ghost use Rattle.muni_dec.specs.Decimal.{decimal_text};
 ghost use Rattle.muni_dec.specs.Ranges.{IsCoupon};
 ghost use Rattle.muni_dec.specs.Values.{coupon_reading};
 
 use crate::DecFault;
-use crate::decimal::read_decimal;
+use crate::decimal::{push_decimal, read_decimal};
+use arrayvec::ArrayVec;
 use std::marker::Model;
 
 /// A yearly coupon, from 0 to 30, in 10^-7 dollars per 100 of par.
@@ -51,5 +54,13 @@ impl Coupon {
         ensures range { IsCoupon result }
     {
         i64::from(self.0)
+    }
+    /// Replaces the text by the coupon with seven decimals, as `4.1250000`.
+    pub fn print_into(&self, text: &mut ArrayVec<u8, 32>)
+        ensures items { text.new.items ≡ decimal_text 7 self.now }
+        ensures len { array_vec_len text.new ≤ 29 }
+    {
+        text.clear();
+        push_decimal(text, u64::from(self.0), 7);
     }
 }

@@ -2,7 +2,7 @@
 
 ghost use Rattle.std.specs.Prelude.{◌≡◌, ◌+◌, ◌^◌, ◌<◌, ◌≤◌, ◌++◌, ◌==◌, length, IfSome, IfErr, position};
 ghost use Rattle.arrayvec.specs.ArrayVec.{array_vec_len};
-ghost use Rattle.muni_dec.specs.Decimal.{reading_at, reading, behind_sign, signed_reading, place_of, decimal_text};
+ghost use Rattle.muni_dec.specs.Decimal.{reading_at, reading, behind_sign, signed_reading, place_of, digits_reading, decimal_text, sign_text, signed_text};
 ghost use Rattle.muni_dec.specs.Capped.{capped, capped_signed};
 
 use crate::DecFault;
@@ -66,6 +66,16 @@ fn read_with_point(text: &[u8], point: usize, places: usize) -> Result<u64, DecF
     }
 }
 
+/// What a text of digits alone says, or the digits' [`LIMIT`] where that is greater.
+pub fn read_whole(text: &[u8]) -> Result<u64, DecFault>
+    ensures { result ≡ capped LIMIT (digits_reading text.now) }
+{
+    if text.is_empty() {
+        return Err(DecFault::Empty);
+    }
+    read_without_point(text, 0)
+}
+
 /// What a decimal without a sign says in units of the last of so many places, or the digits'
 /// [`LIMIT`] where that is greater.
 #[tactic(auto, unfolding(crate::specs::Decimal::reading))]
@@ -127,4 +137,25 @@ pub fn push_decimal(text: &mut ArrayVec<u8, 32>, units: u64, places: usize)
     push_number(text, units / power_of_ten(places));
     text.push(b'.');
     push_last_digits(text, units, places);
+}
+
+/// The same of a number on either side of zero.
+pub fn push_signed(text: &mut ArrayVec<u8, 32>, units: i64, places: usize)
+    requires places { (1 ≤ places) × (places ≤ 7) }
+    requires room { array_vec_len text.old ≤ 0 }
+    ensures items { text.new.items ≡ text.old.items ++ signed_text places units }
+    ensures len { array_vec_len text.new ≤ 29 }
+{
+    push_sign(text, units);
+    push_decimal(text, units.unsigned_abs(), places);
+}
+
+fn push_sign(text: &mut ArrayVec<u8, 32>, units: i64)
+    requires { array_vec_len text.old ≤ 0 }
+    ensures items { text.new.items ≡ text.old.items ++ sign_text units }
+    ensures len { array_vec_len text.new ≤ 1 }
+{
+    if units < 0 {
+        text.push(b'-');
+    }
 }

@@ -55,6 +55,15 @@ impl Price {
     {
         i64::from(self.0)
     }
+
+    /// Replaces the text by the price with six decimals, as `101.500000`.
+    pub fn print_into(&self, text: &mut ArrayVec<u8, 32>)
+        ensures items { text.new.items ≡ decimal_text 6 self.now }
+        ensures len { array_vec_len text.new ≤ 29 }
+    {
+        text.clear();
+        push_decimal(text, u64::from(self.0), 6);
+    }
 }
 
 /// A printed price, from 0 up, in 10^-3 dollars per 100 of par.

@@ -1,4 +1,7 @@
-use crate::{Coupon, DecFault, Price, Price3, Yield};
+use crate::{
+    Cents, Coupon, DecFault, Par, Price, Price3, Yield, Yield3, accrued_cents, principal_cents,
+    round_yield, trunc3,
+};
 use arrayvec::ArrayVec;
 use std::test::Fail;
 
@@ -85,17 +88,94 @@ fn units_outside_a_range_are_no_value(rt: HostRuntime) -> Result<(), Fail> {
 }
 
 #[test]
-fn a_printed_price_has_three_decimals(rt: HostRuntime) -> Result<(), Fail> {
+fn values_are_printed_with_all_their_decimals(rt: HostRuntime) -> Result<(), Fail> {
     let mut text = ArrayVec::new();
     for (units, printed) in [
         (0, "0.000"),
         (7, "0.007"),
-        (99_999, "99.999"),
         (100_235, "100.235"),
         (9_223_372_036_854_775_807, "9223372036854775.807"),
     ] {
         Price3::of(units).ok_or("a price")?.print_into(&mut text);
         assert_eq!(rt; text.as_slice(), printed.as_bytes());
     }
+    for (units, printed) in [(0, "0.0000"), (-5, "-0.0005"), (9_999_999, "999.9999")] {
+        Yield::of(units).ok_or("a yield")?.print_into(&mut text);
+        assert_eq!(rt; text.as_slice(), printed.as_bytes());
+    }
+    for (units, printed) in [(0, "0.000"), (-90_000, "-90.000"), (3_023, "3.023")] {
+        Yield3::of(units).ok_or("a yield")?.print_into(&mut text);
+        assert_eq!(rt; text.as_slice(), printed.as_bytes());
+    }
+    Price::of(100_000_000)
+        .ok_or("a price")?
+        .print_into(&mut text);
+    assert_eq!(rt; text.as_slice(), b"100.000000".as_slice());
+    Coupon::of(50_000_000)
+        .ok_or("a coupon")?
+        .print_into(&mut text);
+    assert_eq!(rt; text.as_slice(), b"5.0000000".as_slice());
+    Cents::of(31_250).ok_or("money")?.print_into(&mut text);
+    assert_eq!(rt; text.as_slice(), b"312.50".as_slice());
+    Par::of(25_000).ok_or("a par")?.print_into(&mut text);
+    assert_eq!(rt; text.as_slice(), b"25000".as_slice());
+    Ok(())
+}
+
+#[test]
+fn a_par_is_whole_dollars(rt: HostRuntime) -> Result<(), Fail> {
+    assert_eq!(rt; Par::read(b"0025000").map(|par| par.units()), Ok(25_000));
+    assert_eq!(rt;
+        Par::read(b"1000000000").map(|par| par.units()),
+        Ok(1_000_000_000)
+    );
+    for (text, fault) in [
+        ("", DecFault::Empty),
+        ("5.0", DecFault::NotADigit { at: 1 }),
+        ("-5", DecFault::NotADigit { at: 0 }),
+        ("0", DecFault::OutOfRange),
+        ("1000000001", DecFault::OutOfRange),
+    ] {
+        assert_eq!(rt; Par::read(text.as_bytes()).err(), Some(fault), "{text}");
+    }
+    Ok(())
+}
+
+// 5.5555.. and 171.354.. dollars
+#[test]
+fn accrued_interest_is_truncated_and_then_rounded(rt: HostRuntime) -> Result<(), Fail> {
+    for (coupon, par, days, cents) in [
+        ("4", 10_000, 5, 556),
+        ("5.25", 25_000, 47, 17_135),
+        ("30", 1_000_000_000, 720, 60_000_000_000),
+        ("0.0000001", 1, 1, 0),
+    ] {
+        let coupon = Coupon::read(coupon.as_bytes()).ok().ok_or("a coupon")?;
+        let par = Par::of(par).ok_or("a par")?;
+        assert_eq!(rt; accrued_cents(coupon, par, days).units(), cents);
+    }
+    Ok(())
+}
+
+#[test]
+fn given_figures_are_shown_truncated_or_rounded(rt: HostRuntime) -> Result<(), Fail> {
+    let price = Price::read(b"99.9999").ok().ok_or("a price")?;
+    assert_eq!(rt; trunc3(price).units(), 99_999);
+    for (given, shown) in [
+        (40_624, 4_062),
+        (40_625, 4_063),
+        (-40_624, -4_062),
+        (-40_625, -4_063),
+        (-4, 0),
+        (-5, -1),
+    ] {
+        assert_eq!(rt;
+            round_yield(Yield::of(given).ok_or("a yield")?).units(),
+            shown
+        );
+    }
+    let par = Par::of(25_000).ok_or("a par")?;
+    let price = Price3::of(100_725).ok_or("a price")?;
+    assert_eq!(rt; principal_cents(par, price).units(), 2_518_125);
     Ok(())
 }

@@ -5,8 +5,8 @@ mod output;
 
 use muni_desk::{Status, quote_one};
 use output::Output;
-use std::{env, io};
 use std::process::ExitCode;
+use std::{env, io};
 
 fn main(rt: HostRuntime) -> ExitCode {
     ExitCode::from(run(&rt).number())

@@ -1,0 +1,72 @@
+//! The accuracy of printed figures, which is this desk's own choice.
+
+ghost use Rattle.std.specs.Prelude.{◌≡◌, ◌*◌, ◌/◌, ◌≤◌, ◌≤ℤ◌, pos, unsigned_abs};
+ghost use Rattle.muni_rule.specs.Accuracy as rule;
+ghost use Rattle.muni_dec.specs.Ranges.{IsPrintedYield};
+
+use crate::{Cents, Coupon, Par, Price, Price3, Yield, Yield3};
+
+/// A given price as it is shown, truncated to thousandths of a dollar.
+pub fn trunc3(price: Price) -> Price3
+    ensures value { result ≡ price / 1000 }
+    ensures truncated { rule.TruncatesTo (rule.IsAtMost (pos (360_000 * price))) result }
+{
+    match Price3::of(price.units() / 1000) {
+        Some(shown) => shown,
+        None => unreachable!(),
+    }
+}
+
+/// A given yield as it is shown, rounded to thousandths of a percent.
+pub fn round_yield(y: Yield) -> Yield3
+    requires { IsPrintedYield (rule.rounded_yield y) }
+    ensures { result ≡ rule.rounded_yield y }
+{
+    let magnitude = (y.units().unsigned_abs() + 5) / 10;
+    let rounded = if y.units() < 0 {
+        -(magnitude as i64)
+    } else {
+        magnitude as i64
+    };
+    match Yield3::of(rounded) {
+        Some(shown) => shown,
+        None => unreachable!(),
+    }
+}
+
+/// The accrued interest of a trade: truncated to thousandths of a dollar and rounded to cents.
+pub fn accrued_cents(coupon: Coupon, par: Par, days: i32) -> Cents
+    requires { (pos 0 ≤ℤ days) × (days ≤ℤ pos 720) }
+    ensures { result ≡ rule.accrued_cents coupon par (unsigned_abs days) }
+{
+    let thousandths = accrued_thousandths(coupon.units() as u64, par.units() as u64, days as u64);
+    cents((thousandths + 5) / 10)
+}
+
+fn accrued_thousandths(coupon: u64, par: u64, days: u64) -> u64
+    requires coupon { coupon ≤ 300_000_000 }
+    requires par { par ≤ 1_000_000_000 }
+    requires days { days ≤ 720 }
+    ensures value { result ≡ rule.accrued_thousandths coupon par days }
+    ensures range { result ≤ 600_000_000_000 }
+{
+    (u128::from(coupon) * u128::from(par) * u128::from(days) / 360_000_000) as u64
+}
+
+/// The principal of a trade, rounded to cents. The price is at most 100,000 dollars.
+pub fn principal_cents(par: Par, price: Price3) -> Cents
+    requires { price ≤ 100_000_000 }
+    ensures { result ≡ rule.principal_cents par price }
+{
+    cents((par.units() as u64 * price.units() as u64 + 500) / 1000)
+}
+
+fn cents(units: u64) -> Cents
+    requires { units ≤ 1_000_000_000_000_000 }
+    ensures { result ≡ units }
+{
+    match Cents::of(units as i64) {
+        Some(cents) => cents,
+        None => unreachable!(),
+    }
+}
