@@ -72,14 +72,13 @@ fn months_pass_year_ends_and_stop_at_the_range(rt: HostRuntime) -> Result<(), Fa
         ("2024-05-15", 0, "2024-05-15"),
         ("2000-01-01", 1_200, "2100-01-01"),
         ("2000-01-01", -1_200, "1900-01-01"),
+        ("1900-01-28", -1, "none"),
+        ("2199-12-01", 1, "none"),
     ] {
-        assert!(rt;
-            months_on(day(from)?, months) == Some(day(to)?),
-            "{from} {months}"
-        );
+        let from = day(from)?;
+        assert!(rt; from.day() <= 28);
+        assert!(rt; months_on(from, months) == Day::read(to.as_bytes()).ok(), "{to}");
     }
-    assert!(rt; months_on(day("1900-01-28")?, -1).is_none());
-    assert!(rt; months_on(day("2199-12-01")?, 1).is_none());
     Ok(())
 }
 

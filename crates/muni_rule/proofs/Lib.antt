@@ -1,1 +1,3 @@
 pub mod AtLeastLemmas
+pub mod YieldLemmas
+pub mod FallLemmas

@@ -4,3 +4,6 @@ pub mod Accuracy
 pub mod Ranges
 pub mod SinglePayment
 pub mod Printed
+pub mod Discount
+pub mod PrintedYield
+pub mod Outcomes

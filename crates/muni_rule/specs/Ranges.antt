@@ -8,3 +8,7 @@ IsOnePeriodYield y = (negsuc 899_999 ≤ℤ y) × (y ≤ℤ pos 9_999_990)
 -- from -45 to 999.999 percent, with interest at redemption
 abbrev pub IsAtRedemptionYield : ℤ → Type 0
 IsAtRedemptionYield y = (negsuc 449_999 ≤ℤ y) × (y ≤ℤ pos 9_999_990)
+
+-- discount rates, from 0 to 30 percent
+abbrev pub IsDiscountRate : ℤ → Type 0
+IsDiscountRate rate = (pos 0 ≤ℤ rate) × (rate ≤ℤ pos 300_000)

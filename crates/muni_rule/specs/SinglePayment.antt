@@ -1,7 +1,7 @@
 -- A security with one payment left (MSRB Rule G-33(b)(i)): one with periodic interest and six months
 -- or less to redemption, or one with interest at redemption.
 -- Amounts are whole numbers of 1/(360 * 10^9) dollars per 100 of par, yields of 10^-6.
-use Rattle.std.specs.Prelude.{ℤ, pos, ◌+ℤ◌, ◌*ℤ◌, ◌≤ℤ◌}
+use Rattle.std.specs.Prelude.{ℤ, pos, ◌+ℤ◌, ◌*ℤ◌, ◌≤ℤ◌, ◌<ℤ◌}
 
 -- the redemption with the interest that is paid with it, the accrued interest, and the days left
 pub record SinglePayment : Type 0 where
@@ -17,3 +17,8 @@ growth payment y = pos 360_000_000 +ℤ (payment.left *ℤ y)
 abbrev pub AtLeast : SinglePayment → ℤ → ℤ → Type 0
 AtLeast payment y amount =
     ((amount +ℤ payment.accrued) *ℤ growth payment y) ≤ℤ (payment.due *ℤ pos 360_000_000)
+
+-- the price at a yield is more than an amount
+abbrev pub More : SinglePayment → ℤ → ℤ → Type 0
+More payment y amount =
+    ((amount +ℤ payment.accrued) *ℤ growth payment y) <ℤ (payment.due *ℤ pos 360_000_000)

@@ -5,3 +5,4 @@
 #![tactic(auto)]
 
 pub mod printed;
+pub mod yields;

@@ -1,2 +1,5 @@
 pub mod AnswerLemmas
+pub mod DiscountLemmas
 pub mod GrowthLemmas
+pub mod OneAnswer
+pub mod ShownLemmas

@@ -1,11 +1,15 @@
 //! Securities with one payment to come, priced exactly.
 #![tactic(auto)]
 
+mod discount;
 mod price;
 mod single;
+mod yields;
 
+pub use discount::{discount_return, rate_price, rate_return};
 pub use price::{SimplePrice, single_price};
 pub use single::{Shape1, Single};
+pub use yields::{SimpleYield, one_yield_is_answered, single_yield};
 
 #[cfg(test)]
 mod tests;

