@@ -1,8 +1,8 @@
 -- Days as the rules see them, and as texts name them.
-use Rattle.std.specs.Prelude.{ℕ, ◌==◌, ◌&&◌, Bool, nat_le, if◌then◌else◌, pos, unsigned_abs, List, length, take, drop, slice_index, Option, Some, None, Result, Ok, Err}
+use Rattle.std.specs.Prelude.{ℕ, ◌==◌, ◌&&◌, Bool, nat_le, if◌then◌else◌, pos, unsigned_abs, List, ◌∷◌, ◌++◌, length, take, drop, slice_index, Option, Some, None, Result, Ok, Err}
 use Rattle.jiff.specs.Words.{days_in_month}
 use Rattle.muni_rule.specs.Civil.{Civil, order_of}
-use Rattle.muni_dec.specs.Digits.{are_digits, number}
+use Rattle.muni_dec.specs.Digits.{are_digits, number, last_digits}
 use Rattle.muni_days.specs.declared.day.Day.{Day}
 use Rattle.muni_days.specs.declared.day.DayFault.{DayFault}
 use Rattle.muni_days.specs.declared.day.DayFault.TheVariants.{Form, NoSuchDay}
@@ -51,3 +51,8 @@ abbrev pub day_reading : List ℕ → Result Civil DayFault
 day_reading text =
     if has_form text then (if is_day (numbers text) then Ok (numbers text) else Err NoSuchDay)
     else Err Form
+
+-- a day in that form
+abbrev pub day_text : Civil → List ℕ
+day_text date =
+    last_digits 4 date.year ++ 45 ∷ (last_digits 2 date.month ++ 45 ∷ last_digits 2 date.day)

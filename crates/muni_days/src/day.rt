@@ -1,12 +1,14 @@
-ghost use Rattle.std.specs.Prelude.{◌≡◌, ◌≤ℤ◌, pos, nat_eq};
+ghost use Rattle.std.specs.Prelude.{◌≡◌, ◌↔◌, ◌≤ℤ◌, true, pos, nat_eq};
 ghost use Rattle.std.specs.Cmp.{partial_order_from_own_ties};
 ghost use Rattle.std.specs.Cmp.Rules.{comparing};
 ghost use Rattle.std.specs.Option.{option_map};
 ghost use Rattle.std.specs.Ordering.{on, nat_cmp, as_partial_cmp};
 ghost use Rattle.std.proofs.Common.{rules};
+ghost use Rattle.arrayvec.specs.ArrayVec.{array_vec_len};
 
+use arrayvec::ArrayVec;
 use jiff::civil::Date;
-use muni_dec::digits::read_digits;
+use muni_dec::digits::{push_last_digits, read_digits};
 use std::cmp::Ordering;
 use std::marker::Model;
 
@@ -39,7 +41,7 @@ pub enum DayFault {
 }
 
 impl Day {
-    ghost use Rattle.muni_days.specs.Day.{civil, civil_read, place_of, if_day, day_reading};
+    ghost use Rattle.muni_days.specs.Day.{civil, civil_read, place_of, if_day, day_reading, day_text};
 
     /// Reads a day as `2024-02-29`.
     pub fn read(text: &[u8]) -> Result<Day, DayFault>
@@ -94,6 +96,33 @@ impl Day {
         ensures range { (pos 1 ≤ℤ result) × (result ≤ℤ pos 31) }
     {
         i32::from(self.date.day())
+    }
+
+    /// Whether both are the same day.
+    #[tactic(auto, using(crate::proofs::SameDateLemmas::same_date))]
+    pub fn same(&self, other: &Day) -> bool
+        ensures { (result ≡ true) ↔ (self.now ≡ other.now) }
+    {
+        if self.date.year() != other.date.year() {
+            return false;
+        }
+        if self.date.month() != other.date.month() {
+            return false;
+        }
+        self.date.day() == other.date.day()
+    }
+
+    /// Replaces the text by the day as `2024-02-29`.
+    pub fn print_into(&self, text: &mut ArrayVec<u8, 32>)
+        ensures items { text.new.items ≡ day_text (civil self.now) }
+        ensures len { array_vec_len text.new ≡ 10 }
+    {
+        text.clear();
+        push_last_digits(text, self.year() as u64, 4);
+        text.push(b'-');
+        push_last_digits(text, self.month() as u64, 2);
+        text.push(b'-');
+        push_last_digits(text, self.day() as u64, 2);
     }
 
     fn place(&self) -> u32

@@ -1,0 +1,2 @@
+pub mod CivilLemmas
+pub mod SameDateLemmas
