@@ -1,5 +1,12 @@
 pub mod Civil
 pub mod DayCount
+pub mod QuasiDates
+pub mod QuasiDateLaws
+pub mod Accrued
+pub mod Payments
+pub mod PaymentLaws
+pub mod Cusip
+pub mod Terms
 pub mod Accuracy
 pub mod Ranges
 pub mod SinglePayment

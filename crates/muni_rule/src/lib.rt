@@ -4,5 +4,7 @@
 //! three numbers, an amount a whole number of 1/(360 * 10^9) dollars per 100 of par.
 #![tactic(auto)]
 
+pub mod payments;
 pub mod printed;
 pub mod yields;
+pub mod quasi_dates;

@@ -1,0 +1,38 @@
+-- The count of days by 30/360 is not negative, and rises with the day that ends it.
+use Rattle.std.proofs.Common.{ℕ, ◌≤◌, min, arith, inl, inr, pos, ◌≤ℤ◌}
+use Rattle.std.proofs.lemmas.Int.{ints}
+use Rattle.std.proofs.lemmas.Bool.{cases_eq}
+use Rattle.std.proofs.lemmas.Bool.Decides.{nat_tests}
+use Rattle.muni_rule.specs.Civil.{Civil, IsCivil, order_of}
+use Rattle.muni_rule.specs.DayCount.{days360, first_counted, last_counted, days_up_to}
+
+last_counted-most : (first last : ℕ) → last_counted first last ≤ last
+last_counted-most first last = grind (arith, nat_tests)
+
+last_counted-least : (first last : ℕ) → min last 30 ≤ last_counted first last
+last_counted-least first last = grind (arith, nat_tests)
+
+first_counted-most : (first : ℕ) → first ≤ 31 → (first_counted first ≤ first) × (first_counted first ≤ 30)
+first_counted-most first most = (grind (arith, nat_tests), grind (arith, nat_tests))
+
+days_up_to-rise : (first : ℕ) (date later : Civil) → IsCivil date → IsCivil later → order_of date ≤ order_of later → days_up_to date (last_counted first date.day) ≤ days_up_to later (last_counted first later.day)
+days_up_to-rise first date later civil later_civil order =
+    elim (cases_eq date.day later.day) [
+      | inl same ↦ rw same (omega arith)
+      | inr other ↦ omega (arith, last_counted-most first date.day, last_counted-least first later.day, last_counted-least first date.day)
+    ]
+
+days_up_to-first : (date later : Civil) → IsCivil date → IsCivil later → order_of date ≤ order_of later → days_up_to date (first_counted date.day) ≤ days_up_to later (last_counted date.day later.day)
+days_up_to-first date later civil later_civil order =
+    let most = first_counted-most date.day civil.day_to in
+    omega (arith, last_counted-least date.day later.day)
+
+pub days360-not_negative : (date later : Civil) → IsCivil date → IsCivil later → order_of date ≤ order_of later → pos 0 ≤ℤ days360 date later
+days360-not_negative date later civil later_civil order =
+    let up_to = days_up_to-first date later civil later_civil order in
+    omega (arith, ints)
+
+pub days360-rise : (first date later : Civil) → IsCivil date → IsCivil later → order_of date ≤ order_of later → days360 first date ≤ℤ days360 first later
+days360-rise first date later civil later_civil order =
+    let up_to = days_up_to-rise first.day date later civil later_civil order in
+    omega (arith, ints)

@@ -1,0 +1,9 @@
+//! Laws of the payments that follow a settlement.
+
+ghost use Rattle.muni_rule.specs.PaymentLaws.{CouponSeriesIsPayments, ZeroSeriesIsPayments};
+
+/// The numbers of a series stand for the list of its payments, with coupons and without.
+pub fn series_stand_for_their_payments()
+    ensures coupons { CouponSeriesIsPayments }
+    ensures zeros { ZeroSeriesIsPayments }
+{}
