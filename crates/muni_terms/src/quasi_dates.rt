@@ -1,0 +1,65 @@
+//! The calendar of quasi-coupon dates, computed with months.
+
+ghost use Rattle.std.specs.Prelude.{◌≡◌, ◌<◌, ◌≤◌, Some, pos};
+ghost use Rattle.muni_rule.specs.Civil as rule;
+ghost use Rattle.muni_rule.specs.Civil.{order_of};
+ghost use Rattle.muni_rule.specs.QuasiDates as dates;
+ghost use Rattle.muni_rule.specs.QuasiDates.{IsLastMonth};
+ghost use Rattle.muni_days.specs.Day.{civil};
+
+use muni_days::Day;
+
+fn month_index(date: Day) -> u32
+    ensures value { result ≡ rule.month_index (civil date) }
+    ensures range { (22_800 ≤ result) × (result < 26_400) }
+{
+    date.year() as u32 * 12 + (date.month() as u32 - 1)
+}
+
+fn day_of_month(date: Day) -> u32
+    ensures value { result ≡ date.day }
+    ensures range { (1 ≤ result) × (result ≤ 31) }
+{
+    date.day() as u32
+}
+
+// The month of the last quasi-coupon date not after a settlement.
+fn last_month(anchor: Day, settlement: Day) -> u32
+    requires day { anchor.day ≤ 28 }
+    requires year { 1901 ≤ (civil settlement).year }
+    ensures { IsLastMonth (civil anchor) (civil settlement) result }
+{
+    let before = u32::from(day_of_month(settlement) < day_of_month(anchor));
+    let month = month_index(settlement) - before;
+    month - (month + 6 - month_index(anchor) % 6) % 6
+}
+
+/// Whether a day is a quasi-coupon date.
+pub fn is_quasi_date(anchor: Day, date: Day) -> bool
+    ensures { result ≡ dates.is_quasi_date (civil anchor) (civil date) }
+{
+    date.day() == anchor.day() && month_index(date) % 6 == month_index(anchor) % 6
+}
+
+/// The number of quasi-coupon dates after one day and not after another.
+pub fn quasi_count(anchor: Day, start: Day, end: Day) -> u32
+    requires day { anchor.day ≤ 28 }
+    requires year { 1901 ≤ (civil start).year }
+    requires order { order_of (civil start) ≤ order_of (civil end) }
+    ensures { result ≡ dates.quasi_count (civil anchor) (civil start) (civil end) }
+{
+    (last_month(anchor, end) - last_month(anchor, start)) / 6
+}
+
+/// The days from the last quasi-coupon date not after a settlement up to the settlement.
+///
+/// They are 180, and not 0, on a 31st that stands before interest on a 1st.
+pub fn days_into_period(anchor: Day, settlement: Day) -> u32
+    requires day { anchor.day ≤ 28 }
+    requires year { 1901 ≤ (civil settlement).year }
+    ensures days { dates.days_into_period (civil anchor) (civil settlement) ≡ Some (pos result) }
+    ensures range { result ≤ 180 }
+{
+    let months = month_index(settlement) - last_month(anchor, settlement);
+    months * 30 + day_of_month(settlement) - day_of_month(anchor)
+}

@@ -1,0 +1,199 @@
+//! The terms of an issue as they are given, and what may be wrong with them.
+
+ghost use Rattle.std.specs.Prelude.{◌≡◌, ◌↔◌, true};
+ghost use Rattle.muni_terms.specs.Fault.{fault_number};
+
+use arrayvec::ArrayVec;
+use muni_days::Day;
+use muni_dec::{Coupon, Price};
+
+/// A pricing call: the issuer may redeem the whole issue on this day at this price.
+#[derive(Clone, Copy, Debug, PartialEq, Eq)]
+pub struct Call {
+    pub date: Day,
+    pub price: Price,
+}
+
+impl Default for Call {
+    fn default() -> Self {
+        let (Some(date), Some(price)) = (Day::of(1900, 1, 1), Price::of(0)) else {
+            unreachable!()
+        };
+        Call { date, price }
+    }
+}
+
+/// How an issue pays interest.
+#[derive(Clone, Copy, Debug, PartialEq, Eq)]
+pub enum Kind {
+    /// Twice a year, from the first interest date on.
+    Periodic { first: Day },
+    /// Not at all.
+    Zero,
+    /// Once, at maturity.
+    AtRedemption,
+    /// Not at all: it is sold at a discount.
+    Discount,
+}
+
+/// The terms of an issue as they are given. At maturity it is redeemed at 100.
+#[derive(Drop)]
+pub struct IssueRow {
+    /// Eight digits and capital letters, and a check digit.
+    pub cusip: [u8; 9],
+    /// The name, of printable ASCII.
+    pub name: ArrayVec<u8, 60>,
+    pub kind: Kind,
+    /// The day from which interest accrues.
+    pub dated: Day,
+    pub maturity: Day,
+    /// The yearly coupon, which is 0 where no interest is paid.
+    pub coupon: Coupon,
+    /// The calls in order of date.
+    pub calls: ArrayVec<Call, 40>,
+}
+
+/// Why a row is no issue.
+#[derive(Clone, Copy, Debug, PartialEq, Eq)]
+pub enum TermsFault {
+    /// The CUSIP is not eight digits and capital letters with their check digit.
+    BadCusip,
+    /// The dates are not in order, or the dated date is before 1902.
+    BadOrder,
+    /// Interest or a zero coupon's maturity falls on a day over 28, or an issue with coupons matures
+    /// on another day than a quasi-coupon date.
+    BadDay,
+    /// There is a coupon and no interest, or interest and no coupon.
+    BadCoupon,
+    /// The first interest is for more than 360 days of 30/360.
+    FirstTooLong,
+    /// This call is not on a day on which the issue can be called.
+    CallOffCalendar { date: Day },
+    /// This call is not after the one before it.
+    CallsNotRising { date: Day },
+    /// This call's price is not from 1 to 200.
+    BadCallPrice { date: Day },
+    /// More than 100 quasi-coupon dates, or a note of more than 720 days of 30/360.
+    TooLong,
+    /// The name is empty, or not of printable ASCII.
+    BadName,
+}
+
+impl TermsFault {
+    /// The number of the fault, from 1 to 10.
+    pub fn number(&self) -> u32
+        ensures { result ≡ fault_number self.now }
+    {
+        match self {
+            TermsFault::BadCusip => 1,
+            TermsFault::BadOrder => 2,
+            TermsFault::BadDay => 3,
+            TermsFault::BadCoupon => 4,
+            TermsFault::FirstTooLong => 5,
+            TermsFault::CallOffCalendar { .. } => 6,
+            TermsFault::CallsNotRising { .. } => 7,
+            TermsFault::BadCallPrice { .. } => 8,
+            TermsFault::TooLong => 9,
+            TermsFault::BadName => 10,
+        }
+    }
+}
+
+fn copy_name(name: &ArrayVec<u8, 60>) -> ArrayVec<u8, 60>
+    ensures { result ≡ name.now }
+{
+    let mut copy = ArrayVec::new();
+    let _ = copy.try_extend_from_slice(name);
+    copy
+}
+
+fn copy_calls(calls: &ArrayVec<Call, 40>) -> ArrayVec<Call, 40>
+    ensures { result ≡ calls.now }
+{
+    let mut copy = ArrayVec::new();
+    let _ = copy.try_extend_from_slice(calls);
+    copy
+}
+
+fn same_bytes(bytes: &[u8], other: &[u8]) -> bool
+    ensures { (result ≡ true) ↔ (bytes.now ≡ other.now) }
+{
+    bytes == other
+}
+
+fn same_kind(kind: &Kind, other: &Kind) -> bool
+    ensures { (result ≡ true) ↔ (kind.now ≡ other.now) }
+{
+    match (kind, other) {
+        (Kind::Periodic { first }, Kind::Periodic { first: other }) => first.same(other),
+        (Kind::Zero, Kind::Zero) => true,
+        (Kind::AtRedemption, Kind::AtRedemption) => true,
+        (Kind::Discount, Kind::Discount) => true,
+        _ => false,
+    }
+}
+
+fn same_call(call: &Call, other: &Call) -> bool
+    ensures { (result ≡ true) ↔ (call.now ≡ other.now) }
+{
+    if !call.date.same(&other.date) {
+        return false;
+    }
+    call.price.units() == other.price.units()
+}
+
+fn same_calls(calls: &[Call], other: &[Call]) -> bool
+    ensures { (result ≡ true) ↔ (calls.now ≡ other.now) }
+{
+    if calls.len() != other.len() {
+        return false;
+    }
+    for (i, call) in calls.iter().enumerate() {
+        if !same_call(call, &other[i]) {
+            return false;
+        }
+    }
+    true
+}
+
+impl IssueRow {
+    /// A row of equal value.
+    pub fn copy(&self) -> IssueRow
+        ensures { result ≡ self.now }
+    {
+        IssueRow {
+            cusip: self.cusip,
+            name: copy_name(&self.name),
+            kind: self.kind,
+            dated: self.dated,
+            maturity: self.maturity,
+            coupon: self.coupon,
+            calls: copy_calls(&self.calls),
+        }
+    }
+
+    /// Whether both rows are of equal value.
+    pub fn same(&self, other: &IssueRow) -> bool
+        ensures { (result ≡ true) ↔ (self.now ≡ other.now) }
+    {
+        if !same_bytes(&self.cusip, &other.cusip) {
+            return false;
+        }
+        if !same_bytes(&self.name, &other.name) {
+            return false;
+        }
+        if !same_kind(&self.kind, &other.kind) {
+            return false;
+        }
+        if !self.dated.same(&other.dated) {
+            return false;
+        }
+        if !self.maturity.same(&other.maturity) {
+            return false;
+        }
+        if self.coupon.units() != other.coupon.units() {
+            return false;
+        }
+        same_calls(&self.calls, &other.calls)
+    }
+}
