@@ -145,25 +145,33 @@ pub record IsInterest (dated first settlement redemption : Civil) (coupon : ℕ)
   pub amounts : map (interest_at dated first coupon) (quasi_dates_between first settlement redemption)
       ≡ replicate (unpaid_count first settlement) 0 ++ first_interest dated first coupon settlement ∷ replicate (quasi_count first settlement redemption - unpaid_count first settlement - 1) (half_year_interest coupon)
 
-first-own : (first : Civil) → is_quasi_date first first ≡ true
+pub first-own : (first : Civil) → is_quasi_date first first ≡ true
 first-own first =
     let day = eq-eqb first.day first.day refl in
     let month = eq-eqb (month_index first % 6) (month_index first % 6) refl in
     rw (day, month) refl
 
-first-redeemed : (first date : Civil) → IsRedemptionDate first date → 1900 ≤ first.year → order_of first ≤ order_of date → IsRedemptionDate first first
-first-redeemed first date redeemed year order =
+-- interest begins in the years of the desk
+pub first-year : (first settlement redemption : Civil) → IsCouponRedemption first settlement redemption → first.year ≤ 2199
+first-year first settlement redemption coupon_redemption =
+    let redeemed = coupon_redemption.later.redeemed in
+    let order = coupon_redemption.first_paid in
     let to = redeemed.year_to in
     let month_to = redeemed.civil.month_to in
     let day_to = redeemed.civil.day_to in
     let month_from = redeemed.anchor_civil.month_from in
     let day_from = redeemed.anchor_civil.day_from in
+    omega arith
+
+first-redeemed : (first settlement redemption : Civil) → IsCouponRedemption first settlement redemption → IsRedemptionDate first first
+first-redeemed first settlement redemption coupon_redemption =
+    let redeemed = coupon_redemption.later.redeemed in
     record {
       anchor_civil = redeemed.anchor_civil;
       anchor_day = redeemed.anchor_day;
       civil = redeemed.anchor_civil;
-      year_from = year;
-      year_to = omega arith;
+      year_from = coupon_redemption.first_year;
+      year_to = first-year first settlement redemption coupon_redemption;
       quasi = first-own first;
     }
 
@@ -177,7 +185,7 @@ is_interest dated first settlement redemption coupon coupon_redemption =
     let j = month_index redemption / 6 in
     let f = month_index first / 6 in
     let at_end = place-own first redemption redeemed in
-    let at_first = place-own first first (first-redeemed first redemption redeemed coupon_redemption.first_year coupon_redemption.first_paid) in
+    let at_first = place-own first first (first-redeemed first settlement redemption coupon_redemption) in
     let less = places-strictly first settlement redemption i j redeemed.civil at.1 at_end later.after redeemed.quasi in
     let count = count-places first settlement redemption i j at.1 at_end (omega arith) in
     let first_le = places-in_order first first redemption f j at_first at_end coupon_redemption.first_paid in
@@ -203,11 +211,15 @@ is_interest dated first settlement redemption coupon coupon_redemption =
     ]
 
 -- before the first interest date that date itself is counted
-pub quasi_count-first : (first settlement : Civil) → IsCivil first → first.day ≤ 28 → 1900 ≤ first.year → first.year ≤ 2199 → IsSettlementDate settlement → order_of settlement < order_of first → 1 ≤ quasi_count first settlement first
-quasi_count-first first settlement civil small from to settled before =
+pub quasi_count-first : (first settlement : Civil) → IsCivil first → first.day ≤ 28 → first.year ≤ 2199 → IsSettlementDate settlement → order_of settlement < order_of first → 1 ≤ quasi_count first settlement first
+quasi_count-first first settlement civil small to settled before =
+    let from = settled.year_from in
+    let month_from = settled.civil.month_from in
+    let day_from = settled.civil.day_from in
+    let month_to = civil.month_to in
     quasi_count-redeemed first settlement first (record {
       settled = settled;
-      redeemed = record { anchor_civil = civil; anchor_day = small; civil = civil; year_from = from; year_to = to; quasi = first-own first };
+      redeemed = record { anchor_civil = civil; anchor_day = small; civil = civil; year_from = omega arith; year_to = to; quasi = first-own first };
       after = before;
     })
 

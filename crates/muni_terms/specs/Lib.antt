@@ -1,1 +1,4 @@
 pub mod Fault
+pub mod Check
+pub mod Flows
+pub mod Issue

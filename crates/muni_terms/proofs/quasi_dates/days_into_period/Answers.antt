@@ -1,4 +1,4 @@
-use Rattle.std.proofs.Common.{◌≡◌, ◌-◌, ◌+◌, ◌*◌, ◌≤◌, arith}
+use Rattle.std.proofs.Common.{◌-◌, ◌+◌, ◌*◌, arith}
 use Rattle.muni_days.specs.Day.{civil}
 use Rattle.muni_days.proofs.CivilLemmas.{is_civil}
 use Rattle.muni_rule.specs.Civil.{month_index}

@@ -1,0 +1,284 @@
+-- What follows from the tests that an issue passed.
+use Rattle.std.proofs.Common.{◌≡◌, ℕ, zero, suc, ◌<◌, ◌≤◌, Bool, true, false, cond, not, leb, ◌&&◌, List, [], ◌∷◌, length, Option, Some, None, refl, sym, subst, arith, inl, inr, ℤ, pos, ◌≤ℤ◌}
+use Rattle.std.specs.Prelude.{Contains, slice_index_or, int_le}
+use Rattle.std.proofs.lemmas.Int.{ints}
+use Rattle.std.proofs.lemmas.Bool.{and_parts, ltb-true, leb-true}
+use Rattle.muni_rule.specs.Civil.{Civil, IsCivil, order_of, is_before, is_not_after}
+use Rattle.muni_rule.specs.DayCount.{days360}
+use Rattle.muni_rule.specs.QuasiDates.{is_quasi_date, quasi_count}
+use Rattle.muni_rule.specs.PaymentLaws.{IsSettlementDate, IsRedeemedAfter, IsCouponRedemption}
+use Rattle.muni_rule.specs.Cusip.{is_cusip}
+use Rattle.muni_rule.specs.Terms.{is_name, is_dated_date, is_interest_day, is_call_price}
+use Rattle.muni_rule.proofs.PaymentLemmas.{quasi_count-within, first-own}
+use Rattle.muni_days.specs.Day.{civil}
+use Rattle.muni_days.specs.declared.day.Day.{Day}
+use Rattle.muni_days.proofs.CivilLemmas.{is_civil}
+use Rattle.muni_terms.specs.Check as Check
+use Rattle.muni_terms.specs.Issue.{IsRedemption, settles, anchor_by, anchor_of}
+use Rattle.muni_terms.specs.declared.row.Call.{Call}
+use Rattle.muni_terms.specs.declared.row.Kind.{Kind}
+use Rattle.muni_terms.specs.declared.row.Kind.TheVariants.{Periodic, Zero, AtRedemption, Discount}
+use Rattle.muni_terms.specs.declared.row.IssueRow.{IssueRow}
+use Rattle.muni_terms.specs.declared.row.TermsFault.{TermsFault}
+use Rattle.muni_terms.specs.declared.row.TermsFault.TheVariants.{BadCusip, BadOrder, BadDay, BadCoupon, FirstTooLong, CallOffCalendar, CallsNotRising, BadCallPrice, TooLong, BadName}
+
+-- a test that does not fail, and what comes behind it
+passed : {X : Type 0} (test : Bool) (fault : X) (behind : Option X) → cond (not test) (Some fault) behind ≡ None → (test ≡ true) × (behind ≡ None)
+passed true fault behind none = (refl, none)
+passed false fault behind none = absurd (cc)
+
+neither : (fault other : Option TermsFault) → Check.first_of fault other ≡ None → (fault ≡ None) × (other ≡ None)
+neither None other none = (refl, none)
+neither (Some fault) other none = absurd (cc)
+
+-- the tests that an issue passed, as far as the payments need them
+pub record IsIssue (row : IssueRow) : Type 0 where
+  pub order : Check.has_order row ≡ true
+  pub day : Check.has_day row ≡ true
+  pub start : Check.has_short_start row ≡ true
+  pub term : Check.has_short_term row ≡ true
+  pub calls : Check.calls_fault row None row.calls.items ≡ None
+
+early-passed : (row : IssueRow) → Check.early_fault row ≡ None → (Check.has_order row ≡ true) × (Check.has_day row ≡ true) × (Check.has_short_start row ≡ true) × (Check.has_short_term row ≡ true)
+unfolding Check.early_fault
+early-passed row none =
+    let cusip = passed (is_cusip row.cusip) BadCusip _ none in
+    let name = passed (is_name row.name.items) BadName _ cusip.1 in
+    let order = passed (Check.has_order row) BadOrder _ name.1 in
+    let day = passed (Check.has_day row) BadDay _ order.1 in
+    let coupon = passed (Check.has_coupon row) BadCoupon _ day.1 in
+    let start = passed (Check.has_short_start row) FirstTooLong _ coupon.1 in
+    let term = passed (Check.has_short_term row) TooLong _ start.1 in
+    (order.0, day.0, start.0, term.0)
+
+pub is_issue : (row : IssueRow) → Check.fault_of row ≡ None → IsIssue row
+unfolding Check.fault_of
+is_issue row none =
+    let both = neither (Check.early_fault row) (Check.calls_fault row None row.calls.items) none in
+    let early = early-passed row both.0 in
+    record { order = early.0; day = early.1; start = early.2; term = early.3; calls = both.1 }
+
+-- each call passed its tests behind the call before it
+call-passed : (row : IssueRow) (before : Option Day) (calls : List Call) (k : ℕ) (other : Call) → Check.calls_fault row before calls ≡ None → k < length calls → (last : Option Day) × (Check.call_fault row last (slice_index_or calls k other) ≡ None)
+call-passed row before [] k other none inside = absurd (omega arith)
+call-passed row before (call ∷ calls) zero other none inside = (before, (neither (Check.call_fault row before call) (Check.calls_fault row (Some call.date) calls) none).0)
+call-passed row before (call ∷ calls) (suc k) other none inside =
+    call-passed row (Some call.date) calls k other (neither (Check.call_fault row before call) (Check.calls_fault row (Some call.date) calls) none).1 (omega arith)
+
+record IsCall (row : IssueRow) (date : Day) (price : ℕ) : Type 0 where
+  pub on_calendar : Check.is_call_date row.kind (civil row.dated) (civil row.maturity) (civil date) ≡ true
+  pub price_from : 1_000_000 ≤ price
+  pub price_to : price ≤ 200_000_000
+
+is_call : (row : IssueRow) (before : Option Day) (call : Call) → Check.call_fault row before call ≡ None → IsCall row call.date call.price
+is_call row before call none =
+    let on_calendar = passed (Check.is_call_date row.kind (civil row.dated) (civil row.maturity) (civil call.date)) (CallOffCalendar call.date) _ none in
+    let rises = passed (Check.rises before call.date) (CallsNotRising call.date) _ on_calendar.1 in
+    let price = passed (is_call_price call.price) (BadCallPrice call.date) _ rises.1 in
+    let range = and_parts (leb 1_000_000 call.price) (leb call.price 200_000_000) price.0 in
+    record { on_calendar = on_calendar.0; price_from = leb-true 1_000_000 call.price range.0; price_to = leb-true call.price 200_000_000 range.1 }
+
+call-contained : (row : IssueRow) (date : Day) (price : ℕ) → IsIssue row → Contains row.calls.items (record { date = date; price = price }) → IsCall row date price
+call-contained row date price issue contained =
+    let call : Call = record { date = date; price = price } in
+    let none = call-passed row None row.calls.items contained.0 call issue.calls contained.1 in
+    is_call row none.0 call (rw contained.2 at none.1)
+
+-- an issue's quasi-coupon dates
+pub record IsAnchor (dated maturity anchor : Civil) : Type 0 where
+  pub is_date : IsCivil anchor
+  pub day : anchor.day ≤ 28
+  pub quasi : is_quasi_date anchor maturity ≡ true
+  pub count : quasi_count anchor dated maturity ≤ 100
+
+anchor-by_kind : (kind : Kind) (dated maturity : Day) (anchor : Civil) → anchor_by kind (civil maturity) ≡ Some anchor → Check.falls_on_day kind (civil maturity) ≡ true → Check.ends_soon kind (civil dated) (civil maturity) ≡ true → IsAnchor (civil dated) (civil maturity) anchor
+anchor-by_kind (Periodic first) dated maturity anchor is_anchor day term =
+    let same : civil first ≡ anchor = cc in
+    let Is : Civil → Type 0 = λ it. IsAnchor (civil dated) (civil maturity) it in
+    let parts = and_parts (is_interest_day (civil first)) (is_quasi_date (civil first) (civil maturity)) day in
+    subst Is same (record {
+      is_date = is_civil first;
+      day = leb-true (civil first).day 28 parts.0;
+      quasi = parts.1;
+      count = leb-true (quasi_count (civil first) (civil dated) (civil maturity)) 100 term;
+    })
+anchor-by_kind Zero dated maturity anchor is_anchor day term =
+    let same : civil maturity ≡ anchor = cc in
+    let Is : Civil → Type 0 = λ it. IsAnchor (civil dated) (civil maturity) it in
+    subst Is same (record {
+      is_date = is_civil maturity;
+      day = leb-true (civil maturity).day 28 day;
+      quasi = first-own (civil maturity);
+      count = leb-true (quasi_count (civil maturity) (civil dated) (civil maturity)) 100 term;
+    })
+anchor-by_kind AtRedemption dated maturity anchor is_anchor day term = absurd (cc)
+anchor-by_kind Discount dated maturity anchor is_anchor day term = absurd (cc)
+
+pub is_anchor : (row : IssueRow) (anchor : Civil) → IsIssue row → anchor_of row ≡ Some anchor → IsAnchor (civil row.dated) (civil row.maturity) anchor
+is_anchor row anchor issue there = anchor-by_kind row.kind row.dated row.maturity anchor there issue.day issue.term
+
+call-by_kind : (kind : Kind) (dated maturity anchor date : Civil) → anchor_by kind maturity ≡ Some anchor → Check.is_call_date kind dated maturity date ≡ true → (is_quasi_date anchor date ≡ true) × (is_before date maturity ≡ true)
+call-by_kind (Periodic first) dated maturity anchor date is_anchor on_calendar =
+    let same : civil first ≡ anchor = cc in
+    let parts = and_parts (is_quasi_date (civil first) date) (is_before date maturity && is_not_after (civil first) date) on_calendar in
+    let Is : Civil → Type 0 = λ it. is_quasi_date it date ≡ true in
+    (subst Is same parts.0, (and_parts (is_before date maturity) (is_not_after (civil first) date) parts.1).0)
+call-by_kind Zero dated maturity anchor date is_anchor on_calendar =
+    let same : maturity ≡ anchor = cc in
+    let parts = and_parts (is_quasi_date maturity date) (is_before date maturity && is_before dated date) on_calendar in
+    let Is : Civil → Type 0 = λ it. is_quasi_date it date ≡ true in
+    (subst Is same parts.0, (and_parts (is_before date maturity) (is_before dated date) parts.1).0)
+call-by_kind AtRedemption dated maturity anchor date is_anchor on_calendar = absurd (cc)
+call-by_kind Discount dated maturity anchor date is_anchor on_calendar = absurd (cc)
+
+-- a redemption is a quasi-coupon date up to maturity, at a price in its range
+record IsRedeemed (row : IssueRow) (anchor : Civil) (date : Day) (price : ℕ) : Type 0 where
+  pub quasi : is_quasi_date anchor (civil date) ≡ true
+  pub up_to : order_of (civil date) ≤ order_of (civil row.maturity)
+  pub price_from : 1_000_000 ≤ price
+  pub price_to : price ≤ 200_000_000
+
+is_redeemed : (row : IssueRow) (anchor : Civil) (date : Day) (price : ℕ) → IsIssue row → anchor_of row ≡ Some anchor → IsRedemption row date price → IsRedeemed row anchor date price
+is_redeemed row anchor date price issue there (inl at_maturity) =
+    let Is : Day → Type 0 = λ it. IsRedeemed row anchor it price in
+    let at_100 = at_maturity.1 in
+    subst Is (sym at_maturity.0) (record { quasi = (is_anchor row anchor issue there).quasi; up_to = omega arith; price_from = omega arith; price_to = omega arith })
+is_redeemed row anchor date price issue there (inr at_call) =
+    let call = call-contained row date price issue at_call in
+    let parts = call-by_kind row.kind (civil row.dated) (civil row.maturity) anchor (civil date) there call.on_calendar in
+    let before = ltb-true (order_of (civil date)) (order_of (civil row.maturity)) parts.1 in
+    record { quasi = parts.0; up_to = omega arith; price_from = call.price_from; price_to = call.price_to }
+
+-- a settlement
+pub record IsSettled (row : IssueRow) (settlement : Day) : Type 0 where
+  pub dated_year : 1902 ≤ (civil row.dated).year
+  pub from : order_of (civil row.dated) ≤ order_of (civil settlement)
+  pub below : order_of (civil settlement) < order_of (civil row.maturity)
+
+pub is_settled : (row : IssueRow) (settlement : Day) → IsIssue row → settles row settlement ≡ true → IsSettled row settlement
+is_settled row settlement issue settled =
+    let order = and_parts (is_dated_date (civil row.dated)) (Check.are_in_order row.kind (civil row.dated) (civil row.maturity)) issue.order in
+    let parts = and_parts (is_not_after (civil row.dated) (civil settlement)) (is_before (civil settlement) (civil row.maturity)) settled in
+    record {
+      dated_year = leb-true 1902 (civil row.dated).year order.0;
+      from = leb-true (order_of (civil row.dated)) (order_of (civil settlement)) parts.0;
+      below = ltb-true (order_of (civil settlement)) (order_of (civil row.maturity)) parts.1;
+    }
+
+-- a date that is not after another stands in the same year or an earlier one
+year-order : (date later : Civil) → IsCivil date → IsCivil later → order_of date ≤ order_of later → date.year ≤ later.year
+year-order date later civil later_civil order = omega (arith, civil, later_civil)
+
+pub year-settled : (row : IssueRow) (settlement : Day) → IsSettled row settlement → 1902 ≤ (civil settlement).year
+year-settled row settlement settled =
+    let from = settled.dated_year in
+    let order = year-order (civil row.dated) (civil settlement) (is_civil row.dated) (is_civil settlement) settled.from in
+    omega arith
+
+-- what payments after a settlement up to a redemption ask for
+pub record HasPayments (anchor : Civil) (settlement redemption : Day) (price : ℕ) : Type 0 where
+  pub redeemed : IsRedeemedAfter anchor (civil settlement) (civil redemption)
+  pub count : quasi_count anchor (civil settlement) (civil redemption) ≤ 100
+  pub price_from : 1_000_000 ≤ price
+  pub price_to : price ≤ 200_000_000
+
+pub has_payments : (row : IssueRow) (anchor : Civil) (settlement redemption : Day) (price : ℕ) → IsIssue row → anchor_of row ≡ Some anchor → IsSettled row settlement → IsRedemption row redemption price → order_of (civil settlement) < order_of (civil redemption) → (civil row.maturity).year ≤ 2199 →
+    HasPayments anchor settlement redemption price
+has_payments row anchor settlement redemption price issue there settled redeemed later last_year =
+    let dates = is_anchor row anchor issue there in
+    let end = is_redeemed row anchor redemption price issue there redeemed in
+    let from = settled.dated_year in
+    let settlement_from = year-settled row settlement settled in
+    let settlement_to = year-order (civil settlement) (civil redemption) (is_civil settlement) (is_civil redemption) (omega arith) in
+    let redemption_to = year-order (civil redemption) (civil row.maturity) (is_civil redemption) (is_civil row.maturity) end.up_to in
+    let dated_date : IsSettlementDate (civil row.dated) = record { civil = is_civil row.dated; year_from = omega arith; year_to = let up_to = year-order (civil row.dated) (civil settlement) (is_civil row.dated) (is_civil settlement) settled.from in omega arith } in
+    let settlement_date : IsSettlementDate (civil settlement) = record { civil = is_civil settlement; year_from = omega arith; year_to = omega arith } in
+    let redemption_date : IsSettlementDate (civil redemption) = record { civil = is_civil redemption; year_from = omega arith; year_to = omega arith } in
+    let maturity_date : IsSettlementDate (civil row.maturity) = record { civil = is_civil row.maturity; year_from = omega arith; year_to = last_year } in
+    let within = quasi_count-within anchor (civil row.dated) (civil settlement) (civil redemption) (civil row.maturity) dates.is_date dates.day dated_date settlement_date redemption_date maturity_date settled.from (omega arith) end.up_to in
+    let most = dates.count in
+    record {
+      redeemed = record {
+        settled = settlement_date;
+        redeemed = record { anchor_civil = dates.is_date; anchor_day = dates.day; civil = is_civil redemption; year_from = omega arith; year_to = omega arith; quasi = end.quasi };
+        after = later;
+      };
+      count = omega arith;
+      price_from = end.price_from;
+      price_to = end.price_to;
+    }
+
+int_le-true : (a b : ℤ) → int_le a b ≡ true → a ≤ℤ b
+int_le-true a b test = grind (arith, ints)
+
+-- the start of an issue with coupons
+pub record HasCoupons (row : IssueRow) (first : Day) : Type 0 where
+  pub order : order_of (civil row.dated) ≤ order_of (civil first)
+  pub up_to : order_of (civil first) ≤ order_of (civil row.maturity)
+  pub start : days360 (civil row.dated) (civil first) ≤ℤ pos 360
+
+pub has_coupons : (row : IssueRow) (first : Day) → IsIssue row → row.kind ≡ Periodic first → HasCoupons row first
+has_coupons row first issue is_periodic =
+    let order = and_parts (is_dated_date (civil row.dated)) (Check.are_in_order (Periodic first) (civil row.dated) (civil row.maturity)) (rw is_periodic at issue.order) in
+    let parts = and_parts (is_before (civil row.dated) (civil first)) (is_not_after (civil first) (civil row.maturity)) order.1 in
+    let before = ltb-true (order_of (civil row.dated)) (order_of (civil first)) parts.0 in
+    record {
+      order = omega arith;
+      up_to = leb-true (order_of (civil first)) (order_of (civil row.maturity)) parts.1;
+      start = int_le-true (days360 (civil row.dated) (civil first)) (pos 360) (rw is_periodic at issue.start);
+    }
+
+-- an issue with coupons is not redeemed before its first interest date
+first-redeemed : (row : IssueRow) (first date : Day) (price : ℕ) → IsIssue row → row.kind ≡ Periodic first → IsRedemption row date price → order_of (civil first) ≤ order_of (civil date)
+first-redeemed row first date price issue is_periodic (inl at_maturity) =
+    let Is : Day → Type 0 = λ it. order_of (civil first) ≤ order_of (civil it) in
+    subst Is (sym at_maturity.0) (has_coupons row first issue is_periodic).up_to
+first-redeemed row first date price issue is_periodic (inr at_call) =
+    let call = call-contained row date price issue at_call in
+    let on_calendar = and_parts (is_quasi_date (civil first) (civil date)) (is_before (civil date) (civil row.maturity) && is_not_after (civil first) (civil date)) (rw is_periodic at call.on_calendar) in
+    let parts = and_parts (is_before (civil date) (civil row.maturity)) (is_not_after (civil first) (civil date)) on_calendar.1 in
+    leb-true (order_of (civil first)) (order_of (civil date)) parts.1
+
+pub has_coupon_payments : (row : IssueRow) (first settlement redemption : Day) (price : ℕ) → IsIssue row → row.kind ≡ Periodic first → IsSettled row settlement → IsRedemption row redemption price → HasPayments (civil first) settlement redemption price →
+    IsCouponRedemption (civil first) (civil settlement) (civil redemption)
+has_coupon_payments row first settlement redemption price issue is_periodic settled redeemed payments =
+    let from = settled.dated_year in
+    let year = year-order (civil row.dated) (civil first) (is_civil row.dated) (is_civil first) (has_coupons row first issue is_periodic).order in
+    record { later = payments.redeemed; first_year = omega arith; first_paid = first-redeemed row first redemption price issue is_periodic redeemed }
+
+-- the settlement of an issue with coupons
+pub record IsCouponSettled (row : IssueRow) (first settlement : Day) : Type 0 where
+  pub coupons : HasCoupons row first
+  pub settled : IsSettled row settlement
+  pub day : (civil first).day ≤ 28
+  pub year : 1902 ≤ (civil settlement).year
+
+pub coupon_settled : (row given : IssueRow) (first settlement : Day) → row ≡ given → Check.fault_of row ≡ None → row.kind ≡ Periodic first → settles given settlement ≡ true → IsCouponSettled row first settlement
+coupon_settled row given first settlement same none is_periodic settles_given =
+    let Settles : IssueRow → Type 0 = λ it. settles it settlement ≡ true in
+    let issue = is_issue row none in
+    let settled = is_settled row settlement issue (subst Settles (sym same) settles_given) in
+    let there : anchor_of row ≡ Some (civil first) = rw is_periodic refl in
+    record {
+      coupons = has_coupons row first issue is_periodic;
+      settled = settled;
+      day = (is_anchor row (civil first) issue there).day;
+      year = year-settled row settlement settled;
+    }
+
+-- the redemption of an issue after a settlement
+pub issue_payments : (row given : IssueRow) (anchor : Civil) (settlement redemption : Day) (price : ℕ) → row ≡ given → Check.fault_of row ≡ None → anchor_of row ≡ Some anchor → settles given settlement ≡ true → IsRedemption given redemption price → order_of (civil settlement) < order_of (civil redemption) → (civil row.maturity).year ≤ 2199 →
+    HasPayments anchor settlement redemption price
+issue_payments row given anchor settlement redemption price same none there settles_given redeemed_given later last_year =
+    let Settles : IssueRow → Type 0 = λ it. settles it settlement ≡ true in
+    let Redeems : IssueRow → Type 0 = λ it. IsRedemption it redemption price in
+    let issue = is_issue row none in
+    let settled = is_settled row settlement issue (subst Settles (sym same) settles_given) in
+    has_payments row anchor settlement redemption price issue there settled (subst Redeems (sym same) redeemed_given) later last_year
+
+pub coupon_redemption : (row given : IssueRow) (first settlement redemption : Day) (price : ℕ) → row ≡ given → Check.fault_of row ≡ None → row.kind ≡ Periodic first → settles given settlement ≡ true → IsRedemption given redemption price → HasPayments (civil first) settlement redemption price →
+    IsCouponRedemption (civil first) (civil settlement) (civil redemption)
+coupon_redemption row given first settlement redemption price same none is_periodic settles_given redeemed_given payments =
+    let Redeems : IssueRow → Type 0 = λ it. IsRedemption it redemption price in
+    let settled = (coupon_settled row given first settlement same none is_periodic settles_given).settled in
+    has_coupon_payments row first settlement redemption price (is_issue row none) is_periodic settled (subst Redeems (sym same) redeemed_given) payments

@@ -1,0 +1,69 @@
+-- What an issue is at a settlement and a redemption.
+use Rattle.std.specs.Prelude.{◌≡◌, ℕ, ◌&&◌, ◌⊎◌, Bool, List, [], Option, Some, None, ℤ, pos, Contains}
+use Rattle.muni_rule.specs.Civil.{Civil, is_before, is_not_after}
+use Rattle.muni_rule.specs.DayCount.{days360}
+use Rattle.muni_rule.specs.Accrued.{coupon_accrued_days}
+use Rattle.muni_rule.specs.Payments.{PaymentSeries, coupon_payments, zero_payments, coupon_series, zero_series}
+use Rattle.muni_days.specs.Day.{civil}
+use Rattle.muni_days.specs.declared.day.Day.{Day}
+use Rattle.muni_terms.specs.declared.row.Kind.{Kind}
+use Rattle.muni_terms.specs.declared.row.Kind.TheVariants.{Periodic, Zero, AtRedemption, Discount}
+use Rattle.muni_terms.specs.declared.row.IssueRow.{IssueRow}
+
+-- a trade settles from the dated date on and before maturity
+abbrev pub settles : IssueRow → Day → Bool
+settles row settlement =
+    is_not_after (civil row.dated) (civil settlement)
+    && is_before (civil settlement) (civil row.maturity)
+
+-- the days for which interest has accrued, by the kind of the issue
+abbrev pub accrued_by : Kind → Civil → Civil → Option ℤ
+accrued_by (Periodic first) dated settlement = coupon_accrued_days dated (civil first) settlement
+accrued_by Zero dated settlement = Some (pos 0)
+accrued_by AtRedemption dated settlement = Some (days360 dated settlement)
+accrued_by Discount dated settlement = Some (pos 0)
+
+abbrev pub accrued_days : IssueRow → Day → Option ℤ
+accrued_days row settlement = accrued_by row.kind (civil row.dated) (civil settlement)
+
+-- the anchor of the quasi-coupon dates, which notes do not have
+abbrev pub anchor_by : Kind → Civil → Option Civil
+anchor_by (Periodic first) maturity = Some (civil first)
+anchor_by Zero maturity = Some maturity
+anchor_by AtRedemption maturity = None
+anchor_by Discount maturity = None
+
+abbrev pub anchor_of : IssueRow → Option Civil
+anchor_of row = anchor_by row.kind (civil row.maturity)
+
+-- the issue is redeemed at maturity at 100, or on a call date at the call's price
+abbrev pub IsRedemption : IssueRow → Day → ℕ → Type 0
+IsRedemption row date price =
+    ((date ≡ row.maturity) × (price ≡ 100_000_000))
+    ⊎ Contains row.calls.items (record { date = date; price = price })
+
+-- the payments after a settlement up to a redemption, by the kind of the issue
+abbrev pub payments_by : Kind → IssueRow → Civil → Civil → ℕ → List ℕ
+payments_by (Periodic first) row settlement redemption price =
+    coupon_payments (civil row.dated) (civil first) row.coupon settlement redemption price
+payments_by Zero row settlement redemption price =
+    zero_payments (civil row.maturity) settlement redemption price
+payments_by AtRedemption row settlement redemption price = []
+payments_by Discount row settlement redemption price = []
+
+abbrev pub payments : IssueRow → Day → Day → ℕ → List ℕ
+payments row settlement redemption price =
+    payments_by row.kind row (civil settlement) (civil redemption) price
+
+-- these payments as numbers
+abbrev pub series_by : Kind → IssueRow → Civil → Civil → ℕ → Option PaymentSeries
+series_by (Periodic first) row settlement redemption price =
+    coupon_series (civil row.dated) (civil first) row.coupon settlement redemption price
+series_by Zero row settlement redemption price =
+    zero_series (civil row.maturity) settlement redemption price
+series_by AtRedemption row settlement redemption price = None
+series_by Discount row settlement redemption price = None
+
+abbrev pub series_of : IssueRow → Day → Day → ℕ → Option PaymentSeries
+series_of row settlement redemption price =
+    series_by row.kind row (civil settlement) (civil redemption) price

@@ -1,0 +1,129 @@
+//! Issues: rows that passed every test.
+
+ghost use Rattle.std.specs.Prelude.{◌≡◌, ◌↔◌, ◌<◌, true, Some, IsSome};
+ghost use Rattle.muni_rule.specs.Civil.{order_of};
+ghost use Rattle.muni_rule.specs.Payments.{payments_of};
+ghost use Rattle.muni_days.specs.Day.{civil};
+ghost use Rattle.muni_terms.specs.Check.{checked};
+ghost use Rattle.muni_terms.specs.Issue as spec;
+ghost use Rattle.muni_terms.specs.Issue.{anchor_of, series_of, payments, IsRedemption};
+
+use crate::accrued::coupon_accrued_days;
+use crate::flows::{Flows, coupon_flows, zero_flows};
+use crate::row::{IssueRow, Kind, TermsFault};
+use crate::terms::fault_of;
+use muni_days::{Day, days360};
+use muni_dec::Price;
+use std::marker::Model;
+
+/// An issue: a row that passed every test.
+#[derive(Drop)]
+pub struct Issue {
+    row: IssueRow,
+}
+
+impl Model for Issue {
+    ghost use Rattle.std.specs.Prelude.{◌≡◌, None};
+    ghost use Rattle.muni_terms.specs.declared.row.IssueRow.{IssueRow};
+    ghost use Rattle.muni_terms.specs.Check.{fault_of};
+
+    ghost Value = { IssueRow };
+
+    ghost view = { λ issue. issue.row };
+
+    ghost invariant = { λ issue. fault_of issue.row ≡ None };
+}
+
+/// The issue with the terms of a row, or the fault of the first test that the row fails.
+///
+/// The tests are, in this order: the CUSIP, the name, the order of the dates, the day of the month on
+/// which interest falls, the coupon, the length of the first interest and that of the issue. Then
+/// each call in turn is tested: its date, that it rises, and its price.
+pub fn check(row: IssueRow) -> Result<Issue, TermsFault>
+    ensures { result ≡ checked row }
+{
+    match fault_of(&row) {
+        Some(fault) => Err(fault),
+        None => Ok(Issue { row }),
+    }
+}
+
+impl Issue {
+    /// An issue of equal value.
+    pub fn copy(&self) -> Issue
+        ensures { result ≡ self.now }
+    {
+        Issue {
+            row: self.row.copy(),
+        }
+    }
+
+    /// Whether both issues are of equal value.
+    pub fn same(&self, other: &Issue) -> bool
+        ensures { (result ≡ true) ↔ (self.now ≡ other.now) }
+    {
+        self.row.same(&other.row)
+    }
+
+    /// The terms.
+    pub fn row(&self) -> &IssueRow
+        ensures { result.now ≡ self.now }
+    {
+        &self.row
+    }
+
+    /// Whether a trade can settle on a day: from the dated date on and before maturity.
+    pub fn settles(&self, settlement: Day) -> bool
+        ensures { result ≡ spec.settles self.now settlement }
+    {
+        self.row.dated <= settlement && settlement < self.row.maturity
+    }
+
+    /// The days for which interest has accrued at a settlement.
+    pub fn accrued_days(&self, settlement: Day) -> i32
+        requires { spec.settles self.now settlement ≡ true }
+        ensures { Some result ≡ spec.accrued_days self.now settlement }
+    {
+        match self.row.kind {
+            Kind::Periodic { first } => {
+                coupon_accrued_days(self.row.dated, first, settlement) as i32
+            }
+            Kind::AtRedemption => days360(self.row.dated, settlement),
+            Kind::Zero | Kind::Discount => 0,
+        }
+    }
+
+    /// The payments after a settlement, up to a later redemption at maturity at 100 or at a call.
+    ///
+    /// The issue is of a kind with quasi-coupon dates, and not a note.
+    pub fn flows(&self, settlement: Day, redemption: Day, price: Price) -> Flows
+        requires kind { IsSome (anchor_of self.now) }
+        requires settled { spec.settles self.now settlement ≡ true }
+        requires later { order_of (civil settlement) < order_of (civil redemption) }
+        requires redeemed { IsRedemption self.now redemption price }
+        ensures numbers { Some result ≡ series_of self.now settlement redemption price }
+        ensures payments { payments_of result
+            ≡ payments self.now settlement redemption price }
+    {
+        let _last_year = self.row.maturity.year();
+        match self.row.kind {
+            Kind::Periodic { first } => coupon_flows(
+                self.row.dated,
+                first,
+                self.row.coupon,
+                settlement,
+                redemption,
+                price,
+            ),
+            Kind::Zero => zero_flows(self.row.maturity, settlement, redemption, price),
+            Kind::AtRedemption | Kind::Discount => unreachable!(),
+        }
+    }
+}
+
+fn is_shared<T: Send + Sync>(_shared: &T) {}
+
+/// Threads can be handed an issue, and share it.
+pub fn issues_are_shared(issue: &Issue) {
+    is_shared(issue);
+}
