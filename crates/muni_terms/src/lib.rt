@@ -6,9 +6,13 @@ mod cusip;
 mod disclosure;
 mod flows;
 mod issue;
+#[cfg(test)]
+mod payments_table;
 mod quasi_dates;
 mod row;
 mod terms;
+#[cfg(test)]
+mod tests;
 
 pub use disclosure::{Boundary, Label};
 pub use flows::{Flows, flows_are_in_range};

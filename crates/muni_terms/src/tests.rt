@@ -1,0 +1,328 @@
+use crate::payments_table::{WITH_COUPONS, WITHOUT_COUPONS};
+use crate::{Call, IssueRow, Kind, TermsFault, check};
+use arrayvec::ArrayVec;
+use muni_days::Day;
+use muni_dec::{Coupon, Price};
+use std::test::Fail;
+
+fn day(text: &str) -> Result<Day, Fail> {
+    Ok(Day::read(text.as_bytes()).ok().ok_or("a day")?)
+}
+
+fn coupon(text: &str) -> Result<Coupon, Fail> {
+    Ok(Coupon::read(text.as_bytes()).ok().ok_or("a coupon")?)
+}
+
+fn price(text: &str) -> Result<Price, Fail> {
+    Ok(Price::read(text.as_bytes()).ok().ok_or("a price")?)
+}
+
+fn name() -> ArrayVec<u8, 60> {
+    let mut name = ArrayVec::new();
+    let _ = name.try_extend_from_slice(b"RIVERTON WATER");
+    name
+}
+
+fn with_coupons(dated: &str, first: &str, maturity: &str, rate: &str) -> Result<IssueRow, Fail> {
+    Ok(IssueRow {
+        cusip: *b"123456AA3",
+        name: name(),
+        kind: Kind::Periodic { first: day(first)? },
+        dated: day(dated)?,
+        maturity: day(maturity)?,
+        coupon: coupon(rate)?,
+        calls: ArrayVec::new(),
+    })
+}
+
+fn without_coupons(kind: Kind, dated: &str, maturity: &str) -> Result<IssueRow, Fail> {
+    Ok(IssueRow {
+        cusip: *b"123456AA3",
+        name: name(),
+        kind,
+        dated: day(dated)?,
+        maturity: day(maturity)?,
+        coupon: coupon("0")?,
+        calls: ArrayVec::new(),
+    })
+}
+
+fn usual() -> Result<IssueRow, Fail> {
+    with_coupons("2022-01-01", "2022-07-01", "2044-01-01", "4")
+}
+
+fn with_calls(calls: &[(&str, &str)]) -> Result<IssueRow, Fail> {
+    let mut row = usual()?;
+    for (date, at) in calls {
+        let _ = row.calls.try_push(Call {
+            date: day(date)?,
+            price: price(at)?,
+        });
+    }
+    Ok(row)
+}
+
+#[test]
+fn a_wrong_check_digit_is_told_first(rt: HostRuntime) -> Result<(), Fail> {
+    let mut row = usual()?;
+    let cusip = *b"123456AA4";
+    row.cusip = cusip;
+    row.name.clear();
+    assert_eq!(rt; check(row).err(), Some(TermsFault::BadCusip));
+    Ok(())
+}
+
+#[test]
+fn a_name_is_told_before_the_dates(rt: HostRuntime) -> Result<(), Fail> {
+    let mut empty = with_coupons("2022-07-01", "2022-07-01", "2044-01-01", "4")?;
+    empty.name.clear();
+    assert_eq!(rt; check(empty).err(), Some(TermsFault::BadName));
+    let mut tab = usual()?;
+    let _ = tab.name.try_push(b'\t');
+    assert_eq!(rt; check(tab).err(), Some(TermsFault::BadName));
+    Ok(())
+}
+
+#[test]
+fn dates_that_are_not_in_order_are_told(rt: HostRuntime) -> Result<(), Fail> {
+    for (dated, first, maturity) in [
+        ("2022-07-01", "2022-07-01", "2044-01-01"),
+        ("2022-01-01", "2044-07-01", "2044-01-01"),
+        ("1901-12-31", "1902-07-01", "1903-01-01"),
+    ] {
+        let row = with_coupons(dated, first, maturity, "4")?;
+        assert_eq!(rt; check(row).err(), Some(TermsFault::BadOrder), "{dated}");
+    }
+    Ok(())
+}
+
+#[test]
+fn a_day_that_is_no_interest_day_is_told(rt: HostRuntime) -> Result<(), Fail> {
+    for (first, maturity) in [
+        ("2022-06-29", "2043-12-29"),
+        ("2022-07-01", "2044-02-01"),
+        ("2022-07-01", "2044-01-02"),
+    ] {
+        let row = with_coupons("2022-01-01", first, maturity, "0")?;
+        assert_eq!(rt; check(row).err(), Some(TermsFault::BadDay), "{maturity}");
+    }
+    let row = without_coupons(Kind::Zero, "2022-01-01", "2044-01-29")?;
+    assert_eq!(rt; check(row).err(), Some(TermsFault::BadDay));
+    Ok(())
+}
+
+#[test]
+fn a_coupon_stands_exactly_where_there_is_interest(rt: HostRuntime) -> Result<(), Fail> {
+    let row = with_coupons("2022-01-01", "2023-01-02", "2144-01-02", "0")?;
+    assert_eq!(rt; check(row).err(), Some(TermsFault::BadCoupon));
+    for kind in [Kind::Zero, Kind::Discount] {
+        let mut row = without_coupons(kind, "2022-01-01", "2144-01-01")?;
+        row.coupon = coupon("0.0000001")?;
+        assert_eq!(rt; check(row).err(), Some(TermsFault::BadCoupon));
+    }
+    let row = without_coupons(Kind::AtRedemption, "2022-01-01", "2144-01-01")?;
+    assert_eq!(rt; check(row).err(), Some(TermsFault::BadCoupon));
+    Ok(())
+}
+
+#[test]
+fn a_first_interest_of_361_days_is_too_long(rt: HostRuntime) -> Result<(), Fail> {
+    let row = with_coupons("2022-01-01", "2023-01-02", "2144-01-02", "4")?;
+    assert_eq!(rt; check(row).err(), Some(TermsFault::FirstTooLong));
+    let row = with_coupons("2022-01-01", "2023-01-01", "2044-01-01", "4")?;
+    assert!(rt; check(row).is_ok(), "360 days");
+    Ok(())
+}
+
+#[test]
+fn an_issue_of_more_than_100_half_years_is_too_long(rt: HostRuntime) -> Result<(), Fail> {
+    for (dated, too_long) in [("1950-01-01", false), ("1949-12-31", true)] {
+        let row = without_coupons(Kind::Zero, dated, "2000-01-01")?;
+        assert_eq!(rt; check(row).is_err(), too_long, "{dated}");
+    }
+    let mut row = with_coupons("1949-12-31", "1950-07-01", "2000-01-01", "4")?;
+    let _ = row.calls.try_push(Call {
+        date: day("1950-02-01")?,
+        price: price("0")?,
+    });
+    assert_eq!(rt; check(row).err(), Some(TermsFault::TooLong));
+    let row = without_coupons(Kind::Discount, "2024-01-01", "2026-01-02")?;
+    assert_eq!(rt; check(row).err(), Some(TermsFault::TooLong));
+    Ok(())
+}
+
+#[test]
+fn the_first_call_with_a_fault_is_told_with_its_date(rt: HostRuntime) -> Result<(), Fail> {
+    let off = day("2028-02-01")?;
+    let row = with_calls(&[("2028-02-01", "0.5"), ("2027-01-01", "0.5")])?;
+    assert_eq!(rt;
+        check(row).err(),
+        Some(TermsFault::CallOffCalendar { date: off })
+    );
+    let again = day("2028-01-01")?;
+    let row = with_calls(&[("2028-01-01", "100"), ("2028-01-01", "0.5")])?;
+    assert_eq!(rt;
+        check(row).err(),
+        Some(TermsFault::CallsNotRising { date: again })
+    );
+    let cheap = day("2029-01-01")?;
+    let row = with_calls(&[("2028-01-01", "200"), ("2029-01-01", "0.999999")])?;
+    assert_eq!(rt;
+        check(row).err(),
+        Some(TermsFault::BadCallPrice { date: cheap })
+    );
+    Ok(())
+}
+
+#[test]
+fn an_issue_is_called_from_its_first_interest_date_up_to_its_maturity(
+    rt: HostRuntime,
+) -> Result<(), Fail> {
+    let row = with_calls(&[("2022-07-01", "1"), ("2043-07-01", "200")])?;
+    assert!(rt; check(row).is_ok(), "on the first interest date");
+    for date in ["2022-01-01", "2044-01-01"] {
+        let row = with_calls(&[(date, "100")])?;
+        let fault = TermsFault::CallOffCalendar { date: day(date)? };
+        assert_eq!(rt; check(row).err(), Some(fault), "{date}");
+    }
+    Ok(())
+}
+
+#[test]
+fn payments_with_coupons_are_those_computed_outside(rt: HostRuntime) -> Result<(), Fail> {
+    for case in WITH_COUPONS {
+        let mut words = case.split(' ');
+        let dated = words.next().ok_or("a dated date")?;
+        let first = words.next().ok_or("a first interest date")?;
+        let maturity = words.next().ok_or("a maturity")?;
+        let rate = words.next().ok_or("a coupon")?;
+        let settlement = day(words.next().ok_or("a settlement")?)?;
+        let row = with_coupons(dated, first, maturity, rate)?;
+        let issue = check(row).ok().ok_or("an issue")?;
+        let Kind::Periodic { .. } = issue.row().kind else {
+            return Err(Fail::from("coupons"));
+        };
+        let redemption = issue.row().maturity;
+        assert!(rt; issue.settles(settlement), "{case}");
+        assert!(rt; settlement < redemption, "{case}");
+        let at = Price::of(100_000_000).ok_or("a price")?;
+        let flows = issue.flows(settlement, redemption, at);
+        assert_eq!(rt; flows.redemption(), 36_000_000_000_000, "{case}");
+        for number in [
+            u64::from(flows.n()),
+            u64::from(flows.skip()),
+            flows.first(),
+            flows.regular(),
+            flows.accrued(),
+            u64::from(flows.a()),
+        ] {
+            let expected = words.next().ok_or("a number")?;
+            assert_eq!(rt; Some(number), expected.parse::<u64>().ok(), "{case}");
+        }
+    }
+    Ok(())
+}
+
+#[test]
+fn payments_without_coupons_are_those_computed_outside(rt: HostRuntime) -> Result<(), Fail> {
+    for case in WITHOUT_COUPONS {
+        let mut words = case.split(' ');
+        let dated = words.next().ok_or("a dated date")?;
+        let maturity = words.next().ok_or("a maturity")?;
+        let settlement = day(words.next().ok_or("a settlement")?)?;
+        let issue = check(without_coupons(Kind::Zero, dated, maturity)?)
+            .ok()
+            .ok_or("an issue")?;
+        let Kind::Zero = issue.row().kind else {
+            return Err(Fail::from("no coupons"));
+        };
+        let redemption = issue.row().maturity;
+        assert!(rt; issue.settles(settlement), "{case}");
+        assert!(rt; settlement < redemption, "{case}");
+        let at = Price::of(100_000_000).ok_or("a price")?;
+        let flows = issue.flows(settlement, redemption, at);
+        assert_eq!(rt; flows.redemption(), 36_000_000_000_000, "{case}");
+        for number in [u64::from(flows.n()), u64::from(flows.a())] {
+            let expected = words.next().ok_or("a number")?;
+            assert_eq!(rt; Some(number), expected.parse::<u64>().ok(), "{case}");
+        }
+        let paid = [
+            u64::from(flows.skip()),
+            flows.first(),
+            flows.regular(),
+            flows.accrued(),
+        ];
+        assert_eq!(rt; paid, [0; 4], "{case}");
+    }
+    Ok(())
+}
+
+#[test]
+fn rows_and_issues_are_copied_and_compared_by_value(rt: HostRuntime) -> Result<(), Fail> {
+    let row = with_calls(&[("2034-01-01", "100")])?;
+    let other = with_calls(&[("2034-01-01", "101")])?;
+    assert!(rt; row.same(&row.copy()), "a copied row");
+    assert!(rt; !row.same(&other), "another call price");
+    let issue = check(row).ok().ok_or("an issue")?;
+    let other = check(other).ok().ok_or("an issue")?;
+    assert!(rt; issue.same(&issue.copy()), "a copied issue");
+    assert!(rt; !issue.same(&other), "another issue");
+    Ok(())
+}
+
+#[test]
+fn notes_accrue_from_the_dated_date_and_discounts_not_at_all(rt: HostRuntime) -> Result<(), Fail> {
+    let settlement = day("2024-07-31")?;
+    let mut row = without_coupons(Kind::AtRedemption, "2024-01-31", "2025-01-01")?;
+    row.coupon = coupon("4")?;
+    let note = check(row).ok().ok_or("an issue")?;
+    assert!(rt; note.settles(settlement), "settles");
+    assert_eq!(rt; note.accrued_days(settlement), 180);
+    let row = without_coupons(Kind::Discount, "2024-01-31", "2025-01-01")?;
+    let discount = check(row).ok().ok_or("an issue")?;
+    assert!(rt; discount.settles(settlement), "settles");
+    assert_eq!(rt; discount.accrued_days(settlement), 0);
+    assert!(rt; !discount.settles(day("2025-01-01")?), "at maturity");
+    Ok(())
+}
+
+#[test]
+fn faults_are_numbered_in_the_order_of_their_list(rt: HostRuntime) -> Result<(), Fail> {
+    let date = day("2028-02-01")?;
+    let faults = [
+        TermsFault::BadCusip,
+        TermsFault::BadOrder,
+        TermsFault::BadDay,
+        TermsFault::BadCoupon,
+        TermsFault::FirstTooLong,
+        TermsFault::CallOffCalendar { date },
+        TermsFault::CallsNotRising { date },
+        TermsFault::BadCallPrice { date },
+        TermsFault::TooLong,
+        TermsFault::BadName,
+    ];
+    for (i, fault) in faults.iter().enumerate() {
+        assert_eq!(rt; fault.number() as usize, i + 1);
+    }
+    Ok(())
+}
+
+#[test]
+fn payments_up_to_a_call_end_with_its_price(rt: HostRuntime) -> Result<(), Fail> {
+    let settlement = day("2024-01-01")?;
+    let issue = check(with_calls(&[("2034-01-01", "101.5")])?)
+        .ok()
+        .ok_or("an issue")?;
+    let Kind::Periodic { .. } = issue.row().kind else {
+        return Err(Fail::from("coupons"));
+    };
+    assert!(rt; issue.settles(settlement), "settles");
+    let calls = issue.row().calls.as_slice();
+    assert!(rt; calls.len() == 1, "one call");
+    let call = calls[0];
+    assert!(rt; settlement < call.date, "a later call");
+    let flows = issue.flows(settlement, call.date, call.price);
+    assert_eq!(rt; flows.n(), 20);
+    assert_eq!(rt; flows.redemption(), 36_540_000_000_000);
+    Ok(())
+}
