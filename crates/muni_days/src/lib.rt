@@ -4,8 +4,6 @@
 mod count;
 mod day;
 mod months;
-#[cfg(test)]
-mod tests;
 
 pub use count::days360;
 pub use day::{Day, DayFault};

@@ -41,23 +41,12 @@ fn texts_are_read_as_days(rt: HostRuntime) -> Result<(), Fail> {
             Some(DayFault::NoSuchDay),
             "{text}"
         );
-fn days_are_read_in_one_form_alone(rt: HostRuntime) -> Result<(), Fail> {
-    for (text, fault) in [
-        ("2024-2-01", DayFault::Form),
-        ("2024-02-1", DayFault::Form),
-        ("2024/02/01", DayFault::Form),
-        ("2023-02-29", DayFault::NoSuchDay),
-        ("1899-12-31", DayFault::NoSuchDay),
-        ("2200-01-01", DayFault::NoSuchDay),
-    ] {
-        assert_eq!(rt; Day::read(text.as_bytes()).err(), Some(fault), "{text}");
     }
     Ok(())
 }
 
 #[test]
-fn the_thirty_first_and_february_are_counted_by_30_360(rt: HostRuntime) -> Result<(), Fail> {
-fn days_are_written_as_they_were_read(rt: HostRuntime) -> Result<(), Fail> {
+fn days_are_written_as_they_are_read(rt: HostRuntime) -> Result<(), Fail> {
     let mut text = ArrayVec::new();
     for written in ["1900-01-01", "2024-02-29", "2199-12-31"] {
         day(written)?.print_into(&mut text);
@@ -67,9 +56,7 @@ fn days_are_written_as_they_were_read(rt: HostRuntime) -> Result<(), Fail> {
 }
 
 #[test]
-fn the_31st_ends_a_count_as_the_30th_after_a_30th_or_31st_alone(
-    rt: HostRuntime,
-) -> Result<(), Fail> {
+fn the_thirty_first_and_february_are_counted_by_30_360(rt: HostRuntime) -> Result<(), Fail> {
     for (first, last, days) in [
         ("2023-01-31", "2023-02-28", 28),
         ("2023-02-28", "2023-03-31", 33),
@@ -101,7 +88,10 @@ fn months_pass_year_ends_and_stop_at_the_range(rt: HostRuntime) -> Result<(), Fa
     ] {
         let from = day(from)?;
         assert!(rt; from.day() <= 28);
-        assert!(rt; months_on(from, months) == Day::read(to.as_bytes()).ok(), "{to}");
+        assert!(rt;
+            months_on(from, months) == Day::read(to.as_bytes()).ok(),
+            "{to}"
+        );
     }
     Ok(())
 }
@@ -111,26 +101,5 @@ fn days_are_ordered_by_date(rt: HostRuntime) -> Result<(), Fail> {
     assert!(rt; day("2023-12-31")? < day("2024-01-01")?);
     assert!(rt; day("2024-01-31")? < day("2024-02-01")?);
     assert!(rt; day("2024-01-31")? == day("2024-01-31")?);
-    Ok(())
-}
-fn steps_of_months_end_with_the_range_of_days(rt: HostRuntime) -> Result<(), Fail> {
-    for (first, months, last) in [
-        ("2024-01-28", -11, Some("2023-02-28")),
-        ("2199-06-01", 6, Some("2199-12-01")),
-        ("2199-07-01", 6, None),
-        ("1900-06-01", -6, None),
-    ] {
-        let date = day(first)?;
-        assert!(rt; date.day() <= 28, "a day that each month has");
-        let mut text = ArrayVec::new();
-        if let Some(date) = months_on(date, months) {
-            date.print_into(&mut text);
-        }
-        assert_eq!(rt;
-            text.as_slice(),
-            last.unwrap_or("").as_bytes(),
-            "{first} {months}"
-        );
-    }
     Ok(())
 }

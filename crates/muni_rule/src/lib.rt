@@ -6,5 +6,5 @@
 
 pub mod payments;
 pub mod printed;
-pub mod yields;
 pub mod quasi_dates;
+pub mod yields;
