@@ -1,0 +1,35 @@
+-- The order of fractions, over plain numbers.
+use Rattle.std.proofs.Common.{◌≡◌, ℕ, suc, zero, ◌+◌, ◌*◌, ◌^◌, ◌<◌, ◌≤◌, refl, sym, ap, ◌∙◌, arith}
+use Rattle.std.proofs.Math.Nat.{mul-le-mul, mul-le-mul_right, le_of_mul-le-mul_right, pow-le-pow_left, pow-suc, pow-zero, mul_comm, one-mul}
+use Rattle.std.proofs.lemmas.Nat.{pow-add, mul-pow}
+use Rattle.muni_span.specs.Fractions.{IsAtMost}
+
+pub at_most-then : (a b c d e f : ℕ) → 0 < d → IsAtMost a b c d → IsAtMost c d e f → IsAtMost a b e f
+at_most-then a b c d e f pos one two =
+    let first : a * d * f ≤ c * b * f = mul-le-mul_right f one.cross in
+    let second : c * f * b ≤ e * d * b = mul-le-mul_right b two.cross in
+    let both : a * f * d ≤ e * b * d = omega arith in
+    record { cross = le_of_mul-le-mul_right both pos }
+
+pub at_most-times : (a b c d e f g h : ℕ) → IsAtMost a b c d → IsAtMost e f g h → IsAtMost (a * e) (b * f) (c * g) (d * h)
+at_most-times a b c d e f g h one two =
+    let product : a * d * (e * h) ≤ c * b * (g * f) = mul-le-mul one.cross two.cross in
+    record { cross = omega arith }
+
+pub at_most-power : (a b c d k : ℕ) → IsAtMost a b c d → IsAtMost (a ^ k) (b ^ k) (c ^ k) (d ^ k)
+at_most-power a b c d k one =
+    let raised : (a * d) ^ k ≤ (c * b) ^ k = pow-le-pow_left one.cross k in
+    record { cross = rw (mul-pow a d k, mul-pow c b k) at raised }
+
+pub pow-one : (x : ℕ) → x ^ 1 ≡ x
+pow-one x = pow-suc x 0 ∙ (ap (λ y. y * x) (pow-zero x) ∙ one-mul x)
+
+-- a power of a power
+pub pow-times : (x a b : ℕ) → x ^ (a * b) ≡ (x ^ a) ^ b
+pow-times x a zero = let none : a * zero ≡ zero = omega arith in rw (none, pow-zero x, pow-zero (x ^ a)) refl
+pow-times x a (suc b) =
+    let more : a * suc b ≡ a * b + a = omega arith in
+    rw (more, pow-add x (a * b) a, pow-suc (x ^ a) b, pow-times x a b) refl
+
+pub pow-turned : (x a b : ℕ) → (x ^ a) ^ b ≡ (x ^ b) ^ a
+pow-turned x a b = sym (pow-times x a b) ∙ (ap (λ n. x ^ n) (mul_comm a b) ∙ pow-times x b a)

@@ -1,0 +1,10 @@
+pub mod Fractions
+pub mod Quotients
+pub mod Holding
+pub mod Squaring
+pub mod PowerWidths
+pub mod PowerLaws
+pub mod Greatest
+pub mod RootEnds
+pub mod RootReach
+pub mod RootLaws

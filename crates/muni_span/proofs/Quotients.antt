@@ -1,0 +1,61 @@
+-- Floors and ceilings of quotients.
+use Rattle.std.proofs.Common.{◌≡◌, ℕ, suc, ◌+◌, ◌-◌, ◌*◌, ◌/◌, ◌%◌, ◌<◌, ◌≤◌, ap, ◌∙◌, ◌^◌, subst, arith, lit<}
+use Rattle.std.proofs.Math.Nat.{div-mul-le_self, lt-div-mul-add, lt_of_mul-lt-mul_right, div-add-mod', add-mul-div_right}
+use Rattle.std.proofs.lemmas.Nat.{div_below}
+
+-- the floor of p / u and the ceiling of q / u
+pub record IsRounded (u p q floor ceiling : ℕ) : Type 0 where
+  pub floor_under : floor * u ≤ p
+  pub floor_near : p ≤ floor * u + u
+  pub ceiling_over : q ≤ ceiling * u
+  pub ceiling_near : ceiling * u < q + u
+
+pub rounded : (u p q : ℕ) → 0 < u → IsRounded u p q ((p + 0) / u) ((q + (u - 1)) / u)
+rounded u p q pos =
+    let one : (p + 0) / u * u ≤ p + 0 = div-mul-le_self (p + 0) u in
+    let two : p + 0 < (p + 0) / u * u + u = lt-div-mul-add pos in
+    let three : q + (u - 1) < (q + (u - 1)) / u * u + u = lt-div-mul-add pos in
+    let four : (q + (u - 1)) / u * u ≤ q + (u - 1) = div-mul-le_self (q + (u - 1)) u in
+    record { floor_under = omega arith; floor_near = omega arith; ceiling_over = omega arith; ceiling_near = omega arith }
+
+pub quotient_grows : (a b u : ℕ) → 0 < u → a ≤ b → a / u ≤ b / u
+quotient_grows a b u pos less =
+    let under : a / u * u ≤ a = div-mul-le_self a u in
+    let over : b < b / u * u + u = lt-div-mul-add pos in
+    let both : a / u * u < suc (b / u) * u = omega arith in
+    let below : a / u < suc (b / u) = lt_of_mul-lt-mul_right u both in
+    omega arith
+
+-- a floor and a ceiling differ by one at most
+pub ceiling_near_floor : (x d : ℕ) → 0 < d → (x + (d - 1)) / d ≤ x / d + 1
+ceiling_near_floor x d pos =
+    let ceiling : (x + (d - 1)) / d * d ≤ x + (d - 1) = div-mul-le_self (x + (d - 1)) d in
+    let floor : x < x / d * d + d = lt-div-mul-add pos in
+    let both : (x + (d - 1)) / d * d < (x / d + 2) * d = omega arith in
+    let less : (x + (d - 1)) / d < x / d + 2 = lt_of_mul-lt-mul_right d both in
+    omega arith
+
+-- ends of a quotient, in units of one / u
+pub quotient_low : (n u d : ℕ) → n * u / d * d ≤ n * u
+quotient_low n u d = div-mul-le_self (n * u) d
+
+pub quotient_high : (n u d : ℕ) → 0 < d → n * u ≤ (n * u + (d - 1)) / d * d
+quotient_high n u d pos = let over : n * u + (d - 1) < (n * u + (d - 1)) / d * d + d = lt-div-mul-add pos in omega arith
+
+pub rounded_plain : (u p q l h : ℕ) → 0 < u → l ≡ p / u → h ≡ (q + (u - 1)) / u → IsRounded u p q l h
+rounded_plain u p q l h pos low high =
+    let none : p + 0 ≡ p = omega arith in
+    rw (low, high) (subst (λ (x : ℕ). IsRounded u p q (x / u) ((q + (u - 1)) / u)) none (rounded u p q pos))
+
+-- a quotient by w of a product, where only the part of the factor below t * w leaves a rest
+pub by_halves : (t w a f e : ℕ) → 0 < w → a / (t * w) * f * t + (a % (t * w) * f + e) / w ≡ (a * f + e) / w
+by_halves t w a f e pos =
+    let whole : a / (t * w) * (t * w) + a % (t * w) ≡ a = div-add-mod' a (t * w) in
+    let times : (a / (t * w) * (t * w) + a % (t * w)) * f ≡ a * f = ap (λ x. x * f) whole in
+    let parts : a * f + e ≡ a % (t * w) * f + e + a / (t * w) * f * t * w = omega arith in
+    let quotient : (a * f + e) / w ≡ (a % (t * w) * f + e) / w + a / (t * w) * f * t
+    = ap (λ x. x / w) parts ∙ add-mul-div_right (a % (t * w) * f + e) (a / (t * w) * f * t) pos in
+    omega (arith, quotient)
+
+pub scaled_fits : (p e : ℕ) → p < 2 ^ 187 → e < 2 ^ 60 → (p + e) / 2 ^ 60 < 2 ^ 127 + 1
+scaled_fits p e few less = div_below (p + e) (2 ^ 60) (2 ^ 127 + 1) (lit< tt) (omega arith)

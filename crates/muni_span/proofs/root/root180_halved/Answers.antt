@@ -1,0 +1,38 @@
+use Rattle.std.proofs.Common.{◌≡◌, ◌+◌, ◌-◌, ◌^◌, arith, lit<, rules}
+use Rattle.muni_span.specs.Roots.{root_low, root_high}
+use Rattle.muni_span.proofs.Holding.{root_holds}
+use Rattle.muni_span.proofs.RootLaws.{IsRootSpan, root_span_of}
+use Rattle.muni_span.proofs.RootReach.{reach_up, reach_down}
+use Rattle.muni_span.proofs.root.root180_halved.Goals as goal
+
+pub halved-lower-requires : goal.halved-lower-requires
+halved-lower-requires c = reach_up c.lo.result (omega arith) (omega arith)
+
+pub halved-below_upper-requires : goal.halved-below_upper-requires
+halved-below_upper-requires c = reach_down (c.hi.result - 1) (omega arith) (omega arith)
+
+pub new-requires : goal.new-requires
+new-requires c =
+    let low : c.halved-lower.result ≡ root_low c.args.v.lo = search rules in
+    let high : c.halved-below_upper.result + 1 ≡ root_high c.args.v.hi = search rules in
+    let law = root_span_of c.args.v.lo c.args.v.hi c.halved-lower.result (c.halved-below_upper.result + 1) c.requires.least c.requires.greatest c.args.v.ordered c.requires.narrow low high in
+    record { ordered = law.ordered }
+
+law : (c : goal.After-new) → IsRootSpan c.args.v.lo c.args.v.hi c.new.result.lo c.new.result.hi
+law c =
+    let low : c.new.result.lo ≡ root_low c.args.v.lo = search rules in
+    let high : c.new.result.hi ≡ root_high c.args.v.hi = search rules in
+    root_span_of c.args.v.lo c.args.v.hi c.new.result.lo c.new.result.hi c.requires.least c.requires.greatest c.args.v.ordered c.requires.narrow low high
+
+pub returns-clause-below : goal.returns-clause-below
+returns-clause-below c = (law c).below
+
+pub returns-clause-above : goal.returns-clause-above
+returns-clause-above c = (law c).above
+
+pub returns-clause-holds : goal.returns-clause-holds
+returns-clause-holds c j n d =
+    root_holds (2 ^ 60) c.args.v.lo c.args.v.hi 180 c.new.result.lo c.new.result.hi j n d (lit< tt) (law c).below (law c).above
+
+pub returns-clause-width : goal.returns-clause-width
+returns-clause-width c = (law c).narrow

@@ -1,0 +1,6 @@
+-- Fractions of whole numbers, compared by their cross products.
+use Rattle.std.specs.Prelude.{ℕ, ◌*◌, ◌≤◌}
+
+-- the fraction a / b is at most c / d
+pub record IsAtMost (a b c d : ℕ) : Type 0 where
+  pub cross : a * d ≤ c * b

@@ -1,0 +1,118 @@
+//! Fractions between two whole ends.
+
+ghost use Rattle.std.specs.Prelude.{◌≡◌, ℕ, ◌+◌, ◌-◌, ◌*◌, ◌/◌, ◌^◌, ◌<◌, ◌≤◌};
+ghost use Rattle.std.specs.Prelude.{pos, negsuc, ◌≤ℤ◌};
+ghost use Rattle.muni_span.specs.Discount.{discount_divisor};
+ghost use Rattle.muni_span.specs.Fractions.{IsAtMost};
+ghost use Rattle.muni_span.specs.Holding.{HoldsPower};
+ghost use Rattle.muni_span.specs.Powers.{power_low, power_high};
+ghost use Rattle.muni_span.specs.Widths.{whole_above};
+
+use crate::rounding::{ONE, Rounding};
+use std::marker::Model;
+
+/// The fractions from `lo` to `hi`, in units of 2^-60.
+#[derive(Clone, Copy, Debug, PartialEq, Eq)]
+pub struct Span {
+    lo: u64,
+    hi: u64,
+    ghost ordered: { lo ≤ hi },
+}
+
+impl Model for Span {
+    ghost use Rattle.muni_span.specs.Ends.{Ends};
+
+    ghost Value = { Ends };
+
+    ghost view = { λ s. record { lo = s.lo; hi = s.hi; ordered = s.ordered } };
+
+    ghost inverse = { λ e. record { lo = e.lo; hi = e.hi; ordered = e.ordered } };
+}
+
+impl Span {
+    /// The fractions between two ends.
+    pub fn new(lo: u64, hi: u64) -> Span
+        requires ordered { lo ≤ hi }
+        ensures lo { result.lo ≡ lo }
+        ensures hi { result.hi ≡ hi }
+    {
+        Span { lo, hi }
+    }
+
+    /// The lower end, in units of 2^-60.
+    pub fn lo(&self) -> u64
+        ensures { result ≡ self.now.lo }
+    {
+        self.lo
+    }
+
+    /// The upper end, in units of 2^-60.
+    pub fn hi(&self) -> u64
+        ensures { result ≡ self.now.hi }
+    {
+        self.hi
+    }
+
+    /// The product, rounded outward.
+    pub fn mul(self, other: Span) -> Span
+        requires bounded { self.hi * other.hi ≤ 15 * 2 ^ 120 }
+        ensures lo { result.lo ≡ self.lo * other.lo / 2 ^ 60 }
+        ensures hi { result.hi ≡ (self.hi * other.hi + (2 ^ 60 - 1)) / 2 ^ 60 }
+        ensures holds { (j n d m e : ℕ) → HoldsPower (2 ^ 60) self.lo self.hi j n d →
+            HoldsPower (2 ^ 60) other.lo other.hi j m e →
+            HoldsPower (2 ^ 60) result.lo result.hi j (n * m) (d * e) }
+    {
+        let lo = (self.lo as u128 * other.lo as u128) >> 60;
+        let hi = (self.hi as u128 * other.hi as u128 + (ONE - 1) as u128) >> 60;
+        Span::new(lo as u64, hi as u64)
+    }
+
+    /// The power with this exponent, by squaring, each product rounded outward.
+    pub fn power(self, exponent: u32) -> Span
+        requires few { exponent ≤ 180 }
+        requires bounded { self.hi ^ exponent ≤ 15 * (2 ^ 60) ^ exponent }
+        ensures lo { result.lo ≡ power_low self.lo exponent }
+        ensures hi { result.hi ≡ power_high self.hi exponent }
+
+        ensures below { IsAtMost result.lo (2 ^ 60) (self.lo ^ exponent) ((2 ^ 60) ^ exponent) }
+        ensures above { IsAtMost (self.hi ^ exponent) ((2 ^ 60) ^ exponent) result.hi (2 ^ 60) }
+        ensures holds { (j n d : ℕ) → HoldsPower (2 ^ 60) self.lo self.hi j n d →
+            HoldsPower (2 ^ 60) result.lo result.hi j (n ^ exponent) (d ^ exponent) }
+        ensures width { result.hi - result.lo ≤ exponent * (self.hi - self.lo + 2) * whole_above result.hi }
+    {
+        let lo = Rounding::Down.power(self.lo, exponent);
+        let hi = Rounding::Up.power(self.hi, exponent);
+        Span::new(lo, hi)
+    }
+}
+
+/// The discount factor of one half-year period at a yield in millionths: two million divided by
+/// two million and the yield.
+pub fn recip(y: i32) -> Span
+    requires least { negsuc 50004 ≤ℤ y }
+    requires greatest { y ≤ℤ pos 1000005 }
+    ensures lo { result.lo ≡ 2000000 * 2 ^ 60 / discount_divisor y }
+    ensures hi { result.hi ≡ (2000000 * 2 ^ 60 + (discount_divisor y - 1)) / discount_divisor y }
+
+    ensures holds { (j : ℕ) → HoldsPower (2 ^ 60) result.lo result.hi j (2000000 ^ j) (discount_divisor y ^ j) }
+    ensures width { result.hi ≤ result.lo + 1 }
+    ensures at_least { 6 * 2 ^ 60 ≤ 10 * result.lo }
+    ensures at_most { 10000 * result.hi ≤ 10257 * 2 ^ 60 }
+{
+    let divisor = divisor(y) as u128;
+    let whole = 2_000_000_u128 << 60;
+    let lo = whole / divisor;
+    let hi = (whole + (divisor - 1)) / divisor;
+    Span::new(lo as u64, hi as u64)
+}
+
+/// Two million and the yield.
+fn divisor(y: i32) -> u64
+    requires least { negsuc 50004 ≤ℤ y }
+    requires greatest { y ≤ℤ pos 1000005 }
+    ensures value { result ≡ discount_divisor y }
+    ensures at_least { 1949995 ≤ result }
+    ensures at_most { result ≤ 3000005 }
+{
+    (2_000_000 + y) as u64
+}
