@@ -1,5 +1,6 @@
 -- The greatest number that passes a test: there is one where any passes, and one only.
-use Rattle.std.proofs.Common.{◌≡◌, ℕ, Bool, suc, zero, ◌<◌, ◌≤◌, ◌⊎◌, refl, sym, ap, ◌∙◌, subst, inl, inr, ⊎_elim, arith, true, false}
+use Rattle.std.proofs.Common.{◌≡◌, ℕ, Bool, suc, zero, ◌<◌, ◌≤◌, ◌⊎◌, refl, sym, ap, ◌∙◌, subst, ⊎_elim, arith, true, false}
+use Rattle.std.proofs.lemmas.Bool.{cases_Bool}
 use Rattle.muni_span.specs.Roots.{greatest_where}
 
 -- it passes, and nothing above it up to n does
@@ -23,10 +24,7 @@ greatest_where-below test n top = rw top refl
 top_or_below : (q n : ℕ) → q ≤ suc n → (q ≡ suc n) ⊎ (q ≤ n)
 top_or_below q n most = grind arith
 
-passes_or_not : (b : Bool) → (b ≡ true) ⊎ (b ≡ false)
-passes_or_not true = inl refl
-passes_or_not false = inr refl
-
+-- such a number is the greatest, whoever found it
 pub greatest_unique : (test : ℕ → Bool) (n q : ℕ) → IsGreatest test n q → greatest_where test n ≡ q
 greatest_unique test zero q is = let most : q ≤ 0 = is.within in greatest_where-none test ∙ (let e : 0 ≡ q = omega arith in e)
 greatest_unique test (suc n) q is =
@@ -61,6 +59,7 @@ below_top : (test : ℕ → Bool) (n least : ℕ) → least ≤ suc n → test l
 below_top test n least within passes top =
     ⊎_elim (λ e. let both : true ≡ false = sym passes ∙ (ap test e ∙ top) in absurd (cc)) (λ below. below) (top_or_below least n within)
 
+-- the greatest is such a number
 pub greatest_found : (test : ℕ → Bool) (n least : ℕ) → least ≤ n → test least ≡ true → IsFound test n least (greatest_where test n)
 greatest_found test zero least within passes =
     let none : least ≡ 0 = omega arith in
@@ -72,4 +71,4 @@ greatest_found test (suc n) least within passes =
     ⊎_elim (λ top. rw (greatest_where-top test n top) (found_top test n least within top))
     (λ top. rw (greatest_where-below test n top) (found_below test n least (greatest_where test n) top
     (greatest_found test n least (below_top test n least within passes top) passes)))
-    (passes_or_not (test (suc n)))
+    (cases_Bool (test (suc n)))

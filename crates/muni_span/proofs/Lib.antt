@@ -1,9 +1,11 @@
 pub mod Fractions
 pub mod Quotients
 pub mod Holding
+pub mod RecipLaws
 pub mod Squaring
 pub mod PowerWidths
 pub mod PowerLaws
+pub mod PowerGrowth
 pub mod Greatest
 pub mod RootEnds
 pub mod RootReach

@@ -1,5 +1,5 @@
 -- Floors and ceilings of quotients.
-use Rattle.std.proofs.Common.{◌≡◌, ℕ, suc, ◌+◌, ◌-◌, ◌*◌, ◌/◌, ◌%◌, ◌<◌, ◌≤◌, ap, ◌∙◌, ◌^◌, subst, arith, lit<}
+use Rattle.std.proofs.Common.{◌≡◌, ℕ, suc, ◌+◌, ◌-◌, ◌*◌, ◌/◌, ◌%◌, ◌<◌, ◌≤◌, ap, ◌∙◌, ◌^◌, sym, subst, arith, lit<}
 use Rattle.std.proofs.Math.Nat.{div-mul-le_self, lt-div-mul-add, lt_of_mul-lt-mul_right, div-add-mod', add-mul-div_right}
 use Rattle.std.proofs.lemmas.Nat.{div_below}
 
@@ -26,21 +26,22 @@ quotient_grows a b u pos less =
     let below : a / u < suc (b / u) = lt_of_mul-lt-mul_right u both in
     omega arith
 
--- a floor and a ceiling differ by one at most
-pub ceiling_near_floor : (x d : ℕ) → 0 < d → (x + (d - 1)) / d ≤ x / d + 1
-ceiling_near_floor x d pos =
-    let ceiling : (x + (d - 1)) / d * d ≤ x + (d - 1) = div-mul-le_self (x + (d - 1)) d in
-    let floor : x < x / d * d + d = lt-div-mul-add pos in
-    let both : (x + (d - 1)) / d * d < (x / d + 2) * d = omega arith in
-    let less : (x + (d - 1)) / d < x / d + 2 = lt_of_mul-lt-mul_right d both in
+quotient_is : (x d q : ℕ) → 0 < d → q * d ≤ x → x < (q + 1) * d → x / d ≡ q
+quotient_is x d q pos least most =
+    let under : x / d * d ≤ x = div-mul-le_self x d in
+    let over : x < x / d * d + d = lt-div-mul-add pos in
+    let one : x / d * d < (q + 1) * d = omega arith in
+    let two : q * d < (x / d + 1) * d = omega arith in
+    let below : x / d < q + 1 = lt_of_mul-lt-mul_right d one in
+    let above : q < x / d + 1 = lt_of_mul-lt-mul_right d two in
     omega arith
 
--- ends of a quotient, in units of one / u
-pub quotient_low : (n u d : ℕ) → n * u / d * d ≤ n * u
-quotient_low n u d = div-mul-le_self (n * u) d
-
-pub quotient_high : (n u d : ℕ) → 0 < d → n * u ≤ (n * u + (d - 1)) / d * d
-quotient_high n u d pos = let over : n * u + (d - 1) < (n * u + (d - 1)) / d * d + d = lt-div-mul-add pos in omega arith
+-- the ceiling is one above the floor where something is left over
+pub ceiling_more : (x d q : ℕ) → 0 < d → q ≡ x / d → q * d < x → q + 1 ≡ (x + (d - 1)) / d
+ceiling_more x d q pos floor part =
+    let over : x < x / d * d + d = lt-div-mul-add pos in
+    let product : q * d ≡ x / d * d = ap (λ n. n * d) floor in
+    sym (quotient_is (x + (d - 1)) d (q + 1) pos (omega arith) (omega arith))
 
 pub rounded_plain : (u p q l h : ℕ) → 0 < u → l ≡ p / u → h ≡ (q + (u - 1)) / u → IsRounded u p q l h
 rounded_plain u p q l h pos low high =

@@ -1,13 +1,15 @@
 -- The ends of a root stand round the exact roots, and near each other.
-use Rattle.std.proofs.Common.{◌≡◌, ℕ, suc, zero, ◌+◌, ◌-◌, ◌*◌, ◌^◌, ◌<◌, ◌≤◌, ◌≢◌, ◌⊎◌, sym, ap, subst, ⊎_elim, arith, lit≤, lit<}
+use Rattle.std.proofs.Common.{◌≡◌, ℕ, suc, zero, ◌+◌, ◌-◌, ◌*◌, ◌^◌, ◌<◌, ◌≤◌, ◌≢◌, sym, ap, subst, ⊎_elim, arith, lit≤, lit<}
 use Rattle.std.proofs.Math.Nat.{mul-le-mul_left, mul-le-mul_right, le_of_mul-le-mul_right, mul-pos, one-le-pow, pow-le-pow_left, pow-lt-pow_left, pow-suc, pow-zero}
+use Rattle.std.proofs.lemmas.Bool.{cases_lt}
 use Rattle.muni_span.specs.Fractions.{IsAtMost}
 use Rattle.muni_span.specs.Powers.{power_by, power_end, power_low, power_high}
 use Rattle.muni_span.specs.Roots.{root_end, root_low, root_high}
 use Rattle.muni_span.specs.Widths.{whole_above}
 use Rattle.muni_span.proofs.Fractions.{at_most-then}
 use Rattle.muni_span.proofs.PowerLaws.{IsPowerSpan, power_span}
-use Rattle.muni_span.proofs.RootEnds.{IsEnd, root_end-is, power_end-grows}
+use Rattle.muni_span.proofs.PowerGrowth.{power_end-grows}
+use Rattle.muni_span.proofs.RootEnds.{IsEnd, root_end-is}
 use Rattle.muni_span.proofs.RootReach.{reach_up, reach_down}
 
 -- the k-th power of x stands between two ends that are at most e apart
@@ -83,14 +85,9 @@ few_steps d few = omega arith
 sized : (u k least x : ℕ) → u ^ k ≤ 4 * least ^ k → least ≤ x → u ^ k ≤ 4 * x ^ k
 sized u k least x size less = let power : least ^ k ≤ x ^ k = pow-le-pow_left less k in omega arith
 
-le_or_lt : (a b : ℕ) → (a ≤ b) ⊎ (b < a)
-le_or_lt a b = grind arith
-
 ends_near : (v w q s : ℕ) → 2 ^ 60 - 2 ^ 52 ≤ q → q + 1 ≤ 2 ^ 60 + 2 ^ 50 → s ≤ 2 ^ 60 + 2 ^ 50 → v ≤ power_high (q + 1) 180 → power_low s 180 ≤ w → w ≤ v + 1 → s ≤ q + 33
 ends_near v w q s least within within' over under narrow =
-    ⊎_elim (λ fine. omega arith)
-    (λ far.
-    let d = s - (q + 1) in
+    ⊎_elim (λ far.
     let split : q + 1 + (s - (q + 1)) ≡ s = omega arith in
     let first = near_above (2 ^ 60) 180 720 v (q + 1) (power_low (q + 1) 180) (power_high (q + 1) 180) (close (q + 1) within) over in
     let second = near_below (2 ^ 60) 180 720 w s (power_low s 180) (power_high s 180) (close s within') under in
@@ -99,17 +96,18 @@ ends_near v w q s least within within' over under narrow =
     (subst (λ (x : ℕ). x ^ 180 * 2 ^ 60 ≤ w * (2 ^ 60) ^ 180 + 720 * (2 ^ 60) ^ 180) (sym split) second) narrow in
     let few : s - (q + 1) ≤ 32 = few_steps (s - (q + 1)) steps in
     omega arith)
-    (le_or_lt s (q + 1))
+    (λ near. omega arith)
+    (cases_lt (q + 1) s)
 
 -- ends of roots are in the order of their powers
 roots_ordered : (k q r : ℕ) → q ^ suc k ≤ r ^ suc k → q ≤ r
 roots_ordered k q r powers =
-    ⊎_elim (λ less. less)
-    (λ more.
+    ⊎_elim (λ more.
     let some : suc k ≢ 0 = omega arith in
     let strict : r ^ suc k < q ^ suc k = pow-lt-pow_left more some in
     absurd (omega arith))
-    (le_or_lt q r)
+    (λ less. less)
+    (cases_lt r q)
 
 ends_ordered : (u k v w q r : ℕ) → 0 < u → v ≤ w → IsAtMost (q ^ suc k) (u ^ suc k) v u → IsAtMost w u (r ^ suc k) (u ^ suc k) → q ≤ r
 ends_ordered u k v w q r pos order below above =

@@ -1,4 +1,4 @@
--- The ends of an enclosure.
+-- What a contract sees of an enclosure.
 use Rattle.std.specs.Prelude.{ℕ, ◌≤◌}
 
 -- a lower end and an upper end, in whole units

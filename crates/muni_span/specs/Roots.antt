@@ -1,4 +1,4 @@
--- Which ends a root has.
+-- The ends of the 180th root of a fraction, in units of 2^-60.
 use Rattle.std.specs.Prelude.{ℕ, Bool, suc, zero, ◌+◌, ◌-◌, ◌^◌, ◌<◌, ◌≤◌, nat_le, if◌then◌else◌}
 use Rattle.muni_span.specs.Powers.{power_end}
 
@@ -7,19 +7,20 @@ unfoldable pub greatest_where : (ℕ → Bool) → ℕ → ℕ
 greatest_where test zero = zero
 greatest_where test (suc n) = if test (suc n) then suc n else greatest_where test n
 
--- the greatest number whose 180th power, rounded with this carry, is at most v
+-- the greatest number whose 180th power, rounded with a carry, is at most v
 unfoldable pub root_end : ℕ → ℕ → ℕ
 root_end carry v = greatest_where (λ x. nat_le (power_end carry x 180) v) (2 ^ 60 + 2 ^ 50)
 
--- the lower end of a root: the greatest number whose power, rounded up, is at most v
+-- the lower end: the greatest number whose power, rounded up, is at most v
 abbrev pub root_low : ℕ → ℕ
 root_low v = root_end (2 ^ 60 - 1) v
 
--- the upper end: the least number whose power, rounded down, is at least v, so next above the greatest with less
+-- the upper end: the least number whose power, rounded down, is at least v; all up to the number
+-- before it have powers below v
 abbrev pub root_high : ℕ → ℕ
 root_high v = root_end 0 (v - 1) + 1
 
--- ends within reach, of which the lower has a power of at most v and the upper has one above it
+-- a bracket of a root's end: the power of the lower number is at most v, that of the upper is more
 pub record IsBracket (carry v low high : ℕ) : Type 0 where
   pub ordered : low < high
   pub within : high ≤ 2 ^ 60 + 2 ^ 50

@@ -1,4 +1,4 @@
-//! Enclosures: intervals of whole units that hold an exact value, every end rounded outward.
+//! Enclosures: pairs of whole ends that an exact value stands between, each end rounded outward.
 #![tactic(auto)]
 
 pub mod root;

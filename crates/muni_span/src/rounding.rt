@@ -1,13 +1,13 @@
-//! One end of a product or a power, rounded down or up.
+//! One end of an enclosure: products and powers, rounded down or up.
 
-ghost use Rattle.std.specs.Prelude.{◌≡◌, ℕ, suc, ◌+◌, ◌-◌, ◌*◌, ◌/◌, ◌^◌, ◌<◌, ◌≤◌};
-ghost use Rattle.muni_span.specs.Rounding.{carry_of};
+ghost use Rattle.std.specs.Prelude.{◌≡◌, ℕ, ◌+◌, ◌-◌, ◌*◌, ◌/◌, ◌^◌, ◌<◌};
 ghost use Rattle.muni_span.specs.Powers.{product_end, power_from_half, power_end};
+ghost use Rattle.muni_span.specs.Rounding.{carry_of};
 
 /// One, in units of 2^-60.
 pub const ONE: u64 = 1 << 60;
 
-/// Which way an end is rounded: the lower end of an enclosure down, the upper end up.
+/// Which way an end is rounded: outward, so a lower end goes down and an upper end up.
 #[derive(Clone, Copy, Debug, PartialEq, Eq)]
 pub enum Rounding {
     Down,
@@ -15,10 +15,10 @@ pub enum Rounding {
 }
 
 impl Rounding {
-    /// What is added to a product before the units below 2^-60 are cut off.
+    /// What is added to a product before its part below one unit is cut off.
     fn carry(self) -> u64
         ensures value { result ≡ carry_of self }
-        ensures below { result < 2 ^ 60 }
+        ensures below_one { result < 2 ^ 60 }
     {
         match self {
             Rounding::Down => 0,
@@ -26,15 +26,15 @@ impl Rounding {
         }
     }
 
-    /// The rounded product of two ends, at most the greatest `u64`.
-    pub fn product(self, a: u64, b: u64) -> u64
+    /// The product of two fractions in units of 2^-60, and the greatest `u64` where it is more.
+    fn product(self, a: u64, b: u64) -> u64
         ensures { result ≡ product_end (carry_of self) a b }
     {
         let product = (a as u128 * b as u128 + self.carry() as u128) >> 60;
         product.min(u64::MAX as u128) as u64
     }
 
-    /// The power of `base`, in units of 2^-60, by squaring: one for the exponent 0.
+    /// The power of a fraction in units of 2^-60, by squaring.
     pub fn power(self, base: u64, exponent: u32) -> u64
         requires { exponent < 256 }
         ensures { result ≡ power_end (carry_of self) base exponent }
@@ -46,13 +46,13 @@ impl Rounding {
         let mut place = exponent.ilog2();
         while place > 0 {
             place -= 1;
-            power = self.from_half(power, base, exponent >> place);
+            power = self.power_from_half(power, base, exponent >> place);
         }
         power
     }
 
-    /// A power from the power of half its exponent.
-    fn from_half(self, half: u64, base: u64, exponent: u32) -> u64
+    /// A power from the power of half its exponent, rounded down to a whole number.
+    fn power_from_half(self, half: u64, base: u64, exponent: u32) -> u64
         ensures { result ≡ power_from_half (product_end (carry_of self)) base exponent half }
     {
         let square = self.product(half, half);
@@ -63,10 +63,11 @@ impl Rounding {
         }
     }
 
-    /// The rounded product of an amount and a fraction, with no number wider than 128 bits: only
-    /// the product with the lower half of the amount has bits below one.
+    /// The product of an amount and a fraction in units of 2^-60.
+    ///
+    /// No number is wider than 128 bits: the upper half of the amount gives whole units alone.
     pub fn scale(self, amount: u128, factor: u64) -> u128
-        requires { amount * factor < 2 ^ 187 }
+        requires { amount * factor < 2 ^ 127 * 2 ^ 60 }
         ensures { result ≡ (amount * factor + carry_of self) / 2 ^ 60 }
     {
         let factor = factor as u128;

@@ -1,4 +1,4 @@
-//! Fractions between two whole ends.
+//! Fractions between two whole ends, in units of 2^-60.
 
 ghost use Rattle.std.specs.Prelude.{◌≡◌, ℕ, ◌+◌, ◌-◌, ◌*◌, ◌/◌, ◌^◌, ◌<◌, ◌≤◌};
 ghost use Rattle.std.specs.Prelude.{pos, negsuc, ◌≤ℤ◌};
@@ -30,7 +30,7 @@ impl Model for Span {
 }
 
 impl Span {
-    /// The fractions between two ends.
+    /// The fractions between two ends, in units of 2^-60.
     pub fn new(lo: u64, hi: u64) -> Span
         requires ordered { lo ≤ hi }
         ensures lo { result.lo ≡ lo }
@@ -53,12 +53,14 @@ impl Span {
         self.hi
     }
 
-    /// The product, rounded outward.
+    /// The product. As fractions, the upper ends have a product of at most 15.
     pub fn mul(self, other: Span) -> Span
         requires bounded { self.hi * other.hi ≤ 15 * 2 ^ 120 }
         ensures lo { result.lo ≡ self.lo * other.lo / 2 ^ 60 }
         ensures hi { result.hi ≡ (self.hi * other.hi + (2 ^ 60 - 1)) / 2 ^ 60 }
-        ensures holds { (j n d m e : ℕ) → HoldsPower (2 ^ 60) self.lo self.hi j n d →
+
+        // Whatever fractions the j-th powers hold, those of the product hold their product.
+        ensures encloses { (j n d m e : ℕ) → HoldsPower (2 ^ 60) self.lo self.hi j n d →
             HoldsPower (2 ^ 60) other.lo other.hi j m e →
             HoldsPower (2 ^ 60) result.lo result.hi j (n * m) (d * e) }
     {
@@ -67,47 +69,48 @@ impl Span {
         Span::new(lo as u64, hi as u64)
     }
 
-    /// The power with this exponent, by squaring, each product rounded outward.
-    pub fn power(self, exponent: u32) -> Span
-        requires few { exponent ≤ 180 }
-        requires bounded { self.hi ^ exponent ≤ 15 * (2 ^ 60) ^ exponent }
-        ensures lo { result.lo ≡ power_low self.lo exponent }
-        ensures hi { result.hi ≡ power_high self.hi exponent }
+    /// The k-th power, by squaring. As a fraction, the power of the upper end is at most 15.
+    pub fn power(self, k: u32) -> Span
+        requires few { k ≤ 180 }
+        requires bounded { self.hi ^ k ≤ 15 * (2 ^ 60) ^ k }
+        ensures lo { result.lo ≡ power_low self.lo k }
+        ensures hi { result.hi ≡ power_high self.hi k }
 
-        ensures below { IsAtMost result.lo (2 ^ 60) (self.lo ^ exponent) ((2 ^ 60) ^ exponent) }
-        ensures above { IsAtMost (self.hi ^ exponent) ((2 ^ 60) ^ exponent) result.hi (2 ^ 60) }
-        ensures holds { (j n d : ℕ) → HoldsPower (2 ^ 60) self.lo self.hi j n d →
-            HoldsPower (2 ^ 60) result.lo result.hi j (n ^ exponent) (d ^ exponent) }
-        ensures width { result.hi - result.lo ≤ exponent * (self.hi - self.lo + 2) * whole_above result.hi }
+        ensures below { IsAtMost result.lo (2 ^ 60) (self.lo ^ k) ((2 ^ 60) ^ k) }
+        ensures above { IsAtMost (self.hi ^ k) ((2 ^ 60) ^ k) result.hi (2 ^ 60) }
+        ensures encloses { (j n d : ℕ) → HoldsPower (2 ^ 60) self.lo self.hi j n d →
+            HoldsPower (2 ^ 60) result.lo result.hi j (n ^ k) (d ^ k) }
+        ensures width { result.hi - result.lo ≤ k * (self.hi - self.lo + 2) * whole_above result.hi }
     {
-        let lo = Rounding::Down.power(self.lo, exponent);
-        let hi = Rounding::Up.power(self.hi, exponent);
+        let lo = Rounding::Down.power(self.lo, k);
+        let hi = Rounding::Up.power(self.hi, k);
         Span::new(lo, hi)
     }
 }
 
-/// The discount factor of one half-year period at a yield in millionths: two million divided by
-/// two million and the yield.
+/// The discount factor of one half-year at a yield in millionths: two million divided by two
+/// million and the yield. The yield lies between -50,005 and 1,000,005.
 pub fn recip(y: i32) -> Span
     requires least { negsuc 50004 ≤ℤ y }
     requires greatest { y ≤ℤ pos 1000005 }
     ensures lo { result.lo ≡ 2000000 * 2 ^ 60 / discount_divisor y }
     ensures hi { result.hi ≡ (2000000 * 2 ^ 60 + (discount_divisor y - 1)) / discount_divisor y }
 
-    ensures holds { (j : ℕ) → HoldsPower (2 ^ 60) result.lo result.hi j (2000000 ^ j) (discount_divisor y ^ j) }
+    ensures encloses { (j : ℕ) →
+        HoldsPower (2 ^ 60) result.lo result.hi j (2000000 ^ j) (discount_divisor y ^ j) }
     ensures width { result.hi ≤ result.lo + 1 }
     ensures at_least { 6 * 2 ^ 60 ≤ 10 * result.lo }
     ensures at_most { 10000 * result.hi ≤ 10257 * 2 ^ 60 }
 {
-    let divisor = divisor(y) as u128;
     let whole = 2_000_000_u128 << 60;
+    let divisor = discount_divisor(y) as u128;
     let lo = whole / divisor;
-    let hi = (whole + (divisor - 1)) / divisor;
+    let hi = ceiling(whole, divisor, lo);
     Span::new(lo as u64, hi as u64)
 }
 
 /// Two million and the yield.
-fn divisor(y: i32) -> u64
+fn discount_divisor(y: i32) -> u64
     requires least { negsuc 50004 ≤ℤ y }
     requires greatest { y ≤ℤ pos 1000005 }
     ensures value { result ≡ discount_divisor y }
@@ -115,4 +118,17 @@ fn divisor(y: i32) -> u64
     ensures at_most { result ≤ 3000005 }
 {
     (2_000_000 + y) as u64
+}
+
+/// A quotient rounded up, from the one rounded down: a second division would cost as much again.
+fn ceiling(whole: u128, divisor: u128, floor: u128) -> u128
+    requires some { 0 < divisor }
+    requires floor { floor ≡ whole / divisor }
+    ensures { result ≡ (whole + (divisor - 1)) / divisor }
+{
+    if floor * divisor < whole {
+        floor + 1
+    } else {
+        floor
+    }
 }

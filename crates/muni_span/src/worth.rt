@@ -1,4 +1,4 @@
-//! Amounts between two whole ends.
+//! Amounts between two whole ends, in 1/4096 of a unit.
 
 ghost use Rattle.std.specs.Prelude.{◌≡◌, ℕ, ◌+◌, ◌-◌, ◌*◌, ◌/◌, ◌^◌, ◌<◌, ◌≤◌};
 ghost use Rattle.muni_span.specs.Holding.{HoldsPower};
@@ -25,19 +25,19 @@ impl Model for Worth {
     ghost inverse = { λ e. record { lo = e.lo; hi = e.hi; ordered = e.ordered } };
 }
 
-/// An amount of whole units, exactly.
+/// An amount of whole units, exactly: both ends are it.
 pub fn of(units: u64) -> Worth
     requires { units < 2 ^ 52 }
     ensures lo { result.lo ≡ 4096 * units }
     ensures hi { result.hi ≡ 4096 * units }
-    ensures holds { (j : ℕ) → HoldsPower 4096 result.lo result.hi j (units ^ j) 1 }
+    ensures encloses { (j : ℕ) → HoldsPower 4096 result.lo result.hi j (units ^ j) 1 }
 {
     let amount = (units as u128) << 12;
     Worth::new(amount, amount)
 }
 
 impl Worth {
-    /// The amounts between two ends.
+    /// The amounts between two ends, in 1/4096 of a unit.
     pub fn new(lo: u128, hi: u128) -> Worth
         requires ordered { lo ≤ hi }
         ensures lo { result.lo ≡ lo }
@@ -60,24 +60,27 @@ impl Worth {
         self.hi
     }
 
-    /// The sum, exactly.
+    /// The sum, with nothing rounded.
     pub fn add(self, other: Worth) -> Worth
         requires bounded { self.hi + other.hi < 2 ^ 127 }
         ensures lo { result.lo ≡ self.lo + other.lo }
         ensures hi { result.hi ≡ self.hi + other.hi }
-        ensures holds { (n d m e : ℕ) → HoldsPower 4096 self.lo self.hi 1 n d →
+
+        // Sums of fractions; their powers have no such law.
+        ensures encloses { (n d m e : ℕ) → HoldsPower 4096 self.lo self.hi 1 n d →
             HoldsPower 4096 other.lo other.hi 1 m e →
             HoldsPower 4096 result.lo result.hi 1 (n * e + m * d) (d * e) }
     {
         Worth::new(self.lo + other.lo, self.hi + other.hi)
     }
 
-    /// The product with a fraction, rounded outward.
+    /// The product with a fraction. The product of the upper ends is below 2^127.
     pub fn scale(self, factor: Span) -> Worth
         requires bounded { self.hi * factor.hi < 2 ^ 127 * 2 ^ 60 }
         ensures lo { result.lo ≡ self.lo * factor.lo / 2 ^ 60 }
         ensures hi { result.hi ≡ (self.hi * factor.hi + (2 ^ 60 - 1)) / 2 ^ 60 }
-        ensures holds { (j n d m e : ℕ) → HoldsPower 4096 self.lo self.hi j n d →
+
+        ensures encloses { (j n d m e : ℕ) → HoldsPower 4096 self.lo self.hi j n d →
             HoldsPower (2 ^ 60) factor.lo factor.hi j m e →
             HoldsPower 4096 result.lo result.hi j (n * m) (d * e) }
     {

@@ -5,17 +5,17 @@ use Rattle.muni_span.proofs.RootLaws.{IsRootSpan, root_span_of}
 use Rattle.muni_span.proofs.RootReach.{reach_up, reach_down}
 use Rattle.muni_span.proofs.root.root180.Goals as goal
 
-pub near-lower-requires-clause-within : goal.near-lower-requires-clause-within
-near-lower-requires-clause-within c = reach_up c.lo-2.result (omega arith) (omega arith)
+pub end_near-lo-requires-clause-within : goal.end_near-lo-requires-clause-within
+end_near-lo-requires-clause-within c = reach_up c.lo-2.result (omega arith) (omega arith)
 
-pub near-below_upper-requires-clause-within : goal.near-below_upper-requires-clause-within
-near-below_upper-requires-clause-within c = reach_down (c.hi.result - 1) (omega arith) (omega arith)
+pub end_near-below_hi-requires-clause-within : goal.end_near-below_hi-requires-clause-within
+end_near-below_hi-requires-clause-within c = reach_down (c.hi.result - 1) (omega arith) (omega arith)
 
 pub new-requires : goal.new-requires
 new-requires c =
-    let low : c.near-lower.result ≡ root_low c.args.v.lo = search rules in
-    let high : c.near-below_upper.result + 1 ≡ root_high c.args.v.hi = search rules in
-    let law = root_span_of c.args.v.lo c.args.v.hi c.near-lower.result (c.near-below_upper.result + 1) c.requires.least c.requires.greatest c.args.v.ordered c.requires.narrow low high in
+    let low : c.end_near-lo.result ≡ root_low c.args.v.lo = search rules in
+    let high : c.end_near-below_hi.result + 1 ≡ root_high c.args.v.hi = search rules in
+    let law = root_span_of c.args.v.lo c.args.v.hi c.end_near-lo.result (c.end_near-below_hi.result + 1) c.requires.least c.requires.greatest c.args.v.ordered c.requires.narrow low high in
     record { ordered = law.ordered }
 
 law : (c : goal.After-new) → IsRootSpan c.args.v.lo c.args.v.hi c.new.result.lo c.new.result.hi
@@ -30,8 +30,8 @@ returns-clause-below c = (law c).below
 pub returns-clause-above : goal.returns-clause-above
 returns-clause-above c = (law c).above
 
-pub returns-clause-holds : goal.returns-clause-holds
-returns-clause-holds c j n d =
+pub returns-clause-encloses : goal.returns-clause-encloses
+returns-clause-encloses c j n d =
     root_holds (2 ^ 60) c.args.v.lo c.args.v.hi 180 c.new.result.lo c.new.result.hi j n d (lit< tt) (law c).below (law c).above
 
 pub returns-clause-width : goal.returns-clause-width

@@ -17,7 +17,7 @@ loop-place-init c = record {
 pub loop-place-preserved : goal.loop-place-preserved
 loop-place-preserved c = record {
   within = omega arith;
-  reached = rw c.from_half-power.ensures
+  reached = rw c.power_from_half-power.ensures
       (next_place (product_end (carry_of c.args.self)) c.args.base c.args.exponent c.loop-place.place c.loop-place.power (omega arith) c.loop-place.invariant.reached);
 }
 

@@ -11,7 +11,7 @@ overflow_mul-result-2 c =
 pub overflow_add-result-2 : goal.overflow_add-result-2
 overflow_add-result-2 c =
     let whole = by_halves 16 (2 ^ 60) c.args.amount c.args.factor c.carry.result (lit< tt) in
-    let small = scaled_fits (c.args.amount * c.args.factor) c.carry.result c.requires c.carry.ensures.below in
+    let small = scaled_fits (c.args.amount * c.args.factor) c.carry.result c.requires c.carry.ensures.below_one in
     omega (arith, whole, small)
 
 pub returns : goal.returns
