@@ -80,7 +80,8 @@ impl Span {
         ensures above { IsAtMost (self.hi ^ k) ((2 ^ 60) ^ k) result.hi (2 ^ 60) }
         ensures encloses { (j n d : ℕ) → HoldsPower (2 ^ 60) self.lo self.hi j n d →
             HoldsPower (2 ^ 60) result.lo result.hi j (n ^ k) (d ^ k) }
-        ensures width { result.hi - result.lo ≤ k * (self.hi - self.lo + 2) * whole_above result.hi }
+        ensures width { result.hi - result.lo ≤
+            k * (self.hi - self.lo + 2) * whole_above result.hi }
     {
         let lo = Rounding::Down.power(self.lo, k);
         let hi = Rounding::Up.power(self.hi, k);
