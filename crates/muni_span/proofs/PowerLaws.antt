@@ -18,6 +18,7 @@ pub record IsPower (u a b k lo hi : ℕ) : Type 0 where
   pub small : b ≤ u → IsSmall u (k * (b - a + 2) - 2) lo hi
   pub large : u ≤ b → IsLarge u (k * (b - a + 2) - 2) lo hi
 
+-- the rounded product of two powers' ends, below and above the power with the sum of their exponents
 product_below : (u a m n p q l t : ℕ) → 0 < u → l * u ≤ p * q → IsAtMost p u (a ^ m) (u ^ m) → IsAtMost q u (a ^ n) (u ^ n) → IsAtMost (min l t) u (a ^ (m + n)) (u ^ (m + n))
 product_below u a m n p q l t pos under one two =
     let cut : min l t * (u * u) ≤ l * (u * u) = mul-le-mul_right (u * u) (let less : min l t ≤ l = omega arith in less) in
@@ -44,6 +45,7 @@ cut_above u t p r h room most law =
     rw same (record { cross = omega arith }))
     (ordered h t)
 
+-- so powers of m and of n make one of m + n
 product_of_powers : (u t a b m n l1 h1 l2 h2 l h : ℕ) → 1 ≤ m → 1 ≤ n → 0 < u → 15 * u ≤ t → b ^ (m + n) ≤ 15 * u ^ (m + n) → IsRounded u (l1 * l2) (h1 * h2) l h → IsPower u a b m l1 h1 → IsPower u a b n l2 h2 → IsPower u a b (m + n) (min l t) (min h t)
 product_of_powers u t a b m n l1 h1 l2 h2 l h some more pos room most round one two =
     let floor : l * u ≤ l1 * l2 = round.floor_under in
@@ -81,6 +83,7 @@ in_reach u x m j k pos some less most =
     le_of_mul-le-mul_right all (one-le-pow (k - j) u pos))
     (ordered x u)
 
+-- the first power is the base itself
 first_large : (u a b : ℕ) → a ≤ b → u ≤ b → b * u ≤ a * u + (1 * (b - a + 2) - 2) * b
 first_large u a b order over =
     let share : 1 * (b - a + 2) - 2 ≡ b - a = omega arith in
@@ -101,6 +104,7 @@ first_power u a b order = record {
 same_ends : (u a b k l h p q : ℕ) → l ≡ p → h ≡ q → IsPower u a b k p q → IsPower u a b k l h
 same_ends u a b k l h p q low high law = rw (low, high) law
 
+-- the steps of squaring, with one in units of 2^-60 and ends of 64 bits
 squared : (a b k l h : ℕ) → 1 ≤ k / 2 → b ^ k ≤ 15 * (2 ^ 60) ^ k → IsPower (2 ^ 60) a b (k / 2) l h → IsPower (2 ^ 60) a b (k / 2 + k / 2) (product_end 0 l l) (product_end (2 ^ 60 - 1) h h)
 squared a b k l h some most half =
     product_of_powers (2 ^ 60) (2 ^ 64 - 1) a b (k / 2) (k / 2) l h l h ((l * l + 0) / 2 ^ 60) ((h * h + (2 ^ 60 - 1)) / 2 ^ 60) some some (lit< tt) (lit≤ tt)
@@ -180,13 +184,14 @@ whole_covers hi u pos =
     = mul-le-mul_right u (let less : (hi + (u - 1)) / u ≤ max 1 ((hi + (u - 1)) / u) = omega arith in less) in
     omega arith
 
--- what a power's ends hold and how near they are, for every exponent
+-- what a power's ends hold and how near they are, for every exponent up to 180
 pub record IsPowerSpan (a b k lo hi : ℕ) : Type 0 where
   pub below : IsAtMost lo (2 ^ 60) (a ^ k) ((2 ^ 60) ^ k)
   pub above : IsAtMost (b ^ k) ((2 ^ 60) ^ k) hi (2 ^ 60)
   pub ordered : lo ≤ hi
   pub narrow : hi - lo ≤ k * (b - a + 2) * whole_above hi
 
+-- a power with exponent 0 is one
 no_factor : (u x : ℕ) → IsAtMost u u (x ^ 0) (u ^ 0)
 no_factor u x = record { cross = rw (pow-zero x, pow-zero u) (omega arith) }
 

@@ -54,6 +54,7 @@ small_cut u t e l h room order law =
     let near : h ≤ l + e = law.near in
     record { under = omega arith; near = omega arith }
 
+-- a lower upper end keeps its proportion
 lowered : (u e l h c : ℕ) → c ≤ h → h * u ≤ l * u + e * h → c * u ≤ l * u + e * c
 lowered u e l h c less law =
     ⊎_elim (λ below.

@@ -18,6 +18,7 @@ rounded u p q pos =
     let four : (q + (u - 1)) / u * u ≤ q + (u - 1) = div-mul-le_self (q + (u - 1)) u in
     record { floor_under = omega arith; floor_near = omega arith; ceiling_over = omega arith; ceiling_near = omega arith }
 
+-- greater numbers have greater quotients
 pub quotient_grows : (a b u : ℕ) → 0 < u → a ≤ b → a / u ≤ b / u
 quotient_grows a b u pos less =
     let under : a / u * u ≤ a = div-mul-le_self a u in
@@ -26,7 +27,8 @@ quotient_grows a b u pos less =
     let below : a / u < suc (b / u) = lt_of_mul-lt-mul_right u both in
     omega arith
 
-quotient_is : (x d q : ℕ) → 0 < d → q * d ≤ x → x < (q + 1) * d → x / d ≡ q
+-- the quotient is the one number between whose multiples the dividend lies
+pub quotient_is : (x d q : ℕ) → 0 < d → q * d ≤ x → x < (q + 1) * d → x / d ≡ q
 quotient_is x d q pos least most =
     let under : x / d * d ≤ x = div-mul-le_self x d in
     let over : x < x / d * d + d = lt-div-mul-add pos in
@@ -43,6 +45,7 @@ ceiling_more x d q pos floor part =
     let product : q * d ≡ x / d * d = ap (λ n. n * d) floor in
     sym (quotient_is (x + (d - 1)) d (q + 1) pos (omega arith) (omega arith))
 
+-- the floor and the ceiling, with no carry written for the floor
 pub rounded_plain : (u p q l h : ℕ) → 0 < u → l ≡ p / u → h ≡ (q + (u - 1)) / u → IsRounded u p q l h
 rounded_plain u p q l h pos low high =
     let none : p + 0 ≡ p = omega arith in
@@ -58,5 +61,6 @@ by_halves t w a f e pos =
     = ap (λ x. x / w) parts ∙ add-mul-div_right (a % (t * w) * f + e) (a / (t * w) * f * t) pos in
     omega (arith, quotient)
 
+-- a scaled amount below 2^127 fits, rounded up too
 pub scaled_fits : (p e : ℕ) → p < 2 ^ 187 → e < 2 ^ 60 → (p + e) / 2 ^ 60 < 2 ^ 127 + 1
 scaled_fits p e few less = div_below (p + e) (2 ^ 60) (2 ^ 127 + 1) (lit< tt) (omega arith)

@@ -18,6 +18,7 @@ pub record IsClose (u k e x lo hi : ℕ) : Type 0 where
   pub above : IsAtMost (x ^ k) (u ^ k) hi u
   pub near : hi ≤ lo + e
 
+-- powers in the widest bracket stay below two
 greatest_power : power_end (2 ^ 60 - 1) (2 ^ 60 + 2 ^ 50) 180 ≤ 2 * 2 ^ 60
 unfolding power_end power_by
 greatest_power = lit≤ tt
@@ -85,6 +86,7 @@ few_steps d few = omega arith
 sized : (u k least x : ℕ) → u ^ k ≤ 4 * least ^ k → least ≤ x → u ^ k ≤ 4 * x ^ k
 sized u k least x size less = let power : least ^ k ≤ x ^ k = pow-le-pow_left less k in omega arith
 
+-- the number after a root's lower end and the one before its upper end are 32 apart at most
 ends_near : (v w q s : ℕ) → 2 ^ 60 - 2 ^ 52 ≤ q → q + 1 ≤ 2 ^ 60 + 2 ^ 50 → s ≤ 2 ^ 60 + 2 ^ 50 → v ≤ power_high (q + 1) 180 → power_low s 180 ≤ w → w ≤ v + 1 → s ≤ q + 33
 ends_near v w q s least within within' over under narrow =
     ⊎_elim (λ far.
@@ -99,7 +101,7 @@ ends_near v w q s least within within' over under narrow =
     (λ near. omega arith)
     (cases_lt (q + 1) s)
 
--- ends of roots are in the order of their powers
+-- numbers are in the order of their powers
 roots_ordered : (k q r : ℕ) → q ^ suc k ≤ r ^ suc k → q ≤ r
 roots_ordered k q r powers =
     ⊎_elim (λ more.

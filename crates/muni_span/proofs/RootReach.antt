@@ -3,6 +3,7 @@ use Rattle.std.proofs.Common.{ℕ, ◌+◌, ◌-◌, ◌*◌, ◌^◌, ◌≤◌
 use Rattle.muni_span.specs.Powers.{power_by, power_end}
 use Rattle.muni_span.specs.Roots.{IsBracket}
 
+-- at the ends of the widest bracket the powers are below 0.5 and above 1.1, rounded either way
 least_up : 100 * power_end (2 ^ 60 - 1) (2 ^ 60 - 2 ^ 52) 180 ≤ 50 * 2 ^ 60
 unfolding power_end power_by
 least_up = lit≤ tt

@@ -1,9 +1,10 @@
 -- Powers by squaring: a power from that of half its exponent, whatever a product rounds to.
-use Rattle.std.proofs.Common.{◌≡◌, ℕ, suc, zero, ◌+◌, ◌-◌, ◌*◌, ◌/◌, ◌%◌, ◌^◌, ◌<◌, ◌≤◌, ◌≢◌, ◌⊎◌, refl, sym, ap, ◌∙◌, subst, ⊎_elim, arith, true, false, eqb, leb}
-use Rattle.std.proofs.Math.Nat.{pow-suc, div-mul-le_self, lt-div-mul-add, lt_of_mul-lt-mul_right}
+use Rattle.std.proofs.Common.{◌≡◌, ℕ, suc, zero, ◌+◌, ◌-◌, ◌*◌, ◌/◌, ◌%◌, ◌^◌, ◌<◌, ◌≤◌, ◌≢◌, ◌⊎◌, refl, sym, ap, ◌∙◌, subst, arith, true, false, eqb, leb}
+use Rattle.std.proofs.Math.Nat.{pow-suc}
 use Rattle.std.proofs.lemmas.Bool.Decides.{nat_tests}
 use Rattle.std.proofs.lemmas.Nat.{shr-shr, pow_pos}
 use Rattle.muni_span.specs.Powers.{product_end, power_from_half, power_by, power_end}
+use Rattle.muni_span.proofs.Quotients.{quotient_is}
 
 pub even_or_odd : (k : ℕ) → (k % 2 ≡ 0) ⊎ (k % 2 ≢ 0)
 even_or_odd k = grind arith
@@ -30,47 +31,37 @@ pub power_by-more : (times : ℕ → ℕ → ℕ) (x f k : ℕ) → 2 ≤ k → 
 unfolding power_by
 power_by-more times x f k more = let t : leb k 1 ≡ false = grind (arith, nat_tests) in rw t refl
 
--- what a walk down the exponent's binary places has reached: the power of `k`, its places so far
+-- `power` is the power with exponent k, whatever number of steps above its places is allowed
 pub record IsPowerOf (times : ℕ → ℕ → ℕ) (x k power : ℕ) : Type 0 where
   pub some : 1 ≤ k
   pub value : (f : ℕ) → k < 2 ^ suc f → power ≡ power_by times x f k
 
-none_or_one : (q : ℕ) → q < 2 → (q ≡ 0) ⊎ (q ≡ 1)
-none_or_one q few = grind arith
-
--- what is at least one and below two of a divisor has the quotient one
-quotient_one : (n d : ℕ) → 0 < d → d ≤ n → n < 2 * d → n / d ≡ 1
-quotient_one n d pos least most =
-    let under : n / d * d ≤ n = div-mul-le_self n d in
-    let over : n < n / d * d + d = lt-div-mul-add pos in
-    let below : n / d * d < 2 * d = omega arith in
-    let few : n / d < 2 = lt_of_mul-lt-mul_right d below in
-    ⊎_elim (λ none. let z : n / d * d ≡ 0 = rw none (omega arith) in absurd (omega arith)) (λ one. one) (none_or_one (n / d) few)
-
+-- the topmost place alone has the exponent 1, and the power is the base
 pub first_place : (times : ℕ → ℕ → ℕ) (x n place : ℕ) → 2 ^ place ≤ n → n < 2 * 2 ^ place → IsPowerOf times x (n / 2 ^ place) x
 first_place times x n place least most =
-    let one : n / 2 ^ place ≡ 1 = quotient_one n (2 ^ place) (pow_pos place) least most in
+    let one : n / 2 ^ place ≡ 1 = quotient_is n (2 ^ place) 1 (pow_pos place) (omega arith) (omega arith) in
     record { some = omega arith; value = λ f few. sym (power_by-first times x f (n / 2 ^ place) (omega arith)) }
 
 next_value : (times : ℕ → ℕ → ℕ) (x k half : ℕ) → IsPowerOf times x (k / 2) half → (f : ℕ) → k < 2 ^ suc f → power_from_half times x k half ≡ power_by times x f k
 next_value times x k half is zero few =
-    let e : 2 ^ suc 0 ≡ 2 = refl in
+    let two : 2 ^ suc 0 ≡ 2 = refl in
     let some : 1 ≤ k / 2 = is.some in
     absurd (omega arith)
 next_value times x k half is (suc f) few =
-    let e : 2 ^ suc (suc f) ≡ 2 ^ suc f * 2 = pow-suc 2 (suc f) in
+    let double : 2 ^ suc (suc f) ≡ 2 ^ suc f * 2 = pow-suc 2 (suc f) in
     let some : 1 ≤ k / 2 = is.some in
     ap (power_from_half times x k) (is.value f (omega arith)) ∙ sym (power_by-more times x f k (omega arith))
 
+-- one place more: the power of the exponent's places so far, from that of all but the last
 pub next_place : (times : ℕ → ℕ → ℕ) (x n place half : ℕ) → 0 < place → IsPowerOf times x (n / 2 ^ place) half → IsPowerOf times x (n / 2 ^ (place - 1)) (power_from_half times x (n / 2 ^ (place - 1)) half)
 next_place times x n place half pos is =
-    let k = n / 2 ^ (place - 1) in
     let one : place - 1 + 1 ≡ place = omega arith in
     let halved : n / 2 ^ (place - 1) / 2 ≡ n / 2 ^ place = shr-shr n (place - 1) 1 ∙ ap (λ i. n / 2 ^ i) one in
     let reached : IsPowerOf times x (n / 2 ^ (place - 1) / 2) half = subst (λ (i : ℕ). IsPowerOf times x i half) (sym halved) is in
     let some : 1 ≤ n / 2 ^ (place - 1) / 2 = reached.some in
     record { some = omega arith; value = next_value times x (n / 2 ^ (place - 1)) half reached }
 
+-- with all places the exponent is whole
 pub last_place : (carry x n place power : ℕ) → n < 256 → place ≡ 0 → IsPowerOf (product_end carry) x (n / 2 ^ place) power → power ≡ power_end carry x n
 unfolding power_end
 last_place carry x n place power few last is =
