@@ -7,7 +7,8 @@ unfoldable pub greatest_where : (ℕ → Bool) → ℕ → ℕ
 greatest_where test zero = zero
 greatest_where test (suc n) = if test (suc n) then suc n else greatest_where test n
 
--- the greatest number whose 180th power, rounded with a carry, is at most v
+-- the greatest number whose 180th power, rounded with a carry, is at most v, among the numbers up
+-- to 2^60 + 2^50, which is more than the root of 1.03
 unfoldable pub root_end : ℕ → ℕ → ℕ
 root_end carry v = greatest_where (λ x. nat_le (power_end carry x 180) v) (2 ^ 60 + 2 ^ 50)
 

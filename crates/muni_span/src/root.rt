@@ -6,6 +6,7 @@ ghost use Rattle.muni_span.specs.Fractions.{IsAtMost};
 ghost use Rattle.muni_span.specs.Holding.{HoldsPower};
 ghost use Rattle.muni_span.specs.Roots.{root_end, root_low, root_high, IsBracket};
 ghost use Rattle.muni_span.specs.Rounding.{carry_of};
+ghost use Rattle.muni_span.specs.declared.root.TheConstants.{LEAST_ROOT, GREATEST_ROOT, REACH};
 
 use crate::rounding::{ONE, Rounding};
 use crate::span::Span;
@@ -57,11 +58,11 @@ pub fn root180_by_halving(v: Span) -> Span
 /// The greatest number with a power of at most `v`, in a narrow bracket round a guess where the
 /// powers of its two ends certify that bracket, and else in the widest one.
 fn end_near(rounding: Rounding, v: u64, guess: u64) -> u64
-    requires within { IsBracket (carry_of rounding) v (2 ^ 60 - 2 ^ 52) (2 ^ 60 + 2 ^ 50) }
-    requires least { 2 ^ 60 - 2 ^ 52 + 8 ≤ guess }
-    requires greatest { guess + 8 ≤ 2 ^ 60 + 2 ^ 50 }
+    requires within { IsBracket (carry_of rounding) v LEAST_ROOT GREATEST_ROOT }
+    requires least { LEAST_ROOT + REACH ≤ guess }
+    requires greatest { guess + REACH ≤ GREATEST_ROOT }
     ensures value { result ≡ root_end (carry_of rounding) v }
-    ensures within { result < 2 ^ 60 + 2 ^ 50 }
+    ensures within { result < GREATEST_ROOT }
 {
     let low = guess - REACH;
     let high = guess + REACH;
@@ -76,7 +77,7 @@ fn end_near(rounding: Rounding, v: u64, guess: u64) -> u64
 fn end_between(rounding: Rounding, v: u64, mut low: u64, mut high: u64) -> u64
     requires { IsBracket (carry_of rounding) v low high }
     ensures value { result ≡ root_end (carry_of rounding) v }
-    ensures within { result < 2 ^ 60 + 2 ^ 50 }
+    ensures within { result < GREATEST_ROOT }
 {
     while high - low > 1 {
         let middle = low + (high - low) / 2;
@@ -91,8 +92,9 @@ fn end_between(rounding: Rounding, v: u64, mut low: u64, mut high: u64) -> u64
 
 /// A number near the 180th root of `v`. It need not be near: the powers decide what is kept.
 fn guess(v: u64) -> u64
-    ensures least { 2 ^ 60 - 2 ^ 52 + 8 ≤ result }
-    ensures greatest { result + 8 ≤ 2 ^ 60 + 2 ^ 50 }
+    requires { 0 < v }
+    ensures least { LEAST_ROOT + REACH ≤ result }
+    ensures greatest { result + REACH ≤ GREATEST_ROOT }
 {
     let one = ONE as i128;
     let step = v as i128 - one;
@@ -103,7 +105,7 @@ fn guess(v: u64) -> u64
     let mut root = within_reach(one + scaled(step, slope));
 
     // Newton's method, with one division for all turns.
-    let rate = ((1_u128 << 120) / 180 / v.max(1) as u128) as i128;
+    let rate = ((1_u128 << 120) / 180 / v as u128) as i128;
     for _ in 0..3 {
         let short = v as i128 - Rounding::Down.power(root, 180) as i128;
         let change = scaled(scaled(short, root as i128), rate);
@@ -122,8 +124,8 @@ fn scaled(a: i128, b: i128) -> i128
 
 /// The nearest number whose reach stays between the least root and the greatest.
 fn within_reach(root: i128) -> u64
-    ensures least { 2 ^ 60 - 2 ^ 52 + 8 ≤ result }
-    ensures greatest { result + 8 ≤ 2 ^ 60 + 2 ^ 50 }
+    ensures least { LEAST_ROOT + REACH ≤ result }
+    ensures greatest { result + REACH ≤ GREATEST_ROOT }
 {
     root.clamp(
         (LEAST_ROOT + REACH) as i128,
