@@ -1,0 +1,14 @@
+//! What the desk is asked, what it answers, and why it refuses, as plain values.
+#![tactic(auto)]
+
+mod asked;
+mod figures;
+mod refusal;
+#[cfg(test)]
+mod tests;
+mod version;
+
+pub use asked::{Asked, Given, Side, Terms};
+pub use figures::Figures;
+pub use refusal::{Range, Refusal, refusal_name};
+pub use version::{Act, Kept, Version};

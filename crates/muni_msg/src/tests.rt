@@ -1,0 +1,72 @@
+use crate::{Asked, Given, Range, Refusal, Side, Terms, refusal_name};
+use muni_days::Day;
+use muni_dec::{Par, Price, Yield};
+use std::test::Fail;
+
+#[test]
+fn terms_are_the_same_where_every_part_is(rt: HostRuntime) -> Result<(), Fail> {
+    let y = Yield::of(40_000).ok_or("a yield")?;
+    let price = Price::of(40_000).ok_or("a price")?;
+    let asked = Asked {
+        cusip: *b"123456AA3",
+        par: Par::of(25_000).ok_or("a par")?,
+        settle: Day::of(2024, 4, 1).ok_or("a day")?,
+        given: Given::AtYield(y),
+    };
+    let terms = Terms {
+        asked,
+        side: Side::Buy,
+    };
+    assert!(rt;
+        terms.same(&Terms {
+            asked,
+            side: Side::Buy
+        })
+    );
+    assert!(rt;
+        !terms.same(&Terms {
+            asked,
+            side: Side::Sell
+        })
+    );
+    for other in [
+        Asked {
+            cusip: *b"123456AB1",
+            ..asked
+        },
+        Asked {
+            par: Par::of(30_000).ok_or("a par")?,
+            ..asked
+        },
+        Asked {
+            settle: Day::of(2024, 4, 2).ok_or("a day")?,
+            ..asked
+        },
+        Asked {
+            given: Given::AtRate(y),
+            ..asked
+        },
+        Asked {
+            given: Given::AtPrice(price),
+            ..asked
+        },
+    ] {
+        assert!(rt;
+            !terms.same(&Terms {
+                asked: other,
+                side: Side::Buy
+            })
+        );
+    }
+    Ok(())
+}
+
+#[test]
+fn refusals_have_numbers_and_names(rt: HostRuntime) -> Result<(), Fail> {
+    let refusal = Refusal::GivenOutOfRange(Range::Above);
+    assert_eq!(rt; refusal.number(), 6);
+    assert_eq!(rt; refusal_name(refusal.number()), "GivenOutOfRange");
+    assert_eq!(rt; refusal_name(1), "UnknownIssue");
+    assert_eq!(rt; refusal_name(15), "WrongBasis");
+    Ok(())
+}
