@@ -9,6 +9,7 @@ use Rattle.muni_rule.specs.QuasiDates.{is_quasi_date, quasi_count}
 use Rattle.muni_rule.specs.PaymentLaws.{IsSettlementDate, IsRedeemedAfter, IsCouponRedemption}
 use Rattle.muni_rule.specs.Cusip.{is_cusip}
 use Rattle.muni_rule.specs.Terms.{is_name, is_dated_date, is_interest_day, is_call_price}
+use Rattle.muni_rule.proofs.DayCountLemmas.{days360-not_negative, days360-rise}
 use Rattle.muni_rule.proofs.PaymentLemmas.{quasi_count-within, first-own}
 use Rattle.muni_days.specs.Day.{civil}
 use Rattle.muni_days.specs.declared.day.Day.{Day}
@@ -282,3 +283,14 @@ coupon_redemption row given first settlement redemption price same none is_perio
     let Redeems : IssueRow → Type 0 = λ it. IsRedemption it redemption price in
     let settled = (coupon_settled row given first settlement same none is_periodic settles_given).settled in
     has_coupon_payments row first settlement redemption price (is_issue row none) is_periodic settled (subst Redeems (sym same) redeemed_given) payments
+
+-- a note accrues for two years at most
+pub note_accrued : (row given : IssueRow) (settlement : Day) → row ≡ given → Check.fault_of row ≡ None → row.kind ≡ AtRedemption → settles given settlement ≡ true →
+    (pos 0 ≤ℤ days360 (civil row.dated) (civil settlement)) × (days360 (civil row.dated) (civil settlement) ≤ℤ pos 720)
+note_accrued row given settlement same none is_note settles_given =
+    let Settles : IssueRow → Type 0 = λ it. settles it settlement ≡ true in
+    let issue = is_issue row none in
+    let settled = is_settled row settlement issue (subst Settles (sym same) settles_given) in
+    let short = int_le-true (days360 (civil row.dated) (civil row.maturity)) (pos 720) (rw is_note at issue.term) in
+    let rise = days360-rise (civil row.dated) (civil settlement) (civil row.maturity) (is_civil settlement) (is_civil row.maturity) (let below = settled.below in omega arith) in
+    (days360-not_negative (civil row.dated) (civil settlement) (is_civil row.dated) (is_civil settlement) settled.from, omega (arith, ints))

@@ -1,10 +1,10 @@
 //! Issues: rows that passed every test.
 
-ghost use Rattle.std.specs.Prelude.{◌≡◌, ◌↔◌, ◌<◌, true, Some, IsSome};
+ghost use Rattle.std.specs.Prelude.{◌≡◌, ◌↔◌, ◌<◌, ◌≤ℤ◌, true, pos, Some, None, IsSome};
 ghost use Rattle.muni_rule.specs.Civil.{order_of};
 ghost use Rattle.muni_rule.specs.Payments.{payments_of};
 ghost use Rattle.muni_days.specs.Day.{civil};
-ghost use Rattle.muni_terms.specs.Check.{checked};
+ghost use Rattle.muni_terms.specs.Check.{checked, fault_of};
 ghost use Rattle.muni_terms.specs.Issue as spec;
 ghost use Rattle.muni_terms.specs.Issue.{anchor_of, series_of, payments, IsRedemption};
 
@@ -65,9 +65,10 @@ impl Issue {
         self.row.same(&other.row)
     }
 
-    /// The terms.
+    /// The terms, which pass every test.
     pub fn row(&self) -> &IssueRow
-        ensures { result.now ≡ self.now }
+        ensures value { result.now ≡ self.now }
+        ensures passed { fault_of self.now ≡ None }
     {
         &self.row
     }
@@ -82,7 +83,8 @@ impl Issue {
     /// The days for which interest has accrued at a settlement.
     pub fn accrued_days(&self, settlement: Day) -> i32
         requires { spec.settles self.now settlement ≡ true }
-        ensures { Some result ≡ spec.accrued_days self.now settlement }
+        ensures days { Some result ≡ spec.accrued_days self.now settlement }
+        ensures range { (pos 0 ≤ℤ result) × (result ≤ℤ pos 720) }
     {
         match self.row.kind {
             Kind::Periodic { first } => {

@@ -102,6 +102,7 @@ fn a_day_that_is_no_interest_day_is_told(rt: HostRuntime) -> Result<(), Fail> {
         ("2022-06-29", "2043-12-29"),
         ("2022-07-01", "2044-02-01"),
         ("2022-07-01", "2044-01-02"),
+        ("2022-07-01", "2199-06-01"),
     ] {
         let row = with_coupons("2022-01-01", first, maturity, "0")?;
         assert_eq!(rt; check(row).err(), Some(TermsFault::BadDay), "{maturity}");
@@ -146,6 +147,12 @@ fn an_issue_of_more_than_100_half_years_is_too_long(rt: HostRuntime) -> Result<(
         price: price("0")?,
     });
     assert_eq!(rt; check(row).err(), Some(TermsFault::TooLong));
+    let row = with_coupons("1902-01-01", "1902-07-01", "2199-07-01", "4")?;
+    assert_eq!(rt;
+        check(row).err(),
+        Some(TermsFault::TooLong),
+        "a quasi-coupon date"
+    );
     let row = without_coupons(Kind::Discount, "2024-01-01", "2026-01-02")?;
     assert_eq!(rt; check(row).err(), Some(TermsFault::TooLong));
     Ok(())
