@@ -1,7 +1,7 @@
 -- The count of days by 30/360 is not negative, and rises with the day that ends it.
-use Rattle.std.proofs.Common.{ℕ, ◌≤◌, min, arith, inl, inr, pos, ◌≤ℤ◌}
+use Rattle.std.proofs.Common.{◌≡◌, ◌≢◌, ℕ, ◌+◌, ◌<◌, ◌≤◌, min, arith, inl, inr, pos, ◌≤ℤ◌, subst, sym}
 use Rattle.std.proofs.lemmas.Int.{ints}
-use Rattle.std.proofs.lemmas.Bool.{cases_eq}
+use Rattle.std.proofs.lemmas.Bool.{cases_eq, cases_lt}
 use Rattle.std.proofs.lemmas.Bool.Decides.{nat_tests}
 use Rattle.muni_rule.specs.Civil.{Civil, IsCivil, order_of}
 use Rattle.muni_rule.specs.DayCount.{days360, first_counted, last_counted, days_up_to}
@@ -35,4 +35,36 @@ days360-not_negative date later civil later_civil order =
 pub days360-rise : (first date later : Civil) → IsCivil date → IsCivil later → order_of date ≤ order_of later → days360 first date ≤ℤ days360 first later
 days360-rise first date later civil later_civil order =
     let up_to = days_up_to-rise first.day date later civil later_civil order in
+    omega (arith, ints)
+
+-- a count that begins later is not longer
+first_counted-is : (first : ℕ) → first ≤ 31 → first_counted first ≡ min first 30
+first_counted-is first most = grind (arith, nat_tests)
+
+last_counted-other : (first last : ℕ) → last ≢ 31 → last_counted first last ≡ last
+last_counted-other first last other = grind (arith, nat_tests)
+
+last_counted-early : (first : ℕ) → first < 30 → last_counted first 31 ≡ 31
+last_counted-early first early = grind (arith, nat_tests)
+
+last_counted-late : (first : ℕ) → 30 ≤ first → first ≤ 31 → last_counted first 31 ≡ 30
+last_counted-late first late most = grind (arith, nat_tests)
+
+days_up_to-apart : (date later : Civil) (last : ℕ) → IsCivil date → IsCivil later → order_of date ≤ order_of later → days_up_to date (first_counted date.day) + last_counted later.day last ≤ days_up_to later (first_counted later.day) + last_counted date.day last
+days_up_to-apart date later last civil later_civil order =
+    elim (cases_eq last 31) [
+      | inl end ↦ subst (λ (x : ℕ). days_up_to date (first_counted date.day) + last_counted later.day x ≤ days_up_to later (first_counted later.day) + last_counted date.day x) (sym end)
+          (elim (cases_lt later.day 30) [
+            | inl early ↦ elim (cases_lt date.day 30) [
+              | inl early_too ↦ rw (last_counted-early later.day early, last_counted-early date.day early_too, first_counted-is date.day civil.day_to, first_counted-is later.day later_civil.day_to) (omega (arith, civil, later_civil))
+              | inr late ↦ rw (last_counted-early later.day early, last_counted-late date.day late civil.day_to, first_counted-is date.day civil.day_to, first_counted-is later.day later_civil.day_to) (omega (arith, civil, later_civil))
+            ]
+            | inr late ↦ rw (last_counted-late later.day late later_civil.day_to, first_counted-is date.day civil.day_to, first_counted-is later.day later_civil.day_to) (omega (arith, civil, later_civil, last_counted-least date.day 31))
+          ])
+      | inr other ↦ rw (last_counted-other later.day last other, last_counted-other date.day last other, first_counted-is date.day civil.day_to, first_counted-is later.day later_civil.day_to) (omega (arith, civil, later_civil))
+    ]
+
+pub days360-fall : (date later last : Civil) → IsCivil date → IsCivil later → order_of date ≤ order_of later → days360 later last ≤ℤ days360 date last
+days360-fall date later last civil later_civil order =
+    let apart = days_up_to-apart date later last.day civil later_civil order in
     omega (arith, ints)

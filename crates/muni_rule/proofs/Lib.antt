@@ -6,3 +6,10 @@ pub mod QuasiDateLemmas
 pub mod QuasiDateLawLemmas
 pub mod DayCountLemmas
 pub mod PaymentLemmas
+pub mod PowerLemmas
+pub mod SumLemmas
+pub mod SeriesLemmas
+pub mod ExactLemmas
+pub mod VerdictLemmas
+pub mod ManyPeriodLemmas
+pub mod EnclosedLemmas

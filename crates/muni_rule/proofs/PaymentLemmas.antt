@@ -1,7 +1,7 @@
 -- The payments at the quasi-coupon dates after a settlement.
 use Rattle.std.proofs.Common.{◌≡◌, ℕ, zero, suc, ◌+◌, ◌-◌, ◌*◌, ◌/◌, ◌%◌, ◌<◌, ◌≤◌, true, eqb, ◌∷◌, ◌++◌, map, replicate, Option, Some, None, refl, ap, sym, ◌∙◌, arith, inl, inr, ℤ}
 use Rattle.std.specs.Prelude.{option_map, option_and_then, unsigned_abs}
-use Rattle.std.proofs.Math.Nat.{mul-le-mul_left}
+use Rattle.std.proofs.Math.Nat.{mul-le-mul_left, mul-le-mul_right}
 use Rattle.std.specs.List.{range_with_len}
 use Rattle.std.proofs.lemmas.Bool.{lt-ltb, le-ltb, eq-eqb, ne_eqb, cases_lt, and_parts, eqb-true}
 use Rattle.std.proofs.lemmas.List.FromFn.{length-map-range_with_len}
@@ -9,7 +9,7 @@ use Rattle.muni_rule.specs.Civil.{Civil, IsCivil, order_of, month_index}
 use Rattle.muni_rule.specs.DayCount.{days360}
 use Rattle.muni_rule.specs.QuasiDates.{quasi_dates_between, quasi_count, is_quasi_date, days_into_period}
 use Rattle.muni_rule.specs.Accrued.{interest, half_year_interest, coupon_accrued_days}
-use Rattle.muni_rule.specs.Payments.{PaymentSeries, payments_of, interest_at, first_interest, unpaid_count, redemption_amount, add_to_last, coupon_payments, zero_payments, coupon_series, zero_series}
+use Rattle.muni_rule.specs.Payments.{PaymentSeries, payments_of, interest_at, first_interest, unpaid_count, redemption_amount, add_to_last, coupon_payments, zero_payments, coupon_numbers, coupon_series, zero_numbers, zero_series}
 use Rattle.muni_rule.specs.PaymentLaws.{IsSettlementDate, IsRedemptionDate, IsRedeemedAfter, IsCouponRedemption}
 use Rattle.muni_rule.proofs.RangeLemmas.{map_map, map_in_three, map_zero}
 use Rattle.muni_rule.proofs.QuasiDateLemmas.{date_at, IsLastAt, order_of-date_at, between-places}
@@ -255,34 +255,16 @@ chosen-one f (Some a) x h = (a, cc)
 pub coupon-series : (dated first settlement redemption : Civil) (coupon price : ℕ) (series : PaymentSeries) → IsCouponRedemption first settlement redemption → coupon_series dated first coupon settlement redemption price ≡ Some series →
     payments_of series ≡ coupon_payments dated first coupon settlement redemption price
 coupon-series dated first settlement redemption coupon price series redeemed computed =
-    let numbers : ℤ → ℤ → PaymentSeries = λ into accrued_days. record {
-      n = quasi_count first settlement redemption;
-      skip = unpaid_count first settlement;
-      first = first_interest dated first coupon settlement;
-      regular = half_year_interest coupon;
-      redemption = redemption_amount price;
-      accrued = interest coupon accrued_days;
-      a = unsigned_abs into;
-    } in
-    let form = chosen-both numbers (days_into_period first settlement) (coupon_accrued_days dated first settlement) series computed in
+    let form = chosen-both (coupon_numbers dated first coupon settlement redemption price) (days_into_period first settlement) (coupon_accrued_days dated first settlement) series computed in
     ap payments_of form.2 ∙ coupon-payments dated first settlement redemption coupon price redeemed
 
 pub zero-series : (maturity settlement redemption : Civil) (price : ℕ) (series : PaymentSeries) → IsRedeemedAfter maturity settlement redemption → zero_series maturity settlement redemption price ≡ Some series →
     payments_of series ≡ zero_payments maturity settlement redemption price
 zero-series maturity settlement redemption price series later computed =
-    let numbers : ℤ → PaymentSeries = λ into. record {
-      n = quasi_count maturity settlement redemption;
-      skip = 0;
-      first = 0;
-      regular = 0;
-      redemption = redemption_amount price;
-      accrued = 0;
-      a = unsigned_abs into;
-    } in
-    let form = chosen-one numbers (days_into_period maturity settlement) series computed in
+    let form = chosen-one (zero_numbers maturity settlement redemption price) (days_into_period maturity settlement) series computed in
     ap payments_of form.1 ∙ zero-payments maturity settlement redemption price later
 
-pub interest_at_most : (coupon : ℕ) (days : ℤ) → coupon ≤ 300_000_000 → unsigned_abs days ≤ 360 → interest coupon days ≤ 10_800_000_000_000
-interest_at_most coupon days coupon_most days_most =
-    let product : (100 * coupon) * unsigned_abs days ≤ (100 * coupon) * 360 = mul-le-mul_left (100 * coupon) days_most in
+pub interest_at_most : (coupon : ℕ) (days : ℤ) → coupon ≤ 300_000_000 → interest coupon days ≤ 30_000_000_000 * unsigned_abs days
+interest_at_most coupon days most =
+    let product : (100 * coupon) * unsigned_abs days ≤ 30_000_000_000 * unsigned_abs days = mul-le-mul_right (unsigned_abs days) (omega arith) in
     omega arith

@@ -14,3 +14,9 @@ pub mod Printed
 pub mod Discount
 pub mod PrintedYield
 pub mod Outcomes
+pub mod ManyPeriods
+pub mod ExactCases
+pub mod Doubt
+pub mod WorthEnds
+pub mod Verdicts
+pub mod ManyPeriodLaws

@@ -1,14 +1,14 @@
 -- The payments that follow a settlement, up to a redemption.
 -- Amounts are whole numbers of 1/(360 * 10^9) dollars per 100 of par, coupons of 10^-7 dollars and
 -- redemption prices of 10^-6 dollars.
-use Rattle.std.specs.Prelude.{ℕ, ◌+◌, ◌-◌, ◌*◌, ◌<◌, ◌≤◌, ◌==◌, if◌then◌else◌, List, [], ◌∷◌, ◌++◌, map, replicate, Option, option_map, option_and_then, unsigned_abs}
+use Rattle.std.specs.Prelude.{ℕ, ◌+◌, ◌-◌, ◌*◌, ◌<◌, ◌≤◌, ◌==◌, nat_lt, nat_eq, if◌then◌else◌, List, [], ◌∷◌, ◌++◌, map, replicate, Option, option_map, option_and_then, ℤ, unsigned_abs}
 use Rattle.muni_rule.specs.Civil.{Civil, order_of, is_before}
 use Rattle.muni_rule.specs.DayCount.{days360}
 use Rattle.muni_rule.specs.QuasiDates.{quasi_dates_between, quasi_count, days_into_period}
 use Rattle.muni_rule.specs.Accrued.{interest, half_year_interest, coupon_accrued_days}
 
--- The interest that is paid at a quasi-coupon date: none before the first interest date, on it that of
--- all days since the dated date (an odd first coupon is longer or shorter), and later half a year's.
+-- The interest that is paid at a quasi-coupon date: none before the first interest date, on it that
+-- of all days since the dated date (half a year, or an odd first coupon), and later half a year's.
 abbrev pub interest_at : Civil → Civil → ℕ → Civil → ℕ
 interest_at dated first coupon date =
     if is_before date first then 0
@@ -37,9 +37,9 @@ zero_payments maturity settlement redemption price =
     add_to_last (redemption_amount price)
     (map (λ date. 0) (quasi_dates_between maturity settlement redemption))
 
--- A series of payments as numbers: n payments, of which the first `skip` are 0, the next one is `first`
--- and each later one `regular`, with the redemption added to the last. Beside them stand the accrued
--- interest and A.
+-- A series of payments as numbers: n payments, of which the first `skip` are 0, the next one is
+-- `first` and each later one `regular`, with the redemption added to the last. Beside them stand the
+-- accrued interest and A.
 pub record PaymentSeries : Type 0 where
   pub n : ℕ
   pub skip : ℕ
@@ -53,7 +53,13 @@ pub record PaymentSeries : Type 0 where
 abbrev pub payments_of : PaymentSeries → List ℕ
 payments_of series =
     add_to_last series.redemption
-    (replicate series.skip 0 ++ series.first ∷ replicate (series.n - series.skip - 1) series.regular)
+    (replicate series.skip 0
+    ++ series.first ∷ replicate (series.n - series.skip - 1) series.regular)
+
+-- the interest in the payment at place k, where the first skip places have none
+abbrev pub interest_at_place : ℕ → ℕ → ℕ → ℕ → ℕ
+interest_at_place skip first regular k =
+    if nat_lt k skip then 0 else (if nat_eq k skip then first else regular)
 
 -- the bounds of every series
 pub record IsSeries (series : PaymentSeries) : Type 0 where
@@ -78,28 +84,37 @@ first_interest dated first coupon settlement =
     if is_before settlement first then interest coupon (days360 dated first)
     else half_year_interest coupon
 
--- the numbers of an issue with coupons
+-- the numbers of an issue with coupons, where A and the days of accrued interest are known
+abbrev pub coupon_numbers : Civil → Civil → ℕ → Civil → Civil → ℕ → ℤ → ℤ → PaymentSeries
+coupon_numbers dated first coupon settlement redemption price into accrued = record {
+  n = quasi_count first settlement redemption;
+  skip = unpaid_count first settlement;
+  first = first_interest dated first coupon settlement;
+  regular = half_year_interest coupon;
+  redemption = redemption_amount price;
+  accrued = interest coupon accrued;
+  a = unsigned_abs into;
+}
+
 abbrev pub coupon_series : Civil → Civil → ℕ → Civil → Civil → ℕ → Option PaymentSeries
 coupon_series dated first coupon settlement redemption price =
-    option_and_then (λ into. option_map (λ accrued_days. record {
-      n = quasi_count first settlement redemption;
-      skip = unpaid_count first settlement;
-      first = first_interest dated first coupon settlement;
-      regular = half_year_interest coupon;
-      redemption = redemption_amount price;
-      accrued = interest coupon accrued_days;
-      a = unsigned_abs into;
-    }) (coupon_accrued_days dated first settlement)) (days_into_period first settlement)
+    option_and_then (λ into. option_map
+    (coupon_numbers dated first coupon settlement redemption price into)
+    (coupon_accrued_days dated first settlement)) (days_into_period first settlement)
 
 -- those of an issue without coupons
+abbrev pub zero_numbers : Civil → Civil → Civil → ℕ → ℤ → PaymentSeries
+zero_numbers maturity settlement redemption price into = record {
+  n = quasi_count maturity settlement redemption;
+  skip = 0;
+  first = 0;
+  regular = 0;
+  redemption = redemption_amount price;
+  accrued = 0;
+  a = unsigned_abs into;
+}
+
 abbrev pub zero_series : Civil → Civil → Civil → ℕ → Option PaymentSeries
 zero_series maturity settlement redemption price =
-    option_map (λ into. record {
-      n = quasi_count maturity settlement redemption;
-      skip = 0;
-      first = 0;
-      regular = 0;
-      redemption = redemption_amount price;
-      accrued = 0;
-      a = unsigned_abs into;
-    }) (days_into_period maturity settlement)
+    option_map (zero_numbers maturity settlement redemption price)
+    (days_into_period maturity settlement)

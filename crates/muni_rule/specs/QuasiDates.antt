@@ -1,5 +1,5 @@
--- Quasi-coupon dates: all dates at whole multiples of six months before and after an anchor. That is
--- the first interest date, or the maturity of an issue that pays no interest.
+-- Quasi-coupon dates: all dates at whole multiples of six months before and after an anchor, which
+-- is the first interest date, or the maturity of an issue that pays no interest.
 use Rattle.std.specs.Prelude.{◌≡◌, ℕ, ◌+◌, ◌*◌, ◌%◌, ◌<◌, ◌≤◌, ◌==◌, ◌&&◌, Bool, List, length, map, filter, Option, None, option_map, ℤ}
 use Rattle.std.specs.List.{range_with_len, last_or}
 use Rattle.muni_rule.specs.Civil.{Civil, month_index, day_in_month, order_of, is_before, is_not_after}
@@ -39,8 +39,8 @@ abbrev pub is_quasi_date : Civil → Civil → Bool
 is_quasi_date anchor date =
     (date.day == anchor.day) && (month_index date % 6 == month_index anchor % 6)
 
--- The month at a place is that of the last quasi-coupon date not after a date: it is reached, and the
--- date six months later, 186 places on in the order of dates, is not.
+-- The month at a place is that of the last quasi-coupon date not after a date: that one is reached,
+-- and the one six months later, 186 places on in the order of dates, is not.
 pub record IsLastMonth (anchor date : Civil) (index : ℕ) : Type 0 where
   pub half_years : index % 6 ≡ month_index anchor % 6
   pub reached : 31 * index + 31 + anchor.day ≤ order_of date

@@ -12,3 +12,11 @@ IsAtRedemptionYield y = (negsuc 449_999 ≤ℤ y) × (y ≤ℤ pos 9_999_990)
 -- discount rates, from 0 to 30 percent
 abbrev pub IsDiscountRate : ℤ → Type 0
 IsDiscountRate rate = (pos 0 ≤ℤ rate) × (rate ≤ℤ pos 300_000)
+
+-- from -5 to 100 percent, with more than six months to redemption
+abbrev pub IsManyPeriodsYield : ℤ → Type 0
+IsManyPeriodsYield y = (negsuc 49_999 ≤ℤ y) × (y ≤ℤ pos 1_000_000)
+
+-- and those at which a yield is asked for that is printed in this range or next to it
+abbrev pub IsManyPeriodsBoundary : ℤ → Type 0
+IsManyPeriodsBoundary y = (negsuc 50_004 ≤ℤ y) × (y ≤ℤ pos 1_000_005)

@@ -4,7 +4,11 @@
 //! three numbers, an amount a whole number of 1/(360 * 10^9) dollars per 100 of par.
 #![tactic(auto)]
 
+pub mod many_periods;
 pub mod payments;
 pub mod printed;
 pub mod quasi_dates;
+mod verdict;
 pub mod yields;
+
+pub use verdict::Verdict;

@@ -1,7 +1,7 @@
 -- The order of fractions, over plain numbers.
-use Rattle.std.proofs.Common.{◌≡◌, ℕ, suc, zero, ◌+◌, ◌*◌, ◌^◌, ◌<◌, ◌≤◌, refl, sym, ap, ◌∙◌, arith}
-use Rattle.std.proofs.Math.Nat.{mul-le-mul, mul-le-mul_right, le_of_mul-le-mul_right, pow-le-pow_left, pow-suc, pow-zero, mul_comm, one-mul}
-use Rattle.std.proofs.lemmas.Nat.{pow-add, mul-pow}
+use Rattle.std.proofs.Common.{ℕ, ◌*◌, ◌^◌, ◌<◌, ◌≤◌, arith}
+use Rattle.std.proofs.Math.Nat.{mul-le-mul, mul-le-mul_right, le_of_mul-le-mul_right, pow-le-pow_left}
+use Rattle.std.proofs.lemmas.Nat.{mul-pow}
 use Rattle.muni_span.specs.Fractions.{IsAtMost}
 
 -- a fraction between two others
@@ -23,16 +23,3 @@ pub at_most-power : (a b c d k : ℕ) → IsAtMost a b c d → IsAtMost (a ^ k) 
 at_most-power a b c d k one =
     let raised : (a * d) ^ k ≤ (c * b) ^ k = pow-le-pow_left one.cross k in
     record { cross = rw (mul-pow a d k, mul-pow c b k) at raised }
-
-pub pow-one : (x : ℕ) → x ^ 1 ≡ x
-pow-one x = pow-suc x 0 ∙ (ap (λ y. y * x) (pow-zero x) ∙ one-mul x)
-
--- a power of a power
-pub pow-times : (x a b : ℕ) → x ^ (a * b) ≡ (x ^ a) ^ b
-pow-times x a zero = let none : a * zero ≡ zero = omega arith in rw (none, pow-zero x, pow-zero (x ^ a)) refl
-pow-times x a (suc b) =
-    let more : a * suc b ≡ a * b + a = omega arith in
-    rw (more, pow-add x (a * b) a, pow-suc (x ^ a) b, pow-times x a b) refl
-
-pub pow-turned : (x a b : ℕ) → (x ^ a) ^ b ≡ (x ^ b) ^ a
-pow-turned x a b = sym (pow-times x a b) ∙ (ap (λ n. x ^ n) (mul_comm a b) ∙ pow-times x b a)

@@ -4,7 +4,8 @@ use Rattle.std.proofs.Math.Nat.{mul-le-mul_right, mul-pos, one-le-pow}
 use Rattle.std.proofs.lemmas.Nat.{mul-pow}
 use Rattle.muni_span.specs.Fractions.{IsAtMost}
 use Rattle.muni_span.specs.Holding.{HoldsPower}
-use Rattle.muni_span.proofs.Fractions.{at_most-then, at_most-times, at_most-power, pow-one, pow-times, pow-turned}
+use Rattle.muni_span.proofs.Fractions.{at_most-then, at_most-times, at_most-power}
+use Rattle.muni_rule.proofs.PowerLemmas.{pow-one, pow-times, pow-turned}
 use Rattle.muni_span.proofs.Quotients.{IsRounded}
 
 -- an end's power, where the end is at most a product

@@ -10,3 +10,5 @@ pub mod Greatest
 pub mod RootEnds
 pub mod RootReach
 pub mod RootLaws
+pub mod SumSteps
+pub mod FactorSteps

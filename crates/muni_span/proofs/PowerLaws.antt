@@ -5,7 +5,8 @@ use Rattle.std.proofs.lemmas.Nat.{pow-add}
 use Rattle.muni_span.specs.Fractions.{IsAtMost}
 use Rattle.muni_span.specs.Powers.{product_end, power_from_half, power_by, power_end, power_low, power_high}
 use Rattle.muni_span.specs.Widths.{whole_above}
-use Rattle.muni_span.proofs.Fractions.{at_most-then, at_most-times, pow-one}
+use Rattle.muni_span.proofs.Fractions.{at_most-then, at_most-times}
+use Rattle.muni_rule.proofs.PowerLemmas.{pow-one}
 use Rattle.muni_span.proofs.Quotients.{IsRounded, rounded}
 use Rattle.muni_span.proofs.PowerWidths.{IsSmall, IsLarge, ordered, small_product, large_product, small_cut, large_cut, shares}
 use Rattle.muni_span.proofs.Squaring.{even_or_odd, one_or_more, from_half-even, from_half-odd, power_by-first, power_by-more, power_end-none, power_end-some}
@@ -67,21 +68,26 @@ product_of_powers u t a b m n l1 h1 l2 h2 l h some more pos room most round one 
     }
 
 -- a power is in reach where a greater one is
-in_reach : (u x m j k : ℕ) → 0 < u → 1 ≤ m → j ≤ k → x ^ k ≤ m * u ^ k → x ^ j ≤ m * u ^ j
-in_reach u x m j k pos some less most =
+pub times-in_reach : (u x c m j k : ℕ) → 0 < u → c ≤ m → j ≤ k → c * x ^ k ≤ m * u ^ k → c * x ^ j ≤ m * u ^ j
+times-in_reach u x c m j k pos some less most =
     ⊎_elim (λ below.
     let power : x ^ j ≤ u ^ j = pow-le-pow_left below j in
-    let times : 1 * u ^ j ≤ m * u ^ j = mul-le-mul_right (u ^ j) some in
-    omega arith)
+    mul-le-mul some power)
     (λ above.
     let sum : j + (k - j) ≡ k = omega arith in
-    let whole : x ^ (j + (k - j)) ≤ m * u ^ (j + (k - j)) = subst (λ (n : ℕ). x ^ n ≤ m * u ^ n) (sym sum) most in
-    let split : x ^ j * x ^ (k - j) ≤ m * (u ^ j * u ^ (k - j)) = rw (pow-add x j (k - j), pow-add u j (k - j)) at whole in
+    let whole : c * x ^ (j + (k - j)) ≤ m * u ^ (j + (k - j)) = subst (λ (n : ℕ). c * x ^ n ≤ m * u ^ n) (sym sum) most in
+    let split : c * (x ^ j * x ^ (k - j)) ≤ m * (u ^ j * u ^ (k - j)) = rw (pow-add x j (k - j), pow-add u j (k - j)) at whole in
     let rest : u ^ (k - j) ≤ x ^ (k - j) = pow-le-pow_left above (k - j) in
-    let grown : x ^ j * u ^ (k - j) ≤ x ^ j * x ^ (k - j) = mul-le-mul_left (x ^ j) rest in
-    let all : x ^ j * u ^ (k - j) ≤ m * u ^ j * u ^ (k - j) = omega arith in
+    let grown : c * x ^ j * u ^ (k - j) ≤ c * x ^ j * x ^ (k - j) = mul-le-mul_left (c * x ^ j) rest in
+    let all : c * x ^ j * u ^ (k - j) ≤ m * u ^ j * u ^ (k - j) = omega arith in
     le_of_mul-le-mul_right all (one-le-pow (k - j) u pos))
     (ordered x u)
+
+pub in_reach : (u x m j k : ℕ) → 0 < u → 1 ≤ m → j ≤ k → x ^ k ≤ m * u ^ k → x ^ j ≤ m * u ^ j
+in_reach u x m j k pos some less most =
+    let once : 1 * x ^ k ≤ m * u ^ k = omega arith in
+    let part : 1 * x ^ j ≤ m * u ^ j = times-in_reach u x 1 m j k pos some less once in
+    omega arith
 
 -- the first power is the base itself
 first_large : (u a b : ℕ) → a ≤ b → u ≤ b → b * u ≤ a * u + (1 * (b - a + 2) - 2) * b

@@ -1,7 +1,8 @@
 -- The ends of a root stand round the exact roots, and near each other.
 use Rattle.std.proofs.Common.{◌≡◌, ℕ, suc, zero, ◌+◌, ◌-◌, ◌*◌, ◌^◌, ◌<◌, ◌≤◌, ◌≢◌, sym, ap, subst, ⊎_elim, arith, lit≤, lit<}
-use Rattle.std.proofs.Math.Nat.{mul-le-mul_left, mul-le-mul_right, le_of_mul-le-mul_right, mul-pos, one-le-pow, pow-le-pow_left, pow-lt-pow_left, pow-suc, pow-zero}
+use Rattle.std.proofs.Math.Nat.{mul-le-mul_left, mul-le-mul_right, le_of_mul-le-mul_right, mul-pos, one-le-pow, pow-le-pow_left, pow-suc, pow-zero}
 use Rattle.std.proofs.lemmas.Bool.{cases_lt}
+use Rattle.muni_rule.proofs.PowerLemmas.{power-order}
 use Rattle.muni_span.specs.Fractions.{IsAtMost}
 use Rattle.muni_span.specs.Powers.{power_by, power_end, power_low, power_high}
 use Rattle.muni_span.specs.Roots.{root_end, root_low, root_high}
@@ -101,22 +102,12 @@ ends_near v w q s least within within' over under narrow =
     (λ near. omega arith)
     (cases_lt (q + 1) s)
 
--- numbers are in the order of their powers
-roots_ordered : (k q r : ℕ) → q ^ suc k ≤ r ^ suc k → q ≤ r
-roots_ordered k q r powers =
-    ⊎_elim (λ more.
-    let some : suc k ≢ 0 = omega arith in
-    let strict : r ^ suc k < q ^ suc k = pow-lt-pow_left more some in
-    absurd (omega arith))
-    (λ less. less)
-    (cases_lt r q)
-
 ends_ordered : (u k v w q r : ℕ) → 0 < u → v ≤ w → IsAtMost (q ^ suc k) (u ^ suc k) v u → IsAtMost w u (r ^ suc k) (u ^ suc k) → q ≤ r
 ends_ordered u k v w q r pos order below above =
     let between : IsAtMost v u w u = record { cross = mul-le-mul_right u order } in
     let low = at_most-then (q ^ suc k) (u ^ suc k) v u w u pos below between in
     let whole : IsAtMost (q ^ suc k) (u ^ suc k) (r ^ suc k) (u ^ suc k) = at_most-then (q ^ suc k) (u ^ suc k) w u (r ^ suc k) (u ^ suc k) pos low above in
-    roots_ordered k q r (le_of_mul-le-mul_right whole.cross (one-le-pow (suc k) u pos))
+    power-order q r (suc k) (let some : suc k ≢ 0 = omega arith in some) (le_of_mul-le-mul_right whole.cross (one-le-pow (suc k) u pos))
 
 -- a power that is at most v certifies that the number is at most v's root
 certified_below : (u k v x p : ℕ) → 0 < u → p ≤ v → IsAtMost (x ^ k) (u ^ k) p u → IsAtMost (x ^ k) (u ^ k) v u

@@ -1,4 +1,3 @@
-pub mod Discount
 pub mod Ends
 pub mod Fractions
 pub mod Holding

@@ -2,7 +2,7 @@
 
 ghost use Rattle.std.specs.Prelude.{◌≡◌, ℕ, ◌+◌, ◌-◌, ◌*◌, ◌/◌, ◌^◌, ◌<◌, ◌≤◌};
 ghost use Rattle.std.specs.Prelude.{pos, negsuc, ◌≤ℤ◌};
-ghost use Rattle.muni_span.specs.Discount.{discount_divisor};
+ghost use Rattle.muni_rule.specs.ManyPeriods.{discount_divisor};
 ghost use Rattle.muni_span.specs.Fractions.{IsAtMost};
 ghost use Rattle.muni_span.specs.Holding.{HoldsPower};
 ghost use Rattle.muni_span.specs.Powers.{power_low, power_high};

@@ -1,5 +1,5 @@
 use Rattle.std.proofs.Common.{◌≡◌, ◌+◌, ◌-◌, ◌*◌, ◌/◌, ◌^◌, ◌≤◌, rules}
-use Rattle.muni_span.specs.Discount.{discount_divisor}
+use Rattle.muni_rule.specs.ManyPeriods.{discount_divisor}
 use Rattle.muni_span.proofs.RecipLaws.{IsRecipSpan, recip_span}
 use Rattle.muni_span.proofs.span.recip.Goals as goal
 

@@ -1,0 +1,24 @@
+//! Laws of the price with more than six months left.
+
+ghost use Rattle.muni_rule.specs.ManyPeriodLaws.{NothingIsPassed, FirstDayIsFraction, LastDayIsFraction, ZeroYieldIsSum, ParBondIsRedemption, ParYieldIsCoupon, NumbersTellExactCases, ExactCasesAreExact, OthersAreEnclosed};
+
+/// On an interest date the comparison by whole powers is that of a fraction.
+///
+/// At a yield of zero and for a par bond this fraction is a whole amount. An amount that is at or
+/// below zero with the accrued interest is always reached.
+pub fn the_price_is_the_rules_fraction()
+    ensures nothing { NothingIsPassed }
+    ensures first_day { FirstDayIsFraction }
+    ensures last_day { LastDayIsFraction }
+    ensures zero_yield { ZeroYieldIsSum }
+    ensures par_bond { ParBondIsRedemption }
+{}
+
+/// The numbers of a series tell whether one of the three exact cases applies, and there verdicts are
+/// read off the exact worth.
+pub fn exact_cases_are_the_rules()
+    ensures numbers { NumbersTellExactCases }
+    ensures coupon { ParYieldIsCoupon }
+    ensures exact { ExactCasesAreExact }
+    ensures others { OthersAreEnclosed }
+{}
