@@ -37,7 +37,8 @@ pub fn round_yield(y: Yield) -> Yield3
 /// The accrued interest of a trade: truncated to thousandths of a dollar and rounded to cents.
 pub fn accrued_cents(coupon: Coupon, par: Par, days: i32) -> Cents
     requires { (pos 0 ≤ℤ days) × (days ≤ℤ pos 720) }
-    ensures { result ≡ rule.accrued_cents coupon par (unsigned_abs days) }
+    ensures value { result ≡ rule.accrued_cents coupon par (unsigned_abs days) }
+    ensures range { result ≤ 60_000_000_000 }
 {
     let thousandths = accrued_thousandths(coupon.units() as u64, par.units() as u64, days as u64);
     cents((thousandths + 5) / 10)
@@ -56,7 +57,8 @@ fn accrued_thousandths(coupon: u64, par: u64, days: u64) -> u64
 /// The principal of a trade, rounded to cents. The price is at most 100,000 dollars.
 pub fn principal_cents(par: Par, price: Price3) -> Cents
     requires { price ≤ 100_000_000 }
-    ensures { result ≡ rule.principal_cents par price }
+    ensures value { result ≡ rule.principal_cents par price }
+    ensures range { result ≤ 100_000_000_000_000 }
 {
     cents((par.units() as u64 * price.units() as u64 + 500) / 1000)
 }

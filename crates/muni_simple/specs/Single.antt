@@ -1,5 +1,5 @@
 -- One payment to come as the program holds it, and the prices that are answered for it.
-use Rattle.std.specs.Prelude.{ℕ, ◌^◌, ℤ, pos, ◌≤ℤ◌}
+use Rattle.std.specs.Prelude.{ℕ, ◌≤◌, ◌^◌, ℤ, pos, ◌≤ℤ◌, ⊤}
 use Rattle.muni_rule.specs.SinglePayment.{SinglePayment}
 use Rattle.muni_rule.specs.Printed.{IsPrintedPrice, IsBelowZero}
 use Rattle.muni_rule.specs.Ranges.{IsOnePeriodYield, IsAtRedemptionYield}
@@ -33,3 +33,8 @@ IsGivenYield AtRedemption y = IsAtRedemptionYield y
 abbrev pub IsPriceAnswer : (ℤ → Type 0) → SimplePrice → Type 0
 IsPriceAnswer AtLeast (Price t) = IsPrintedPrice AtLeast t
 IsPriceAnswer AtLeast BelowZero = IsBelowZero AtLeast
+
+-- a printed price is at most 100,000 dollars
+abbrev pub PrintsAtMost : ℕ → SimplePrice → Type 0
+PrintsAtMost limit (Price t) = t ≤ limit
+PrintsAtMost limit BelowZero = ⊤

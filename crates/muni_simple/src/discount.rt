@@ -21,7 +21,8 @@ const LEAST_RETURN: u64 = 45_000;
 pub fn rate_price(rate: Yield, days: i32) -> Price3
     requires rate { IsDiscountRate rate }
     requires days { (pos 0 ≤ℤ days) × (days ≤ℤ pos 720) }
-    ensures { TruncatesTo (IsAtMost (rule.discount_price rate days)) result }
+    ensures value { TruncatesTo (IsAtMost (rule.discount_price rate days)) result }
+    ensures range { result ≤ 100_000 }
 {
     match Price3::of((price_at(rate, days) / 360_000_000) as i64) {
         Some(price) => price,

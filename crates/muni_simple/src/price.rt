@@ -3,7 +3,7 @@
 ghost use Rattle.std.specs.Prelude.{◌≡◌, ◌↔◌, ◌+◌, ◌*◌, ◌<◌, ◌≤◌, ◌≤ℤ◌, pos, MatchOption, IfSome};
 ghost use Rattle.muni_rule.specs.Printed.{IsPrintedPrice, IsBelowZero};
 ghost use Rattle.muni_rule.specs.SinglePayment as rule;
-ghost use Rattle.muni_simple.specs.Single.{IsSingle, IsGivenYield, IsPriceAnswer, payment_of};
+ghost use Rattle.muni_simple.specs.Single.{IsSingle, IsGivenYield, IsPriceAnswer, PrintsAtMost, payment_of};
 
 use crate::{Shape1, Single};
 use muni_dec::{Price3, Yield};
@@ -29,6 +29,7 @@ pub fn single_price(single: &Single, shape: Shape1, y: Yield) -> SimplePrice
     ensures exact { IsPriceAnswer (rule.AtLeast (payment_of single.now) y) result }
     ensures below_zero { (result ≡ SimplePrice.BelowZero)
         ↔ IsBelowZero (rule.AtLeast (payment_of single.now) y) }
+    ensures range { PrintsAtMost 100_000_000 result }
 {
     match thousandths_reached(single, shape, y) {
         Some(thousandths) => SimplePrice::Price(price_of(thousandths)),
@@ -40,7 +41,7 @@ pub fn single_price(single: &Single, shape: Shape1, y: Yield) -> SimplePrice
 fn thousandths_reached(single: &Single, shape: Shape1, y: Yield) -> Option<u64>
     requires single { IsSingle shape single.now }
     requires y { IsGivenYield shape y }
-    ensures small { IfSome result (λ t. t ≤ 1_000_000_000_000_000) }
+    ensures small { IfSome result (λ t. t ≤ 100_000_000) }
     ensures exact { MatchOption result (IsBelowZero (rule.AtLeast (payment_of single.now) y))
         (IsPrintedPrice (rule.AtLeast (payment_of single.now) y)) }
 {
@@ -55,7 +56,7 @@ fn growth(single: &Single, shape: Shape1, y: Yield) -> u64
     requires single { IsSingle shape single.now }
     requires y { IsGivenYield shape y }
     ensures value { pos result ≡ rule.growth (payment_of single.now) y }
-    ensures range { (1 ≤ result) × (result ≤ 7_600_000_000) }
+    ensures range { (36_000_000 ≤ result) × (result ≤ 7_600_000_000) }
 {
     (YEAR as i64 + i64::from(single.left) * y.units()) as u64
 }
@@ -64,8 +65,8 @@ fn growth(single: &Single, shape: Shape1, y: Yield) -> u64
 fn truncated(due: u64, accrued: u64, growth: u64) -> Option<u64>
     requires due { due ≤ 1_000_000_000_000_000 }
     requires accrued { accrued ≤ 1_000_000_000_000_000 }
-    requires growth { (1 ≤ growth) × (growth ≤ 7_600_000_000) }
-    ensures small { IfSome result (λ t. t ≤ 1_000_000_000_000_000) }
+    requires growth { (36_000_000 ≤ growth) × (growth ≤ 7_600_000_000) }
+    ensures small { IfSome result (λ t. t ≤ 100_000_000) }
     ensures exact { MatchOption result (due * 360_000_000 < accrued * growth)
         (λ t. ((360_000_000 * t + accrued) * growth ≤ due * 360_000_000)
         × (due * 360_000_000 < (360_000_000 * (t + 1) + accrued) * growth)) }
@@ -79,7 +80,7 @@ fn truncated(due: u64, accrued: u64, growth: u64) -> Option<u64>
 }
 
 fn price_of(thousandths: u64) -> Price3
-    requires { thousandths ≤ 1_000_000_000_000_000 }
+    requires { thousandths ≤ 100_000_000 }
     ensures { result ≡ thousandths }
 {
     match Price3::of(thousandths as i64) {

@@ -13,7 +13,7 @@ use Rattle.muni_terms.specs.declared.row.IssueRow.{IssueRow}
 use Rattle.muni_terms.specs.declared.row.TermsFault.{TermsFault}
 use Rattle.muni_terms.specs.declared.row.TermsFault.TheVariants.{BadCusip, BadOrder, BadDay, BadCoupon, FirstTooLong, CallOffCalendar, CallsNotRising, BadCallPrice, TooLong, BadName}
 
--- interest is first paid after the dated date and up to maturity, and maturity is after the dated date
+-- interest is first paid after the dated date and up to maturity, which is after the dated date
 abbrev pub are_in_order : Kind → Civil → Civil → Bool
 are_in_order (Periodic first) dated maturity =
     is_before dated (civil first) && is_not_after (civil first) maturity

@@ -1,6 +1,6 @@
 //! Interest and its days.
 
-ghost use Rattle.std.specs.Prelude.{◌≡◌, ◌≤◌, ◌≤ℤ◌, Some, pos};
+ghost use Rattle.std.specs.Prelude.{◌≡◌, ◌*◌, ◌≤◌, ◌≤ℤ◌, Some, pos};
 ghost use Rattle.muni_rule.specs.Accrued as rule;
 ghost use Rattle.muni_rule.specs.Civil.{order_of};
 ghost use Rattle.muni_rule.specs.DayCount as count;
@@ -42,12 +42,12 @@ fn coupon_units(coupon: Coupon) -> u64
     coupon.units() as u64
 }
 
-/// The interest for a number of days, in 1/(360 * 10^9) dollars per 100 of par.
+/// The interest for up to 720 days, in 1/(360 * 10^9) dollars per 100 of par.
 #[tactic(auto, using(muni_rule::proofs::PaymentLemmas::interest_at_most))]
 pub fn interest(coupon: Coupon, days: u32) -> u64
-    requires { days ≤ 360 }
+    requires { days ≤ 720 }
     ensures value { result ≡ rule.interest coupon (pos days) }
-    ensures range { result ≤ 10_800_000_000_000 }
+    ensures range { result ≤ 30_000_000_000 * days }
 {
     100 * coupon_units(coupon) * u64::from(days)
 }

@@ -1,8 +1,8 @@
-//! Words of the redemption that is disclosed, shared by the crates above.
+//! What is said of the redemption that a figure is computed to.
 
 use muni_dec::{Price3, Yield};
 
-/// Which redemption of an issue is meant.
+/// The kind of redemption that is disclosed with a figure.
 #[derive(Clone, Copy, Debug, PartialEq, Eq)]
 pub enum Label {
     /// At maturity, at 100.
@@ -13,10 +13,10 @@ pub enum Label {
     Call,
 }
 
-/// The boundary between two printed figures at which an exact figure cannot be told from both.
+/// A boundary between two printed figures, which an exact figure lies too near to be told from.
 #[derive(Clone, Copy, Debug, PartialEq, Eq)]
 pub enum Boundary {
-    /// The least exact price that is printed as this one.
+    /// The least exact price that is printed as the higher of two.
     Price(Price3),
     /// The least exact yield that is printed as the higher of two.
     Yield(Yield),

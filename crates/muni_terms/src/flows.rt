@@ -115,6 +115,7 @@ impl Flows {
 pub fn flows_are_in_range(flows: &Flows)
     ensures { IsSeries flows.now }
 {
+    // Reading one field makes the bounds of all known.
     let _in_range = flows.n;
 }
 

@@ -17,7 +17,7 @@ use muni_dec::Price;
 use std::marker::Model;
 
 /// An issue: a row that passed every test.
-#[derive(Drop)]
+#[derive(Debug, Drop)]
 pub struct Issue {
     row: IssueRow,
 }
@@ -36,8 +36,8 @@ impl Model for Issue {
 
 /// The issue with the terms of a row, or the fault of the first test that the row fails.
 ///
-/// The tests are, in this order: the CUSIP, the name, the order of the dates, the day of the month on
-/// which interest falls, the coupon, the length of the first interest and that of the issue. Then
+/// The tests are, in this order: the CUSIP, the name, the order of the dates, the day of the month
+/// on which interest falls, the coupon, the length of the first interest and that of the issue. Then
 /// each call in turn is tested: its date, that it rises, and its price.
 pub fn check(row: IssueRow) -> Result<Issue, TermsFault>
     ensures { result ≡ checked row }
@@ -107,6 +107,7 @@ impl Issue {
         ensures payments { payments_of result
             ≡ payments self.now settlement redemption price }
     {
+        // Every date of the payments is in this year or before it.
         let _last_year = self.row.maturity.year();
         match self.row.kind {
             Kind::Periodic { first } => coupon_flows(

@@ -1,8 +1,8 @@
 //! Payments up to maturity, computed with exact rational arithmetic outside the program.
 
-/// Dated date, first interest date, maturity, coupon and settlement; then the number of payments, how
-/// many at the front are 0, the first and each regular interest, the accrued interest, and the days
-/// into the period.
+/// Dated date, first interest date, maturity, coupon and settlement; then the number of payments,
+/// how many at the front are 0, the first and each regular interest, the accrued interest, and the
+/// days into the period.
 pub const WITH_COUPONS: [&str; 39] = [
     "2024-01-15 2024-10-01 2026-10-01 6 2024-01-15 6 1 1536000000000 1080000000000 0 104",
     "2024-01-15 2024-10-01 2026-10-01 6 2024-02-01 6 1 1536000000000 1080000000000 96000000000 120",

@@ -37,7 +37,7 @@ pub enum Kind {
 }
 
 /// The terms of an issue as they are given. At maturity it is redeemed at 100.
-#[derive(Drop)]
+#[derive(Debug, Drop)]
 pub struct IssueRow {
     /// Eight digits and capital letters, and a check digit.
     pub cusip: [u8; 9],
@@ -60,7 +60,7 @@ pub enum TermsFault {
     BadCusip,
     /// The dates are not in order, or the dated date is before 1902.
     BadOrder,
-    /// Interest or a zero coupon's maturity falls on a day over 28, or an issue with coupons matures
+    /// Interest, or the maturity of a zero, falls on a day over 28, or an issue with coupons matures
     /// on another day than a quasi-coupon date.
     BadDay,
     /// There is a coupon and no interest, or interest and no coupon.

@@ -108,8 +108,8 @@ fn early_fault(row: &IssueRow) -> Option<TermsFault>
 }
 
 fn is_call_date(row: &IssueRow, date: Day) -> bool
-    ensures { result
-        ≡ spec.is_call_date row.now.kind (civil row.now.dated) (civil row.now.maturity) (civil date) }
+    ensures { result ≡ spec.is_call_date row.now.kind (civil row.now.dated)
+        (civil row.now.maturity) (civil date) }
 {
     match row.kind {
         Kind::Periodic { first } => {
