@@ -1,0 +1,2 @@
+pub mod ExactSums
+pub mod HornerTurns

@@ -1,0 +1,3 @@
+pub mod LastStep
+pub mod Horner
+pub mod HornerLaws

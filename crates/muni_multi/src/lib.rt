@@ -1,0 +1,14 @@
+//! The price with more than six months left, from enclosures of the worth of the payments to come.
+#![tactic(auto)]
+
+mod encloser;
+mod ends;
+mod exact;
+mod horner;
+mod payments;
+mod verdicts;
+
+pub use encloser::Encloser;
+pub use horner::{Horner, sums_are_narrow};
+pub use muni_rule::Verdict;
+pub use verdicts::{at_least, more};

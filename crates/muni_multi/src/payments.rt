@@ -1,0 +1,36 @@
+//! The payments one by one.
+
+ghost use Rattle.std.specs.Prelude.{◌≡◌, ◌+◌, ◌<◌, ◌≤◌};
+ghost use Rattle.muni_rule.specs.Payments.{interest_at_place};
+ghost use Rattle.muni_rule.specs.WorthEnds as rule;
+
+use muni_terms::{Flows, flows_are_in_range};
+
+/// The payment at place k, counted from 0, with the redemption where it is the last.
+pub(crate) fn payment_at(flows: &Flows, k: u32) -> u64
+    requires { k < flows.now.n }
+    ensures value { result ≡ rule.payment_at flows.now k }
+    ensures bound { result ≤ 82_800_000_000_000 }
+{
+    flows_are_in_range(flows);
+    let interest = interest_at(flows, k);
+    if k == flows.n() - 1 {
+        interest + flows.redemption()
+    } else {
+        interest
+    }
+}
+
+fn interest_at(flows: &Flows, k: u32) -> u64
+    ensures value { result
+        ≡ interest_at_place flows.now.skip flows.now.first flows.now.regular k }
+    ensures bound { result ≤ 10_800_000_000_000 }
+{
+    if k < flows.skip() {
+        0
+    } else if k == flows.skip() {
+        flows.first()
+    } else {
+        flows.regular()
+    }
+}

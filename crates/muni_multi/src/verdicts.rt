@@ -1,0 +1,90 @@
+//! Verdicts on the price at a yield.
+
+ghost use Rattle.std.specs.Prelude.{◌≡◌, ◌+◌, ◌*◌, ◌^◌, ◌<◌, ◌≤◌, pos};
+ghost use Rattle.muni_rule.specs.Doubt.{IsDoubtful};
+ghost use Rattle.muni_rule.specs.ManyPeriods.{to_come, AtLeast, More};
+ghost use Rattle.muni_rule.specs.Ranges.{IsManyPeriodsBoundary};
+ghost use Rattle.muni_rule.specs.Verdicts.{at_least_verdict, more_verdict};
+ghost use Rattle.muni_rule.specs.WorthEnds.{ends_of};
+
+use crate::Encloser;
+use crate::ends::Ends;
+use crate::exact::ends;
+use muni_dec::Price;
+use muni_rule::Verdict;
+use muni_terms::{Flows, flows_are_in_range};
+
+/// Whether the exact price at a yield in 10^-6, from -50,005 to 1,000,005, is at least a price
+/// (MSRB Rule G-33(b)(i)). Two payments or more are to come.
+///
+/// An exact case is decided by whole numbers, and any other by the ends of the enclosure. `Unsure`
+/// comes only where the exact price is within 10^-9 dollars of the price.
+pub fn at_least<E: Encloser>(e: &E, flows: &Flows, y: i32, price: Price) -> Verdict
+    requires many { 2 ≤ flows.now.n }
+    requires y { IsManyPeriodsBoundary y }
+    ensures verdict { result ≡ at_least_verdict
+        (ends_of flows.now y (E.low e.now flows.now y) (E.high e.now flows.now y))
+        (360_000 * price + flows.now.accrued) }
+    ensures yes { result ≡ Verdict.Yes → AtLeast (to_come flows.now) y (pos (360_000 * price)) }
+    ensures no { result ≡ Verdict.No →
+        ¬ (AtLeast (to_come flows.now) y (pos (360_000 * price))) }
+    ensures unsure { result ≡ Verdict.Unsure →
+        IsDoubtful flows.now y (pos (360_000 * price)) }
+{
+    flows_are_in_range(flows);
+    at_least_at(&ends(e, flows, y), dirty_amount(flows, price))
+}
+
+/// Whether the exact price at a yield is more than a price, and else as `at_least`.
+pub fn more<E: Encloser>(e: &E, flows: &Flows, y: i32, price: Price) -> Verdict
+    requires many { 2 ≤ flows.now.n }
+    requires y { IsManyPeriodsBoundary y }
+    ensures verdict { result ≡ more_verdict
+        (ends_of flows.now y (E.low e.now flows.now y) (E.high e.now flows.now y))
+        (360_000 * price + flows.now.accrued) }
+    ensures yes { result ≡ Verdict.Yes → More (to_come flows.now) y (pos (360_000 * price)) }
+    ensures no { result ≡ Verdict.No → ¬ (More (to_come flows.now) y (pos (360_000 * price))) }
+    ensures unsure { result ≡ Verdict.Unsure →
+        IsDoubtful flows.now y (pos (360_000 * price)) }
+{
+    flows_are_in_range(flows);
+    more_at(&ends(e, flows, y), dirty_amount(flows, price))
+}
+
+// A price with the accrued interest.
+fn dirty_amount(flows: &Flows, price: Price) -> u64
+    ensures value { result ≡ 360_000 * price + flows.now.accrued }
+    ensures small { result < 2 ^ 50 }
+{
+    360_000 * price.units() as u64 + flows.accrued()
+}
+
+fn at_least_at(ends: &Ends, amount: u64) -> Verdict
+    requires amount { amount < 2 ^ 50 }
+    requires unit { ends.now.unit ≤ 2 ^ 66 }
+    ensures { result ≡ at_least_verdict ends.now amount }
+{
+    let asked = u128::from(amount) * ends.unit;
+    if asked <= ends.lo {
+        Verdict::Yes
+    } else if ends.hi < asked {
+        Verdict::No
+    } else {
+        Verdict::Unsure
+    }
+}
+
+fn more_at(ends: &Ends, amount: u64) -> Verdict
+    requires amount { amount < 2 ^ 50 }
+    requires unit { ends.now.unit ≤ 2 ^ 66 }
+    ensures { result ≡ more_verdict ends.now amount }
+{
+    let asked = u128::from(amount) * ends.unit;
+    if asked < ends.lo {
+        Verdict::Yes
+    } else if ends.hi <= asked {
+        Verdict::No
+    } else {
+        Verdict::Unsure
+    }
+}
