@@ -1,0 +1,127 @@
+//! The lines of the figures of a trade.
+
+ghost use Rattle.std.specs.Prelude.{◌≡◌, ◌+◌, ◌≤◌, ◌++◌, [], ◌∷◌, length};
+ghost use Rattle.arrayvec.specs.ArrayVec.{array_vec_len};
+ghost use Rattle.muni_confirm.specs.Line.{line};
+ghost use Rattle.muni_confirm.specs.Figures.{price_source, yield_source, rate_line, price_lines, label_text, redemption_line, money_lines, figure_text};
+
+use crate::text::{push, push_line, push_number_line, push_part};
+use arrayvec::ArrayVec;
+use muni_msg::{Figures, Given};
+use muni_terms::Label;
+
+fn price_source(given: &Given) -> &'static [u8]
+    ensures bytes { result.now ≡ price_source given.now }
+    ensures short { length result.now ≤ 8 }
+{
+    match given {
+        Given::AtPrice(_) => b"GIVEN",
+        Given::AtYield(_) | Given::AtRate(_) => b"COMPUTED",
+    }
+}
+
+fn yield_source(given: &Given) -> &'static [u8]
+    ensures bytes { result.now ≡ yield_source given.now }
+    ensures short { length result.now ≤ 8 }
+{
+    match given {
+        Given::AtYield(_) => b"GIVEN",
+        Given::AtPrice(_) | Given::AtRate(_) => b"COMPUTED",
+    }
+}
+
+fn label(label: &Label) -> &'static [u8]
+    ensures bytes { result.now ≡ label_text label.now }
+    ensures short { length result.now ≤ 10 }
+{
+    match label {
+        Label::Maturity => b"MATURITY",
+        Label::ParOption => b"PAR OPTION",
+        Label::Call => b"CALL",
+    }
+}
+
+fn push_sourced(text: &mut ArrayVec<u8, 512>, word: &[u8], value: &[u8], source: &[u8])
+    requires { array_vec_len text.old + length word.now + length value.now + length source.now
+        ≤ 500 }
+    ensures items { text.new.items
+        ≡ text.old.items ++ line (word.now ∷ value.now ∷ source.now ∷ []) }
+    ensures len { array_vec_len text.new
+        ≡ array_vec_len text.old + length word.now + length value.now + length source.now + 3 }
+{
+    push(text, word);
+    push_part(text, value);
+    push_part(text, source);
+    text.push(b'\n');
+}
+
+fn push_rate_line(text: &mut ArrayVec<u8, 512>, given: &Given)
+    requires { array_vec_len text.old ≤ 450 }
+    ensures items { text.new.items ≡ text.old.items ++ rate_line given.now }
+    ensures len { array_vec_len text.new ≤ array_vec_len text.old + 41 }
+{
+    if let Given::AtRate(rate) = given {
+        let mut value = ArrayVec::new();
+        rate.print_into(&mut value);
+        push_sourced(text, b"RATE", &value, b"GIVEN");
+    }
+}
+
+fn push_price_lines(text: &mut ArrayVec<u8, 512>, figures: &Figures, given: &Given)
+    requires { array_vec_len text.old ≤ 350 }
+    ensures items { text.new.items ≡ text.old.items ++ price_lines figures.now given.now }
+    ensures len { array_vec_len text.new ≤ array_vec_len text.old + 131 }
+{
+    let mut value = ArrayVec::new();
+    figures.price.print_into(&mut value);
+    push_sourced(text, b"PRICE", &value, price_source(given));
+    figures.yld.print_into(&mut value);
+    push_sourced(text, b"YIELD", &value, yield_source(given));
+    push_rate_line(text, given);
+}
+
+fn push_redemption_line(text: &mut ArrayVec<u8, 512>, figures: &Figures)
+    requires { array_vec_len text.old ≤ 350 }
+    ensures items { text.new.items ≡ text.old.items ++ redemption_line figures.now }
+    ensures len { array_vec_len text.new ≤ array_vec_len text.old + 63 }
+{
+    let mut value = ArrayVec::new();
+    push(text, b"REDEMPTION");
+    figures.redemption.print_into(&mut value);
+    push_part(text, &value);
+    figures.at.print_into(&mut value);
+    push_part(text, &value);
+    push_part(text, label(&figures.label));
+    text.push(b'\n');
+}
+
+fn push_money_lines(text: &mut ArrayVec<u8, 512>, figures: &Figures)
+    requires { array_vec_len text.old ≤ 350 }
+    ensures items { text.new.items ≡ text.old.items ++ money_lines figures.now }
+    ensures len { array_vec_len text.new ≤ array_vec_len text.old + 114 }
+{
+    let mut value = ArrayVec::new();
+    figures.principal.print_into(&mut value);
+    push_line(text, b"PRINCIPAL", &value);
+    figures.accrued.print_into(&mut value);
+    push_line(text, b"ACCRUED", &value);
+    figures.total.print_into(&mut value);
+    push_line(text, b"TOTAL", &value);
+}
+
+/// Replaces the text by the lines of the figures, each with its line end: the price, the yield, a
+/// given discount rate, the disclosed redemption, the days of accrued interest, and the money.
+///
+/// A price or a yield is shown with three decimals, a rate with four, a redemption price with six,
+/// and money in dollars with two.
+#[tactic(auto, unfolding(crate::specs::Figures::figure_text))]
+pub fn figure_lines(figures: &Figures, given: &Given, text: &mut ArrayVec<u8, 512>)
+    ensures items { text.new.items ≡ figure_text figures.now given.now }
+    ensures len { array_vec_len text.new ≤ 333 }
+{
+    text.clear();
+    push_price_lines(text, figures, given);
+    push_redemption_line(text, figures);
+    push_number_line(text, b"ACCRUED DAYS", figures.days);
+    push_money_lines(text, figures);
+}
