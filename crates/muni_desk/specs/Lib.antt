@@ -1,3 +1,10 @@
 pub mod Status
+pub mod Words
+pub mod Ranges
 pub mod QuoteOne
 pub mod QuoteOneTypes
+pub mod Note
+pub mod NoteTypes
+pub mod Quote
+pub mod QuoteTypes
+pub mod Desk

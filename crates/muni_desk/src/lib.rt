@@ -1,9 +1,17 @@
 //! The commands of the desk.
 #![tactic(auto)]
 
+mod command;
+mod note;
 mod one_period;
-mod refusal;
+mod output;
+mod quote;
+mod ranges;
 mod status;
+#[cfg(test)]
+mod tests;
+mod words;
 
+pub use command::desk;
 pub use one_period::quote_one;
 pub use status::Status;

@@ -14,12 +14,17 @@ ghost use Rattle.muni_desk.specs.QuoteOneTypes.{IsAnswer};
 ghost use Rattle.muni_desk.specs.Status.{IsQuoteOneStatus};
 
 use crate::Status;
-use crate::refusal::{Range, Refusal};
+use crate::output::{write_line, write_refusal};
+use crate::ranges::side_of;
+use crate::words::{is_word, word_at};
 use arrayvec::ArrayVec;
+use muni_confirm::refusal_line;
 use muni_days::{Day, days360, months_on};
 use muni_dec::{Coupon, Price, Price3, Yield};
 use muni_edge::Sink;
+use muni_msg::{Range, Refusal};
 use muni_simple::{Shape1, SimplePrice, Single, single_price};
+use muni_terms::{half_year_interest, interest};
 
 #[derive(Clone, Copy)]
 struct Job {
@@ -65,7 +70,7 @@ pub fn quote_one<O: Sink>(words: &[String], output: &mut O) -> Status
     };
     match answer_of(&job) {
         Answer::Price(price) => write_line(output, price_line(price).as_slice(), Status::Done),
-        Answer::Refused(refusal) => write_line(output, refusal.line(), Status::Refused),
+        Answer::Refused(refusal) => write_refusal(output, &refusal),
     }
 }
 
@@ -73,7 +78,7 @@ fn read_job(words: &[String]) -> Option<Job>
     ensures value { option_map types.job result ≡ job_of (map string_bytes words.now) }
     ensures next { IfSome result (λ job. spec.is_next (civil job.next) ≡ true) }
 {
-    if words.len() != 6 || word_at(words, 0) != b"quote-one".as_slice() {
+    if words.len() != 6 || !is_word(words, 0, b"quote-one") {
         return None;
     }
     read_values(
@@ -83,13 +88,6 @@ fn read_job(words: &[String]) -> Option<Job>
         word_at(words, 4),
         word_at(words, 5),
     )
-}
-
-fn word_at(words: &[String], place: usize) -> &[u8]
-    requires { place < length words.now }
-    ensures { result.now ≡ spec.word (map string_bytes words.now) place }
-{
-    words[place].as_bytes()
 }
 
 fn read_values(
@@ -163,10 +161,9 @@ fn early_refusal(job: &Job, start: Day) -> Option<Refusal>
     if !settles(job, start) {
         return Some(Refusal::SettleOutside);
     }
-    match job.yld.units() {
-        ..-900_000 => Some(Refusal::GivenOutOfRange(Range::Below)),
-        -900_000..=9_999_990 => None,
-        _ => Some(Refusal::GivenOutOfRange(Range::Above)),
+    match side_of(-900_000, 9_999_990, job.yld.units()) {
+        Some(range) => Some(Refusal::GivenOutOfRange(range)),
+        None => None,
     }
 }
 
@@ -188,8 +185,8 @@ fn payment_of(job: &Job, start: Day) -> Single
 {
     let accrued_days = accrued_days(job, start);
     Single {
-        due: 18_000 * job.coupon.units() + 360_000 * job.redemption.units(),
-        accrued: accrued_interest(job.coupon, accrued_days as u32) as i64,
+        due: half_year_interest(job.coupon) as i64 + 360_000 * job.redemption.units(),
+        accrued: interest(job.coupon, accrued_days as u32) as i64,
         left: 180 - accrued_days,
     }
 }
@@ -205,14 +202,6 @@ fn accrued_days(job: &Job, start: Day) -> i32
     days360(start, job.settlement)
 }
 
-fn accrued_interest(coupon: Coupon, days: u32) -> u64
-    requires { days ≤ 180 }
-    ensures value { result ≡ 100 * coupon * days }
-    ensures range { result ≤ 5_400_000_000_000 }
-{
-    100 * coupon.units() as u64 * u64::from(days)
-}
-
 fn price_line(price: Price3) -> ArrayVec<u8, 32>
     ensures { result.items ≡ spec.price_line price }
 {
@@ -221,25 +210,3 @@ fn price_line(price: Price3) -> ArrayVec<u8, 32>
     line.push(b'\n');
     line
 }
-
-// Ends in the status, or in WriteFault where the output fails.
-fn write_line<O: Sink>(output: &mut O, line: &[u8], status: Status) -> Status
-    requires { status ≢ Status.WriteFault }
-    ensures written { result ≢ Status.WriteFault
-        → (result ≡ status) × HasWritten (O.bytes output.old) (O.bytes output.new) line.now }
-    ensures rose { result ≡ Status.WriteFault → Rose (O.faults output.old) (O.faults output.new) }
-    ensures part { result ≡ Status.WriteFault
-        → HasWrittenPart (O.bytes output.old) (O.bytes output.new) line.now }
-    ensures tells { is_some (O.bytes output.new) ≡ is_some (O.bytes output.old) }
-    ensures later { O.faults output.old ≤ O.faults output.new }
-{
-    match output.put(line) {
-        Ok(()) => status,
-        Err(_) => Status::WriteFault,
-    }
-}
-
-#[cfg(test)]
-mod cases;
-#[cfg(test)]
-mod tests;

@@ -3,7 +3,7 @@
 
 mod output;
 
-use muni_desk::{Status, quote_one};
+use muni_desk::{Status, desk};
 use output::Output;
 use std::process::ExitCode;
 use std::{env, io};
@@ -20,5 +20,5 @@ fn run(rt: &HostRuntime) -> Status {
     let Ok(words) = args.skip(1).collect::<Vec<String>>(rt.alloc()) else {
         return Status::NoMemory;
     };
-    quote_one(words.as_slice(), &mut Output::new(io::writer(rt)))
+    desk(words.as_slice(), &mut Output::new(io::writer(rt)))
 }

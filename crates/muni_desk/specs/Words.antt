@@ -1,0 +1,31 @@
+-- Words of the command line, and the options among them.
+use Rattle.std.specs.Prelude.{position, ℕ, ◌==◌, ◌&&◌, Bool, nat_lt, if◌then◌else◌, List, [], length, take, drop, slice_index_or, count_by, Option, None, option_map, option_and_then}
+use Rattle.std.specs.Str.{bytes_eq}
+
+infixl 10 ◌>>=◌
+abbrev pub ◌>>=◌ : {A B : Type 0} → Option A → (A → Option B) → Option B
+o >>= f = option_and_then f o
+
+-- the word at a place
+abbrev pub word : List (List ℕ) → ℕ → List ℕ
+word words place = slice_index_or words place []
+
+-- a word is this text
+abbrev pub is_word : List (List ℕ) → ℕ → List ℕ → Bool
+is_word words place text = bytes_eq (word words place) text
+
+-- The word is an option of this name: `--name=` and a value that is not empty. The name is given with
+-- its dashes and its equals sign.
+abbrev pub has_name : List ℕ → List ℕ → Bool
+has_name name word = nat_lt (length name) (length word) && bytes_eq (take (length name) word) name
+
+-- how often an option stands among words
+abbrev pub count_of : List ℕ → List (List ℕ) → ℕ
+count_of name words = count_by (has_name name) words
+
+-- the value of an option, where it stands exactly once
+abbrev pub value_of : List ℕ → List (List ℕ) → Option (List ℕ)
+value_of name words =
+    if count_of name words == 1
+    then option_map (λ place. drop (length name) (word words place)) (position (has_name name) words)
+    else None

@@ -1,0 +1,63 @@
+//! The top call: one command, from its words to its status.
+
+ghost use Rattle.std.specs.Prelude.{◌≡◌, ◌↔◌, ◌≤◌, ◌<◌, true, is_some, map, length, string_bytes};
+ghost use Rattle.muni_edge.specs.Sink.{Rose, Wrote, WrotePart};
+ghost use Rattle.muni_desk.specs.Desk as spec;
+ghost use Rattle.muni_desk.specs.Desk.{IsNoCommand, ForCommand};
+ghost use Rattle.muni_desk.specs.Quote as quote;
+ghost use Rattle.muni_desk.specs.QuoteOne as one;
+ghost use Rattle.muni_desk.specs.Status.{IsQuoteOneStatus};
+
+use crate::Status;
+use crate::one_period::quote_one;
+use crate::quote::quote;
+use crate::words::is_word;
+use muni_edge::Sink;
+
+/// Does what the words ask for, and writes the answer.
+///
+/// `quote-one COUPON NEXT SETTLE REDEMPTION YIELD` is the price of a security with six months or less
+/// to redemption. `quote` and options in any order give the figures of a note. It takes no memory.
+pub fn desk<O: Sink>(words: &[String], output: &mut O) -> Status
+    // Words that are no command change nothing.
+    ensures usage { (result ≡ Status.Usage) ↔ IsNoCommand (map string_bytes words.now) }
+    ensures untouched { result ≡ Status.Usage → output.new ≡ output.old }
+
+    // What is written, where the output tells its bytes.
+    ensures done { result ≡ Status.Done → ForCommand (map string_bytes words.now)
+        (λ job. Wrote (quote.IsFigureText job) (O.bytes output.old) (O.bytes output.new))
+        (λ job. Wrote (one.IsPriceLine job) (O.bytes output.old) (O.bytes output.new)) }
+    ensures refused { result ≡ Status.Refused → ForCommand (map string_bytes words.now)
+        (λ job. Wrote (quote.IsRefusalText job) (O.bytes output.old) (O.bytes output.new))
+        (λ job. Wrote (one.IsRefusalLine job) (O.bytes output.old) (O.bytes output.new)) }
+    ensures part { result ≡ Status.WriteFault → ForCommand (map string_bytes words.now)
+        (λ job. WrotePart (quote.IsText job) (O.bytes output.old) (O.bytes output.new))
+        (λ job. WrotePart (one.IsLine job) (O.bytes output.old) (O.bytes output.new)) }
+    ensures tells { is_some (O.bytes output.new) ≡ is_some (O.bytes output.old) }
+
+    // Only a failing output keeps it from its answer.
+    ensures write_fault { result ≡ Status.WriteFault
+        → Rose (O.faults output.old) (O.faults output.new) }
+    ensures others { IsQuoteOneStatus result }
+    ensures later { O.faults output.old ≤ O.faults output.new }
+{
+    if is_quote(words) {
+        quote(options_of(words), output)
+    } else {
+        quote_one(words, output)
+    }
+}
+
+fn is_quote(words: &[String]) -> bool
+    ensures value { result ≡ spec.is_quote (map string_bytes words.now) }
+    ensures some { result ≡ true → 0 < length words.now }
+{
+    !words.is_empty() && is_word(words, 0, b"quote")
+}
+
+fn options_of(words: &[String]) -> &[String]
+    requires { 0 < length words.now }
+    ensures { map string_bytes result.now ≡ spec.options_of (map string_bytes words.now) }
+{
+    &words[1..]
+}

@@ -1,0 +1,85 @@
+mod quote_cases;
+mod quote_one_cases;
+
+use crate::{Status, desk, quote_one};
+use muni_edge::MemSink;
+use std::alloc::Global;
+use std::process::Abort;
+use std::test::Fail;
+
+const WORKED: &str = "quote-one 5 2024-07-01 2024-04-01 100 4";
+
+fn words_of(alloc: Global, line: &str) -> Result<Vec<String>, Fail> {
+    let mut words = Vec::new(alloc);
+    for word in line.split(' ') {
+        words.push(String::from_str(alloc, word)?)?;
+    }
+    Ok(words)
+}
+
+fn sink(alloc: Global, room: usize, failing: &[u64]) -> Result<MemSink, Fail> {
+    Ok(MemSink::new(alloc, room, failing).ok().ok_or("no memory")?)
+}
+
+// What was written, with a slash for each line end but the last.
+fn written(alloc: Global, output: &MemSink) -> Result<String, Fail> {
+    let text = str::from_utf8(output.bytes()).ok().ok_or("a text")?;
+    Ok(text.trim_end_matches('\n').replace(alloc, "\n", "/")?)
+}
+
+fn answers_are_right(rt: &impl Abort, alloc: Global, cases: &str) -> Result<(), Fail> {
+    for case in cases.lines() {
+        if case.is_empty() || case.starts_with('#') {
+            continue;
+        }
+        let (line, answered) = case.split_once('|').ok_or("words")?;
+        let (status, text) = answered.split_once('|').ok_or("a status")?;
+        let mut output = sink(alloc, 512, &[])?;
+        let words = words_of(alloc, line)?;
+        let number = desk(words.as_slice(), &mut output).number();
+        assert_eq!(rt; number, status.parse::<u8>()?, "{line}");
+        assert_eq!(rt; written(alloc, &output)?.as_str(), text, "{line}");
+        assert_eq!(rt; output.bytes().ends_with(b"\n"), !text.is_empty(), "{line}");
+    }
+    Ok(())
+}
+
+#[test]
+fn prices_of_a_last_period_are_the_exact_ones(rt: HostRuntime) -> Result<(), Fail> {
+    answers_are_right(&rt, rt.alloc(), quote_one_cases::CASES)
+}
+
+#[test]
+fn figures_of_notes_are_the_exact_ones(rt: HostRuntime) -> Result<(), Fail> {
+    answers_are_right(&rt, rt.alloc(), quote_cases::CASES)
+}
+
+#[test]
+fn no_word_at_all_is_no_command(rt: HostRuntime) -> Result<(), Fail> {
+    let mut output = sink(rt.alloc(), 64, &[])?;
+    assert_eq!(rt; desk(&[], &mut output), Status::Usage);
+    assert_eq!(rt; quote_one(&[], &mut output), Status::Usage);
+    assert!(rt; output.bytes().is_empty());
+    Ok(())
+}
+
+#[test]
+fn an_output_that_fails_at_once_holds_nothing(rt: HostRuntime) -> Result<(), Fail> {
+    let mut output = sink(rt.alloc(), 64, &[0])?;
+    let words = words_of(rt.alloc(), WORKED)?;
+    assert_eq!(rt; desk(words.as_slice(), &mut output), Status::WriteFault);
+    assert!(rt; output.bytes().is_empty());
+    Ok(())
+}
+
+#[test]
+fn an_output_that_is_full_holds_the_front_of_the_line(rt: HostRuntime) -> Result<(), Fail> {
+    let mut output = sink(rt.alloc(), 3, &[])?;
+    let words = words_of(rt.alloc(), WORKED)?;
+    assert_eq!(rt;
+        quote_one(words.as_slice(), &mut output),
+        Status::WriteFault
+    );
+    assert_eq!(rt; output.bytes(), b"100".as_slice());
+    Ok(())
+}
