@@ -1,2 +1,4 @@
 pub mod ExactSums
 pub mod HornerTurns
+pub mod BoundLemmas
+pub mod PriceLemmas

@@ -6,9 +6,11 @@ mod ends;
 mod exact;
 mod horner;
 mod payments;
+mod price;
 mod verdicts;
 
 pub use encloser::Encloser;
 pub use horner::{Horner, sums_are_narrow};
 pub use muni_rule::Verdict;
+pub use price::{PriceAnswer, printed_price};
 pub use verdicts::{at_least, more};

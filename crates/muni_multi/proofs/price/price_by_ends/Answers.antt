@@ -1,0 +1,25 @@
+use Rattle.std.proofs.Common.{◌≡◌, rules, arith}
+use Rattle.muni_rule.specs.WorthEnds.{ends_of}
+use Rattle.muni_multi.proofs.BoundLemmas.{low-fits, high-small, quotients-ordered}
+use Rattle.muni_multi.proofs.PriceLemmas.{ends-outcome}
+use Rattle.muni_multi.proofs.price.price_by_ends.Goals as goal
+
+pub whole_low-requires-clause-fits : goal.whole_low-requires-clause-fits
+whole_low-requires-clause-fits g c = low-fits c.bounded_ends-ends.result c.bounded_ends-ends.ensures.bounded
+
+pub whole_high-requires-clause-fits : goal.whole_high-requires-clause-fits
+whole_high-requires-clause-fits g c = let small = high-small c.bounded_ends-ends.result c.bounded_ends-ends.ensures.bounded in omega (arith, small)
+
+pub price_between-requires-clause-ordered : goal.price_between-requires-clause-ordered
+price_between-requires-clause-ordered g c = let order = quotients-ordered c.bounded_ends-ends.result c.bounded_ends-ends.ensures.bounded in omega (arith, order, c.whole_low.ensures, c.whole_high.ensures)
+
+pub price_between-requires-clause-small : goal.price_between-requires-clause-small
+price_between-requires-clause-small g c = let small = high-small c.bounded_ends-ends.result c.bounded_ends-ends.ensures.bounded in omega (arith, small, c.whole_high.ensures)
+
+pub returns-clause-outcome : goal.returns-clause-outcome
+returns-clause-outcome g c =
+    let low = g.E.Encloser.low c.args.e.now c.args.flows.now c.args.y in
+    let high = g.E.Encloser.high c.args.e.now c.args.flows.now c.args.y in
+    let value : c.bounded_ends-ends.result ≡ ends_of c.args.flows.now c.args.y low high = search rules in
+    ends-outcome c.args.flows.now c.args.y low high c.bounded_ends-ends.result c.whole_low.result c.whole_high.result c.accrued.result c.price_between.result
+    value c.bounded_ends-ends.ensures.bounded.some c.whole_low.ensures c.whole_high.ensures c.accrued.ensures.value c.price_between.ensures.outcome

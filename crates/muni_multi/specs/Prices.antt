@@ -1,0 +1,39 @@
+-- Which price is answered at a yield.
+use Rattle.std.specs.Prelude.{◌≡◌, ℕ, ◌+◌, ⊤, nat_le, nat_lt, if◌then◌else◌, ℤ}
+use Rattle.muni_rule.specs.Accuracy.{thousandths}
+use Rattle.muni_rule.specs.Doubt.{IsDoubtful}
+use Rattle.muni_rule.specs.Payments.{PaymentSeries}
+use Rattle.muni_rule.specs.Printed.{IsPrintedPrice, IsBelowZero}
+use Rattle.muni_rule.specs.Verdicts.{IsUndecidedAt}
+use Rattle.muni_rule.specs.declared.verdict.Verdict.{Verdict}
+use Rattle.muni_rule.specs.declared.verdict.Verdict.TheVariants.{Yes, No, Unsure}
+use Rattle.muni_multi.specs.declared.price.PriceAnswer.{PriceAnswer}
+use Rattle.muni_multi.specs.declared.price.PriceAnswer.TheVariants.{Price, BelowZero, Undecided}
+
+-- a price is the printed one, and below zero none is
+abbrev pub IsPriceAnswer : (ℤ → Type 0) → PriceAnswer → Type 0
+IsPriceAnswer AtLeast (Price t) = IsPrintedPrice AtLeast t
+IsPriceAnswer AtLeast BelowZero = IsBelowZero AtLeast
+IsPriceAnswer AtLeast (Undecided _) = ⊤
+
+-- undecided is only a boundary in doubt: the exact price is within 10^-9 dollars of it, in no exact case
+abbrev pub IsDoubtfulAnswer : PaymentSeries → ℤ → PriceAnswer → Type 0
+IsDoubtfulAnswer series y (Undecided boundary) = IsDoubtful series y (thousandths boundary)
+IsDoubtfulAnswer series y (Price _) = ⊤
+IsDoubtfulAnswer series y BelowZero = ⊤
+
+-- what the verdicts on whole thousandths leave to answer: the first that they leave open is named
+abbrev pub IsPriceOutcome : (ℕ → Verdict) → PriceAnswer → Type 0
+IsPriceOutcome verdict (Price t) = (verdict t ≡ Yes) × (verdict (t + 1) ≡ No)
+IsPriceOutcome verdict BelowZero = verdict 0 ≡ No
+IsPriceOutcome verdict (Undecided boundary) = IsUndecidedAt verdict boundary
+
+-- the figure in an answer
+abbrev pub figure : PriceAnswer → ℕ
+figure (Price t) = t
+figure BelowZero = 0
+figure (Undecided boundary) = boundary
+
+-- the verdict on a worth between two whole amounts
+abbrev pub whole_verdict : ℕ → ℕ → ℕ → Verdict
+whole_verdict low high x = if nat_le x low then Yes else (if nat_lt high x then No else Unsure)

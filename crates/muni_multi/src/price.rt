@@ -1,0 +1,92 @@
+//! The dollar price at a yield.
+
+ghost use Rattle.std.specs.Prelude.{◌≡◌, ◌+◌, ◌*◌, ◌/◌, ◌<◌, ◌≤◌};
+ghost use Rattle.muni_rule.specs.ManyPeriods.{to_come, AtLeast};
+ghost use Rattle.muni_rule.specs.Ranges.{IsManyPeriodsBoundary};
+ghost use Rattle.muni_rule.specs.Verdicts.{at_least_verdict, dirty_thousandths};
+ghost use Rattle.muni_rule.specs.WorthEnds.{ends_of};
+ghost use Rattle.muni_multi.specs.Prices.{figure, whole_verdict, IsPriceOutcome, IsPriceAnswer, IsDoubtfulAnswer};
+
+use crate::Encloser;
+use crate::exact::bounded_ends;
+use muni_dec::{Price3, Yield};
+use muni_terms::{Flows, flows_are_in_range};
+
+/// The price at a yield.
+#[derive(Clone, Copy, Debug, PartialEq, Eq)]
+pub enum PriceAnswer {
+    /// The exact price, truncated to thousandths of a dollar per 100 of par.
+    Price(Price3),
+    /// The exact price is below zero.
+    BelowZero,
+    /// The exact price is too near the boundary to tell whether it reaches it. At the boundary 0.000
+    /// this is whether a price is printed at all.
+    Undecided { boundary: Price3 },
+}
+
+/// The dollar price at a yield, from -5.0005 to 100.0005 percent (MSRB Rule G-33(b)(i)). Two payments
+/// or more are to come.
+///
+/// The encloser is called once at most, and not at all in an exact case.
+pub fn printed_price<E: Encloser>(e: &E, flows: &Flows, y: Yield) -> PriceAnswer
+    requires many { 2 ≤ flows.now.n }
+    requires y { IsManyPeriodsBoundary y }
+    ensures exact { IsPriceAnswer (AtLeast (to_come flows.now) y) result }
+    ensures undecided { IsDoubtfulAnswer flows.now y result }
+    ensures outcome { IsPriceOutcome (λ t. at_least_verdict
+        (ends_of flows.now y (E.low e.now flows.now y) (E.high e.now flows.now y))
+        (dirty_thousandths flows.now.accrued t)) result }
+    ensures small { figure result ≤ 100_000_000 }
+{
+    flows_are_in_range(flows);
+    price_by_ends(e, flows, y)
+}
+
+// The verdicts on all thousandths are read off one pair of ends.
+fn price_by_ends<E: Encloser>(e: &E, flows: &Flows, y: Yield) -> PriceAnswer
+    requires many { 2 ≤ flows.now.n }
+    requires y { IsManyPeriodsBoundary y }
+    ensures outcome { IsPriceOutcome (λ t. at_least_verdict
+        (ends_of flows.now y (E.low e.now flows.now y) (E.high e.now flows.now y))
+        (dirty_thousandths flows.now.accrued t)) result }
+    ensures small { figure result ≤ 100_000_000 }
+{
+    let ends = bounded_ends(e, flows, y.units() as i32);
+    price_between(ends.whole_low(), ends.whole_high(), flows.accrued())
+}
+
+// The price of a worth between two whole amounts.
+fn price_between(low: u64, high: u64, accrued: u64) -> PriceAnswer
+    requires ordered { low ≤ high }
+    requires small { high < 35_000_000_000_000_000 }
+    ensures outcome { IsPriceOutcome
+        (λ t. whole_verdict low high (dirty_thousandths accrued t)) result }
+    ensures small { figure result ≤ 100_000_000 }
+{
+    if high < accrued {
+        return PriceAnswer::BelowZero;
+    }
+    if low < accrued {
+        return PriceAnswer::Undecided {
+            boundary: price_of(0),
+        };
+    }
+    let reached = (low - accrued) / 360_000_000;
+    if reached == (high - accrued) / 360_000_000 {
+        PriceAnswer::Price(price_of(reached))
+    } else {
+        PriceAnswer::Undecided {
+            boundary: price_of(reached + 1),
+        }
+    }
+}
+
+fn price_of(thousandths: u64) -> Price3
+    requires { thousandths ≤ 100_000_000 }
+    ensures { result ≡ thousandths }
+{
+    match Price3::of(thousandths as i64) {
+        Some(price) => price,
+        None => unreachable!(),
+    }
+}
