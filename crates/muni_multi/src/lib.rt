@@ -14,3 +14,6 @@ pub use horner::{Horner, sums_are_narrow};
 pub use muni_rule::Verdict;
 pub use price::{PriceAnswer, printed_price};
 pub use verdicts::{at_least, more};
+
+#[cfg(test)]
+mod tests;
