@@ -8,8 +8,7 @@ use Rattle.muni_msg.specs.declared.asked.Asked.{Asked}
 use Rattle.muni_msg.specs.declared.figures.Figures.{Figures}
 use Rattle.muni_msg.specs.declared.refusal.Refusal.{Refusal}
 use Rattle.muni_msg.specs.declared.refusal.Refusal.TheVariants.{BadTerms}
-use Rattle.muni_desk.specs.Note.{IsSaid}
-use Rattle.muni_desk.specs.Quote.{Job, IsRow, IsAsked, IsAnswer}
+use Rattle.muni_desk.specs.Quote.{Job, IsRow, IsAsked, IsSaid, IsAnswer}
 
 by_case : (job : Job) (answer : Result Figures Refusal) → IsAnswer job answer → MatchResult answer (λ figures. IsAnswer job (Ok figures)) (λ refusal. IsAnswer job (Err refusal))
 by_case job (Ok figures) right = right

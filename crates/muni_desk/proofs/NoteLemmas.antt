@@ -3,7 +3,7 @@ use Rattle.std.proofs.Common.{◌≡◌, true, None, ℤ, pos, negsuc, ◌≤ℤ
 use Rattle.std.proofs.lemmas.Int.{ints}
 use Rattle.muni_rule.specs.Accuracy.{rounded_yield}
 use Rattle.muni_rule.specs.Civil.{Civil}
-use Rattle.muni_rule.specs.Ranges.{IsAtRedemptionYield}
+use Rattle.muni_rule.specs.Ranges.{IsOnePeriodYield}
 use Rattle.muni_dec.specs.Ranges.{IsPrintedYield}
 use Rattle.muni_rule.specs.DayCount.{days360}
 use Rattle.muni_rule.proofs.DayCountLemmas.{days360-not_negative, days360-rise, days360-fall}
@@ -47,7 +47,7 @@ has_note_days row settlement passed note settled =
       left_most = omega (arith, ints);
     }
 
--- a yield that may be given for a note is shown in the printed range
-pub given_rounded : (y : ℤ) → IsAtRedemptionYield y → IsPrintedYield (rounded_yield y)
+-- a yield that may be given is shown in the printed range
+pub given_rounded : (y : ℤ) → IsOnePeriodYield y → IsPrintedYield (rounded_yield y)
 given_rounded (pos y) given = (omega (arith, ints), omega (arith, ints))
 given_rounded (negsuc less) given = (omega (arith, ints), omega (arith, ints))

@@ -3,8 +3,10 @@ pub mod Words
 pub mod Ranges
 pub mod QuoteOne
 pub mod QuoteOneTypes
+pub mod Figures
 pub mod Note
 pub mod NoteTypes
+pub mod Bond
 pub mod Quote
 pub mod QuoteTypes
 pub mod Desk

@@ -1,6 +1,6 @@
 -- What is said of a note at given terms: its figures, or the refusal that applies.
-use Rattle.std.specs.Prelude.{◌≡◌, ℕ, ◌+◌, ◌*◌, ◌==◌, ◌/◌, Bool, true, false, if◌then◌else◌, MatchOption, Option, Some, None, option_map, Result, Ok, Err, ℤ, pos, negsuc, ◌-ℤ◌, unsigned_abs}
-use Rattle.muni_rule.specs.Accuracy.{TruncatesTo, IsAtMost, rounded_yield, accrued_cents, principal_cents}
+use Rattle.std.specs.Prelude.{◌≡◌, ℕ, ◌+◌, ◌*◌, ◌==◌, ◌/◌, Bool, true, false, if◌then◌else◌, MatchOption, Option, Some, None, option_map, Result, Ok, Err, ℤ, pos, negsuc, ◌-ℤ◌}
+use Rattle.muni_rule.specs.Accuracy.{TruncatesTo, IsAtMost, rounded_yield}
 use Rattle.muni_rule.specs.Accrued.{interest}
 use Rattle.muni_rule.specs.Payments.{redemption_amount}
 use Rattle.muni_rule.specs.DayCount.{days360}
@@ -9,14 +9,14 @@ use Rattle.muni_rule.specs.Printed.{IsPrintedPrice, IsBelowZero}
 use Rattle.muni_rule.specs.SinglePayment.{SinglePayment, AtLeast}
 use Rattle.muni_days.specs.Day.{civil}
 use Rattle.muni_days.specs.declared.day.Day.{Day}
-use Rattle.muni_terms.specs.Issue.{settles, accrued_days}
+use Rattle.muni_terms.specs.Issue.{settles}
 use Rattle.muni_terms.specs.declared.row.Kind.{Kind}
 use Rattle.muni_terms.specs.declared.row.Kind.TheVariants.{Periodic, Zero, AtRedemption, Discount}
 use Rattle.muni_terms.specs.declared.row.IssueRow.{IssueRow}
-use Rattle.muni_terms.specs.declared.disclosure.Label.TheVariants.{Maturity}
 use Rattle.muni_simple.specs.Yields.{IsYieldAnswer}
 use Rattle.muni_simple.specs.declared.yields.SimpleYield.{SimpleYield}
 use Rattle.muni_simple.specs.declared.yields.SimpleYield.TheVariants.{Print, Below, Above, NoTime}
+use Rattle.muni_desk.specs.Figures.{IsFilled}
 use Rattle.muni_desk.specs.Ranges.{side_of}
 use Rattle.muni_msg.specs.declared.asked.Asked.{Asked}
 use Rattle.muni_msg.specs.declared.asked.Given.{Given}
@@ -118,17 +118,11 @@ IsLateRefusal (AtPrice price) row settlement refusal =
 IsLateRefusal (AtRate rate) row settlement refusal =
     IsYieldRefusal row settlement (price_at_rate row settlement rate) refusal
 
--- these are the figures, for the whole par where they are money
+-- these are the figures
 pub record IsFigures (row : IssueRow) (asked : Asked) (figures : Figures) : Type 0 where
   pub not_refused : early_refusal row asked ≡ None
   pub quoted : AreFigures asked.given row asked.settle figures.price figures.yld
-  pub redemption : figures.redemption ≡ row.maturity
-  pub at : figures.at ≡ 100_000_000
-  pub label : figures.label ≡ Maturity
-  pub days : Some figures.days ≡ accrued_days row asked.settle
-  pub principal : figures.principal ≡ principal_cents asked.par figures.price
-  pub accrued : figures.accrued ≡ accrued_cents row.coupon asked.par (unsigned_abs figures.days)
-  pub total : figures.total ≡ figures.principal + figures.accrued
+  pub filled : IsFilled row asked figures
 
 -- the refusal applies: an early one, or else a late one
 abbrev pub IsRefusal : IssueRow → Asked → Refusal → Type 0

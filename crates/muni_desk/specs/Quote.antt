@@ -1,5 +1,5 @@
 -- The command `quote`: what its options ask for, and the text that answers them.
-use Rattle.std.specs.Prelude.{◌≡◌, ℕ, ◌==◌, ◌&&◌, ◌||◌, ◌⊎◌, Bool, if◌then◌else◌, MatchResult, List, [], codes, Option, Some, None, option_map, Result, Ok, Err}
+use Rattle.std.specs.Prelude.{◌≡◌, ℕ, ◌==◌, ◌&&◌, ◌||◌, ◌⊎◌, Bool, true, false, if◌then◌else◌, MatchBool, MatchResult, List, [], codes, Option, Some, None, option_map, Result, Ok, Err}
 use Rattle.std.specs.List.{list_all}
 use Rattle.std.specs.Result.{result_ok}
 use Rattle.std.specs.Str.{bytes_eq}
@@ -8,7 +8,7 @@ use Rattle.muni_dec.specs.Values.{coupon_reading, price_reading, yield_reading, 
 use Rattle.muni_days.specs.Day.{civil, day_reading}
 use Rattle.muni_terms.specs.Check.{checked}
 use Rattle.muni_terms.specs.declared.row.Kind.{Kind}
-use Rattle.muni_terms.specs.declared.row.Kind.TheVariants.{AtRedemption, Discount}
+use Rattle.muni_terms.specs.declared.row.Kind.TheVariants.{Periodic, Zero, AtRedemption, Discount}
 use Rattle.muni_terms.specs.declared.row.IssueRow.{IssueRow}
 use Rattle.muni_msg.specs.declared.asked.Asked.{Asked}
 use Rattle.muni_msg.specs.declared.asked.Given.{Given}
@@ -19,11 +19,19 @@ use Rattle.muni_msg.specs.declared.refusal.Refusal.TheVariants.{BadTerms}
 use Rattle.muni_confirm.specs.Figures.{figure_text}
 use Rattle.muni_confirm.specs.Refusal.{refusal_text}
 use Rattle.muni_desk.specs.Words.{◌>>=◌, has_name, count_of, value_of}
-use Rattle.muni_desk.specs.Note.{IsSaid}
+use Rattle.muni_desk.specs.Note as note
+use Rattle.muni_desk.specs.Bond as bond
 
--- what is asked for: the terms of a note, the settlement, the par in dollars, and what is given
+-- the kind of security, with the first interest date where it pays interest every half-year
+pub data SecurityKind : Type 0 where
+  periodic : Civil → SecurityKind
+  zero : SecurityKind
+  at_redemption : SecurityKind
+  discount : SecurityKind
+
+-- what is asked for: the terms of a security, the settlement, the par in dollars, and what is given
 pub record Job : Type 0 where
-  pub kind : Kind
+  pub kind : SecurityKind
   pub dated : Civil
   pub maturity : Civil
   pub coupon : ℕ
@@ -31,21 +39,34 @@ pub record Job : Type 0 where
   pub par : ℕ
   pub given : Given
 
--- the two kinds of note that can be asked for
-abbrev pub kind_of : List ℕ → Option Kind
-kind_of text =
-    if bytes_eq text (codes "at-redemption") then Some AtRedemption
-    else (if bytes_eq text (codes "discount") then Some Discount else None)
-
 -- an option does not stand among the words
 abbrev pub is_absent : List ℕ → List (List ℕ) → Bool
 is_absent name words = count_of name words == 0
+
+-- a date that an option gives
+abbrev pub date_of : List ℕ → List (List ℕ) → Option Civil
+date_of name words = value_of name words >>= λ text. result_ok (day_reading text)
+
+-- the kinds that are named by their word alone
+abbrev pub plain_kind : List ℕ → Option SecurityKind
+plain_kind text =
+    if bytes_eq text (codes "zero") then Some zero
+    else (if bytes_eq text (codes "at-redemption") then Some at_redemption
+    else (if bytes_eq text (codes "discount") then Some discount else None))
+
+-- the kind: a first interest date is given exactly where there is interest every half-year
+abbrev pub kind_of : List ℕ → List (List ℕ) → Option SecurityKind
+kind_of text words =
+    if bytes_eq text (codes "periodic")
+    then option_map (λ first. periodic first) (date_of (codes "--first=") words)
+    else (if is_absent (codes "--first=") words then plain_kind text else None)
 
 -- the word is an option that gives the terms
 abbrev pub is_term : List ℕ → Bool
 is_term word =
     has_name (codes "--kind=") word || (has_name (codes "--dated=") word
-    || (has_name (codes "--maturity=") word || has_name (codes "--coupon=") word))
+    || (has_name (codes "--first=") word || (has_name (codes "--maturity=") word
+    || has_name (codes "--coupon=") word)))
 
 -- the word is an option that gives the trade
 abbrev pub is_request : List ℕ → Bool
@@ -58,11 +79,22 @@ is_request word =
 abbrev pub is_option : List ℕ → Bool
 is_option word = is_term word || is_request word
 
--- the coupon: there is one exactly where the note pays interest
-abbrev pub coupon_of : Kind → List (List ℕ) → Option ℕ
-coupon_of AtRedemption words =
-    value_of (codes "--coupon=") words >>= λ text. result_ok (coupon_reading text)
-coupon_of kind words = if is_absent (codes "--coupon=") words then Some 0 else None
+-- the security pays interest
+abbrev pub pays_interest : SecurityKind → Bool
+pays_interest (periodic first) = true
+pays_interest zero = false
+pays_interest at_redemption = true
+pays_interest discount = false
+
+abbrev pub given_coupon : List (List ℕ) → Option ℕ
+given_coupon words = value_of (codes "--coupon=") words >>= λ text. result_ok (coupon_reading text)
+
+abbrev pub no_coupon : List (List ℕ) → Option ℕ
+no_coupon words = if is_absent (codes "--coupon=") words then Some 0 else None
+
+-- the coupon: there is one exactly where there is interest
+abbrev pub coupon_of : Bool → List (List ℕ) → Option ℕ
+coupon_of has_interest words = if has_interest then given_coupon words else no_coupon words
 
 -- the par, which is 100 where none is given
 abbrev pub par_of : List (List ℕ) → Option ℕ
@@ -86,39 +118,64 @@ rate_of words =
     value_of (codes "--rate=") words
     >>= λ text. option_map (λ rate. AtRate rate) (result_ok (yield_reading text))
 
+abbrev pub yield_or_rate_of : List (List ℕ) → Option Given
+yield_or_rate_of words =
+    if is_absent (codes "--rate=") words then yield_of words
+    else (if is_absent (codes "--yield=") words then rate_of words else None)
+
 abbrev pub given_of : List (List ℕ) → Option Given
 given_of words =
-    if is_absent (codes "--price=") words
-    then (if is_absent (codes "--rate=") words then yield_of words
-    else (if is_absent (codes "--yield=") words then rate_of words else None))
+    if is_absent (codes "--price=") words then yield_or_rate_of words
     else (if is_absent (codes "--rate=") words && is_absent (codes "--yield=") words
     then price_of words else None)
 
--- a date that an option gives
-abbrev pub date_of : List ℕ → List (List ℕ) → Option Civil
-date_of name words = value_of name words >>= λ text. result_ok (day_reading text)
+-- the security is a note, and has no quasi-coupon dates
+abbrev pub is_note : SecurityKind → Bool
+is_note (periodic first) = false
+is_note zero = false
+is_note at_redemption = true
+is_note discount = true
+
+-- what is given is a price
+abbrev pub is_price : Given → Bool
+is_price (AtYield y) = false
+is_price (AtPrice price) = true
+is_price (AtRate rate) = false
+
+-- what is given for the security: a price is taken for notes alone
+abbrev pub given_for : SecurityKind → List (List ℕ) → Option Given
+given_for kind words =
+    if is_note kind then given_of words
+    else (if is_absent (codes "--price=") words then yield_or_rate_of words else None)
 
 -- the job that known options give
 abbrev pub job_of_options : List (List ℕ) → Option Job
 job_of_options words = do
-  kind ← value_of (codes "--kind=") words >>= kind_of
+  kind ← value_of (codes "--kind=") words >>= λ text. kind_of text words
   dated ← date_of (codes "--dated=") words
   maturity ← date_of (codes "--maturity=") words
-  coupon ← coupon_of kind words
+  coupon ← coupon_of (pays_interest kind) words
   settlement ← date_of (codes "--settle=") words
   par ← par_of words
-  given ← given_of words
+  given ← given_for kind words
   Some (record { kind = kind; dated = dated; maturity = maturity; coupon = coupon; settlement = settlement; par = par; given = given })
 
 -- what options ask for: each is known and stands once at most, and what has to stand does and reads
 abbrev pub job_of : List (List ℕ) → Option Job
 job_of words = if list_all is_option words then job_of_options words else None
 
--- the terms of the note, as an issue without a number or a name of its own
+-- a kind of an issue is this one
+abbrev pub security_kind : Kind → SecurityKind
+security_kind (Periodic first) = periodic (civil first)
+security_kind Zero = zero
+security_kind AtRedemption = at_redemption
+security_kind Discount = discount
+
+-- the terms of the security, as an issue without a number or a name of its own
 pub record IsRow (job : Job) (row : IssueRow) : Type 0 where
   pub cusip : row.cusip ≡ codes "000000000"
   pub name : row.name.items ≡ codes "QUOTE"
-  pub kind : row.kind ≡ job.kind
+  pub kind : security_kind row.kind ≡ job.kind
   pub dated : civil row.dated ≡ job.dated
   pub maturity : civil row.maturity ≡ job.maturity
   pub coupon : row.coupon ≡ job.coupon
@@ -131,7 +188,12 @@ pub record IsAsked (job : Job) (asked : Asked) : Type 0 where
   pub settlement : civil asked.settle ≡ job.settlement
   pub given : asked.given ≡ job.given
 
--- the answer for a row of terms: their first fault, or what is said of the note
+-- what is said of an issue, by its kind
+abbrev pub IsSaid : IssueRow → Asked → Result Figures Refusal → Type 0
+IsSaid row asked answer =
+    MatchBool (note.is_note row.kind) (note.IsSaid row asked answer) (bond.IsSaid row asked answer)
+
+-- the answer for a row of terms: their first fault, or what is said of the issue
 abbrev pub IsAnswered : IssueRow → Asked → Result Figures Refusal → Type 0
 IsAnswered row asked answer =
     MatchResult (checked row) (λ issue. IsSaid issue asked answer)

@@ -13,12 +13,14 @@ use crate::one_period::quote_one;
 use crate::quote::quote;
 use crate::words::is_word;
 use muni_edge::Sink;
+use muni_multi::Encloser;
 
 /// Does what the words ask for, and writes the answer.
 ///
 /// `quote-one COUPON NEXT SETTLE REDEMPTION YIELD` is the price of a security with six months or less
-/// to redemption. `quote` and options in any order give the figures of a note. It takes no memory.
-pub fn desk<O: Sink>(words: &[String], output: &mut O) -> Status
+/// to redemption. `quote` and options in any order give the figures of a security, whose worth with more
+/// than six months left comes from the encloser. It takes no memory.
+pub fn desk<E: Encloser, O: Sink>(words: &[String], encloser: &E, output: &mut O) -> Status
     // Words that are no command change nothing.
     ensures usage { (result ≡ Status.Usage) ↔ IsNoCommand (map string_bytes words.now) }
     ensures untouched { result ≡ Status.Usage → output.new ≡ output.old }
@@ -42,7 +44,7 @@ pub fn desk<O: Sink>(words: &[String], output: &mut O) -> Status
     ensures later { O.faults output.old ≤ O.faults output.new }
 {
     if is_quote(words) {
-        quote(options_of(words), output)
+        quote(options_of(words), encloser, output)
     } else {
         quote_one(words, output)
     }

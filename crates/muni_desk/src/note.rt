@@ -1,6 +1,6 @@
 //! The figures of a note: an issue that pays its interest at redemption, or is sold at a discount.
 
-ghost use Rattle.std.specs.Prelude.{◌≡◌, ◌+◌, ◌*◌, ◌≤◌, ◌≤ℤ◌, true, pos, Some, None, IfOk, IsNone, IsTrue, MatchResult};
+ghost use Rattle.std.specs.Prelude.{◌≡◌, ◌*◌, ◌≤◌, ◌≤ℤ◌, true, pos, Some, None, IfOk, IsNone, IsTrue, MatchResult};
 ghost use Rattle.muni_terms.specs.Check.{fault_of};
 ghost use Rattle.muni_terms.specs.Issue as issues;
 ghost use Rattle.muni_terms.specs.declared.row.Kind.TheVariants.{AtRedemption, Discount};
@@ -11,26 +11,18 @@ ghost use Rattle.muni_rule.specs.Ranges.{IsDiscountRate};
 ghost use Rattle.muni_days.specs.Day.{civil};
 ghost use Rattle.muni_desk.specs.Note as spec;
 ghost use Rattle.muni_desk.specs.Note.{IsSaid, IsYieldOf, AreFigures, IsLateRefusal};
-ghost use Rattle.muni_desk.specs.NoteTypes.{shown_as, IsFilled};
+ghost use Rattle.muni_desk.specs.NoteTypes.{shown_as};
 
+use crate::figures::{Quoted, filled};
 use crate::ranges::side_of;
 use muni_days::{Day, days360};
-use muni_dec::{
-    Cents, Price, Price3, Yield, Yield3, accrued_cents, principal_cents, round_yield, trunc3,
-};
+use muni_dec::{Price, Price3, Yield, round_yield, trunc3};
 use muni_msg::{Asked, Figures, Given, Range, Refusal};
 use muni_simple::{
     Shape1, SimplePrice, SimpleYield, Single, discount_return, rate_price, rate_return,
     single_price, single_yield,
 };
-use muni_terms::{Issue, Kind, Label, interest};
-
-// A price and a yield that belong together.
-#[derive(Clone, Copy)]
-struct Quoted {
-    price: Price3,
-    yld: Yield3,
-}
+use muni_terms::{Issue, Kind, interest};
 
 /// The figures of a note, or the refusal that applies first: of the basis, the settlement, what is
 /// given, and then of the figure that is asked for.
@@ -222,48 +214,5 @@ fn note_payment(issue: &Issue, settle: Day) -> Single
         due: (36_000_000_000_000 + interest(coupon, days.whole)) as i64,
         accrued: interest(coupon, days.accrued) as i64,
         left: (days.whole - days.accrued) as i32,
-    }
-}
-
-fn filled(issue: &Issue, asked: &Asked, quoted: Quoted) -> Figures
-    requires settles { issues.settles issue.now asked.now.settle ≡ true }
-    requires range { quoted.price ≤ 100_000_000 }
-    ensures { IsFilled issue.now asked.now quoted result }
-{
-    let row = issue.row();
-    let days = issue.accrued_days(asked.settle);
-    let principal = principal_cents(asked.par, quoted.price);
-    let accrued = accrued_cents(row.coupon, asked.par, days);
-    Figures {
-        price: quoted.price,
-        yld: quoted.yld,
-        redemption: row.maturity,
-        at: par_price(),
-        label: Label::Maturity,
-        days,
-        principal,
-        accrued,
-        total: sum(principal, accrued),
-    }
-}
-
-// 100 dollars.
-fn par_price() -> Price
-    ensures { result ≡ 100_000_000 }
-{
-    match Price::of(100_000_000) {
-        Some(price) => price,
-        None => unreachable!(),
-    }
-}
-
-fn sum(one: Cents, other: Cents) -> Cents
-    requires one { one ≤ 1_000_000_000_000_000 }
-    requires other { other ≤ 1_000_000_000_000_000 }
-    ensures { result ≡ one + other }
-{
-    match Cents::of(one.units() + other.units()) {
-        Some(sum) => sum,
-        None => unreachable!(),
     }
 }

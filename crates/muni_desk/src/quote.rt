@@ -1,30 +1,30 @@
 //! The command `quote`: the figures of a security that is given by words.
 
-ghost use Rattle.std.specs.Prelude.{◌≡◌, ◌≢◌, ◌↔◌, ◌≤◌, ◌++◌, is_some, true, map, None, Some, IfSome, Ok, Err, string_bytes, codes, [], MatchResult};
+ghost use Rattle.std.specs.Prelude.{◌≡◌, ◌≢◌, ◌↔◌, ◌≤◌, ◌++◌, is_some, true, false, map, None, Some, IfSome, Ok, Err, string_bytes, codes, [], MatchResult};
 ghost use Rattle.std.specs.List.{list_all};
 ghost use Rattle.std.specs.Option.{option_map};
 ghost use Rattle.muni_days.specs.Day.{civil};
-ghost use Rattle.muni_terms.specs.declared.row.Kind.TheVariants.{AtRedemption};
 ghost use Rattle.muni_edge.specs.Sink.{Rose, Wrote, WrotePart};
 ghost use Rattle.muni_confirm.specs.Figures.{figure_text};
-ghost use Rattle.muni_desk.specs.Note.{is_note};
+ghost use Rattle.muni_desk.specs.Note as notes;
 ghost use Rattle.muni_desk.specs.Quote as spec;
-ghost use Rattle.muni_desk.specs.Quote.{IsRow, IsAsked, IsAnswer, IsFigureText, IsRefusalText, IsText};
+ghost use Rattle.muni_desk.specs.Quote.{IsRow, IsAsked, IsSaid, IsAnswer, IsFigureText, IsRefusalText, IsText};
 ghost use Rattle.muni_desk.specs.QuoteTypes as types;
+ghost use Rattle.muni_desk.specs.QuoteTypes.{is_answerable};
 ghost use Rattle.muni_desk.specs.Status.{IsQuoteOneStatus};
 ghost use Rattle.muni_desk.specs.Words as words;
 
-use crate::Status;
-use crate::note::figures;
 use crate::output::{write_line, write_refusal};
 use crate::words::{count_of, has_name, value_of, word_at};
+use crate::{Status, bond, note};
 use arrayvec::ArrayVec;
 use muni_confirm::figure_lines;
 use muni_days::Day;
 use muni_dec::{Coupon, Par, Price, Yield};
 use muni_edge::Sink;
 use muni_msg::{Asked, Figures, Given, Refusal};
-use muni_terms::{IssueRow, Kind, check};
+use muni_multi::Encloser;
+use muni_terms::{Issue, IssueRow, Kind, check};
 
 #[derive(Clone, Copy)]
 struct Job {
@@ -38,7 +38,7 @@ struct Job {
 }
 
 /// The options of the command, which stand after its name, in any order.
-pub fn quote<O: Sink>(words: &[String], output: &mut O) -> Status
+pub fn quote<E: Encloser, O: Sink>(words: &[String], encloser: &E, output: &mut O) -> Status
     // Options that ask for nothing change nothing.
     ensures usage { (result ≡ Status.Usage) ↔ (spec.job_of (map string_bytes words.now) ≡ None) }
     ensures untouched { result ≡ Status.Usage → output.new ≡ output.old }
@@ -61,11 +61,11 @@ pub fn quote<O: Sink>(words: &[String], output: &mut O) -> Status
     let Some(job) = read_job(words) else {
         return Status::Usage;
     };
-    write_answer(&job, output)
+    write_answer(&job, encloser, output)
 }
 
-fn write_answer<O: Sink>(job: &Job, output: &mut O) -> Status
-    requires { is_note job.now.kind ≡ true }
+fn write_answer<E: Encloser, O: Sink>(job: &Job, encloser: &E, output: &mut O) -> Status
+    requires { is_answerable job.now.kind job.now.given ≡ true }
     ensures done { result ≡ Status.Done
         → Wrote (IsFigureText (types.job job.now)) (O.bytes output.old) (O.bytes output.new) }
     ensures refused { result ≡ Status.Refused
@@ -78,7 +78,7 @@ fn write_answer<O: Sink>(job: &Job, output: &mut O) -> Status
     ensures others { IsQuoteOneStatus result × (result ≢ Status.Usage) }
     ensures later { O.faults output.old ≤ O.faults output.new }
 {
-    match answer_of(job) {
+    match answer_of(job, encloser) {
         Ok(figures) => {
             let text = figure_lines_of(&figures, job.given);
             write_line(output, text.as_slice(), Status::Done)
@@ -95,15 +95,36 @@ fn figure_lines_of(figures: &Figures, given: Given) -> ArrayVec<u8, 512>
     text
 }
 
-fn answer_of(job: &Job) -> Result<Figures, Refusal>
-    requires { is_note job.now.kind ≡ true }
+fn answer_of<E: Encloser>(job: &Job, encloser: &E) -> Result<Figures, Refusal>
+    requires { is_answerable job.now.kind job.now.given ≡ true }
     ensures { MatchResult result (λ figures. IsAnswer (types.job job.now) (Ok figures))
         (λ refusal. IsAnswer (types.job job.now) (Err refusal)) }
 {
     let asked = asked_of(job);
     match check(row_of(job)) {
-        Ok(issue) => figures(&issue, &asked),
+        Ok(issue) => figures(&issue, &asked, encloser),
         Err(fault) => Err(Refusal::BadTerms(fault)),
+    }
+}
+
+fn figures<E: Encloser>(issue: &Issue, asked: &Asked, encloser: &E) -> Result<Figures, Refusal>
+    requires { is_answerable issue.now.kind asked.now.given ≡ true }
+    ensures { IsSaid issue.now asked.now result }
+{
+    if is_note(issue.row().kind) {
+        note::figures(issue, asked)
+    } else {
+        bond::figures(encloser, issue, asked)
+    }
+}
+
+fn is_note(kind: Kind) -> bool
+    ensures note { result ≡ notes.is_note kind }
+    ensures asked { result ≡ spec.is_note (spec.security_kind kind) }
+{
+    match kind {
+        Kind::AtRedemption | Kind::Discount => true,
+        Kind::Periodic { .. } | Kind::Zero => false,
     }
 }
 
@@ -136,18 +157,18 @@ fn asked_of(job: &Job) -> Asked
 
 fn read_job(words: &[String]) -> Option<Job>
     ensures value { option_map types.job result ≡ spec.job_of (map string_bytes words.now) }
-    ensures note { IfSome result (λ job. is_note job.kind ≡ true) }
+    ensures answerable { IfSome result (λ job. is_answerable job.kind job.given ≡ true) }
 {
     if !are_options(words) {
         return None;
     }
-    let kind = kind_of(value_of(words, b"--kind=")?)?;
+    let kind = kind_of(value_of(words, b"--kind=")?, words)?;
     let dated = date_of(words, b"--dated=")?;
     let maturity = date_of(words, b"--maturity=")?;
-    let coupon = coupon_of(words, kind)?;
+    let coupon = coupon_of(words, pays_interest(kind))?;
     let settlement = date_of(words, b"--settle=")?;
     let par = par_of(words)?;
-    let given = given_of(words)?;
+    let given = given_for(kind, words)?;
     Some(Job {
         kind,
         dated,
@@ -170,10 +191,27 @@ fn are_options(words: &[String]) -> bool
     true
 }
 
-fn kind_of(text: &[u8]) -> Option<Kind>
-    ensures value { result ≡ spec.kind_of text.now }
-    ensures note { IfSome result (λ kind. is_note kind ≡ true) }
+fn kind_of(text: &[u8], words: &[String]) -> Option<Kind>
+    ensures { option_map spec.security_kind result
+        ≡ spec.kind_of text.now (map string_bytes words.now) }
 {
+    if text == b"periodic".as_slice() {
+        let first = date_of(words, b"--first=")?;
+        return Some(Kind::Periodic { first });
+    }
+    if is_absent(words, b"--first=") {
+        plain_kind(text)
+    } else {
+        None
+    }
+}
+
+fn plain_kind(text: &[u8]) -> Option<Kind>
+    ensures { option_map spec.security_kind result ≡ spec.plain_kind text.now }
+{
+    if text == b"zero".as_slice() {
+        return Some(Kind::Zero);
+    }
     if text == b"at-redemption".as_slice() {
         return Some(Kind::AtRedemption);
     }
@@ -189,18 +227,38 @@ fn date_of(words: &[String], name: &[u8]) -> Option<Day>
     Day::read(value_of(words, name)?).ok()
 }
 
-fn coupon_of(words: &[String], kind: Kind) -> Option<Coupon>
-    ensures { result ≡ spec.coupon_of kind (map string_bytes words.now) }
+fn coupon_of(words: &[String], has_interest: bool) -> Option<Coupon>
+    ensures { result ≡ spec.coupon_of has_interest (map string_bytes words.now) }
+{
+    if has_interest {
+        given_coupon(words)
+    } else {
+        no_coupon(words)
+    }
+}
+
+fn given_coupon(words: &[String]) -> Option<Coupon>
+    ensures { result ≡ spec.given_coupon (map string_bytes words.now) }
+{
+    Coupon::read(value_of(words, b"--coupon=")?).ok()
+}
+
+fn no_coupon(words: &[String]) -> Option<Coupon>
+    ensures { result ≡ spec.no_coupon (map string_bytes words.now) }
+{
+    if is_absent(words, b"--coupon=") {
+        Coupon::of(0)
+    } else {
+        None
+    }
+}
+
+fn pays_interest(kind: Kind) -> bool
+    ensures { result ≡ spec.pays_interest (spec.security_kind kind) }
 {
     match kind {
-        Kind::AtRedemption => Coupon::read(value_of(words, b"--coupon=")?).ok(),
-        _ => {
-            if is_absent(words, b"--coupon=") {
-                Coupon::of(0)
-            } else {
-                None
-            }
-        }
+        Kind::Periodic { .. } | Kind::AtRedemption => true,
+        Kind::Zero | Kind::Discount => false,
     }
 }
 
@@ -224,6 +282,7 @@ fn is_term(word: &[u8]) -> bool
 {
     has_name(word, b"--kind=")
         || has_name(word, b"--dated=")
+        || has_name(word, b"--first=")
         || has_name(word, b"--maturity=")
         || has_name(word, b"--coupon=")
 }
@@ -244,29 +303,51 @@ fn is_absent(words: &[String], name: &[u8]) -> bool
     count_of(words, name) == 0
 }
 
+fn given_for(kind: Kind, words: &[String]) -> Option<Given>
+    ensures value { result
+        ≡ spec.given_for (spec.security_kind kind) (map string_bytes words.now) }
+    ensures answerable { IfSome result (λ given. is_answerable kind given ≡ true) }
+{
+    if is_note(kind) {
+        return given_of(words);
+    }
+    if is_absent(words, b"--price=") {
+        yield_or_rate_of(words)
+    } else {
+        None
+    }
+}
+
 fn given_of(words: &[String]) -> Option<Given>
     ensures { result ≡ spec.given_of (map string_bytes words.now) }
 {
-    let has_no_rate = is_absent(words, b"--rate=");
-    let has_no_yield = is_absent(words, b"--yield=");
-    if !is_absent(words, b"--price=") {
-        return if has_no_rate && has_no_yield {
-            price_of(words)
-        } else {
-            None
-        };
+    if is_absent(words, b"--price=") {
+        return yield_or_rate_of(words);
     }
-    if has_no_rate {
+    if is_absent(words, b"--rate=") && is_absent(words, b"--yield=") {
+        price_of(words)
+    } else {
+        None
+    }
+}
+
+fn yield_or_rate_of(words: &[String]) -> Option<Given>
+    ensures value { result ≡ spec.yield_or_rate_of (map string_bytes words.now) }
+    ensures no_price { IfSome result (λ given. spec.is_price given ≡ false) }
+{
+    if is_absent(words, b"--rate=") {
         return yield_of(words);
     }
-    if has_no_yield {
-        return rate_of(words);
+    if is_absent(words, b"--yield=") {
+        rate_of(words)
+    } else {
+        None
     }
-    None
 }
 
 fn yield_of(words: &[String]) -> Option<Given>
-    ensures { result ≡ spec.yield_of (map string_bytes words.now) }
+    ensures value { result ≡ spec.yield_of (map string_bytes words.now) }
+    ensures no_price { IfSome result (λ given. spec.is_price given ≡ false) }
 {
     let y = Yield::read(value_of(words, b"--yield=")?).ok()?;
     Some(Given::AtYield(y))
@@ -280,7 +361,8 @@ fn price_of(words: &[String]) -> Option<Given>
 }
 
 fn rate_of(words: &[String]) -> Option<Given>
-    ensures { result ≡ spec.rate_of (map string_bytes words.now) }
+    ensures value { result ≡ spec.rate_of (map string_bytes words.now) }
+    ensures no_price { IfSome result (λ given. spec.is_price given ≡ false) }
 {
     let rate = Yield::read(value_of(words, b"--rate=")?).ok()?;
     Some(Given::AtRate(rate))

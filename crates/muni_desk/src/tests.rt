@@ -1,8 +1,11 @@
+mod bond_cases;
+mod clap_words;
 mod quote_cases;
 mod quote_one_cases;
 
 use crate::{Status, desk, quote_one};
 use muni_edge::MemSink;
+use muni_multi::Horner;
 use std::alloc::Global;
 use std::process::Abort;
 use std::test::Fail;
@@ -36,7 +39,7 @@ fn answers_are_right(rt: &impl Abort, alloc: Global, cases: &str) -> Result<(), 
         let (status, text) = answered.split_once('|').ok_or("a status")?;
         let mut output = sink(alloc, 512, &[])?;
         let words = words_of(alloc, line)?;
-        let number = desk(words.as_slice(), &mut output).number();
+        let number = desk(words.as_slice(), &Horner, &mut output).number();
         assert_eq!(rt; number, status.parse::<u8>()?, "{line}");
         assert_eq!(rt; written(alloc, &output)?.as_str(), text, "{line}");
         assert_eq!(rt; output.bytes().ends_with(b"\n"), !text.is_empty(), "{line}");
@@ -55,9 +58,14 @@ fn figures_of_notes_are_the_exact_ones(rt: HostRuntime) -> Result<(), Fail> {
 }
 
 #[test]
+fn figures_of_bonds_are_the_exact_ones(rt: HostRuntime) -> Result<(), Fail> {
+    answers_are_right(&rt, rt.alloc(), bond_cases::CASES)
+}
+
+#[test]
 fn no_word_at_all_is_no_command(rt: HostRuntime) -> Result<(), Fail> {
     let mut output = sink(rt.alloc(), 64, &[])?;
-    assert_eq!(rt; desk(&[], &mut output), Status::Usage);
+    assert_eq!(rt; desk(&[], &Horner, &mut output), Status::Usage);
     assert_eq!(rt; quote_one(&[], &mut output), Status::Usage);
     assert!(rt; output.bytes().is_empty());
     Ok(())
@@ -67,7 +75,10 @@ fn no_word_at_all_is_no_command(rt: HostRuntime) -> Result<(), Fail> {
 fn an_output_that_fails_at_once_holds_nothing(rt: HostRuntime) -> Result<(), Fail> {
     let mut output = sink(rt.alloc(), 64, &[0])?;
     let words = words_of(rt.alloc(), WORKED)?;
-    assert_eq!(rt; desk(words.as_slice(), &mut output), Status::WriteFault);
+    assert_eq!(rt;
+        desk(words.as_slice(), &Horner, &mut output),
+        Status::WriteFault
+    );
     assert!(rt; output.bytes().is_empty());
     Ok(())
 }

@@ -1,9 +1,10 @@
-//! The program: the words that it was started with, and the real output.
+//! The program: the words that it was started with, the encloser, and the real output.
 #![tactic(auto)]
 
 mod output;
 
 use muni_desk::{Status, desk};
+use muni_multi::Horner;
 use output::Output;
 use std::process::ExitCode;
 use std::{env, io};
@@ -20,5 +21,5 @@ fn run(rt: &HostRuntime) -> Status {
     let Ok(words) = args.skip(1).collect::<Vec<String>>(rt.alloc()) else {
         return Status::NoMemory;
     };
-    desk(words.as_slice(), &mut Output::new(io::writer(rt)))
+    desk(words.as_slice(), &Horner, &mut Output::new(io::writer(rt)))
 }

@@ -162,7 +162,6 @@ quote --kind=at-redemption --dated=2024-01-01 --maturity= --settle=2024-07-01 --
 quote --kind=at-redemption --dated=2024-01-01 --maturity=2025-01-01 --settle= --coupon=4 --yield=3|2|
 quote --kind=at-redemption --dated=2024-01-01 --maturity=2025-01-01 --settle=2024-07-01 --coupon= --yield=3|2|
 quote --kind=at-redemption --dated=2024-01-01 --maturity=2025-01-01 --settle=2024-07-01 --coupon=4 --yield=|2|
-quote --kind=zero --dated=2024-01-01 --maturity=2025-01-01 --settle=2024-07-01 --yield=3|2|
 quote --kind=periodic --dated=2024-01-01 --maturity=2025-01-01 --settle=2024-07-01 --coupon=4 --yield=3|2|
 quote --kind=Discount --dated=2024-01-01 --maturity=2025-01-01 --settle=2024-07-01 --coupon=4 --yield=3|2|
 quote --kind=note --dated=2024-01-01 --maturity=2025-01-01 --settle=2024-07-01 --coupon=4 --yield=3|2|
