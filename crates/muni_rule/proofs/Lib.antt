@@ -13,3 +13,5 @@ pub mod ExactLemmas
 pub mod VerdictLemmas
 pub mod ManyPeriodLemmas
 pub mod EnclosedLemmas
+pub mod OutcomeLemmas
+pub mod ManyPeriodFallLemmas

@@ -337,7 +337,7 @@ series_sum-some series v is =
     subst (λ t. 0 < t) (tail_sum-all (payment_at series) 2000000 v series.n)
     (subst (λ n. 0 < tail_sum (payment_at series) 2000000 v n 0) count (tail_sum-some (payment_at series) 2000000 v (series.n - 1) 0 (lit< tt) last))
 
-worth_power-some : (series : PaymentSeries) (y : ℤ) → IsSeries series → 0 < worth_power (to_come series) y
+pub worth_power-some : (series : PaymentSeries) (y : ℤ) → IsSeries series → 0 < worth_power (to_come series) y
 worth_power-some series y is =
     subst (λ t. 0 < t) (sym (worth_power-series series y is.skip))
     (mul-pos (one-le-pow 180 (series_sum series (discount_divisor y)) (series_sum-some series (discount_divisor y) is)) (one-le-pow (180 - series.a) 2000000 (lit< tt)))

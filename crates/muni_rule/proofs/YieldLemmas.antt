@@ -2,6 +2,7 @@
 use Rattle.std.proofs.Common.{◌≡◌, ℕ, zero, suc, ◌+◌, ◌/◌, ◌⊎◌, inl, inr, ℤ, pos, negsuc, neg_ℤ, ◌+ℤ◌, ◌≤ℤ◌, ◌<ℤ◌, arith, refl, subst, sym}
 use Rattle.std.proofs.lemmas.Int.{ints}
 use Rattle.std.proofs.lemmas.Bool.{cases_lt}
+use Rattle.std.specs.Prelude.{◌↔◌}
 use Rattle.muni_rule.specs.Accuracy.{rounded_yield}
 use Rattle.muni_rule.specs.PrintedYield.{boundary, Reached, IsPrintedYield, IsFromAbove, IsFromBelow, TruncatesYieldTo, Falls}
 use Rattle.muni_rule.specs.Outcomes.{IsBelow, IsAbove, IsPrint}
@@ -107,6 +108,11 @@ printed-rounded {AtLeast} {More} falls (pos y) (inr below) =
     let P : ℕ → Type 0 = λ n. IsPrintedYield AtLeast More (pos n) in
     subst P (sym none) (printed-below falls y 0 (sym none) below.1)
 printed-rounded falls (negsuc less) from = printed-below falls (suc less) ((suc less + 5) / 10) refl from
+
+pub printed_yield-rounded : {AtLeast More : ℤ → Type 0} → Falls AtLeast More → (y t : ℤ) → TruncatesYieldTo AtLeast More y → IsPrintedYield AtLeast More t ↔ (t ≡ rounded_yield y)
+printed_yield-rounded {AtLeast} {More} falls y t truncated =
+    let rounded = printed-rounded falls y truncated in
+    (λ printed. printed_yield-same falls t (rounded_yield y) printed rounded, λ same. subst (IsPrintedYield AtLeast More) (sym same) rounded)
 
 -- a printed yield in the range is the outcome
 pub print-in_range : {AtLeast More : ℤ → Type 0} → Falls AtLeast More → (least greatest t : ℤ) → least ≤ℤ t → t ≤ℤ greatest → IsPrintedYield AtLeast More t → IsPrint least greatest AtLeast More t

@@ -20,3 +20,7 @@ pub mod Doubt
 pub mod WorthEnds
 pub mod Verdicts
 pub mod ManyPeriodLaws
+pub mod ManyPeriodYields
+pub mod Schedule
+pub mod Redemptions
+pub mod LastPayment

@@ -1,5 +1,6 @@
 //! Laws of the price with more than six months left.
 
+ghost use Rattle.muni_rule.specs.ManyPeriodYields.{ManyPeriodsPriceFalls, ManyPeriodsPrintOneYield, ManyPeriodsPrintRounded, ManyPeriodsHaveOneOutcome};
 ghost use Rattle.muni_rule.specs.ManyPeriodLaws.{NothingIsPassed, FirstDayIsFraction, LastDayIsFraction, ZeroYieldIsSum, ParBondIsRedemption, ParYieldIsCoupon, NumbersTellExactCases, ExactCasesAreExact, OthersAreEnclosed};
 
 /// On an interest date the comparison by whole powers is that of a fraction.
@@ -21,4 +22,15 @@ pub fn exact_cases_are_the_rules()
     ensures coupon { ParYieldIsCoupon }
     ensures exact { ExactCasesAreExact }
     ensures others { OthersAreEnclosed }
+{}
+
+/// The price falls as the yield rises. So for every price at most one yield is printed: the exact
+/// one, truncated to four decimals of the percentage and rounded to three.
+///
+/// In a range of printed yields one of it is printed, or the yield is below the range, or above it.
+pub fn the_price_of_many_periods_falls()
+    ensures falls { ManyPeriodsPriceFalls }
+    ensures one { ManyPeriodsPrintOneYield }
+    ensures rounded { ManyPeriodsPrintRounded }
+    ensures outcome { ManyPeriodsHaveOneOutcome }
 {}
