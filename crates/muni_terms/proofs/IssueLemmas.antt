@@ -24,11 +24,11 @@ use Rattle.muni_terms.specs.declared.row.TermsFault.{TermsFault}
 use Rattle.muni_terms.specs.declared.row.TermsFault.TheVariants.{BadCusip, BadOrder, BadDay, BadCoupon, FirstTooLong, CallOffCalendar, CallsNotRising, BadCallPrice, TooLong, BadName}
 
 -- a test that does not fail, and what comes behind it
-passed : {X : Type 0} (test : Bool) (fault : X) (behind : Option X) → cond (not test) (Some fault) behind ≡ None → (test ≡ true) × (behind ≡ None)
+pub passed : {X : Type 0} (test : Bool) (fault : X) (behind : Option X) → cond (not test) (Some fault) behind ≡ None → (test ≡ true) × (behind ≡ None)
 passed true fault behind none = (refl, none)
 passed false fault behind none = absurd (cc)
 
-neither : (fault other : Option TermsFault) → Check.first_of fault other ≡ None → (fault ≡ None) × (other ≡ None)
+pub neither : (fault other : Option TermsFault) → Check.first_of fault other ≡ None → (fault ≡ None) × (other ≡ None)
 neither None other none = (refl, none)
 neither (Some fault) other none = absurd (cc)
 

@@ -53,6 +53,23 @@ impl Model for Flows {
     } };
 }
 
+impl Default for Flows {
+    /// Two payments, of which the last is a redemption at 100.
+    fn default() -> Flows
+        ensures { result.n ≡ 2 }
+    {
+        Flows {
+            n: 2,
+            skip: 0,
+            first: 0,
+            regular: 0,
+            redemption: 36_000_000_000_000,
+            accrued: 0,
+            a: 0,
+        }
+    }
+}
+
 impl Flows {
     /// The number of payments.
     pub fn n(&self) -> u32

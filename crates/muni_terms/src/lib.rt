@@ -14,7 +14,7 @@ mod terms;
 #[cfg(test)]
 mod tests;
 
-pub use accrued::{half_year_interest, interest};
+pub use accrued::{days_to, half_year_interest, interest};
 pub use disclosure::{Boundary, Label};
 pub use flows::{Flows, flows_are_in_range};
 pub use issue::{Issue, check, issues_are_shared};
