@@ -14,17 +14,17 @@ use crate::payments::payment_at;
 use muni_terms::{Flows, flows_are_in_range};
 
 /// The ends that verdicts are read off: the worth itself in an exact case, and else an enclosure.
-pub(crate) fn ends<E: Encloser>(e: &E, flows: &Flows, y: i32) -> Ends
+pub(crate) fn ends<E: Encloser>(encloser: &E, flows: &Flows, y: i32) -> Ends
     requires many { 2 ≤ flows.now.n }
     requires y { IsManyPeriodsBoundary y }
-    ensures value { result ≡ ends_of flows.now y (E.low e.now flows.now y)
-        (E.high e.now flows.now y) }
+    ensures value { result ≡ ends_of flows.now y (E.low encloser.now flows.now y)
+        (E.high encloser.now flows.now y) }
     ensures unit { result.unit ≤ 2 ^ 66 }
 {
     if let Some(exact) = exact_worth(flows, divisor_of(y)) {
         return exact;
     }
-    let worth = e.pv(flows, y);
+    let worth = encloser.pv(flows, y);
     Ends {
         lo: worth.lo(),
         hi: worth.hi(),
@@ -33,15 +33,15 @@ pub(crate) fn ends<E: Encloser>(e: &E, flows: &Flows, y: i32) -> Ends
 }
 
 /// The same ends, with how large they are and how far apart.
-pub(crate) fn bounded_ends<E: Encloser>(e: &E, flows: &Flows, y: i32) -> Ends
+pub(crate) fn bounded_ends<E: Encloser>(encloser: &E, flows: &Flows, y: i32) -> Ends
     requires many { 2 ≤ flows.now.n }
     requires y { IsManyPeriodsBoundary y }
-    ensures value { result ≡ ends_of flows.now y (E.low e.now flows.now y)
-        (E.high e.now flows.now y) }
+    ensures value { result ≡ ends_of flows.now y (E.low encloser.now flows.now y)
+        (E.high encloser.now flows.now y) }
     ensures bounded { AreBounded result }
 {
     flows_are_in_range(flows);
-    ends(e, flows, y)
+    ends(encloser, flows, y)
 }
 
 // Two million and the yield.

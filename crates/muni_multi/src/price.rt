@@ -28,30 +28,30 @@ pub enum PriceAnswer {
 /// or more are to come.
 ///
 /// The encloser is called once at most, and not at all in an exact case.
-pub fn printed_price<E: Encloser>(e: &E, flows: &Flows, y: Yield) -> PriceAnswer
+pub fn printed_price<E: Encloser>(encloser: &E, flows: &Flows, y: Yield) -> PriceAnswer
     requires many { 2 ≤ flows.now.n }
     requires y { IsManyPeriodsBoundary y }
     ensures exact { IsPriceAnswer (AtLeast (to_come flows.now) y) result }
     ensures undecided { IsDoubtfulAnswer flows.now y result }
     ensures outcome { IsPriceOutcome (λ t. at_least_verdict
-        (ends_of flows.now y (E.low e.now flows.now y) (E.high e.now flows.now y))
+        (ends_of flows.now y (E.low encloser.now flows.now y) (E.high encloser.now flows.now y))
         (dirty_thousandths flows.now.accrued t)) result }
     ensures small { figure result ≤ 100_000_000 }
 {
     flows_are_in_range(flows);
-    price_by_ends(e, flows, y)
+    price_by_ends(encloser, flows, y)
 }
 
 // The verdicts on all thousandths are read off one pair of ends.
-fn price_by_ends<E: Encloser>(e: &E, flows: &Flows, y: Yield) -> PriceAnswer
+fn price_by_ends<E: Encloser>(encloser: &E, flows: &Flows, y: Yield) -> PriceAnswer
     requires many { 2 ≤ flows.now.n }
     requires y { IsManyPeriodsBoundary y }
     ensures outcome { IsPriceOutcome (λ t. at_least_verdict
-        (ends_of flows.now y (E.low e.now flows.now y) (E.high e.now flows.now y))
+        (ends_of flows.now y (E.low encloser.now flows.now y) (E.high encloser.now flows.now y))
         (dirty_thousandths flows.now.accrued t)) result }
     ensures small { figure result ≤ 100_000_000 }
 {
-    let ends = bounded_ends(e, flows, y.units() as i32);
+    let ends = bounded_ends(encloser, flows, y.units() as i32);
     price_between(ends.whole_low(), ends.whole_high(), flows.accrued())
 }
 

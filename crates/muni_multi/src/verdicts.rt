@@ -19,11 +19,11 @@ use muni_terms::{Flows, flows_are_in_range};
 ///
 /// An exact case is decided by whole numbers, and any other by the ends of the enclosure. `Unsure`
 /// comes only where the exact price is within 10^-9 dollars of the price.
-pub fn at_least<E: Encloser>(e: &E, flows: &Flows, y: i32, price: Price) -> Verdict
+pub fn at_least<E: Encloser>(encloser: &E, flows: &Flows, y: i32, price: Price) -> Verdict
     requires many { 2 ≤ flows.now.n }
     requires y { IsManyPeriodsBoundary y }
     ensures verdict { result ≡ at_least_verdict
-        (ends_of flows.now y (E.low e.now flows.now y) (E.high e.now flows.now y))
+        (ends_of flows.now y (E.low encloser.now flows.now y) (E.high encloser.now flows.now y))
         (360_000 * price + flows.now.accrued) }
     ensures yes { result ≡ Verdict.Yes → AtLeast (to_come flows.now) y (pos (360_000 * price)) }
     ensures no { result ≡ Verdict.No →
@@ -32,15 +32,15 @@ pub fn at_least<E: Encloser>(e: &E, flows: &Flows, y: i32, price: Price) -> Verd
         IsDoubtful flows.now y (pos (360_000 * price)) }
 {
     flows_are_in_range(flows);
-    at_least_at(&ends(e, flows, y), dirty_amount(flows, price))
+    at_least_at(&ends(encloser, flows, y), dirty_amount(flows, price))
 }
 
 /// Whether the exact price at a yield is more than a price, and else as `at_least`.
-pub fn more<E: Encloser>(e: &E, flows: &Flows, y: i32, price: Price) -> Verdict
+pub fn more<E: Encloser>(encloser: &E, flows: &Flows, y: i32, price: Price) -> Verdict
     requires many { 2 ≤ flows.now.n }
     requires y { IsManyPeriodsBoundary y }
     ensures verdict { result ≡ more_verdict
-        (ends_of flows.now y (E.low e.now flows.now y) (E.high e.now flows.now y))
+        (ends_of flows.now y (E.low encloser.now flows.now y) (E.high encloser.now flows.now y))
         (360_000 * price + flows.now.accrued) }
     ensures yes { result ≡ Verdict.Yes → More (to_come flows.now) y (pos (360_000 * price)) }
     ensures no { result ≡ Verdict.No → ¬ (More (to_come flows.now) y (pos (360_000 * price))) }
@@ -48,7 +48,7 @@ pub fn more<E: Encloser>(e: &E, flows: &Flows, y: i32, price: Price) -> Verdict
         IsDoubtful flows.now y (pos (360_000 * price)) }
 {
     flows_are_in_range(flows);
-    more_at(&ends(e, flows, y), dirty_amount(flows, price))
+    more_at(&ends(encloser, flows, y), dirty_amount(flows, price))
 }
 
 // A price with the accrued interest.
