@@ -1,0 +1,4 @@
+pub mod PlaceLemmas
+pub mod BracketLemmas
+pub mod OutcomeLemmas
+pub mod FinalLemmas

@@ -1,0 +1,5 @@
+pub mod Places
+pub mod Bracket
+pub mod BracketView
+pub mod Settled
+pub mod Outcome

@@ -1,0 +1,31 @@
+-- The outcome of a search.
+use Rattle.std.specs.Prelude.{ℕ, ◌==◌, if◌then◌else◌, Option, Some, None}
+use Rattle.muni_rule.specs.Payments.{PaymentSeries}
+use Rattle.muni_rule.specs.declared.verdict.Verdict.{Verdict}
+use Rattle.muni_rule.specs.declared.verdict.Verdict.TheVariants as verdict
+use Rattle.muni_yield.specs.Bracket.{YieldBracket, start_of, is_settled, run}
+use Rattle.muni_yield.specs.Places.{yield_at}
+use Rattle.muni_yield.specs.declared.outcome.Outcome.{Outcome}
+use Rattle.muni_yield.specs.declared.outcome.Outcome.TheVariants.{Print, Below, Above, Unsure}
+
+-- the outcome where the lower place is reached and the next one is not
+abbrev pub printed_as : ℕ → Outcome
+printed_as low =
+    if low == 0 then Below else (if low == 105_002 then Above else Print (yield_at low))
+
+-- and where the next one was answered so
+abbrev pub outcome_at : ℕ → Verdict → Outcome
+outcome_at low verdict.Unsure = Unsure (yield_at low)
+outcome_at low verdict.Yes = printed_as low
+outcome_at low verdict.No = printed_as low
+
+abbrev pub outcome_of : YieldBracket → Outcome
+outcome_of bracket = outcome_at bracket.low bracket.at_high
+
+-- the outcome, once the search is settled
+abbrev pub settled_as : YieldBracket → Option Outcome
+settled_as bracket = if is_settled bracket then Some (outcome_of bracket) else None
+
+-- the outcome for a price, when all questions were asked
+unfoldable pub final_of : (PaymentSeries → ℕ → ℕ → Verdict) → PaymentSeries → ℕ → Outcome
+final_of verdicts series price = outcome_of (run 19 verdicts (start_of series price))

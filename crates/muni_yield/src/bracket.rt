@@ -1,0 +1,189 @@
+//! The two places between which a yield is sought.
+
+ghost use Rattle.std.specs.Prelude.{◌≡◌, ◌+◌, ◌<◌, ◌≤◌, true, false, ℕ, ℤ};
+ghost use Rattle.muni_rule.specs.declared.verdict.Verdict.{Verdict};
+ghost use Rattle.muni_yield.specs.Bracket as spec;
+ghost use Rattle.muni_yield.specs.Bracket.{IsAnswered, IsQuestion};
+ghost use Rattle.muni_yield.specs.Places.{place_verdict, yield_at};
+ghost use Rattle.muni_yield.specs.Settled.{settled_as, outcome_at};
+
+use crate::Outcome;
+use crate::place::{ask, printed_at, yield_at};
+use muni_dec::Price;
+use muni_multi::{Encloser, Verdict};
+use muni_terms::Flows;
+use std::marker::Model;
+
+/// The search for the yield at a price: two printed yields, of which the lower is reached, as far as it
+/// was asked for, and the higher is not.
+///
+/// Each halving asks one question, in this order: whether -5.000 is reached, whether 100.001 is, and
+/// then whether the middle is. After at most 19 of them the two are neighbours and the search is
+/// settled.
+#[derive(Clone, Copy, Debug, PartialEq, Eq)]
+pub struct Bracket {
+    flows: Flows,
+    price: Price,
+    low: u32,
+    high: u32,
+    at_high: Verdict,
+    halvings: u32,
+}
+
+impl Model for Bracket {
+    ghost use Rattle.muni_yield.specs.Bracket.{YieldBracket, IsBracket};
+    ghost use Rattle.muni_yield.specs.BracketView.{bracket};
+
+    ghost Value = { YieldBracket };
+
+    ghost view = { λ held. bracket held.flows held.price held.low held.high held.at_high
+        held.halvings };
+
+    ghost invariant = { λ held. IsBracket (bracket held.flows held.price held.low held.high
+        held.at_high held.halvings) };
+
+    ghost inverse = { λ value. record {
+      flows = value.series;
+      price = value.price;
+      low = value.low;
+      high = value.high;
+      at_high = value.at_high;
+      halvings = value.halvings;
+    } };
+}
+
+impl Default for Bracket {
+    /// The search at a price of 100 for the default payments.
+    fn default() -> Bracket {
+        match Price::of(100_000_000) {
+            Some(price) => Bracket::start(Flows::default(), price),
+            None => unreachable!(),
+        }
+    }
+}
+
+impl Bracket {
+    /// The search before its first question, for two payments or more.
+    pub fn start(flows: Flows, price: Price) -> Bracket
+        requires many { 2 ≤ flows.n }
+        requires price { 0 < price }
+        ensures start { result ≡ spec.start_of flows price }
+        ensures answered { (verdict : ℕ → Verdict) → IsAnswered verdict result }
+    {
+        Bracket {
+            flows,
+            price,
+            low: 0,
+            high: 105_003,
+            at_high: Verdict::No,
+            halvings: 0,
+        }
+    }
+
+    /// The lower of the two, in thousandths of a percent.
+    pub fn low(&self) -> i32
+        ensures { result ≡ yield_at self.now.low }
+    {
+        yield_at(self.low)
+    }
+
+    /// The higher of the two.
+    pub fn high(&self) -> i32
+        ensures { result ≡ yield_at self.now.high }
+    {
+        yield_at(self.high)
+    }
+
+    /// How many questions were asked.
+    pub fn halvings(&self) -> u32
+        ensures value { result ≡ self.now.halvings }
+        ensures few { result ≤ 19 }
+    {
+        self.halvings
+    }
+
+    /// The outcome, once the two are neighbours.
+    pub fn settled(&self) -> Option<Outcome>
+        ensures { result ≡ settled_as self.now }
+    {
+        if self.high == self.low + 1 {
+            Some(outcome_at(self.low, self.at_high))
+        } else {
+            None
+        }
+    }
+
+    /// Asks the next question of a search that is not settled.
+    ///
+    /// Where it is answered by yes the lower yield is raised to the place that was asked, and else the
+    /// higher one is lowered to it.
+    pub fn halve<E: Encloser>(&mut self, encloser: &E)
+        requires open { spec.is_settled self.old ≡ false }
+        ensures halved { self.new
+            ≡ spec.halved (place_verdict (E.low encloser.now) (E.high encloser.now)) self.old }
+        ensures count { self.new.halvings ≡ self.old.halvings + 1 }
+        ensures answered { IsAnswered (place_verdict (E.low encloser.now) (E.high encloser.now)
+            self.old.series self.old.price) self.old
+            → IsAnswered (place_verdict (E.low encloser.now) (E.high encloser.now)
+            self.old.series self.old.price) self.new }
+    {
+        let place = self.question();
+        let verdict = ask(encloser, &self.flows, self.price, place);
+        *self = self.answered(place, verdict);
+    }
+
+    // The place that is asked next.
+    fn question(&self) -> u32
+        requires { spec.is_settled self.now ≡ false }
+        ensures value { result ≡ spec.question self.now }
+        ensures some { 1 ≤ result }
+        ensures most { result ≤ 105_002 }
+        ensures between { IsQuestion self.now result }
+    {
+        if self.halvings == 0 {
+            1
+        } else if self.halvings == 1 {
+            105_002
+        } else {
+            self.low + (self.high - self.low) / 2
+        }
+    }
+
+    fn answered(&self, place: u32, verdict: Verdict) -> Bracket
+        requires open { spec.is_settled self.now ≡ false }
+        requires question { IsQuestion self.now place }
+        ensures { result ≡ spec.answered verdict place self.now }
+    {
+        let halvings = self.halvings + 1;
+        match verdict {
+            Verdict::Yes => Bracket {
+                low: place,
+                halvings,
+                ..*self
+            },
+            Verdict::No | Verdict::Unsure => Bracket {
+                high: place,
+                at_high: verdict,
+                halvings,
+                ..*self
+            },
+        }
+    }
+}
+
+// The outcome between a place and the next one.
+fn outcome_at(low: u32, at_high: Verdict) -> Outcome
+    requires { low ≤ 105_002 }
+    ensures { result ≡ outcome_at low at_high }
+{
+    if at_high == Verdict::Unsure {
+        return Outcome::Unsure {
+            lower: yield_at(low),
+        };
+    }
+    match low {
+        0 => Outcome::Below,
+        105_002 => Outcome::Above,
+        _ => Outcome::Print(printed_at(low)),
+    }
+}

@@ -1,0 +1,56 @@
+//! Places among the printed yields, and the question that is asked at each.
+//!
+//! A place counts thousandths of a percent from -5.001.
+
+ghost use Rattle.std.specs.Prelude.{◌≡◌, ◌≤◌, ◌<◌, pos};
+ghost use Rattle.muni_rule.specs.PrintedYield as rule;
+ghost use Rattle.muni_rule.specs.Ranges.{IsManyPeriodsBoundary};
+ghost use Rattle.muni_yield.specs.Places as spec;
+
+use muni_dec::{Price, Yield3};
+use muni_multi::{Encloser, Verdict, at_least, more};
+use muni_terms::Flows;
+
+/// The yield at a place, in thousandths of a percent.
+pub fn yield_at(place: u32) -> i32
+    requires { place ≤ 105_003 }
+    ensures { result ≡ spec.yield_at place }
+{
+    place as i32 - 5_001
+}
+
+/// The printed yield at a place.
+pub fn printed_at(place: u32) -> Yield3
+    requires { place ≤ 105_003 }
+    ensures { result ≡ spec.yield_at place }
+{
+    match Yield3::of(i64::from(yield_at(place))) {
+        Some(yld) => yld,
+        None => unreachable!(),
+    }
+}
+
+// Where the yields begin that are printed as the one at a place or above, in 10^-6.
+fn boundary_at(place: u32) -> i32
+    requires some { 1 ≤ place }
+    requires most { place ≤ 105_002 }
+    ensures value { result ≡ rule.boundary (spec.yield_at place) }
+    ensures range { IsManyPeriodsBoundary result }
+{
+    10 * yield_at(place) - 5
+}
+
+/// Whether the yield at a price is printed as the one at a place or above.
+pub fn ask<E: Encloser>(encloser: &E, flows: &Flows, price: Price, place: u32) -> Verdict
+    requires many { 2 ≤ flows.now.n }
+    requires some { 1 ≤ place }
+    requires most { place ≤ 105_002 }
+    ensures { result ≡ spec.place_verdict (E.low encloser.now) (E.high encloser.now) flows.now
+        price place }
+{
+    if place > 5_001 {
+        at_least(encloser, flows, boundary_at(place), price)
+    } else {
+        more(encloser, flows, boundary_at(place), price)
+    }
+}

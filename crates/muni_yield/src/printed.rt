@@ -1,0 +1,72 @@
+//! The printed yield.
+
+ghost use Rattle.std.specs.Prelude.{◌≡◌, ◌+◌, ◌*◌, ◌^◌, ◌<◌, ◌≤◌, pos};
+ghost use Rattle.muni_rule.specs.ManyPeriods.{to_come, AtLeast, More};
+ghost use Rattle.muni_yield.specs.Bracket.{start_of, run};
+ghost use Rattle.muni_yield.specs.Outcome.{IsYieldOutcome, IsDoubtfulOutcome, IsInRange, IsVerdictOutcome};
+ghost use Rattle.muni_yield.specs.Places.{place_verdict, yield_verdict};
+ghost use Rattle.muni_yield.specs.Settled.{final_of};
+
+use crate::{Bracket, Outcome};
+use muni_dec::Price;
+use muni_edge::Steps;
+use muni_multi::Encloser;
+use muni_terms::{Flows, flows_are_in_range};
+use std::sync::ledger::Ledger;
+
+/// The yield at a dollar price (MSRB Rule G-33(b)(ii)). Two payments or more are to come.
+///
+/// `steps` counts one for each question, of which there are at most 19. Each calls the encloser at most
+/// once.
+pub fn printed_yield<E: Encloser, L: Ledger>(
+    encloser: &E,
+    flows: &Flows,
+    price: Price,
+    steps: &mut Steps<L>,
+) -> Outcome
+    requires many { 2 ≤ flows.now.n }
+    requires price { 0 < price }
+    requires room { steps.old < 2 ^ 62 }
+    ensures exact { IsYieldOutcome (λ y. AtLeast (to_come flows.now) y (pos (360_000 * price)))
+        (λ y. More (to_come flows.now) y (pos (360_000 * price))) result }
+    ensures doubtful { IsDoubtfulOutcome flows.now price result }
+    ensures range { IsInRange result }
+    ensures verdicts { IsVerdictOutcome (yield_verdict (E.low encloser.now flows.now)
+        (E.high encloser.now flows.now) flows.now price) result }
+    ensures outcome { result
+        ≡ final_of (place_verdict (E.low encloser.now) (E.high encloser.now)) flows.now price }
+    ensures steps { steps.new ≡ steps.old + (run 19 (place_verdict (E.low encloser.now)
+        (E.high encloser.now)) (start_of flows.now price)).halvings }
+    ensures few { steps.new ≤ steps.old + 19 }
+{
+    flows_are_in_range(flows);
+    settled(encloser, flows, price, steps)
+}
+
+// Asks until the search is settled.
+fn settled<E: Encloser, L: Ledger>(
+    encloser: &E,
+    flows: &Flows,
+    price: Price,
+    steps: &mut Steps<L>,
+) -> Outcome
+    requires many { 2 ≤ flows.now.n }
+    requires price { 0 < price }
+    requires room { steps.old < 2 ^ 62 }
+    ensures verdicts { IsVerdictOutcome (yield_verdict (E.low encloser.now flows.now)
+        (E.high encloser.now flows.now) flows.now price) result }
+    ensures outcome { result
+        ≡ final_of (place_verdict (E.low encloser.now) (E.high encloser.now)) flows.now price }
+    ensures steps { steps.new ≡ steps.old + (run 19 (place_verdict (E.low encloser.now)
+        (E.high encloser.now)) (start_of flows.now price)).halvings }
+    ensures few { steps.new ≤ steps.old + 19 }
+{
+    let mut bracket = Bracket::start(*flows, price);
+    loop {
+        if let Some(outcome) = bracket.settled() {
+            return outcome;
+        }
+        bracket.halve(encloser);
+        steps.tick();
+    }
+}
