@@ -1,0 +1,13 @@
+pub mod RankLemmas
+pub mod SoundLemmas
+pub mod NoteLemmas
+pub mod CandidateLemmas
+pub mod RiseLemmas
+pub mod RangeLemmas
+pub mod RoundLemmas
+pub mod SearchLemmas
+pub mod StartLemmas
+pub mod AnswerLemmas
+pub mod YieldSoundLemmas
+pub mod ToldLemmas
+pub mod PriceSoundLemmas

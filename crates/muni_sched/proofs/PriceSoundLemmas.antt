@@ -1,0 +1,273 @@
+-- The outcome of a candidate is true of its exact price, and unsure only in doubt.
+use Rattle.std.proofs.Common.{◌≡◌, ◌<◌, ◌≤◌, ◌+◌, ◌-◌, ◌*◌, ◌^◌, ℕ, zero, suc, List, [], ◌∷◌, All, length, refl, ap, sym, subst, inl, ⊎_elim, arith, ◌∙◌, ℤ, pos, negsuc, ◌+ℤ◌, ◌*ℤ◌, ◌≤ℤ◌, ◌<ℤ◌}
+use Rattle.std.specs.List.{AllZip}
+use Rattle.std.proofs.Math.Nat.{mul-le-mul_right, pow-le-pow_left}
+use Rattle.std.proofs.lemmas.Bool.{cases_lt}
+use Rattle.std.proofs.lemmas.Int.{ints}
+use Rattle.std.proofs.lemmas.List.Elements.{All-head, All-tail}
+use Rattle.muni_rule.specs.Accuracy.{thousandths}
+use Rattle.muni_rule.specs.Doubt.{IsDoubtful}
+use Rattle.muni_rule.specs.ManyPeriods as periods
+use Rattle.muni_rule.specs.ManyPeriods.{PeriodicPayments, to_come, discount_divisor, DirtyAtLeast}
+use Rattle.muni_rule.specs.Payments.{PaymentSeries, IsSeries}
+use Rattle.muni_rule.specs.Printed.{IsPrintedPrice, IsBelowZero}
+use Rattle.muni_rule.specs.Ranges.{IsWithin, IsManyPeriodsBoundary}
+use Rattle.muni_rule.specs.Schedule.{ExactOutcome, prints, is_below, is_above, no_time, IsFrom}
+use Rattle.muni_rule.specs.SinglePayment.{SinglePayment, growth, AtLeast}
+use Rattle.muni_rule.specs.Verdicts.{at_least_verdict, dirty_thousandths, IsUndecidedAt}
+use Rattle.muni_rule.specs.WorthEnds.{ends_of}
+use Rattle.muni_rule.specs.declared.verdict.Verdict.{Verdict}
+use Rattle.muni_rule.specs.declared.verdict.Verdict.TheVariants as verdict
+use Rattle.muni_rule.proofs.AtLeastLemmas.{AtLeast-smaller}
+use Rattle.muni_rule.proofs.EnclosedLemmas.{IsEnclosed, at_least-true}
+use Rattle.muni_multi.specs.Prices as multi
+use Rattle.muni_multi.specs.declared.price.PriceAnswer.{PriceAnswer}
+use Rattle.muni_multi.specs.declared.price.PriceAnswer.TheVariants as found
+use Rattle.muni_multi.proofs.PriceLemmas.{outcome-exact, outcome-doubtful}
+use Rattle.muni_simple.specs.Single as simple
+use Rattle.muni_simple.specs.declared.price.SimplePrice.{SimplePrice}
+use Rattle.muni_simple.specs.declared.price.SimplePrice.TheVariants as exact
+use Rattle.muni_simple.specs.declared.single.Shape1.TheVariants as single
+use Rattle.muni_simple.proofs.GrowthLemmas.{growth-within}
+use Rattle.muni_sched.specs.declared.candidate.Candidate.{Candidate}
+use Rattle.muni_sched.specs.declared.candidate.Shape.{Shape}
+use Rattle.muni_sched.specs.declared.candidate.Shape.TheVariants.{Many, One, AtRedemption, Discount}
+use Rattle.muni_sched.specs.declared.lowest.Outcome.{Outcome}
+use Rattle.muni_sched.specs.declared.lowest.Outcome.TheVariants.{Print, Unsure, Below, Above, NoTime}
+use Rattle.muni_sched.specs.Answered.{exact_at, IsInDoubt, IsCandidateInDoubt}
+use Rattle.muni_sched.specs.Candidates.{IsCandidate}
+use Rattle.muni_sched.specs.Exact.{IsExactPriceBy, IsExactPriceOf, IsExactPrice}
+use Rattle.muni_sched.specs.Lowest.{outcome_at, AllAreAbove}
+use Rattle.muni_sched.specs.PriceAnswer.{IsShapeAtYield, IsAtYield, placed, placed_simple, IsPriceOutcomeFor, IsPriceOutcome}
+use Rattle.muni_sched.specs.Range.{IsGivenFor, given_range}
+use Rattle.muni_sched.specs.Shape.{IsPriceable}
+use Rattle.muni_sched.specs.Sound.{figure, IsSoundUnsure, IsSound, AreSound}
+use Rattle.muni_sched.specs.ToCome.{ToCome, many, one, to_come_of}
+
+-- ---- what is to come is in range
+abbrev pub IsPriced : ℤ → ToCome → Type 0
+IsPriced y (many series) = IsSeries series × (2 ≤ series.n) × IsManyPeriodsBoundary y
+IsPriced y (one least payment) = pos 0 <ℤ growth payment y
+
+shape-priced : (y : ℤ) (shape : Shape) → IsPriceable shape → IsShapeAtYield shape → IsWithin (given_range shape) y → IsPriced y (to_come_of shape)
+shape-priced y (Many series) is at_yield given = (is.0, is.1, (let least = given.0 in omega (arith, ints, least), let most = given.1 in omega (arith, ints, most)))
+shape-priced y (One payment) is at_yield given = let within = (growth-within single.OnePeriod payment.left y is.left.0 is.left.1 given).0 in omega (arith, ints, within)
+shape-priced y (AtRedemption payment) is at_yield given = let within = (growth-within single.AtRedemption payment.left y is.left.0 is.left.1 given).0 in omega (arith, ints, within)
+shape-priced y (Discount days) is at_yield given = absurd at_yield
+
+priced : (y : ℤ) (candidate : Candidate) → IsCandidate candidate → IsAtYield candidate → IsGivenFor y candidate → IsPriced y (to_come_of candidate.shape)
+priced y candidate is at_yield given = shape-priced y candidate.shape is at_yield given
+
+-- ---- a price that is at least an amount is at least each smaller one
+dirty-smaller : (bond : PeriodicPayments) (y amount smaller : ℤ) → smaller ≤ℤ amount → DirtyAtLeast bond y amount → DirtyAtLeast bond y smaller
+dirty-smaller bond y (pos x) (pos z) less reached =
+    let order : z ≤ x = omega (arith, ints) in
+    let raised : z ^ 180 ≤ x ^ 180 = pow-le-pow_left order 180 in
+    let scaled = mul-le-mul_right (discount_divisor y ^ ((length bond.payments - 1) * 180 + (180 - bond.a))) raised in
+    let at_least = reached.at_least in
+    record { at_least = omega (arith, scaled, at_least) }
+dirty-smaller bond y (negsuc x) (pos z) less reached = absurd (omega (arith, ints))
+dirty-smaller bond y amount (negsuc z) less reached = tt
+
+many-smaller : (bond : PeriodicPayments) (y amount smaller : ℤ) → smaller ≤ℤ amount → periods.AtLeast bond y amount → periods.AtLeast bond y smaller
+many-smaller bond y amount smaller less reached = dirty-smaller bond y (amount +ℤ pos bond.accrued) (smaller +ℤ pos bond.accrued) (omega (arith, ints)) reached
+
+-- the amounts that a price reaches are those up to it
+abbrev IsClosed : (ℤ → Type 0) → Type 0
+IsClosed Reaches = (amount smaller : ℤ) → smaller ≤ℤ amount → Reaches amount → Reaches smaller
+
+-- ---- an answer as an exact outcome
+printed-same : (Reaches : ℤ → Type 0) (t : ℕ) (exactly : ExactOutcome) → IsClosed Reaches → IsPrintedPrice Reaches t → IsExactPriceBy Reaches exactly → exactly ≡ prints (figure 1 (t + 1))
+printed-same Reaches t (prints (pos u)) closed print is =
+    ⊎_elim
+    (λ (less : t < u). absurd (print.next_not_reached (closed (thousandths u) (thousandths (t + 1)) (omega (arith, ints)) is.reached)))
+    (λ (most : u ≤ t). ⊎_elim
+    (λ (more : u < t). absurd (is.next_not_reached (closed (thousandths t) (thousandths (u + 1)) (omega (arith, ints)) print.reached)))
+    (λ (least : t ≤ u). ap prints (omega (arith, ints)))
+    (cases_lt u t))
+    (cases_lt t u)
+printed-same Reaches t (prints (negsuc u)) closed print is = absurd is
+printed-same Reaches t is_below closed print is = absurd (is.zero_not_reached (closed (thousandths t) (pos 0) (omega (arith, ints)) print.reached))
+printed-same Reaches t is_above closed print is = absurd is
+printed-same Reaches t no_time closed print is = absurd is
+
+below-same : (Reaches : ℤ → Type 0) (exactly : ExactOutcome) → IsClosed Reaches → IsBelowZero Reaches → IsExactPriceBy Reaches exactly → exactly ≡ is_below
+below-same Reaches (prints (pos u)) closed below is = absurd (below.zero_not_reached (closed (thousandths u) (pos 0) (omega (arith, ints)) is.reached))
+below-same Reaches (prints (negsuc u)) closed below is = absurd is
+below-same Reaches is_below closed below is = refl
+below-same Reaches is_above closed below is = absurd is
+below-same Reaches no_time closed below is = absurd is
+
+price-timed : (Reaches : ℤ → Type 0) (exactly : ExactOutcome) → IsExactPriceBy Reaches exactly → ¬ (exactly ≡ no_time)
+price-timed Reaches exactly is never = subst (IsExactPriceBy Reaches) never is
+
+price-from : (Reaches : ℤ → Type 0) (t : ℕ) (exactly : ExactOutcome) → IsClosed Reaches → Reaches (thousandths t) → IsExactPriceBy Reaches exactly → IsFrom (pos t) exactly
+price-from Reaches t (prints (pos u)) closed reached is =
+    ⊎_elim
+    (λ (less : u < t). absurd (is.next_not_reached (closed (thousandths t) (thousandths (u + 1)) (omega (arith, ints)) reached)))
+    (λ (order : t ≤ u). omega (arith, ints))
+    (cases_lt u t)
+price-from Reaches t (prints (negsuc u)) closed reached is = absurd is
+price-from Reaches t is_below closed reached is = is.zero_not_reached (closed (thousandths t) (pos 0) (omega (arith, ints)) reached)
+price-from Reaches t is_above closed reached is = absurd is
+price-from Reaches t no_time closed reached is = absurd is
+
+-- ---- many payments
+-- below the least boundary that is left open each is reached
+not_no : (said : Verdict) → ¬ (said ≡ verdict.Unsure) → ¬ (said ≡ verdict.No) → said ≡ verdict.Yes
+not_no verdict.Yes open_yet missed = refl
+not_no verdict.No open_yet missed = absurd (missed refl)
+not_no verdict.Unsure open_yet missed = absurd (open_yet refl)
+
+reached-below : (said : ℕ → Verdict) (b t : ℕ) → IsUndecidedAt said b → t < b → said t ≡ verdict.Yes
+reached-below said b zero is less = not_no (said zero) (is.least zero less) is.not_below_zero
+reached-below said b (suc t) is less =
+    let before : t < b = omega arith in
+    let next : t + 1 ≡ suc t = omega arith in
+    not_no (said (suc t)) (is.least (suc t) less) (λ missed. is.not_printed t (reached-below said b t is before) (ap said next ∙ missed))
+
+many-closed : (series : PaymentSeries) (y : ℤ) → IsClosed (periods.AtLeast (to_come series) y)
+many-closed series y = λ amount smaller less reached. many-smaller (to_come series) y amount smaller less reached
+
+amount-of : (b : ℕ) → thousandths b ≡ (figure 1 (b + 1) *ℤ pos 360000000)
+amount-of b = let place : figure 1 (b + 1) ≡ pos b = omega (arith, ints) in ap pos (omega arith) ∙ ap (λ t. t *ℤ pos 360000000) (sym place)
+
+many-unsure : (series : PaymentSeries) (y : ℤ) (lo hi b : ℕ) (exactly : ExactOutcome) → IsEnclosed series y lo hi → IsUndecidedAt (λ t. at_least_verdict (ends_of series y lo hi) (dirty_thousandths series.accrued t)) b → IsDoubtful series y (thousandths b) → IsExactPriceOf y (many series) exactly
+    → IsSoundUnsure 1 0 (λ t. IsInDoubt (many series) y (t *ℤ pos 360000000)) b exactly
+many-unsure series y lo hi b exactly given is doubt exact_is = record {
+  doubtful = let amount : thousandths b ≡ (figure 1 (b + 1) *ℤ pos 360000000) = amount-of b in subst (IsDoubtful series y) amount doubt;
+  timed = price-timed (periods.AtLeast (to_come series) y) exactly exact_is;
+  reached = λ other.
+      let before : b - 1 < b = omega (arith, other) in
+      let said = reached-below (λ t. at_least_verdict (ends_of series y lo hi) (dirty_thousandths series.accrued t)) b (b - 1) is before in
+      let reached : periods.AtLeast (to_come series) y (thousandths (b - 1)) = at_least-true series y lo hi (360000000 * (b - 1)) _ given refl said in
+      let place : pos (b - 1) ≡ figure 1 b = omega (arith, ints, other) in
+      subst (λ t. IsFrom t exactly) place (price-from (periods.AtLeast (to_come series) y) (b - 1) exactly (many-closed series y) reached exact_is);
+}
+
+many-sound : (series : PaymentSeries) (y : ℤ) (lo hi : ℕ) (answer : PriceAnswer) (exactly : ExactOutcome) → IsEnclosed series y lo hi → multi.IsPriceOutcome (λ t. at_least_verdict (ends_of series y lo hi) (dirty_thousandths series.accrued t)) answer → IsExactPriceOf y (many series) exactly
+    → IsSound 1 0 (λ t. IsInDoubt (many series) y (t *ℤ pos 360000000)) (placed answer) exactly
+many-sound series y lo hi (found.Price t) exactly given is exact_is =
+    printed-same (periods.AtLeast (to_come series) y) t exactly (many-closed series y) (outcome-exact series y lo hi (found.Price t) given is) exact_is
+many-sound series y lo hi found.BelowZero exactly given is exact_is =
+    below-same (periods.AtLeast (to_come series) y) exactly (many-closed series y) (outcome-exact series y lo hi found.BelowZero given is) exact_is
+many-sound series y lo hi (found.Undecided b) exactly given is exact_is =
+    many-unsure series y lo hi b exactly given is (outcome-doubtful series y lo hi (found.Undecided b) given is) exact_is
+
+-- ---- one payment
+single-sound : (payment : SinglePayment) (y : ℤ) (answer : SimplePrice) (IsDoubtfulAt : ℤ → Type 0) (exactly : ExactOutcome) → pos 0 <ℤ growth payment y → simple.IsPriceAnswer (AtLeast payment y) answer → IsExactPriceBy (AtLeast payment y) exactly → IsSound 1 0 IsDoubtfulAt (placed_simple answer) exactly
+single-sound payment y (exact.Price t) D exactly above is exact_is =
+    printed-same (AtLeast payment y) t exactly (λ amount smaller less reached. AtLeast-smaller payment y amount smaller above less reached) is exact_is
+single-sound payment y exact.BelowZero D exactly above is exact_is =
+    below-same (AtLeast payment y) exactly (λ amount smaller less reached. AtLeast-smaller payment y amount smaller above less reached) is exact_is
+
+-- ---- each candidate
+-- two ends enclose the worth of every series at this yield
+abbrev pub AreEnclosedAt : (low high : PaymentSeries → ℤ → ℕ) → ℤ → Type 0
+AreEnclosedAt low high y = (series : PaymentSeries) → IsSeries series → 2 ≤ series.n → IsManyPeriodsBoundary y → IsEnclosed series y (low series y) (high series y)
+
+one-sound : (low high : PaymentSeries → ℤ → ℕ) (y : ℤ) (to_be : ToCome) (outcome : Outcome) (exactly : ExactOutcome) → IsPriced y to_be → AreEnclosedAt low high y → IsPriceOutcomeFor low high y to_be outcome → IsExactPriceOf y to_be exactly
+    → IsSound 1 0 (λ t. IsInDoubt to_be y (t *ℤ pos 360000000)) outcome exactly
+one-sound low high y (many series) outcome exactly range law is exact_is =
+    subst (λ x. IsSound 1 0 (λ t. IsInDoubt (many series) y (t *ℤ pos 360000000)) x exactly) (sym is.2)
+    (many-sound series y (low series y) (high series y) is.0 exactly (law series range.0 range.1 range.2) is.1 exact_is)
+one-sound low high y (one least payment) outcome exactly range law is exact_is =
+    subst (λ x. IsSound 1 0 (λ t. ⊥) x exactly) (sym is.2) (single-sound payment y is.0 (λ t. ⊥) exactly range is.1 exact_is)
+
+-- all candidates may be priced at a yield
+pub record ArePriced (y : ℤ) (list : List Candidate) : Type 0 where
+  pub candidates : All IsCandidate list
+  pub at_yield : All IsAtYield list
+  pub given : All (IsGivenFor y) list
+
+first-priced : (y : ℤ) (candidate : Candidate) (list : List Candidate) → ArePriced y (candidate ∷ list) → IsPriced y (to_come_of candidate.shape)
+first-priced y candidate list all = priced y candidate (All-head IsCandidate candidate list all.candidates) (All-head IsAtYield candidate list all.at_yield) (All-head (IsGivenFor y) candidate list all.given)
+
+rest-priced : (y : ℤ) (candidate : Candidate) (list : List Candidate) → ArePriced y (candidate ∷ list) → ArePriced y list
+rest-priced y candidate list all = record {
+  candidates = All-tail IsCandidate candidate list all.candidates;
+  at_yield = All-tail IsAtYield candidate list all.at_yield;
+  given = All-tail (IsGivenFor y) candidate list all.given;
+}
+
+pub prices-sound : (low high : PaymentSeries → ℤ → ℕ) (y : ℤ) (list : List Candidate) (outcomes : List Outcome) (exactly : List ExactOutcome) → ArePriced y list → AreEnclosedAt low high y → AllZip (IsPriceOutcome low high y) list outcomes → AllZip (IsExactPrice y) list exactly
+    → AreSound 1 0 (λ k t. IsCandidateInDoubt list k y (t *ℤ pos 360000000)) outcomes (exact_at exactly)
+prices-sound low high y [] [] [] all law is exact_is k = refl
+prices-sound low high y [] [] (e ∷ exactly) all law is exact_is k = absurd exact_is
+prices-sound low high y [] (x ∷ outcomes) exactly all law is exact_is k = absurd is
+prices-sound low high y (candidate ∷ list) [] exactly all law is exact_is k = absurd is
+prices-sound low high y (candidate ∷ list) (x ∷ outcomes) [] all law is exact_is k = absurd exact_is
+prices-sound low high y (candidate ∷ list) (x ∷ outcomes) (e ∷ exactly) all law is exact_is zero =
+    one-sound low high y (to_come_of candidate.shape) x e (first-priced y candidate list all) law is.0 exact_is.0
+prices-sound low high y (candidate ∷ list) (x ∷ outcomes) (e ∷ exactly) all law is exact_is (suc k) =
+    prices-sound low high y list outcomes exactly (rest-priced y candidate list all) law is.1 exact_is.1 k
+
+-- ---- doubt
+simple-sure : (answer : SimplePrice) (s : ℕ) → ¬ (placed_simple answer ≡ Unsure s)
+simple-sure (exact.Price t) s same = cc
+simple-sure exact.BelowZero s same = cc
+
+found-doubt : (series : PaymentSeries) (y : ℤ) (s : ℕ) (answer : PriceAnswer) → multi.IsDoubtfulAnswer series y answer → placed answer ≡ Unsure s → IsDoubtful series y (thousandths s)
+found-doubt series y s (found.Price t) doubt same = absurd (let never : Print (t + 1) ≡ Unsure s = same in cc)
+found-doubt series y s found.BelowZero doubt same = absurd (let never : Below ≡ Unsure s = same in cc)
+found-doubt series y s (found.Undecided b) doubt same = let place : b ≡ s = cc in subst (λ t. IsDoubtful series y (thousandths t)) place doubt
+
+one-doubt : (low high : PaymentSeries → ℤ → ℕ) (y : ℤ) (s : ℕ) (to_be : ToCome) (outcome : Outcome) → IsPriced y to_be → AreEnclosedAt low high y → IsPriceOutcomeFor low high y to_be outcome → outcome ≡ Unsure s → IsInDoubt to_be y (thousandths s)
+one-doubt low high y s (many series) outcome range law is same =
+    found-doubt series y s is.0 (outcome-doubtful series y (low series y) (high series y) is.0 (law series range.0 range.1 range.2) is.1) (sym is.2 ∙ same)
+one-doubt low high y s (one least payment) outcome range law is same = simple-sure is.0 s (sym is.2 ∙ same)
+
+pub prices-doubt : (low high : PaymentSeries → ℤ → ℕ) (y : ℤ) (s c : ℕ) (list : List Candidate) (outcomes : List Outcome) → ArePriced y list → AreEnclosedAt low high y → AllZip (IsPriceOutcome low high y) list outcomes → outcome_at outcomes c ≡ Unsure s → IsCandidateInDoubt list c y (thousandths s)
+prices-doubt low high y s c [] [] all law is same = absurd (let never : Above ≡ Unsure s = same in cc)
+prices-doubt low high y s c [] (x ∷ outcomes) all law is same = absurd is
+prices-doubt low high y s c (candidate ∷ list) [] all law is same = absurd is
+prices-doubt low high y s zero (candidate ∷ list) (x ∷ outcomes) all law is same = one-doubt low high y s (to_come_of candidate.shape) x (first-priced y candidate list all) law is.0 same
+prices-doubt low high y s (suc c) (candidate ∷ list) (x ∷ outcomes) all law is same = prices-doubt low high y s c list outcomes (rest-priced y candidate list all) law is.1 same
+
+-- ---- a price is neither above all figures nor without time
+many-timed : (answer : PriceAnswer) → ¬ (placed answer ≡ NoTime)
+many-timed (found.Price t) never = cc
+many-timed found.BelowZero never = cc
+many-timed (found.Undecided b) never = cc
+
+one-timed : (answer : SimplePrice) → ¬ (placed_simple answer ≡ NoTime)
+one-timed (exact.Price t) never = cc
+one-timed exact.BelowZero never = cc
+
+many-not_above : (answer : PriceAnswer) → ¬ (placed answer ≡ Above)
+many-not_above (found.Price t) never = cc
+many-not_above found.BelowZero never = cc
+many-not_above (found.Undecided b) never = cc
+
+one-not_above : (answer : SimplePrice) → ¬ (placed_simple answer ≡ Above)
+one-not_above (exact.Price t) never = cc
+one-not_above exact.BelowZero never = cc
+
+timed : (low high : PaymentSeries → ℤ → ℕ) (y : ℤ) (to_be : ToCome) (outcome : Outcome) → IsPriceOutcomeFor low high y to_be outcome → ¬ (outcome ≡ NoTime)
+timed low high y (many series) outcome is never = many-timed is.0 (sym is.2 ∙ never)
+timed low high y (one least payment) outcome is never = one-timed is.0 (sym is.2 ∙ never)
+
+pub all-timed : (low high : PaymentSeries → ℤ → ℕ) (y : ℤ) (list : List Candidate) (outcomes : List Outcome) → AllZip (IsPriceOutcome low high y) list outcomes → (c : ℕ) → ¬ (outcome_at outcomes c ≡ NoTime)
+all-timed low high y [] [] is c never = let wrong : Above ≡ NoTime = never in cc
+all-timed low high y [] (x ∷ outcomes) is c never = absurd is
+all-timed low high y (candidate ∷ list) [] is c never = absurd is
+all-timed low high y (candidate ∷ list) (x ∷ outcomes) is zero never = timed low high y (to_come_of candidate.shape) x is.0 never
+all-timed low high y (candidate ∷ list) (x ∷ outcomes) is (suc c) never = all-timed low high y list outcomes is.1 c never
+
+-- where all are above, the first is none of these
+not-above : (outcomes : List Outcome) (outcome : Outcome) → outcome_at outcomes 0 ≡ outcome → ¬ (outcome ≡ Above) → ¬ (outcome ≡ NoTime) → ¬ (AllAreAbove 0 outcomes)
+not-above outcomes (Print t) same other time all = all.none_printed t 0 same
+not-above outcomes (Unsure s) same other time all = all.none_material s 0 (record { unsure = same; matters = λ m h print. absurd (all.none_printed m h print.first.such) })
+not-above outcomes Below same other time all = all.reach.none_below 0 (inl same)
+not-above outcomes Above same other time all = other refl
+not-above outcomes NoTime same other time all = time refl
+
+first-below_all : (low high : PaymentSeries → ℤ → ℕ) (y : ℤ) (to_be : ToCome) (outcome : Outcome) → IsPriceOutcomeFor low high y to_be outcome → ¬ (outcome ≡ Above)
+first-below_all low high y (many series) outcome is never = many-not_above is.0 (sym is.2 ∙ never)
+first-below_all low high y (one least payment) outcome is never = one-not_above is.0 (sym is.2 ∙ never)
+
+pub never-above : (low high : PaymentSeries → ℤ → ℕ) (y : ℤ) (list : List Candidate) (outcomes : List Outcome) → 0 < length list → AllZip (IsPriceOutcome low high y) list outcomes → ¬ (AllAreAbove 0 outcomes)
+never-above low high y [] outcomes some is all = absurd (omega arith)
+never-above low high y (candidate ∷ list) [] some is all = absurd is
+never-above low high y (candidate ∷ list) (x ∷ outcomes) some is all =
+    not-above (x ∷ outcomes) x refl (first-below_all low high y (to_come_of candidate.shape) x is.0) (timed low high y (to_come_of candidate.shape) x is.0) all

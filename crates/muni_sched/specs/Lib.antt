@@ -1,0 +1,16 @@
+pub mod Lowest
+pub mod Ranks
+pub mod Sound
+pub mod LowestLaws
+pub mod Shape
+pub mod Candidates
+pub mod Range
+pub mod Scale
+pub mod Told
+pub mod ToCome
+pub mod YieldOutcome
+pub mod Rounds
+pub mod Exact
+pub mod Answered
+pub mod YieldAnswer
+pub mod PriceAnswer

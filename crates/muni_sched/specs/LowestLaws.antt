@@ -1,0 +1,44 @@
+-- Laws of the rule: it gives one answer, that one is right, and it is undecided only in doubt.
+use Rattle.std.specs.Prelude.{◌≡◌, ℕ, List, Bool, true, ℤ}
+use Rattle.muni_rule.specs.Schedule.{ExactOutcome}
+use Rattle.muni_sched.specs.declared.lowest.Outcome.{Outcome}
+use Rattle.muni_sched.specs.declared.lowest.Outcome.TheVariants.{Unsure}
+use Rattle.muni_sched.specs.declared.lowest.Lowest.{Lowest}
+use Rattle.muni_sched.specs.declared.lowest.Lowest.TheVariants.{Undecided}
+use Rattle.muni_sched.specs.Lowest.{outcome_at, IsLowest}
+use Rattle.muni_sched.specs.Sound.{AreSound, IsRight}
+
+-- the rule allows at most one answer
+abbrev pub AllowsOneAnswer : Type 0
+AllowsOneAnswer =
+    (least : ℕ) (outcomes : List Outcome) (one other : Lowest)
+    → IsLowest least outcomes one → IsLowest least outcomes other → one ≡ other
+
+-- The answer over sound outcomes is right. `is_doubtful` tells of a candidate and a figure whether it is
+-- in doubt that the candidate reaches it.
+abbrev pub SoundIsRight : Type 0
+SoundIsRight =
+    (base least : ℕ) (is_doubtful : ℕ → ℤ → Bool) (exact : ℕ → ExactOutcome) (outcomes : List Outcome)
+    (answer : Lowest)
+    → AreSound base least (λ c t. is_doubtful c t ≡ true) outcomes exact
+    → IsLowest least outcomes answer
+    → IsRight base (λ c t. is_doubtful c t ≡ true) exact answer
+
+-- of the answers that are not undecided, at most one is right
+abbrev pub OneIsRight : Type 0
+OneIsRight =
+    (base : ℕ) (exact : ℕ → ExactOutcome) (one other : Lowest)
+    → IsRight base (λ c t. ⊥) exact one → IsRight base (λ c t. ⊥) exact other → one ≡ other
+
+-- an answer that is undecided names a candidate that is unsure, at its place
+abbrev pub UndecidedIsUnsure : Type 0
+UndecidedIsUnsure =
+    (least s c : ℕ) (outcomes : List Outcome)
+    → IsLowest least outcomes (Undecided s c) → outcome_at outcomes c ≡ Unsure s
+
+-- where no candidate is in doubt at any figure, the answer over sound outcomes is not undecided
+abbrev pub NoDoubtIsDecided : Type 0
+NoDoubtIsDecided =
+    (base least : ℕ) (exact : ℕ → ExactOutcome) (outcomes : List Outcome) (s c : ℕ)
+    → AreSound base least (λ k t. ⊥) outcomes exact
+    → ¬ (IsLowest least outcomes (Undecided s c))

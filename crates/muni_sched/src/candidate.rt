@@ -1,0 +1,43 @@
+//! A redemption to which a figure may be computed, and how it is priced.
+
+use muni_days::Day;
+use muni_dec::Price;
+use muni_simple::Single;
+use muni_terms::{Flows, Label};
+
+/// How a redemption is priced (MSRB Rule G-33).
+#[derive(Clone, Copy, Debug, PartialEq, Eq)]
+pub enum Shape {
+    /// By the payments up to it, of which two or more are to come.
+    Many(Flows),
+    /// By the one payment to come, with six months or less to redemption.
+    One(Single),
+    /// By the one payment of a note, which pays its interest at redemption.
+    AtRedemption(Single),
+    /// By the days of 30/360 up to the maturity of a discounted note, from 0 to 720.
+    Discount { days: i32 },
+}
+
+/// A redemption candidate: a redemption of an issue after a settlement, and how it is priced.
+#[derive(Clone, Copy, Debug, PartialEq, Eq)]
+pub struct Candidate {
+    pub date: Day,
+    /// The redemption price, in dollars per 100 of par.
+    pub price: Price,
+    pub label: Label,
+    pub shape: Shape,
+}
+
+impl Default for Candidate {
+    fn default() -> Self {
+        let (Some(date), Some(price)) = (Day::of(1900, 1, 1), Price::of(0)) else {
+            unreachable!()
+        };
+        Candidate {
+            date,
+            price,
+            label: Label::Maturity,
+            shape: Shape::Discount { days: 0 },
+        }
+    }
+}

@@ -1,0 +1,28 @@
+//! The schedule of an issue: its redemption candidates, and the lowest figure over them (MSRB Rule
+//! G-15(a)).
+#![tactic(auto)]
+
+mod answer;
+mod candidate;
+mod lowest;
+mod note;
+mod prices;
+mod range;
+mod redemptions;
+mod scale;
+mod search;
+mod shape;
+mod yield_outcome;
+mod yields;
+
+pub use answer::{Figure, LowAnswer};
+pub use candidate::{Candidate, Shape};
+pub use lowest::{the_lowest_is_one, the_lowest_is_right, the_lowest_is_undecided_only_in_doubt};
+pub use muni_terms::{Boundary, Label};
+pub use prices::lowest_price;
+pub use range::in_range;
+pub use redemptions::candidates;
+pub use yields::{lowest_yield, lowest_yield_in_turn};
+
+#[cfg(test)]
+mod tests;

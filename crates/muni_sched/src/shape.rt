@@ -1,0 +1,62 @@
+//! How a redemption is priced.
+
+ghost use Rattle.std.specs.Prelude.{◌≡◌, ◌<◌, true, Some};
+ghost use Rattle.muni_rule.specs.Civil.{order_of};
+ghost use Rattle.muni_rule.specs.LastPayment as rule;
+ghost use Rattle.muni_days.specs.Day.{civil};
+ghost use Rattle.muni_simple.specs.Single.{IsSingle};
+ghost use Rattle.muni_simple.specs.declared.single.Shape1.TheVariants as single;
+ghost use Rattle.muni_terms.specs.Issue.{IsRedemption, settles};
+ghost use Rattle.muni_sched.specs.Shape as spec;
+ghost use Rattle.muni_sched.specs.Shape.{IsPriceable};
+
+use crate::Shape;
+use crate::note::{days_left, note_payment};
+use muni_days::Day;
+use muni_dec::Price;
+use muni_simple::Single;
+use muni_terms::{Flows, Issue, Kind, flows_are_in_range};
+
+/// How a redemption after a settlement is priced.
+pub fn shape_at(issue: &Issue, settlement: Day, date: Day, price: Price) -> Shape
+    requires settled { settles issue.now settlement ≡ true }
+    requires later { order_of (civil settlement) < order_of (civil date) }
+    requires redeemed { IsRedemption issue.now date price }
+    ensures shape { Some result ≡ spec.shape_at issue.now settlement date price }
+    ensures range { IsPriceable result }
+{
+    match issue.row().kind {
+        Kind::Periodic { .. } | Kind::Zero => {
+            series_shape(&issue.flows(settlement, date, price))
+        }
+        Kind::AtRedemption => Shape::AtRedemption(note_payment(issue, settlement)),
+        Kind::Discount => Shape::Discount {
+            days: days_left(issue, settlement),
+        },
+    }
+}
+
+fn series_shape(flows: &Flows) -> Shape
+    ensures shape { result ≡ spec.series_shape flows.now }
+    ensures range { IsPriceable result }
+{
+    if flows.n() == 1 {
+        Shape::One(last_payment(flows))
+    } else {
+        flows_are_in_range(flows);
+        Shape::Many(*flows)
+    }
+}
+
+fn last_payment(flows: &Flows) -> Single
+    requires { rule.is_last_period flows.now ≡ true }
+    ensures payment { result ≡ spec.single (rule.last_payment flows.now) }
+    ensures range { IsSingle single.OnePeriod result }
+{
+    flows_are_in_range(flows);
+    Single {
+        due: (flows.first() + flows.redemption()) as i64,
+        accrued: flows.accrued() as i64,
+        left: 180 - flows.a() as i32,
+    }
+}

@@ -1,0 +1,6 @@
+mod issues;
+mod lowest;
+mod lowest_cases;
+mod range;
+mod redemption_cases;
+mod redemptions;
