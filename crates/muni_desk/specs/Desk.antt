@@ -2,7 +2,7 @@
 use Rattle.std.specs.Prelude.{◌≡◌, ◌&&◌, Bool, nat_lt, None, MatchBool, IfSome, ℕ, List, length, drop, codes}
 use Rattle.muni_desk.specs.Words.{is_word}
 use Rattle.muni_desk.specs.QuoteOne as one
-use Rattle.muni_desk.specs.Quote as quote
+use Rattle.muni_desk.specs.Job as quote
 
 -- the words are those of `quote`
 abbrev pub is_quote : List (List ℕ) → Bool

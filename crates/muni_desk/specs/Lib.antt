@@ -3,10 +3,10 @@ pub mod Words
 pub mod Ranges
 pub mod QuoteOne
 pub mod QuoteOneTypes
-pub mod Figures
-pub mod Note
-pub mod NoteTypes
-pub mod Bond
+pub mod Said
+pub mod GivenFor
+pub mod Quoted
+pub mod Job
+pub mod JobTypes
 pub mod Quote
-pub mod QuoteTypes
 pub mod Desk

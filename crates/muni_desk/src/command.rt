@@ -12,28 +12,39 @@ use crate::Status;
 use crate::one_period::quote_one;
 use crate::quote::quote;
 use crate::words::is_word;
-use muni_edge::Sink;
+use muni_edge::{Gate, Sink};
 use muni_multi::Encloser;
+use std::thread::Threads;
 
 /// Does what the words ask for, and writes the answer.
 ///
 /// `quote-one COUPON NEXT SETTLE REDEMPTION YIELD` is the price of a security with six months or less
 /// to redemption. `quote` and options in any order give the figures of a security, whose worth with more
-/// than six months left comes from the encloser. It takes no memory.
-pub fn desk<E: Encloser, O: Sink>(words: &[String], encloser: &E, output: &mut O) -> Status
+/// than six months left comes from the encloser. Yields are looked for by as many threads as the words
+/// name workers, and the gate is told when they begin. It takes no memory.
+pub fn desk<O: Sink, R: Threads + Sync, E: Encloser + Sync, G: Gate + Sync>(
+    rt: &R,
+    words: &[String],
+    output: &mut O,
+    encloser: &E,
+    gate: &G,
+) -> Status
     // Words that are no command change nothing.
     ensures usage { (result ≡ Status.Usage) ↔ IsNoCommand (map string_bytes words.now) }
     ensures untouched { result ≡ Status.Usage → output.new ≡ output.old }
 
     // What is written, where the output tells its bytes.
     ensures done { result ≡ Status.Done → ForCommand (map string_bytes words.now)
-        (λ job. Wrote (quote.IsFigureText job) (O.bytes output.old) (O.bytes output.new))
+        (λ job. Wrote (quote.IsFigureText (E.low encloser.now) (E.high encloser.now) job)
+        (O.bytes output.old) (O.bytes output.new))
         (λ job. Wrote (one.IsPriceLine job) (O.bytes output.old) (O.bytes output.new)) }
     ensures refused { result ≡ Status.Refused → ForCommand (map string_bytes words.now)
-        (λ job. Wrote (quote.IsRefusalText job) (O.bytes output.old) (O.bytes output.new))
+        (λ job. Wrote (quote.IsRefusalText (E.low encloser.now) (E.high encloser.now) job)
+        (O.bytes output.old) (O.bytes output.new))
         (λ job. Wrote (one.IsRefusalLine job) (O.bytes output.old) (O.bytes output.new)) }
     ensures part { result ≡ Status.WriteFault → ForCommand (map string_bytes words.now)
-        (λ job. WrotePart (quote.IsText job) (O.bytes output.old) (O.bytes output.new))
+        (λ job. WrotePart (quote.IsText (E.low encloser.now) (E.high encloser.now) job)
+        (O.bytes output.old) (O.bytes output.new))
         (λ job. WrotePart (one.IsLine job) (O.bytes output.old) (O.bytes output.new)) }
     ensures tells { is_some (O.bytes output.new) ≡ is_some (O.bytes output.old) }
 
@@ -44,7 +55,7 @@ pub fn desk<E: Encloser, O: Sink>(words: &[String], encloser: &E, output: &mut O
     ensures later { O.faults output.old ≤ O.faults output.new }
 {
     if is_quote(words) {
-        quote(options_of(words), encloser, output)
+        quote(rt, options_of(words), output, encloser, gate)
     } else {
         quote_one(words, output)
     }

@@ -1,10 +1,9 @@
 //! The commands of the desk.
 #![tactic(auto)]
 
-mod bond;
 mod command;
 mod figures;
-mod note;
+mod job;
 mod one_period;
 mod output;
 mod quote;

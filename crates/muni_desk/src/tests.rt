@@ -1,16 +1,29 @@
 mod bond_cases;
+mod call_cases;
 mod clap_words;
+mod gates;
+mod price_cases;
 mod quote_cases;
 mod quote_one_cases;
+mod schedule_cases;
 
+use crate::job::read_job;
 use crate::{Status, desk, quote_one};
-use muni_edge::MemSink;
+use muni_days::Day;
+use muni_edge::{MemSink, NoGate};
 use muni_multi::Horner;
 use std::alloc::Global;
 use std::process::Abort;
 use std::test::Fail;
+use std::thread::Threads;
 
 const WORKED: &str = "quote-one 5 2024-07-01 2024-04-01 100 4";
+
+const UNCALLED: &str =
+    "--kind=zero --dated=2020-01-01 --maturity=2030-01-01 --settle=2024-04-01 --yield=4";
+
+const CALLED: &str = "--kind=zero --call=2027-01-01:102.5 --dated=2020-01-01 --maturity=2030-01-01 \
+    --workers=07 --settle=2024-04-01 --call=2025-07-01:100 --yield=4";
 
 fn words_of(alloc: Global, line: &str) -> Result<Vec<String>, Fail> {
     let mut words = Vec::new(alloc);
@@ -30,7 +43,11 @@ fn written(alloc: Global, output: &MemSink) -> Result<String, Fail> {
     Ok(text.trim_end_matches('\n').replace(alloc, "\n", "/")?)
 }
 
-fn answers_are_right(rt: &impl Abort, alloc: Global, cases: &str) -> Result<(), Fail> {
+fn answers_are_right<R: Threads + Sync + Abort>(
+    rt: &R,
+    alloc: Global,
+    cases: &str,
+) -> Result<(), Fail> {
     for case in cases.lines() {
         if case.is_empty() || case.starts_with('#') {
             continue;
@@ -39,7 +56,7 @@ fn answers_are_right(rt: &impl Abort, alloc: Global, cases: &str) -> Result<(), 
         let (status, text) = answered.split_once('|').ok_or("a status")?;
         let mut output = sink(alloc, 512, &[])?;
         let words = words_of(alloc, line)?;
-        let number = desk(words.as_slice(), &Horner, &mut output).number();
+        let number = desk(rt, words.as_slice(), &mut output, &Horner, &NoGate).number();
         assert_eq!(rt; number, status.parse::<u8>()?, "{line}");
         assert_eq!(rt; written(alloc, &output)?.as_str(), text, "{line}");
         assert_eq!(rt; output.bytes().ends_with(b"\n"), !text.is_empty(), "{line}");
@@ -63,9 +80,49 @@ fn figures_of_bonds_are_the_exact_ones(rt: HostRuntime) -> Result<(), Fail> {
 }
 
 #[test]
+fn yields_of_bonds_at_a_price_are_the_exact_ones(rt: HostRuntime) -> Result<(), Fail> {
+    answers_are_right(&rt, rt.alloc(), price_cases::CASES)
+}
+
+#[test]
+fn calls_and_workers_are_read_as_they_are_written(rt: HostRuntime) -> Result<(), Fail> {
+    answers_are_right(&rt, rt.alloc(), call_cases::CASES)
+}
+
+#[test]
+fn calls_stay_in_their_order(rt: HostRuntime) -> Result<(), Fail> {
+    let words = words_of(rt.alloc(), CALLED)?;
+    let job = read_job(words.as_slice()).ok_or("a job")?;
+    assert_eq!(rt; job.calls.len(), 2);
+    assert_eq!(rt; job.calls[0].date, Day::of(2027, 1, 1).ok_or("a day")?);
+    assert_eq!(rt; job.calls[0].price.units(), 102_500_000);
+    assert_eq!(rt; job.calls[1].date, Day::of(2025, 7, 1).ok_or("a day")?);
+    assert_eq!(rt; job.calls[1].price.units(), 100_000_000);
+    assert_eq!(rt; job.workers, 7);
+    Ok(())
+}
+
+#[test]
+fn a_quote_without_calls_has_one_worker(rt: HostRuntime) -> Result<(), Fail> {
+    let words = words_of(rt.alloc(), UNCALLED)?;
+    let job = read_job(words.as_slice()).ok_or("a job")?;
+    assert!(rt; job.calls.is_empty());
+    assert_eq!(rt; job.workers, 1);
+    Ok(())
+}
+
+#[test]
+fn the_lowest_figure_over_the_schedule_is_disclosed(rt: HostRuntime) -> Result<(), Fail> {
+    answers_are_right(&rt, rt.alloc(), schedule_cases::CASES)
+}
+
+#[test]
 fn no_word_at_all_is_no_command(rt: HostRuntime) -> Result<(), Fail> {
     let mut output = sink(rt.alloc(), 64, &[])?;
-    assert_eq!(rt; desk(&[], &Horner, &mut output), Status::Usage);
+    assert_eq!(rt;
+        desk(&rt, &[], &mut output, &Horner, &NoGate),
+        Status::Usage
+    );
     assert_eq!(rt; quote_one(&[], &mut output), Status::Usage);
     assert!(rt; output.bytes().is_empty());
     Ok(())
@@ -76,7 +133,7 @@ fn an_output_that_fails_at_once_holds_nothing(rt: HostRuntime) -> Result<(), Fai
     let mut output = sink(rt.alloc(), 64, &[0])?;
     let words = words_of(rt.alloc(), WORKED)?;
     assert_eq!(rt;
-        desk(words.as_slice(), &Horner, &mut output),
+        desk(&rt, words.as_slice(), &mut output, &Horner, &NoGate),
         Status::WriteFault
     );
     assert!(rt; output.bytes().is_empty());

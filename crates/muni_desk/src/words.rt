@@ -27,6 +27,14 @@ pub fn has_name(word: &[u8], name: &[u8]) -> bool
     name.len() < word.len() && &word[..name.len()] == name
 }
 
+/// The value in a word that is the option of a name.
+pub fn value_in<'a>(word: &'a [u8], name: &[u8]) -> &'a [u8]
+    requires { spec.has_name name.now word.now ≡ true }
+    ensures { result.now ≡ spec.value_in name.now word.now }
+{
+    &word[name.len()..]
+}
+
 /// How often the option of a name stands among words. The name has its dashes and its equals sign.
 pub fn count_of(words: &[String], name: &[u8]) -> usize
     ensures { result ≡ spec.count_of name.now (map string_bytes words.now) }
@@ -38,6 +46,13 @@ pub fn count_of(words: &[String], name: &[u8]) -> usize
         }
     }
     count
+}
+
+/// Whether the option of a name does not stand among words.
+pub fn is_absent(words: &[String], name: &[u8]) -> bool
+    ensures { result ≡ spec.is_absent name.now (map string_bytes words.now) }
+{
+    count_of(words, name) == 0
 }
 
 fn place_of(words: &[String], name: &[u8]) -> Option<usize>
@@ -61,5 +76,5 @@ pub fn value_of<'a>(words: &'a [String], name: &[u8]) -> Option<&'a [u8]>
         return None;
     }
     let place = place_of(words, name)?;
-    Some(&word_at(words, place)[name.len()..])
+    Some(value_in(word_at(words, place), name))
 }

@@ -1,25 +1,33 @@
-//! The program: the words that it was started with, the encloser, and the real output.
+//! The program: the words that it was started with, the real output, and the encloser.
 #![tactic(auto)]
 
 mod output;
 
 use muni_desk::{Status, desk};
+use muni_edge::NoGate;
 use muni_multi::Horner;
 use output::Output;
 use std::process::ExitCode;
 use std::{env, io};
 
 fn main(rt: HostRuntime) -> ExitCode {
-    ExitCode::from(run(&rt).number())
+    let status = match words(&rt) {
+        Ok(words) => {
+            let mut output = Output::new(io::writer(&rt));
+            desk(&rt, words.as_slice(), &mut output, &Horner, &NoGate)
+        }
+        Err(status) => status,
+    };
+    ExitCode::from(status.number())
 }
 
 // Words that are no text are no command.
-fn run(rt: &HostRuntime) -> Status {
+fn words(rt: &HostRuntime) -> Result<Vec<String>, Status> {
     let Ok(args) = env::args(rt) else {
-        return Status::Usage;
+        return Err(Status::Usage);
     };
-    let Ok(words) = args.skip(1).collect::<Vec<String>>(rt.alloc()) else {
-        return Status::NoMemory;
-    };
-    desk(words.as_slice(), &Horner, &mut Output::new(io::writer(rt)))
+    match args.skip(1).collect::<Vec<String>>(rt.alloc()) {
+        Ok(words) => Ok(words),
+        Err(_) => Err(Status::NoMemory),
+    }
 }

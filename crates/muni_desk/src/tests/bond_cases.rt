@@ -92,7 +92,7 @@ quote --kind=periodic --dated=2020-01-01 --first=2020-07-01 --maturity=2025-01-0
 quote --kind=periodic --dated=2020-01-01 --first=2020-07-01 --maturity=2025-01-01 --coupon=5 --settle=2024-07-01 --rate=4|3|REFUSED 15 WrongBasis
 quote --kind=zero --dated=2020-01-01 --maturity=2026-07-01 --settle=2024-01-01 --rate=50|3|REFUSED 15 WrongBasis
 quote --kind=periodic --dated=2020-01-01 --first=2020-07-01 --maturity=2025-01-01 --coupon=5 --settle=2026-04-01 --rate=4|3|REFUSED 15 WrongBasis
-quote --kind=periodic --dated=2020-01-01 --first=2020-07-01 --maturity=2025-01-01 --coupon=5 --settle=2024-04-01 --price=100|2|
+quote --kind=periodic --dated=2020-01-01 --first=2020-07-01 --maturity=2025-01-01 --coupon=5 --settle=2024-04-01 --price=100|0|PRICE 100.000 GIVEN/YIELD 4.989 COMPUTED/REDEMPTION 2025-01-01 100.000000 MATURITY/ACCRUED DAYS 90/PRINCIPAL 100.00/ACCRUED 1.25/TOTAL 101.25
 quote --kind=periodic --dated=2020-01-01 --first=2020-07-01 --maturity=2025-01-01 --coupon=5 --settle=2024-04-01 --rate=4 --price=100|2|
 quote --kind=periodic --dated=2020-01-01 --first=2020-07-01 --maturity=2025-01-01 --coupon=5 --settle=2024-04-01 --yield=4 --rate=4|2|
 quote --kind=periodic --dated=2020-01-01 --maturity=2025-01-01 --coupon=5 --settle=2024-04-01 --yield=4|2|

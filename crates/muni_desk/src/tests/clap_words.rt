@@ -15,17 +15,19 @@ const WORDS: [&str; 8] = [
     "--yield=4",
 ];
 
-const OPTIONS: [(&str, &[u8]); 10] = [
+const OPTIONS: [(&str, &[u8]); 12] = [
     ("kind", b"--kind="),
     ("dated", b"--dated="),
     ("first", b"--first="),
     ("maturity", b"--maturity="),
     ("coupon", b"--coupon="),
+    ("call", b"--call="),
     ("settle", b"--settle="),
     ("par", b"--par="),
     ("yield", b"--yield="),
     ("price", b"--price="),
     ("rate", b"--rate="),
+    ("workers", b"--workers="),
 ];
 
 #[test]
