@@ -5,7 +5,7 @@ mod figures;
 mod refusal;
 #[cfg(test)]
 mod tests;
-mod text;
+pub mod text;
 
 pub use figures::figure_lines;
 pub use refusal::refusal_line;

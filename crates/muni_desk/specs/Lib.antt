@@ -9,4 +9,6 @@ pub mod Quoted
 pub mod Job
 pub mod JobTypes
 pub mod Quote
+pub mod Book
+pub mod Drill
 pub mod Desk

@@ -15,10 +15,10 @@ use Rattle.muni_confirm.specs.Refusal.{refusal_text}
 use Rattle.muni_desk.specs.Job.{Job, security_kind}
 use Rattle.muni_desk.specs.Said.{IsSaid}
 
--- the terms of the security, as an issue without a number or a name of its own
-pub record IsRow (job : Job) (row : IssueRow) : Type 0 where
+-- the terms of the security, as an issue of this name without a number of its own
+pub record IsRow (name : List ℕ) (job : Job) (row : IssueRow) : Type 0 where
   pub cusip : row.cusip ≡ codes "000000000"
-  pub name : row.name.items ≡ codes "QUOTE"
+  pub named : row.name.items ≡ name
   pub kind : security_kind row.kind ≡ job.kind
   pub dated : civil row.dated ≡ job.dated
   pub maturity : civil row.maturity ≡ job.maturity
@@ -39,23 +39,25 @@ IsAnswered low high row asked answer =
     MatchResult (checked row) (λ issue. IsSaid low high issue asked answer)
     (λ fault. answer ≡ Err (BadTerms fault))
 
--- the answer is right
-pub record IsAnswer (low high : PaymentSeries → ℤ → ℕ) (job : Job) (answer : Result Figures Refusal) : Type 0 where
+-- the answer is right, for the security under this name
+pub record IsAnswer (low high : PaymentSeries → ℤ → ℕ) (name : List ℕ) (job : Job) (answer : Result Figures Refusal) : Type 0 where
   pub row : IssueRow
   pub asked : Asked
-  pub is_row : IsRow job row
+  pub is_row : IsRow name job row
   pub is_asked : IsAsked job asked
   pub answered : IsAnswered low high row asked answer
 
 -- the text shows right figures
 abbrev pub IsFigureText : (low high : PaymentSeries → ℤ → ℕ) → Job → List ℕ → Type 0
 IsFigureText low high job text =
-    (figures : Figures) × IsAnswer low high job (Ok figures) × (text ≡ figure_text figures job.given)
+    (figures : Figures) × IsAnswer low high (codes "QUOTE") job (Ok figures)
+    × (text ≡ figure_text figures job.given)
 
 -- the line tells the right refusal
 abbrev pub IsRefusalText : (low high : PaymentSeries → ℤ → ℕ) → Job → List ℕ → Type 0
 IsRefusalText low high job text =
-    (refusal : Refusal) × IsAnswer low high job (Err refusal) × (text ≡ refusal_text refusal)
+    (refusal : Refusal) × IsAnswer low high (codes "QUOTE") job (Err refusal)
+    × (text ≡ refusal_text refusal)
 
 -- the text is the answer
 abbrev pub IsText : (low high : PaymentSeries → ℤ → ℕ) → Job → List ℕ → Type 0

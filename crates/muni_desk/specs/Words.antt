@@ -1,6 +1,7 @@
 -- Words of the command line, and the options among them.
-use Rattle.std.specs.Prelude.{position, ℕ, ◌==◌, ◌&&◌, Bool, nat_lt, if◌then◌else◌, List, [], length, map, filter, take, drop, slice_index_or, count_by, Option, None, option_map, option_and_then}
+use Rattle.std.specs.Prelude.{position, ℕ, ◌==◌, ◌&&◌, Bool, nat_le, nat_lt, if◌then◌else◌, List, [], length, map, filter, take, drop, slice_index_or, count_by, Option, Some, None, option_map, option_and_then}
 use Rattle.std.specs.Str.{bytes_eq}
+use Rattle.muni_dec.specs.Digits.{are_digits, number}
 
 infixl 10 ◌>>=◌
 abbrev pub ◌>>=◌ : {A B : Type 0} → Option A → (A → Option B) → Option B
@@ -42,3 +43,9 @@ value_of name words =
 abbrev pub values_of : List ℕ → List (List ℕ) → List (List ℕ)
 values_of name words =
     map (λ word. value_in name word) (filter (λ word. has_name name word) words)
+
+-- a number up to the greatest one, in 20 digits at most
+abbrev pub number_reading : ℕ → List ℕ → Option ℕ
+number_reading greatest text =
+    if nat_le (length text) 20 && (are_digits text && nat_le (number text) greatest)
+    then Some (number text) else None

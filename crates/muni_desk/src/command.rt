@@ -4,11 +4,13 @@ ghost use Rattle.std.specs.Prelude.{◌≡◌, ◌↔◌, ◌≤◌, ◌<◌, tr
 ghost use Rattle.muni_edge.specs.Sink.{Rose, Wrote, WrotePart};
 ghost use Rattle.muni_desk.specs.Desk as spec;
 ghost use Rattle.muni_desk.specs.Desk.{IsNoCommand, ForCommand};
+ghost use Rattle.muni_desk.specs.Drill as drill;
 ghost use Rattle.muni_desk.specs.Quote as quote;
 ghost use Rattle.muni_desk.specs.QuoteOne as one;
 ghost use Rattle.muni_desk.specs.Status.{IsQuoteOneStatus};
 
 use crate::Status;
+use crate::drill::drill;
 use crate::one_period::quote_one;
 use crate::quote::quote;
 use crate::words::is_word;
@@ -20,8 +22,9 @@ use std::thread::Threads;
 ///
 /// `quote-one COUPON NEXT SETTLE REDEMPTION YIELD` is the price of a security with six months or less
 /// to redemption. `quote` and options in any order give the figures of a security, whose worth with more
-/// than six months left comes from the encloser. Yields are looked for by as many threads as the words
-/// name workers, and the gate is told when they begin. It takes no memory.
+/// than six months left comes from the encloser. `drill` and options in any order price a generated book
+/// of trades, and give the sums. Yields are looked for by as many threads as the words name workers, and
+/// the gate is told when they begin. It takes no memory.
 pub fn desk<O: Sink, R: Threads + Sync, E: Encloser + Sync, G: Gate + Sync>(
     rt: &R,
     words: &[String],
@@ -37,13 +40,18 @@ pub fn desk<O: Sink, R: Threads + Sync, E: Encloser + Sync, G: Gate + Sync>(
     ensures done { result ≡ Status.Done → ForCommand (map string_bytes words.now)
         (λ job. Wrote (quote.IsFigureText (E.low encloser.now) (E.high encloser.now) job)
         (O.bytes output.old) (O.bytes output.new))
+        (λ job. Wrote (drill.IsSummaryText (E.low encloser.now) (E.high encloser.now) job)
+        (O.bytes output.old) (O.bytes output.new))
         (λ job. Wrote (one.IsPriceLine job) (O.bytes output.old) (O.bytes output.new)) }
     ensures refused { result ≡ Status.Refused → ForCommand (map string_bytes words.now)
         (λ job. Wrote (quote.IsRefusalText (E.low encloser.now) (E.high encloser.now) job)
         (O.bytes output.old) (O.bytes output.new))
+        (λ _. ⊥)
         (λ job. Wrote (one.IsRefusalLine job) (O.bytes output.old) (O.bytes output.new)) }
     ensures part { result ≡ Status.WriteFault → ForCommand (map string_bytes words.now)
         (λ job. WrotePart (quote.IsText (E.low encloser.now) (E.high encloser.now) job)
+        (O.bytes output.old) (O.bytes output.new))
+        (λ job. WrotePart (drill.IsSummaryText (E.low encloser.now) (E.high encloser.now) job)
         (O.bytes output.old) (O.bytes output.new))
         (λ job. WrotePart (one.IsLine job) (O.bytes output.old) (O.bytes output.new)) }
     ensures tells { is_some (O.bytes output.new) ≡ is_some (O.bytes output.old) }
@@ -54,18 +62,20 @@ pub fn desk<O: Sink, R: Threads + Sync, E: Encloser + Sync, G: Gate + Sync>(
     ensures others { IsQuoteOneStatus result }
     ensures later { O.faults output.old ≤ O.faults output.new }
 {
-    if is_quote(words) {
-        quote(rt, options_of(words), output, encloser, gate)
-    } else {
-        quote_one(words, output)
+    if is_command(words, b"quote") {
+        return quote(rt, options_of(words), output, encloser, gate);
     }
+    if is_command(words, b"drill") {
+        return drill(rt, options_of(words), output, encloser, gate);
+    }
+    quote_one(words, output)
 }
 
-fn is_quote(words: &[String]) -> bool
-    ensures value { result ≡ spec.is_quote (map string_bytes words.now) }
+fn is_command(words: &[String], name: &[u8]) -> bool
+    ensures value { result ≡ spec.is_command name.now (map string_bytes words.now) }
     ensures some { result ≡ true → 0 < length words.now }
 {
-    !words.is_empty() && is_word(words, 0, b"quote")
+    !words.is_empty() && is_word(words, 0, name)
 }
 
 fn options_of(words: &[String]) -> &[String]

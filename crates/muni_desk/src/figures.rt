@@ -53,7 +53,8 @@ pub fn figures<R: Threads + Sync, E: Encloser + Sync, G: Gate + Sync>(
     gate: &G,
 ) -> Result<Figures, Refusal>
     requires { (1 ≤ workers) × (workers ≤ 16) }
-    ensures { IsSaid (E.low encloser.now) (E.high encloser.now) issue.now asked.now result }
+    ensures said { IsSaid (E.low encloser.now) (E.high encloser.now) issue.now asked.now result }
+    ensures accrued { IfOk result (λ figures. figures.accrued ≤ 60_000_000_000) }
 {
     if is_wrong_basis(issue.row().kind, asked.given) {
         return Err(Refusal::WrongBasis);
@@ -335,6 +336,7 @@ fn filled(issue: &Issue, asked: &Asked, quoted: Quoted) -> Figures
     ensures yld { result.yld ≡ quoted.yld }
     ensures redemption { IsRedemption quoted.redemption result }
     ensures amounts { AreAmounts issue.now asked.now result }
+    ensures accrued { result.accrued ≤ 60_000_000_000 }
 {
     let days = issue.accrued_days(asked.settle);
     let principal = principal_cents(asked.par, quoted.price);
@@ -352,7 +354,8 @@ fn filled(issue: &Issue, asked: &Asked, quoted: Quoted) -> Figures
     }
 }
 
-fn sum(one: Cents, other: Cents) -> Cents
+/// Two amounts of money together, each of which is at most 10,000,000,000,000 dollars.
+pub fn sum(one: Cents, other: Cents) -> Cents
     requires one { one ≤ 1_000_000_000_000_000 }
     requires other { other ≤ 1_000_000_000_000_000 }
     ensures { result ≡ one + other }

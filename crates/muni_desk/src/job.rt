@@ -289,7 +289,8 @@ fn workers_of(words: &[String]) -> Option<u32>
     read_workers(value_of(words, b"--workers=")?)
 }
 
-fn read_workers(text: &[u8]) -> Option<u32>
+/// The workers that a text names, from 1 to 16, in 1 to 20 digits.
+pub fn read_workers(text: &[u8]) -> Option<u32>
     ensures value { result ≡ spec.workers_reading text.now }
     ensures range { IfSome result (λ workers. (1 ≤ workers) × (workers ≤ 16)) }
 {

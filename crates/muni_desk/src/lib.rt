@@ -1,9 +1,12 @@
 //! The commands of the desk.
 #![tactic(auto)]
 
+mod book;
 mod command;
+mod drill;
 mod figures;
 mod job;
+mod numbers;
 mod one_period;
 mod output;
 mod quote;

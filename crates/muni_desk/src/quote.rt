@@ -1,6 +1,6 @@
 //! The command `quote`: the figures of a security that is given by words.
 
-ghost use Rattle.std.specs.Prelude.{◌≡◌, ◌≢◌, ◌↔◌, ◌≤◌, is_some, map, None, IfSome, Ok, Err, string_bytes, MatchResult};
+ghost use Rattle.std.specs.Prelude.{◌≡◌, ◌≢◌, ◌↔◌, ◌≤◌, is_some, map, length, None, IfSome, IfOk, Ok, Err, string_bytes, MatchResult};
 ghost use Rattle.muni_edge.specs.Sink.{Rose, Wrote, WrotePart};
 ghost use Rattle.muni_confirm.specs.Figures.{figure_text};
 ghost use Rattle.muni_desk.specs.Job as spec;
@@ -80,7 +80,7 @@ fn write_answer<O: Sink, R: Threads + Sync, E: Encloser + Sync, G: Gate + Sync>(
     ensures later { O.faults output.old ≤ O.faults output.new }
 {
     let given = job.given;
-    match answer_of(rt, job, encloser, gate) {
+    match answer_of(rt, job, b"QUOTE", encloser, gate) {
         Ok(figures) => {
             let text = figure_lines_of(&figures, given);
             write_line(output, text.as_slice(), Status::Done)
@@ -97,35 +97,40 @@ fn figure_lines_of(figures: &Figures, given: Given) -> ArrayVec<u8, 512>
     text
 }
 
-fn answer_of<R: Threads + Sync, E: Encloser + Sync, G: Gate + Sync>(
+/// The figures of a security under a name of at most 60 bytes, or the refusal that applies first.
+pub fn answer_of<R: Threads + Sync, E: Encloser + Sync, G: Gate + Sync>(
     rt: &R,
     job: Job,
+    name: &[u8],
     encloser: &E,
     gate: &G,
 ) -> Result<Figures, Refusal>
-    requires { (1 ≤ job.workers) × (job.workers ≤ 16) }
-    ensures { MatchResult result
-        (λ figures. IsAnswer (E.low encloser.now) (E.high encloser.now) (types.job job)
+    requires workers { (1 ≤ job.workers) × (job.workers ≤ 16) }
+    requires name { length name.now ≤ 60 }
+    ensures right { MatchResult result
+        (λ figures. IsAnswer (E.low encloser.now) (E.high encloser.now) name.now (types.job job)
         (Ok figures))
-        (λ refusal. IsAnswer (E.low encloser.now) (E.high encloser.now) (types.job job)
+        (λ refusal. IsAnswer (E.low encloser.now) (E.high encloser.now) name.now (types.job job)
         (Err refusal)) }
+    ensures accrued { IfOk result (λ figures. figures.accrued ≤ 60_000_000_000) }
 {
     let asked = asked_of(&job);
     let workers = job.workers;
-    match check(row_of(job)) {
+    match check(row_of(job, name)) {
         Ok(issue) => figures(rt, &issue, &asked, workers, encloser, gate),
         Err(fault) => Err(Refusal::BadTerms(fault)),
     }
 }
 
-fn row_of(job: Job) -> IssueRow
-    ensures { IsRow (types.job job) result }
+fn row_of(job: Job, name: &[u8]) -> IssueRow
+    requires { length name.now ≤ 60 }
+    ensures { IsRow name.now (types.job job) result }
 {
-    let mut name = ArrayVec::new();
-    let _ = name.try_extend_from_slice(b"QUOTE");
+    let mut text = ArrayVec::new();
+    let _ = text.try_extend_from_slice(name);
     IssueRow {
         cusip: *b"000000000",
-        name,
+        name: text,
         kind: job.kind,
         dated: job.dated,
         maturity: job.maturity,

@@ -1,6 +1,7 @@
 mod bond_cases;
 mod call_cases;
 mod clap_words;
+mod drill_cases;
 mod gates;
 mod price_cases;
 mod quote_cases;
@@ -114,6 +115,23 @@ fn a_quote_without_calls_has_one_worker(rt: HostRuntime) -> Result<(), Fail> {
 #[test]
 fn the_lowest_figure_over_the_schedule_is_disclosed(rt: HostRuntime) -> Result<(), Fail> {
     answers_are_right(&rt, rt.alloc(), schedule_cases::CASES)
+}
+
+#[test]
+fn sums_of_generated_books_are_the_exact_ones(rt: HostRuntime) -> Result<(), Fail> {
+    answers_are_right(&rt, rt.alloc(), drill_cases::CASES)
+}
+
+#[test]
+fn a_full_output_holds_the_front_of_the_summary(rt: HostRuntime) -> Result<(), Fail> {
+    let mut output = sink(rt.alloc(), 10, &[])?;
+    let words = words_of(rt.alloc(), "drill --count=0 --seed=1 --workers=1")?;
+    assert_eq!(rt;
+        desk(&rt, words.as_slice(), &mut output, &Horner, &NoGate),
+        Status::WriteFault
+    );
+    assert_eq!(rt; output.bytes(), b"DRILL 0\nPR".as_slice());
+    Ok(())
 }
 
 #[test]

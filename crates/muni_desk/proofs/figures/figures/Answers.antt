@@ -4,8 +4,8 @@ use Rattle.muni_desk.specs.Said.{is_wrong_basis, range_of, IsQuote}
 use Rattle.muni_desk.proofs.FigureLemmas.{quote-filled}
 use Rattle.muni_desk.proofs.figures.figures.Goals as goal
 
-pub returns-in-Ok : goal.returns-in-Ok
-returns-in-Ok g c =
+pub returns-in-Ok-clause-said : goal.returns-in-Ok-clause-said
+returns-in-Ok-clause-said g c =
     let row = c.args.issue.now in
     let asked = c.args.asked.now in
     let list = c.candidates_of-list.result.items in

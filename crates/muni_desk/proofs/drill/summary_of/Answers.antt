@@ -1,0 +1,6 @@
+use Rattle.muni_desk.proofs.DrillLemmas.{summary-said}
+use Rattle.muni_desk.proofs.drill.summary_of.Goals as goal
+
+pub returns : goal.returns
+returns g c =
+    summary-said (g.E.Encloser.low c.args.encloser.now) (g.E.Encloser.high c.args.encloser.now) c.args.job c.sums_of-sums.result c.summary_lines.result.items c.sums_of-sums.ensures c.summary_lines.ensures

@@ -1,0 +1,174 @@
+//! The book of a drill: trades that are generated from a number.
+
+ghost use Rattle.std.specs.Prelude.{◌≡◌, ◌+◌, ◌-◌, ◌*◌, ◌<◌, ◌≤◌, ◌++◌, map, max};
+ghost use Rattle.arrayvec.specs.ArrayVec.{array_vec_len};
+ghost use Rattle.muni_rule.specs.Civil as rule;
+ghost use Rattle.muni_days.specs.Day.{civil};
+ghost use Rattle.muni_sched.specs.Candidates.{call_redemption};
+ghost use Rattle.muni_desk.specs.Book as spec;
+ghost use Rattle.muni_desk.specs.JobTypes as types;
+
+use crate::job::Job;
+use arrayvec::ArrayVec;
+use muni_days::{Day, months_on};
+use muni_dec::{Coupon, Par, Price};
+use muni_msg::Given;
+use muni_terms::{Call, Kind};
+use std::marker::Model;
+
+const MULTIPLIER: u64 = 6_364_136_223_846_793_005;
+
+const INCREMENT: u64 = 1_442_695_040_888_963_407;
+
+/// Generates trades, with a linear congruential generator of 64 bits.
+#[derive(Drop)]
+pub struct Generator {
+    state: u64,
+}
+
+impl Model for Generator {
+    ghost use Rattle.std.specs.Prelude.{ℕ};
+
+    ghost Value = { ℕ };
+
+    ghost view = { λ generator. generator.state };
+
+    ghost inverse = { λ state. record { state = state } };
+}
+
+impl Generator {
+    /// A generator whose first state is the seed.
+    pub fn new(seed: u64) -> Generator
+        ensures { result ≡ seed }
+    {
+        Generator { state: seed }
+    }
+
+    #[tactic(auto, unfolding(crate::specs::Book::next_state, crate::specs::Book::drawn))]
+    fn draw(&mut self) -> u64
+        ensures state { self.new ≡ spec.next_state self.old }
+        ensures value { result ≡ spec.drawn self.new }
+    {
+        self.state = self.state.wrapping_mul(MULTIPLIER).wrapping_add(INCREMENT);
+        self.state >> 33
+    }
+
+    /// The trade that the next seven draws make, for so many workers.
+    pub fn trade(&mut self, workers: u32) -> Job
+        ensures trade { types.job result ≡ spec.trade_from self.old workers }
+        ensures state { self.new ≡ spec.state_after self.old 7 }
+        ensures workers { result.workers ≡ workers }
+    {
+        let maturity = interest_date(1 + self.draw() % 60);
+        let coupon = coupon_of(10_000_000 + 1_250_000 * (self.draw() % 49));
+        let calls = calls_before(maturity, self.draw() % 41);
+        let month = 7 + self.draw() % 6;
+        let day = 1 + self.draw() % 28;
+        let par = par_of(5_000 * (1 + self.draw() % 200));
+        let price = price_of(90_000_000 + 1_000 * (self.draw() % 30_001));
+        Job {
+            kind: Kind::Periodic {
+                first: day_in_2020(7, 1),
+            },
+            dated: day_in_2020(1, 1),
+            maturity,
+            coupon,
+            calls,
+            settlement: day_in_2020(month, day),
+            par,
+            given: Given::AtPrice(price),
+            workers,
+        }
+    }
+}
+
+fn day_in_2020(month: u64, day: u64) -> Day
+    requires month { (1 ≤ month) × (month ≤ 12) }
+    requires day { (1 ≤ day) × (day ≤ 28) }
+    ensures { civil result ≡ spec.day_in_2020 month day }
+{
+    match Day::of(2020, month, day) {
+        Some(date) => date,
+        None => unreachable!(),
+    }
+}
+
+#[tactic(auto, unfolding(crate::specs::Book::interest_date))]
+fn interest_date(half_years: u64) -> Day
+    requires { half_years ≤ 60 }
+    ensures { civil result ≡ spec.interest_date half_years }
+{
+    match months_on(day_in_2020(7, 1), (6 * half_years) as i32) {
+        Some(date) => date,
+        None => unreachable!(),
+    }
+}
+
+fn calls_before(maturity: Day, count: u64) -> ArrayVec<Call, 40>
+    requires { count ≤ 40 }
+    ensures { map call_redemption result.items ≡ spec.calls_before (civil maturity) count }
+{
+    let mut calls = ArrayVec::new();
+    for place in 0..count {
+        push_if_before(&mut calls, call_at(place), maturity);
+    }
+    calls
+}
+
+fn push_if_before(calls: &mut ArrayVec<Call, 40>, call: Call, maturity: Day)
+    requires { array_vec_len calls.old < 40 }
+    ensures items { map call_redemption calls.new.items
+        ≡ map call_redemption calls.old.items
+        ++ spec.if_before (civil maturity) (call_redemption call) }
+    ensures len { array_vec_len calls.new ≤ array_vec_len calls.old + 1 }
+{
+    if is_before(call.date, maturity) {
+        calls.push(call);
+    }
+}
+
+fn is_before(day: Day, other: Day) -> bool
+    ensures { result ≡ rule.is_before (civil day) (civil other) }
+{
+    day < other
+}
+
+fn call_at(place: u64) -> Call
+    requires { place < 40 }
+    ensures { call_redemption result ≡ spec.call_at place }
+{
+    Call {
+        date: interest_date(2 + place),
+        price: price_of((102_000_000 - 250_000 * place).max(100_000_000)),
+    }
+}
+
+fn coupon_of(units: u64) -> Coupon
+    requires { units ≤ 300_000_000 }
+    ensures { result ≡ units }
+{
+    match Coupon::of(units as i64) {
+        Some(coupon) => coupon,
+        None => unreachable!(),
+    }
+}
+
+fn par_of(dollars: u64) -> Par
+    requires { (1 ≤ dollars) × (dollars ≤ 1_000_000_000) }
+    ensures { result ≡ dollars }
+{
+    match Par::of(dollars as i64) {
+        Some(par) => par,
+        None => unreachable!(),
+    }
+}
+
+fn price_of(units: u64) -> Price
+    requires { units ≤ 999_999_999 }
+    ensures { result ≡ units }
+{
+    match Price::of(units as i64) {
+        Some(price) => price,
+        None => unreachable!(),
+    }
+}
