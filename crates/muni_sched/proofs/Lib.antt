@@ -11,3 +11,8 @@ pub mod AnswerLemmas
 pub mod YieldSoundLemmas
 pub mod ToldLemmas
 pub mod PriceSoundLemmas
+pub mod ZipLemmas
+pub mod OneAnswerLemmas
+pub mod OneExactLemmas
+pub mod OneRightLemmas
+pub mod AlikeLemmas

@@ -1,5 +1,6 @@
 -- The outcome of a candidate is true of its exact price, and unsure only in doubt.
 use Rattle.std.proofs.Common.{◌≡◌, ◌<◌, ◌≤◌, ◌+◌, ◌-◌, ◌*◌, ◌^◌, ℕ, zero, suc, List, [], ◌∷◌, All, length, refl, ap, sym, subst, inl, ⊎_elim, arith, ◌∙◌, ℤ, pos, negsuc, ◌+ℤ◌, ◌*ℤ◌, ◌≤ℤ◌, ◌<ℤ◌}
+use Rattle.std.specs.Prelude.{slice_index_or}
 use Rattle.std.specs.List.{AllZip}
 use Rattle.std.proofs.Math.Nat.{mul-le-mul_right, pow-le-pow_left}
 use Rattle.std.proofs.lemmas.Bool.{cases_lt}
@@ -35,6 +36,7 @@ use Rattle.muni_sched.specs.declared.candidate.Shape.TheVariants.{Many, One, AtR
 use Rattle.muni_sched.specs.declared.lowest.Outcome.{Outcome}
 use Rattle.muni_sched.specs.declared.lowest.Outcome.TheVariants.{Print, Unsure, Below, Above, NoTime}
 use Rattle.muni_sched.specs.Answered.{exact_at, IsInDoubt, IsCandidateInDoubt}
+use Rattle.muni_sched.specs.AnswerLaws.{ArePriced}
 use Rattle.muni_sched.specs.Candidates.{IsCandidate}
 use Rattle.muni_sched.specs.Exact.{IsExactPriceBy, IsExactPriceOf, IsExactPrice}
 use Rattle.muni_sched.specs.Lowest.{outcome_at, AllAreAbove}
@@ -55,7 +57,7 @@ shape-priced y (One payment) is at_yield given = let within = (growth-within sin
 shape-priced y (AtRedemption payment) is at_yield given = let within = (growth-within single.AtRedemption payment.left y is.left.0 is.left.1 given).0 in omega (arith, ints, within)
 shape-priced y (Discount days) is at_yield given = absurd at_yield
 
-priced : (y : ℤ) (candidate : Candidate) → IsCandidate candidate → IsAtYield candidate → IsGivenFor y candidate → IsPriced y (to_come_of candidate.shape)
+pub priced : (y : ℤ) (candidate : Candidate) → IsCandidate candidate → IsAtYield candidate → IsGivenFor y candidate → IsPriced y (to_come_of candidate.shape)
 priced y candidate is at_yield given = shape-priced y candidate.shape is at_yield given
 
 -- ---- a price that is at least an amount is at least each smaller one
@@ -73,25 +75,29 @@ many-smaller : (bond : PeriodicPayments) (y amount smaller : ℤ) → smaller �
 many-smaller bond y amount smaller less reached = dirty-smaller bond y (amount +ℤ pos bond.accrued) (smaller +ℤ pos bond.accrued) (omega (arith, ints)) reached
 
 -- the amounts that a price reaches are those up to it
-abbrev IsClosed : (ℤ → Type 0) → Type 0
+abbrev pub IsClosed : (ℤ → Type 0) → Type 0
 IsClosed Reaches = (amount smaller : ℤ) → smaller ≤ℤ amount → Reaches amount → Reaches smaller
 
--- ---- an answer as an exact outcome
-printed-same : (Reaches : ℤ → Type 0) (t : ℕ) (exactly : ExactOutcome) → IsClosed Reaches → IsPrintedPrice Reaches t → IsExactPriceBy Reaches exactly → exactly ≡ prints (figure 1 (t + 1))
-printed-same Reaches t (prints (pos u)) closed print is =
+-- at most one price is printed
+pub printed-one : (Reaches : ℤ → Type 0) (s t : ℕ) → IsClosed Reaches → IsPrintedPrice Reaches s → IsPrintedPrice Reaches t → s ≡ t
+printed-one Reaches s t closed is also =
     ⊎_elim
-    (λ (less : t < u). absurd (print.next_not_reached (closed (thousandths u) (thousandths (t + 1)) (omega (arith, ints)) is.reached)))
-    (λ (most : u ≤ t). ⊎_elim
-    (λ (more : u < t). absurd (is.next_not_reached (closed (thousandths t) (thousandths (u + 1)) (omega (arith, ints)) print.reached)))
-    (λ (least : t ≤ u). ap prints (omega (arith, ints)))
-    (cases_lt u t))
-    (cases_lt t u)
+    (λ (less : s < t). absurd (is.next_not_reached (closed (thousandths t) (thousandths (s + 1)) (omega (arith, ints)) also.reached)))
+    (λ (most : t ≤ s). ⊎_elim
+    (λ (more : t < s). absurd (also.next_not_reached (closed (thousandths s) (thousandths (t + 1)) (omega (arith, ints)) is.reached)))
+    (λ (least : s ≤ t). omega arith)
+    (cases_lt t s))
+    (cases_lt s t)
+
+-- ---- an answer as an exact outcome
+pub printed-same : (Reaches : ℤ → Type 0) (t : ℕ) (exactly : ExactOutcome) → IsClosed Reaches → IsPrintedPrice Reaches t → IsExactPriceBy Reaches exactly → exactly ≡ prints (figure 1 (t + 1))
+printed-same Reaches t (prints (pos u)) closed print is = let same = printed-one Reaches t u closed print is in ap prints (omega (arith, ints))
 printed-same Reaches t (prints (negsuc u)) closed print is = absurd is
 printed-same Reaches t is_below closed print is = absurd (is.zero_not_reached (closed (thousandths t) (pos 0) (omega (arith, ints)) print.reached))
 printed-same Reaches t is_above closed print is = absurd is
 printed-same Reaches t no_time closed print is = absurd is
 
-below-same : (Reaches : ℤ → Type 0) (exactly : ExactOutcome) → IsClosed Reaches → IsBelowZero Reaches → IsExactPriceBy Reaches exactly → exactly ≡ is_below
+pub below-same : (Reaches : ℤ → Type 0) (exactly : ExactOutcome) → IsClosed Reaches → IsBelowZero Reaches → IsExactPriceBy Reaches exactly → exactly ≡ is_below
 below-same Reaches (prints (pos u)) closed below is = absurd (below.zero_not_reached (closed (thousandths u) (pos 0) (omega (arith, ints)) is.reached))
 below-same Reaches (prints (negsuc u)) closed below is = absurd is
 below-same Reaches is_below closed below is = refl
@@ -126,7 +132,7 @@ reached-below said b (suc t) is less =
     let next : t + 1 ≡ suc t = omega arith in
     not_no (said (suc t)) (is.least (suc t) less) (λ missed. is.not_printed t (reached-below said b t is before) (ap said next ∙ missed))
 
-many-closed : (series : PaymentSeries) (y : ℤ) → IsClosed (periods.AtLeast (to_come series) y)
+pub many-closed : (series : PaymentSeries) (y : ℤ) → IsClosed (periods.AtLeast (to_come series) y)
 many-closed series y = λ amount smaller less reached. many-smaller (to_come series) y amount smaller less reached
 
 amount-of : (b : ℕ) → thousandths b ≡ (figure 1 (b + 1) *ℤ pos 360000000)
@@ -175,11 +181,6 @@ one-sound low high y (one least payment) outcome exactly range law is exact_is =
     subst (λ x. IsSound 1 0 (λ t. ⊥) x exactly) (sym is.2) (single-sound payment y is.0 (λ t. ⊥) exactly range is.1 exact_is)
 
 -- all candidates may be priced at a yield
-pub record ArePriced (y : ℤ) (list : List Candidate) : Type 0 where
-  pub candidates : All IsCandidate list
-  pub at_yield : All IsAtYield list
-  pub given : All (IsGivenFor y) list
-
 first-priced : (y : ℤ) (candidate : Candidate) (list : List Candidate) → ArePriced y (candidate ∷ list) → IsPriced y (to_come_of candidate.shape)
 first-priced y candidate list all = priced y candidate (All-head IsCandidate candidate list all.candidates) (All-head IsAtYield candidate list all.at_yield) (All-head (IsGivenFor y) candidate list all.given)
 
@@ -189,6 +190,9 @@ rest-priced y candidate list all = record {
   at_yield = All-tail IsAtYield candidate list all.at_yield;
   given = All-tail (IsGivenFor y) candidate list all.given;
 }
+
+pub all-priced : (y : ℤ) (list : List Candidate) → ArePriced y list → All (λ (candidate : Candidate). IsPriced y (to_come_of candidate.shape)) list
+all-priced y list all = λ i candidate inside. priced y (slice_index_or list i candidate) (all.candidates i candidate inside) (all.at_yield i candidate inside) (all.given i candidate inside)
 
 pub prices-sound : (low high : PaymentSeries → ℤ → ℕ) (y : ℤ) (list : List Candidate) (outcomes : List Outcome) (exactly : List ExactOutcome) → ArePriced y list → AreEnclosedAt low high y → AllZip (IsPriceOutcome low high y) list outcomes → AllZip (IsExactPrice y) list exactly
     → AreSound 1 0 (λ k t. IsCandidateInDoubt list k y (t *ℤ pos 360000000)) outcomes (exact_at exactly)

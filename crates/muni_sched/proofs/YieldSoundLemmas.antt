@@ -56,7 +56,7 @@ in_range (AtRedemption payment) is = (omega (arith, ints), omega (arith, ints), 
 in_range (Discount days) is = (omega (arith, ints), omega (arith, ints), omega (arith, ints))
 
 -- ---- order of yields
-either_order : (s t : ℤ) → (s ≤ℤ t) ⊎ ((t +ℤ pos 1) ≤ℤ s)
+pub either_order : (s t : ℤ) → (s ≤ℤ t) ⊎ ((t +ℤ pos 1) ≤ℤ s)
 either_order (pos s) (pos t) = ⊎_elim (λ (less : t < s). inr (omega (arith, ints))) (λ (most : s ≤ t). inl (omega (arith, ints))) (cases_lt t s)
 either_order (pos s) (negsuc t) = inr (omega (arith, ints))
 either_order (negsuc s) (pos t) = inl (omega (arith, ints))
@@ -77,30 +77,30 @@ figure-next : (t : ℤ) → negsuc 90000 ≤ℤ t → figure 90001 (place_of t +
 figure-next t from = omega (arith, ints)
 
 -- ---- many payments
-abbrev AtPrice : PaymentSeries → ℕ → ℤ → Type 0
+abbrev pub AtPrice : PaymentSeries → ℕ → ℤ → Type 0
 AtPrice series price y = periods.AtLeast (to_come series) y (pos (360000 * price))
 
-abbrev MoreThan : PaymentSeries → ℕ → ℤ → Type 0
+abbrev pub MoreThan : PaymentSeries → ℕ → ℤ → Type 0
 MoreThan series price y = periods.More (to_come series) y (pos (360000 * price))
 
--- an outcome of a search as an exact one
-many-print : (AtLeast More : ℤ → Type 0) (t : ℤ) (exact : ExactOutcome) → HasOneOutcome search.least_printed search.greatest_printed AtLeast More → IsPrint search.least_printed search.greatest_printed AtLeast More t → IsExactIn search.least_printed search.greatest_printed AtLeast More exact → exact ≡ prints t
-many-print AtLeast More t (prints u) has print is = ap prints (has.one_is_printed u t is print)
-many-print AtLeast More t is_below has print is = absurd (has.not_below_and_printed t is print)
-many-print AtLeast More t is_above has print is = absurd (has.not_above_and_printed t is print)
-many-print AtLeast More t no_time has print is = absurd is
+-- an outcome is the exact one
+pub in-print : (least greatest : ℤ) (AtLeast More : ℤ → Type 0) (t : ℤ) (exact : ExactOutcome) → HasOneOutcome least greatest AtLeast More → IsPrint least greatest AtLeast More t → IsExactIn least greatest AtLeast More exact → exact ≡ prints t
+in-print least greatest AtLeast More t (prints u) has print is = ap prints (has.one_is_printed u t is print)
+in-print least greatest AtLeast More t is_below has print is = absurd (has.not_below_and_printed t is print)
+in-print least greatest AtLeast More t is_above has print is = absurd (has.not_above_and_printed t is print)
+in-print least greatest AtLeast More t no_time has print is = absurd is
 
-many-below : (AtLeast More : ℤ → Type 0) (exact : ExactOutcome) → HasOneOutcome search.least_printed search.greatest_printed AtLeast More → IsBelow search.least_printed AtLeast More → IsExactIn search.least_printed search.greatest_printed AtLeast More exact → exact ≡ is_below
-many-below AtLeast More (prints u) has below is = absurd (has.not_below_and_printed u below is)
-many-below AtLeast More is_below has below is = refl
-many-below AtLeast More is_above has below is = absurd (has.not_below_and_above below is)
-many-below AtLeast More no_time has below is = absurd is
+pub in-below : (least greatest : ℤ) (AtLeast More : ℤ → Type 0) (exact : ExactOutcome) → HasOneOutcome least greatest AtLeast More → IsBelow least AtLeast More → IsExactIn least greatest AtLeast More exact → exact ≡ is_below
+in-below least greatest AtLeast More (prints u) has below is = absurd (has.not_below_and_printed u below is)
+in-below least greatest AtLeast More is_below has below is = refl
+in-below least greatest AtLeast More is_above has below is = absurd (has.not_below_and_above below is)
+in-below least greatest AtLeast More no_time has below is = absurd is
 
-many-above : (AtLeast More : ℤ → Type 0) (exact : ExactOutcome) → HasOneOutcome search.least_printed search.greatest_printed AtLeast More → IsAbove search.greatest_printed AtLeast More → IsExactIn search.least_printed search.greatest_printed AtLeast More exact → exact ≡ is_above
-many-above AtLeast More (prints u) has above is = absurd (has.not_above_and_printed u above is)
-many-above AtLeast More is_below has above is = absurd (has.not_below_and_above is above)
-many-above AtLeast More is_above has above is = refl
-many-above AtLeast More no_time has above is = absurd is
+pub in-above : (least greatest : ℤ) (AtLeast More : ℤ → Type 0) (exact : ExactOutcome) → HasOneOutcome least greatest AtLeast More → IsAbove greatest AtLeast More → IsExactIn least greatest AtLeast More exact → exact ≡ is_above
+in-above least greatest AtLeast More (prints u) has above is = absurd (has.not_above_and_printed u above is)
+in-above least greatest AtLeast More is_below has above is = absurd (has.not_below_and_above is above)
+in-above least greatest AtLeast More is_above has above is = refl
+in-above least greatest AtLeast More no_time has above is = absurd is
 
 exact-timed : (least greatest : ℤ) (AtLeast More : ℤ → Type 0) (exact : ExactOutcome) → IsExactIn least greatest AtLeast More exact → ¬ (exact ≡ no_time)
 exact-timed least greatest AtLeast More exact is never = subst (IsExactIn least greatest AtLeast More) never is
@@ -136,17 +136,21 @@ many-sound : (series : PaymentSeries) (price : ℕ) (outcome : yields.Outcome) (
     → IsSound 90001 85000 (λ t. IsInDoubt (many series) (boundary t) (pos (360000 * price))) (placed outcome) exact
 many-sound series price (found.Print t) exact said is more has holds doubt verdict exactly =
     let from = verdict.least in
-    many-print (AtPrice series price) (MoreThan series price) t exact has holds exactly ∙ ap prints (sym (figure-place t (omega (arith, ints, from))))
-many-sound series price found.Below exact said is more has holds doubt verdict exactly = many-below (AtPrice series price) (MoreThan series price) exact has holds exactly
-many-sound series price found.Above exact said is more has holds doubt verdict exactly = many-above (AtPrice series price) (MoreThan series price) exact has holds exactly
+    in-print search.least_printed search.greatest_printed (AtPrice series price) (MoreThan series price) t exact has holds exactly ∙ ap prints (sym (figure-place t (omega (arith, ints, from))))
+many-sound series price found.Below exact said is more has holds doubt verdict exactly = in-below search.least_printed search.greatest_printed (AtPrice series price) (MoreThan series price) exact has holds exactly
+many-sound series price found.Above exact said is more has holds doubt verdict exactly = in-above search.least_printed search.greatest_printed (AtPrice series price) (MoreThan series price) exact has holds exactly
 many-sound series price (found.Unsure lower) exact said is more has holds doubt verdict exactly = many-unsure series price lower exact is more verdict.least doubt exactly
+
+pub many-outcome : (series : PaymentSeries) (price : ℕ) → IsSeries series → 2 ≤ series.n → HasOneOutcome search.least_printed search.greatest_printed (AtPrice series price) (MoreThan series price)
+many-outcome series price is more =
+    one_outcome search.least_printed search.greatest_printed (AtPrice series price) (MoreThan series price) (many_periods-fall series (pos (360000 * price)) is more)
+    (λ y. at_least-decided (to_come series) y (pos (360000 * price))) (λ y. more-decided (to_come series) y (pos (360000 * price))) (omega (arith, ints))
 
 final-sound : (low high : PaymentSeries → ℤ → ℕ) (series : PaymentSeries) (price : ℕ) (exact : ExactOutcome) → IsSeries series → 2 ≤ series.n → 0 < price → AreEnclosed series (low series) (high series) → IsExactYieldOf price (many series) exact
     → IsSound 90001 85000 (λ t. IsInDoubt (many series) (boundary t) (pos (360000 * price))) (final (place_verdict low high) price series) exact
 final-sound low high series price exact is more some law exactly =
     many-sound series price (final_of (place_verdict low high) series price) exact (yield_verdict (low series) (high series) series price) is more
-    (one_outcome search.least_printed search.greatest_printed (AtPrice series price) (MoreThan series price) (many_periods-fall series (pos (360000 * price)) is more)
-    (λ y. at_least-decided (to_come series) y (pos (360000 * price))) (λ y. more-decided (to_come series) y (pos (360000 * price))) (omega (arith, ints)))
+    (many-outcome series price is more)
     (final-true low high series price is more some law) (final-doubtful low high series price more some law) (final-verdict low high series price more some) exactly
 
 -- ---- one payment

@@ -5,7 +5,6 @@ use Rattle.std.specs.Option.{IsSomeAnd}
 use Rattle.muni_rule.specs.Doubt.{IsDoubtful}
 use Rattle.muni_rule.specs.Schedule.{ExactOutcome, is_above}
 use Rattle.muni_terms.specs.declared.disclosure.Boundary.{Boundary}
-use Rattle.muni_sched.specs.declared.answer.Figure.{Figure}
 use Rattle.muni_sched.specs.declared.answer.Figure.TheVariants as figure
 use Rattle.muni_sched.specs.declared.answer.LowAnswer.{LowAnswer}
 use Rattle.muni_sched.specs.declared.answer.LowAnswer.TheVariants as answer

@@ -1,6 +1,6 @@
 -- Redemption candidates: what is disclosed of each redemption, and how it is priced.
-use Rattle.std.specs.Prelude.{◌≡◌, ℕ, ◌<◌, ◌==◌, if◌then◌else◌, List, map, Some}
-use Rattle.muni_rule.specs.Civil.{Civil, order_of}
+use Rattle.std.specs.Prelude.{◌≡◌, ℕ, ◌<◌, ◌==◌, if◌then◌else◌, List, [], ◌∷◌, ◌++◌, map, filter, Some}
+use Rattle.muni_rule.specs.Civil.{Civil, order_of, is_before}
 use Rattle.muni_rule.specs.Redemptions.{Redemption, par_price, calls_after, redemptions_after}
 use Rattle.muni_days.specs.Day.{civil, place_of}
 use Rattle.muni_days.specs.declared.day.Day.{Day}
@@ -50,6 +50,19 @@ abbrev pub disclosures_of : IssueRow → Day → List Disclosure
 disclosures_of row settlement =
     map (disclosure (civil row.maturity)) (redemptions_after (civil settlement)
     (map call_redemption row.calls.items) (civil row.maturity))
+
+-- the days of the calls after a settlement
+abbrev pub call_dates : Day → List Call → List Day
+call_dates settlement calls =
+    map (λ call. call.date) (filter (λ call. is_before (civil settlement) (civil call.date)) calls)
+
+-- the days of all redemptions of an issue after a settlement: those of its calls, and then its maturity
+abbrev pub dates_of : IssueRow → Day → List Day
+dates_of row settlement = call_dates settlement row.calls.items ++ row.maturity ∷ []
+
+-- the day on which a candidate is redeemed
+abbrev pub redeemed_on : Candidate → Day
+redeemed_on candidate = candidate.date
 
 -- what is disclosed of a candidate
 abbrev pub disclosed : Candidate → Disclosure

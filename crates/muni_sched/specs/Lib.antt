@@ -14,3 +14,4 @@ pub mod Exact
 pub mod Answered
 pub mod YieldAnswer
 pub mod PriceAnswer
+pub mod AnswerLaws

@@ -89,7 +89,7 @@ IsRightPrice y list answer =
 abbrev pub IsPriceUndecided : ℤ → List Candidate → LowAnswer → Type 0
 IsPriceUndecided y list answer = IsUndecidedInDoubt (IsPriceInDoubt y list) list answer
 
--- and where none is in doubt at any price, it is decided
+-- and where none is in doubt at any boundary, it is decided
 abbrev pub IsPriceDecided : ℤ → List Candidate → LowAnswer → Type 0
 IsPriceDecided y list answer =
     ((c t : ℕ) → ¬ (IsCandidateInDoubt list c y (thousandths t))) → IsDecided answer

@@ -1,5 +1,5 @@
 -- One round of the search for the lowest yield, over lists.
--- A place of a bracket is 85,000 higher on the scale of all yields.
+-- The places of a bracket count from the least place that may be unsure.
 use Rattle.std.specs.Prelude.{◌≡◌, ℕ, ◌+◌, ◌<◌, ◌≤◌, List, [], ◌∷◌, Bool, false, not, ◌&&◌, ◌==◌, if◌then◌else◌, nat_le, min, map, length, All, slice_set}
 use Rattle.std.specs.List.{filter, AllZip}
 use Rattle.muni_rule.specs.Payments.{PaymentSeries}
@@ -12,7 +12,7 @@ use Rattle.muni_sched.specs.declared.lowest.Outcome.TheVariants.{Print, Unsure, 
 use Rattle.muni_sched.specs.declared.scale.Scale.TheVariants.{Yields}
 use Rattle.muni_sched.specs.declared.search.Held.{Held}
 use Rattle.muni_sched.specs.declared.search.Search.{Search}
-use Rattle.muni_sched.specs.Scale.{IsOn}
+use Rattle.muni_sched.specs.Scale.{least_unsure, IsOn}
 use Rattle.muni_sched.specs.ToCome.{ToCome, many, one, to_come_of}
 use Rattle.muni_sched.specs.YieldOutcome.{placed, IsKnownFirst}
 
@@ -44,7 +44,8 @@ no_ceiling = 4_294_967_295
 
 -- the place that a candidate is known not to reach, if there is one
 abbrev pub missed : Held → ℕ
-missed held = if nat_le held.bracket.high 105_002 then held.bracket.high + 85_000 else no_ceiling
+missed held =
+    if nat_le held.bracket.high 105_002 then held.bracket.high + least_unsure Yields else no_ceiling
 
 abbrev pub missed_first : Outcome → ℕ
 missed_first (Print place) = place + 1
@@ -64,7 +65,7 @@ ceiling_first ceiling (outcome ∷ rest) = ceiling_first (min ceiling (missed_fi
 
 -- the lower place was answered by yes, and is at the ceiling or above
 abbrev pub is_passed : ℕ → YieldBracket → Bool
-is_passed ceiling bracket = nat_le 1 bracket.low && nat_le ceiling (bracket.low + 85_000)
+is_passed ceiling bracket = nat_le 1 bracket.low && nat_le ceiling (bracket.low + least_unsure Yields)
 
 -- the outcome is not known yet, and may be the lowest
 abbrev pub is_needed : ℕ → Held → Bool

@@ -27,11 +27,11 @@ least_unsure Yields = 85_000
 
 -- the yield at a place
 abbrev pub yield_at : ℕ → ℤ
-yield_at place = sound.figure 90_001 place
+yield_at place = sound.figure (base Yields) place
 
 -- the boundary between the yields at a place and at the next, in 10^-6
 abbrev pub boundary_yield : ℕ → ℤ
-boundary_yield place = boundary (sound.figure 90_001 (place + 1))
+boundary_yield place = boundary (sound.figure (base Yields) (place + 1))
 
 -- the figure at a place
 abbrev pub figure_at : Scale → ℕ → Figure
@@ -49,7 +49,7 @@ abbrev pub IsOn : Scale → Outcome → Type 0
 IsOn Prices (Print place) = (1 ≤ place) × (place ≤ 100_000_001)
 IsOn Prices (Unsure place) = place ≤ 100_000_000
 IsOn Yields (Print place) = (1 ≤ place) × (place ≤ 1_090_000)
-IsOn Yields (Unsure place) = (85_000 ≤ place) × (place ≤ 190_002)
+IsOn Yields (Unsure place) = (least_unsure Yields ≤ place) × (place ≤ 190_002)
 IsOn scale Below = ⊤
 IsOn scale Above = ⊤
 IsOn scale NoTime = ⊤

@@ -1,9 +1,11 @@
 -- What is to come of a candidate at its settlement.
-use Rattle.std.specs.Prelude.{ℤ, negsuc}
+use Rattle.std.specs.Prelude.{ℤ}
 use Rattle.muni_rule.specs.Discount.{discounted}
 use Rattle.muni_rule.specs.Payments.{PaymentSeries}
 use Rattle.muni_rule.specs.SinglePayment.{SinglePayment}
 use Rattle.muni_simple.specs.Single.{payment_of}
+use Rattle.muni_simple.specs.Yields.{least_printed}
+use Rattle.muni_simple.specs.declared.single.Shape1.TheVariants as single
 use Rattle.muni_sched.specs.declared.candidate.Shape.{Shape}
 use Rattle.muni_sched.specs.declared.candidate.Shape.TheVariants.{Many, One, AtRedemption, Discount}
 
@@ -15,6 +17,6 @@ pub data ToCome : Type 0 where
 -- that is -90 percent, and -45 for notes
 abbrev pub to_come_of : Shape → ToCome
 to_come_of (Many series) = many series
-to_come_of (One payment) = one (negsuc 89_999) (payment_of payment)
-to_come_of (AtRedemption payment) = one (negsuc 44_999) (payment_of payment)
-to_come_of (Discount days) = one (negsuc 44_999) (discounted days)
+to_come_of (One payment) = one (least_printed single.OnePeriod) (payment_of payment)
+to_come_of (AtRedemption payment) = one (least_printed single.AtRedemption) (payment_of payment)
+to_come_of (Discount days) = one (least_printed single.AtRedemption) (discounted days)

@@ -16,7 +16,7 @@ use Rattle.muni_sched.specs.declared.search.Search.{Search}
 use Rattle.muni_sched.specs.Answered.{IsLowestAnswer, IsRightAnswer, IsCandidateInDoubt, IsUndecidedInDoubt, IsDecided}
 use Rattle.muni_sched.specs.Exact.{IsExactYield}
 use Rattle.muni_sched.specs.Ranks.{IsRanked}
-use Rattle.muni_sched.specs.Scale.{IsOn}
+use Rattle.muni_sched.specs.Scale.{least_unsure, IsOn}
 use Rattle.muni_sched.specs.YieldOutcome.{IsYieldOutcome}
 
 -- the rule's answer over the outcomes of all candidates
@@ -41,10 +41,10 @@ IsRightYield price list answer =
 abbrev pub IsYieldUndecided : ℕ → List Candidate → LowAnswer → Type 0
 IsYieldUndecided price list answer = IsUndecidedInDoubt (IsYieldInDoubt price list) list answer
 
--- and where none is in doubt at any yield, it is decided
+-- and where none is in doubt at any boundary, it is decided
 abbrev pub IsYieldDecided : ℕ → List Candidate → LowAnswer → Type 0
 IsYieldDecided price list answer =
-    ((c : ℕ) (y : ℤ) → ¬ (IsCandidateInDoubt list c y (pos (360_000 * price)))) → IsDecided answer
+    ((c : ℕ) (t : ℤ) → ¬ (IsYieldInDoubt price list c (bound.Yield (boundary t)))) → IsDecided answer
 
 -- A search that is over: the first of least rank among the outcomes that are known is that among
 -- all.
@@ -53,7 +53,7 @@ pub record IsSearchedOut
     (search : Search) : Type 0 where
   pub outcomes : List Outcome
   pub each : AllZip (IsYieldOutcome verdicts price) list outcomes
-  pub ranked : (lowest : Lowest) → IsRanked 85_000 search.known.items lowest
-      → IsRanked 85_000 outcomes lowest
+  pub ranked : (lowest : Lowest) → IsRanked (least_unsure Yields) search.known.items lowest
+      → IsRanked (least_unsure Yields) outcomes lowest
   pub range : All (IsOn Yields) outcomes
   pub known : All (IsOn Yields) search.known.items

@@ -11,11 +11,13 @@ use Rattle.muni_yield.specs.declared.outcome.Outcome.TheVariants as found
 use Rattle.muni_sched.specs.declared.candidate.Candidate.{Candidate}
 use Rattle.muni_sched.specs.declared.lowest.Outcome.{Outcome}
 use Rattle.muni_sched.specs.declared.lowest.Outcome.TheVariants.{Print, Unsure, Below, Above, NoTime}
+use Rattle.muni_sched.specs.declared.scale.Scale.TheVariants.{Yields}
+use Rattle.muni_sched.specs.Scale.{base}
 use Rattle.muni_sched.specs.ToCome.{ToCome, many, one, to_come_of}
 
 -- the place of a yield
 abbrev pub place_of : ℤ → ℕ
-place_of t = unsigned_abs (t +ℤ pos 90_001)
+place_of t = unsigned_abs (t +ℤ pos (base Yields))
 
 -- an outcome of a search, by places
 abbrev pub placed : search.Outcome → Outcome

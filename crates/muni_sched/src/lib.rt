@@ -4,6 +4,7 @@
 
 mod answer;
 mod candidate;
+mod laws;
 mod lowest;
 mod note;
 mod prices;
@@ -17,6 +18,7 @@ mod yields;
 
 pub use answer::{Figure, LowAnswer};
 pub use candidate::{Candidate, Shape};
+pub use laws::{one_answer_is_right, the_answer_is_one, the_exact_outcome_is_one};
 pub use lowest::{the_lowest_is_one, the_lowest_is_right, the_lowest_is_undecided_only_in_doubt};
 pub use muni_terms::{Boundary, Label};
 pub use prices::lowest_price;

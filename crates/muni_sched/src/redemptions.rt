@@ -7,7 +7,7 @@ ghost use Rattle.muni_rule.specs.Redemptions.{par_price};
 ghost use Rattle.muni_days.specs.Day.{civil};
 ghost use Rattle.muni_terms.specs.Issue.{settles};
 ghost use Rattle.muni_sched.specs.Candidates as spec;
-ghost use Rattle.muni_sched.specs.Candidates.{redemption, disclosure, disclosures_of, disclosed, HasShape, IsCandidate, IsEarlier};
+ghost use Rattle.muni_sched.specs.Candidates.{redemption, disclosure, disclosures_of, dates_of, redeemed_on, disclosed, HasShape, IsCandidate, IsEarlier};
 
 use crate::shape::shape_at;
 use crate::{Candidate, Shape};
@@ -21,6 +21,7 @@ use muni_terms::{Call, Issue, Label};
 pub fn candidates(issue: &Issue, settlement: Day) -> ArrayVec<Candidate, 41>
     requires { settles issue.now settlement ≡ true }
     ensures redemptions { map disclosed result.items ≡ disclosures_of issue.now settlement }
+    ensures dates { map redeemed_on result.items ≡ dates_of issue.now settlement }
     ensures shapes { All (HasShape issue.now settlement) result.items }
     ensures ranges { All IsCandidate result.items }
     ensures rising { AllPairs IsEarlier result.items }
@@ -37,6 +38,8 @@ fn call_candidates(issue: &Issue, settlement: Day) -> ArrayVec<Candidate, 41>
     requires { settles issue.now settlement ≡ true }
     ensures redemptions { map disclosed result.items
         ≡ spec.call_disclosures (civil issue.now.maturity) settlement issue.now.calls.items }
+    ensures dates { map redeemed_on result.items
+        ≡ spec.call_dates settlement issue.now.calls.items }
     ensures shapes { All (HasShape issue.now settlement) result.items }
     ensures ranges { All IsCandidate result.items }
     ensures len { array_vec_len result ≤ 40 }

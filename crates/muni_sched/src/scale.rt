@@ -21,13 +21,19 @@ pub(crate) enum Scale {
     Yields,
 }
 
+/// The place of a yield of zero. Places count from -90.000 percent, which is at 1.
+pub(crate) const ZERO_YIELD: i32 = 90_001;
+
+/// The least place of a yield that may be unsure, that of -5.001 percent.
+pub(crate) const LEAST_UNSURE_YIELD: u32 = 85_000;
+
 /// The least place that may be unsure.
 pub(crate) fn least_unsure(scale: Scale) -> u32
     ensures { result ≡ spec.least_unsure scale }
 {
     match scale {
         Scale::Prices => 0,
-        Scale::Yields => 85_000,
+        Scale::Yields => LEAST_UNSURE_YIELD,
     }
 }
 
@@ -64,7 +70,7 @@ fn yield_at(place: u32) -> Yield3
     requires { IsOn Scale.Yields (Print place) }
     ensures { result ≡ spec.yield_at place }
 {
-    match Yield3::of(i64::from(place) - 90_001) {
+    match Yield3::of(i64::from(place) - i64::from(ZERO_YIELD)) {
         Some(yld) => yld,
         None => unreachable!(),
     }
@@ -74,7 +80,7 @@ fn boundary_yield(place: u32) -> Yield
     requires { IsOn Scale.Yields (Unsure place) }
     ensures { result ≡ spec.boundary_yield place }
 {
-    match Yield::of(10 * (i64::from(place) - 90_000) - 5) {
+    match Yield::of(10 * (i64::from(place) + 1 - i64::from(ZERO_YIELD)) - 5) {
         Some(yld) => yld,
         None => unreachable!(),
     }

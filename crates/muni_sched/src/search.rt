@@ -8,11 +8,12 @@ ghost use Rattle.muni_yield.specs.Settled.{settled_as};
 ghost use Rattle.muni_sched.specs.Candidates.{IsCandidate};
 ghost use Rattle.muni_sched.specs.Rounds as spec;
 ghost use Rattle.muni_sched.specs.Rounds.{IsHeldBracket, IsOpen, CanRefine, IsStarted, asked, recorded, missed, missed_first, ceiling_after, ceiling_first, no_ceiling, held_from, refined};
-ghost use Rattle.muni_sched.specs.Scale.{IsOn};
+ghost use Rattle.muni_sched.specs.Scale.{least_unsure, IsOn};
 ghost use Rattle.muni_sched.specs.YieldOutcome.{IsKnownFirst, placed};
 ghost use Rattle.muni_sched.specs.declared.scale.Scale.TheVariants.{Yields};
 
 use crate::lowest::Outcome;
+use crate::scale::{LEAST_UNSURE_YIELD, ZERO_YIELD};
 use crate::yield_outcome::{known_first, placed};
 use crate::{Candidate, Shape};
 use arrayvec::ArrayVec;
@@ -37,9 +38,9 @@ impl Held {
     // The place of the lower yield.
     fn low(&self) -> u32
         requires { IsHeldBracket self.now }
-        ensures { result ≡ self.now.bracket.low + 85_000 }
+        ensures { result ≡ self.now.bracket.low + least_unsure Yields }
     {
-        (self.bracket.low() + 90_001) as u32
+        (self.bracket.low() + ZERO_YIELD) as u32
     }
 
     // The place that the candidate is known not to reach. At 100.002 percent nothing is asked.
@@ -48,7 +49,7 @@ impl Held {
         ensures { result ≡ missed self.now }
     {
         if self.bracket.high() <= 100_001 {
-            (self.bracket.high() + 90_001) as u32
+            (self.bracket.high() + ZERO_YIELD) as u32
         } else {
             NO_CEILING
         }
@@ -70,13 +71,13 @@ impl Held {
         self.bracket.settled().is_none() && !self.is_passed(ceiling)
     }
 
-    // Whether the lower yield was answered by yes, and is at the ceiling or above. At place 85,000,
-    // that of -5.001 percent, nothing is asked.
+    // Whether the lower yield was answered by yes, and is at the ceiling or above. At the least
+    // place nothing is asked.
     fn is_passed(&self, ceiling: u32) -> bool
         requires { IsHeldBracket self.now }
         ensures { result ≡ spec.is_passed ceiling self.now.bracket }
     {
-        self.low() > 85_000 && ceiling <= self.low()
+        self.low() > LEAST_UNSURE_YIELD && ceiling <= self.low()
     }
 }
 

@@ -10,6 +10,7 @@ ghost use Rattle.muni_sched.specs.YieldOutcome.{IsSearched, IsKnownFirst, IsYiel
 ghost use Rattle.muni_sched.specs.declared.scale.Scale.TheVariants.{Yields};
 
 use crate::lowest::Outcome;
+use crate::scale::ZERO_YIELD;
 use crate::{Candidate, Shape};
 use muni_dec::{Price, Yield3};
 use muni_edge::Steps;
@@ -26,7 +27,7 @@ pub(crate) fn placed(outcome: muni_yield::Outcome) -> Outcome
 {
     match outcome {
         muni_yield::Outcome::Print(figure) => Outcome::Print(place_of(figure)),
-        muni_yield::Outcome::Unsure { lower } => Outcome::Unsure((lower + 90_001) as u32),
+        muni_yield::Outcome::Unsure { lower } => Outcome::Unsure((lower + ZERO_YIELD) as u32),
         muni_yield::Outcome::Below => Outcome::Below,
         muni_yield::Outcome::Above => Outcome::Above,
     }
@@ -48,7 +49,7 @@ fn place_of(figure: Yield3) -> u32
     ensures value { result ≡ spec.place_of figure }
     ensures range { (1 ≤ result) × (result ≤ 1_090_000) }
 {
-    (figure.units() + 90_001) as u32
+    (figure.units() + i64::from(ZERO_YIELD)) as u32
 }
 
 /// What is known before any search: the outcome of one payment to come, and `Above` for many.
@@ -77,7 +78,7 @@ pub(crate) fn yield_outcome<E: Encloser, L: Ledger>(
 ) -> Outcome
     requires candidate { IsCandidate candidate.now }
     requires price { 0 < price }
-    requires room { steps.old < 2 ^ 62 }
+    requires room { steps.old + 19 < 2 ^ 64 }
     ensures outcome { IsYieldOutcome (place_verdict (E.low encloser.now) (E.high encloser.now))
         price candidate.now result }
     ensures range { IsOn Yields result }

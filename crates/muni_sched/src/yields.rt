@@ -41,7 +41,7 @@ pub fn lowest_yield<R: Threads + Sync, E: Encloser + Sync, G: Gate + Sync, L: Le
     requires candidates { All IsCandidate list.now }
     requires price { 0 < price }
     requires workers { (1 ≤ workers) × (workers ≤ 16) }
-    requires room { steps.old < 2 ^ 61 }
+    requires room { steps.old + 19 < 2 ^ 64 }
     ensures lowest { IsLowestYield (place_verdict (E.low encloser.now) (E.high encloser.now)) price
         list.now result }
     ensures right { IsRightYield price list.now result }
@@ -67,7 +67,7 @@ pub fn lowest_yield_in_turn<E: Encloser, L: Ledger>(
     requires few { length list.now ≤ 41 }
     requires candidates { All IsCandidate list.now }
     requires price { 0 < price }
-    requires room { steps.old < 2 ^ 61 }
+    requires room { steps.old + 19 * length list.now < 2 ^ 64 }
     ensures lowest { IsLowestYield (place_verdict (E.low encloser.now) (E.high encloser.now)) price
         list.now result }
     ensures right { IsRightYield price list.now result }
@@ -95,7 +95,7 @@ fn searched<R: Threads + Sync, E: Encloser + Sync, G: Gate + Sync, L: Ledger>(
     requires candidates { All IsCandidate list.now }
     requires price { 0 < price }
     requires workers { 1 ≤ workers }
-    requires room { steps.old < 2 ^ 61 }
+    requires room { steps.old + 19 < 2 ^ 64 }
     ensures out { IsSearchedOut (place_verdict (E.low encloser.now) (E.high encloser.now)) price
         list.now result }
     ensures steps { (steps.old ≤ steps.new) × (steps.new ≤ steps.old + 19) }
@@ -119,7 +119,7 @@ fn outcomes_in_turn<E: Encloser, L: Ledger>(
     requires few { length list.now ≤ 41 }
     requires candidates { All IsCandidate list.now }
     requires price { 0 < price }
-    requires room { steps.old < 2 ^ 61 }
+    requires room { steps.old + 19 * length list.now < 2 ^ 64 }
     ensures each { AllZip (IsYieldOutcome (place_verdict (E.low encloser.now)
         (E.high encloser.now)) price) list.now result.items }
     ensures range { All (IsOn Yields) result.items }

@@ -26,7 +26,7 @@ pub fn printed_yield<E: Encloser, L: Ledger>(
 ) -> Outcome
     requires many { 2 ≤ flows.now.n }
     requires price { 0 < price }
-    requires room { steps.old < 2 ^ 62 }
+    requires room { steps.old + 19 < 2 ^ 64 }
     ensures exact { IsYieldOutcome (λ y. AtLeast (to_come flows.now) y (pos (360_000 * price)))
         (λ y. More (to_come flows.now) y (pos (360_000 * price))) result }
     ensures doubtful { IsDoubtfulOutcome flows.now price result }
@@ -52,7 +52,7 @@ fn settled<E: Encloser, L: Ledger>(
 ) -> Outcome
     requires many { 2 ≤ flows.now.n }
     requires price { 0 < price }
-    requires room { steps.old < 2 ^ 62 }
+    requires room { steps.old + 19 < 2 ^ 64 }
     ensures verdicts { IsVerdictOutcome (yield_verdict (E.low encloser.now flows.now)
         (E.high encloser.now flows.now) flows.now price) result }
     ensures outcome { result

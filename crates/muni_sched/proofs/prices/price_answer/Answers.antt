@@ -1,12 +1,13 @@
 use Rattle.std.proofs.Common.{subst, pos, ◌*ℤ◌}
 use Rattle.muni_rule.proofs.EnclosedLemmas.{enclosed}
 use Rattle.muni_sched.specs.Answered.{exact_at, IsCandidateInDoubt}
+use Rattle.muni_sched.specs.AnswerLaws.{ArePriced}
 use Rattle.muni_sched.specs.Lowest.{IsLowest}
 use Rattle.muni_sched.specs.PriceAnswer.{IsPriceInDoubt, IsPriceUndecided}
 use Rattle.muni_sched.specs.declared.scale.Scale.TheVariants.{Prices}
 use Rattle.muni_sched.proofs.SoundLemmas.{sound_right, undecided_unsure}
 use Rattle.muni_sched.proofs.ToldLemmas.{told-undecided, price-decided, told-price}
-use Rattle.muni_sched.proofs.PriceSoundLemmas.{ArePriced, AreEnclosedAt, prices-sound, prices-doubt, all-timed, never-above}
+use Rattle.muni_sched.proofs.PriceSoundLemmas.{AreEnclosedAt, prices-sound, prices-doubt, all-timed, never-above}
 use Rattle.muni_sched.proofs.prices.price_answer.Goals as goal
 
 pub returns : goal.returns

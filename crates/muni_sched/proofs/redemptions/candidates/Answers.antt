@@ -19,7 +19,10 @@ all c =
     let last = is_candidate_for row c.args.settlement row.maturity par_price shape.result candidate.result priced shape.ensures.range date price candidate.ensures.shape discloses in
     let pushed : c.push.new.self.items ≡ calls.result.items ++ candidate.result ∷ [] = cc in
     are_candidates row c.args.settlement calls.result.items c.push.new.self.items candidate.result
-    (record { redemptions = calls.ensures.redemptions; shapes = calls.ensures.shapes; ranges = calls.ensures.ranges }) last pushed
+    (record { redemptions = calls.ensures.redemptions; dates = calls.ensures.dates; shapes = calls.ensures.shapes; ranges = calls.ensures.ranges }) last pushed
+
+pub returns-clause-dates : goal.returns-clause-dates
+returns-clause-dates c = (all c).dates
 
 pub returns-clause-shapes : goal.returns-clause-shapes
 returns-clause-shapes c = (all c).shapes

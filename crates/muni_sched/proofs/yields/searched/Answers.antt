@@ -13,6 +13,16 @@ loop-steps-init g c =
       steps = omega arith;
     }
 
+pub tick-requires : goal.tick-requires
+tick-requires g c =
+    let verdicts = place_verdict (g.E.Encloser.low c.args.encloser.now) (g.E.Encloser.high c.args.encloser.now) in
+    let known = c.loop-steps.invariant in
+    let some : c.is_over.result ≡ false = search rules in
+    let few = round-few verdicts known.final.finals c.loop-steps.round c.loop-steps.search known.final.refined (sym c.is_over.ensures ∙ some) in
+    let so_far = known.steps in
+    let room = c.requires.room in
+    omega (arith, few, so_far, room)
+
 pub overflow_add-round : goal.overflow_add-round
 overflow_add-round g c = let most = c.loop-steps.invariant.most in omega (arith, most)
 

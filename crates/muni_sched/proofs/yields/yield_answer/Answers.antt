@@ -36,6 +36,6 @@ returns g c =
         told = c.answer.ensures.told;
       };
       undecided = undecided;
-      decided = yield-decided price list c.answer.result undecided;
+      decided = yield-decided price list c.args.lowest c.answer.result c.answer.ensures.told undecided;
       figure = c.answer.ensures.figure;
     }

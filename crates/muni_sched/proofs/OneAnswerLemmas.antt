@@ -1,0 +1,136 @@
+-- Of one list of candidates the rule allows one answer.
+use Rattle.std.proofs.Common.{◌≡◌, ◌<◌, ◌≤◌, ◌+◌, ◌*◌, ℕ, List, refl, ap, sym, subst, arith, ◌∙◌, ⊎_elim, ℤ, pos, ◌+ℤ◌, ◌≤ℤ◌, ◌<ℤ◌, rules}
+use Rattle.std.specs.List.{AllZip}
+use Rattle.std.proofs.Math.Nat.{mul-le-mul_right}
+use Rattle.std.proofs.lemmas.Bool.{cases_lt}
+use Rattle.std.proofs.lemmas.Int.{ints}
+use Rattle.muni_rule.specs.Accuracy.{thousandths}
+use Rattle.muni_rule.specs.Payments.{PaymentSeries}
+use Rattle.muni_rule.specs.SinglePayment.{AtLeast}
+use Rattle.muni_rule.specs.Verdicts.{at_least_verdict, dirty_thousandths, IsUndecidedAt}
+use Rattle.muni_rule.specs.WorthEnds.{WorthEnds, ends_of}
+use Rattle.muni_rule.specs.declared.verdict.Verdict.{Verdict}
+use Rattle.muni_rule.specs.declared.verdict.Verdict.TheVariants as verdict
+use Rattle.muni_rule.proofs.AtLeastLemmas.{AtLeast-smaller}
+use Rattle.muni_multi.specs.Prices as multi
+use Rattle.muni_multi.specs.declared.price.PriceAnswer.{PriceAnswer}
+use Rattle.muni_multi.specs.declared.price.PriceAnswer.TheVariants as found
+use Rattle.muni_simple.specs.Single as simple
+use Rattle.muni_simple.specs.Yields.{greatest_printed}
+use Rattle.muni_simple.specs.declared.price.SimplePrice.{SimplePrice}
+use Rattle.muni_simple.specs.declared.price.SimplePrice.TheVariants as exact
+use Rattle.muni_simple.proofs.OneAnswer.{answer-same}
+use Rattle.muni_sched.specs.declared.answer.LowAnswer.{LowAnswer}
+use Rattle.muni_sched.specs.declared.candidate.Candidate.{Candidate}
+use Rattle.muni_sched.specs.declared.lowest.Outcome.{Outcome}
+use Rattle.muni_sched.specs.declared.scale.Scale.{Scale}
+use Rattle.muni_sched.specs.declared.scale.Scale.TheVariants.{Prices, Yields}
+use Rattle.muni_sched.specs.Answered.{IsLowestAnswer}
+use Rattle.muni_sched.specs.AnswerLaws.{AllowsOneYield, AllowsOnePrice}
+use Rattle.muni_sched.specs.Candidates.{IsCandidate}
+use Rattle.muni_sched.specs.Lowest.{IsLowest}
+use Rattle.muni_sched.specs.LowestLaws.{AllowsOneAnswer}
+use Rattle.muni_sched.specs.PriceAnswer as prices
+use Rattle.muni_sched.specs.PriceAnswer.{IsPriceOutcomeFor, IsPriceOutcome}
+use Rattle.muni_sched.specs.Scale.{least_unsure}
+use Rattle.muni_sched.specs.ToCome.{ToCome, many, one, to_come_of}
+use Rattle.muni_sched.specs.Told.{told}
+use Rattle.muni_sched.specs.YieldOutcome as yields
+use Rattle.muni_sched.specs.YieldOutcome.{IsOutcomeFor, final, IsYieldOutcome}
+use Rattle.muni_sched.proofs.PriceSoundLemmas.{IsPriced, IsClosed, printed-one, all-priced}
+use Rattle.muni_sched.proofs.ToldLemmas.{taken}
+use Rattle.muni_sched.proofs.YieldSoundLemmas.{IsInRange, in_range}
+use Rattle.muni_sched.proofs.ZipLemmas.{zip-same}
+
+-- ---- an answer, where each candidate has one outcome
+lowest-same : AllowsOneAnswer
+lowest-same = search rules
+
+answer-one : (scale : Scale) (IsOutcome : Candidate → Outcome → Type 0) (list : List Candidate) (said other : LowAnswer) → ((xs zs : List Outcome) → AllZip IsOutcome list xs → AllZip IsOutcome list zs → xs ≡ zs) → IsLowestAnswer scale IsOutcome list said → IsLowestAnswer scale IsOutcome list other → said ≡ other
+answer-one scale IsOutcome list said other outcomes is also =
+    let same = outcomes is.over.outcomes also.over.outcomes is.over.each also.over.each in
+    let rule : IsLowest (least_unsure scale) also.over.outcomes is.lowest = subst (λ xs. IsLowest (least_unsure scale) xs is.lowest) same is.over.rule in
+    let found : is.lowest ≡ also.lowest = lowest-same (least_unsure scale) also.over.outcomes is.lowest also.lowest rule also.over.rule in
+    taken said other (is.told ∙ ap (told scale list) found ∙ sym also.told)
+
+-- ---- yields
+yield-same : (verdicts : PaymentSeries → ℕ → ℕ → Verdict) (price : ℕ) (to_be : ToCome) (x z : Outcome) → IsInRange to_be → 0 < price → IsOutcomeFor (final verdicts price) price to_be x → IsOutcomeFor (final verdicts price) price to_be z → x ≡ z
+yield-same verdicts price (many series) x z range some is also = is ∙ sym also
+yield-same verdicts price (one least payment) x z range some is also =
+    let above : pos 0 <ℤ (pos (360000 * price) +ℤ payment.accrued) = let accrued = range.2 in omega (arith, ints, accrued, some) in
+    let order : least ≤ℤ greatest_printed = let most = range.1 in omega (arith, ints, most) in
+    is.2 ∙ ap yields.placed_simple (answer-same least payment (pos (360000 * price)) is.0 also.0 order above is.1 also.1) ∙ sym also.2
+
+pub yields-one : AllowsOneYield
+yields-one verdicts price list said other some all is also =
+    answer-one Yields (IsYieldOutcome verdicts price) list said other
+    (λ xs zs each too. zip-same IsCandidate (IsYieldOutcome verdicts price) list xs zs
+    (λ candidate x z range. yield-same verdicts price (to_come_of candidate.shape) x z (in_range candidate.shape range) some) all each too)
+    is also
+
+-- ---- prices
+simple-same : (Reaches : ℤ → Type 0) (said other : SimplePrice) → IsClosed Reaches → simple.IsPriceAnswer Reaches said → simple.IsPriceAnswer Reaches other → said ≡ other
+simple-same Reaches (exact.Price s) (exact.Price t) closed is also = ap exact.Price (printed-one Reaches s t closed is also)
+simple-same Reaches (exact.Price s) exact.BelowZero closed is also = absurd (also.zero_not_reached (closed (thousandths s) (pos 0) (omega (arith, ints)) is.reached))
+simple-same Reaches exact.BelowZero (exact.Price t) closed is also = absurd (is.zero_not_reached (closed (thousandths t) (pos 0) (omega (arith, ints)) also.reached))
+simple-same Reaches exact.BelowZero exact.BelowZero closed is also = refl
+
+-- what is not reached by a verdict is reached by none at a higher amount
+abbrev IsFalling : (ℕ → Verdict) → Type 0
+IsFalling said = (t u : ℕ) → t ≤ u → said t ≡ verdict.No → ¬ (said u ≡ verdict.Yes)
+
+ends-fall : (ends : WorthEnds) (x z : ℕ) → x ≤ z → at_least_verdict ends x ≡ verdict.No → ¬ (at_least_verdict ends z ≡ verdict.Yes)
+ends-fall ends x z order missed reached =
+    let times : x * ends.unit ≤ z * ends.unit = mul-le-mul_right ends.unit order in
+    grind (arith, times)
+
+falling : (series : PaymentSeries) (y : ℤ) (lo hi : ℕ) → IsFalling (λ t. at_least_verdict (ends_of series y lo hi) (dirty_thousandths series.accrued t))
+falling series y lo hi t u order = ends-fall (ends_of series y lo hi) (dirty_thousandths series.accrued t) (dirty_thousandths series.accrued u) (omega (arith, order))
+
+figure-same : (said : ℕ → Verdict) (s t : ℕ) → IsFalling said → multi.IsPriceOutcome said (found.Price s) → multi.IsPriceOutcome said (found.Price t) → s ≡ t
+figure-same said s t falls is also =
+    ⊎_elim
+    (λ (less : s < t). absurd (falls (s + 1) t (omega (arith, less)) is.1 also.0))
+    (λ (from : t ≤ s). ⊎_elim
+    (λ (more : t < s). absurd (falls (t + 1) s (omega (arith, more)) also.1 is.0))
+    (λ (to : s ≤ t). omega (arith, from, to))
+    (cases_lt t s))
+    (cases_lt s t)
+
+open-same : (said : ℕ → Verdict) (a b : ℕ) → IsUndecidedAt said a → IsUndecidedAt said b → a ≡ b
+open-same said a b is also =
+    ⊎_elim
+    (λ (less : a < b). absurd (also.least a less is.unsure))
+    (λ (from : b ≤ a). ⊎_elim
+    (λ (more : b < a). absurd (is.least b more also.unsure))
+    (λ (to : a ≤ b). omega (arith, from, to))
+    (cases_lt b a))
+    (cases_lt a b)
+
+verdict-same : (said : ℕ → Verdict) (answer other : PriceAnswer) → IsFalling said → multi.IsPriceOutcome said answer → multi.IsPriceOutcome said other → answer ≡ other
+verdict-same said (found.Price s) (found.Price t) falls is also = ap found.Price (figure-same said s t falls is also)
+verdict-same said (found.Price s) found.BelowZero falls is also = absurd (falls 0 s (omega arith) also is.0)
+verdict-same said (found.Price s) (found.Undecided b) falls is also = absurd (also.not_printed s is.0 is.1)
+verdict-same said found.BelowZero (found.Price t) falls is also = absurd (falls 0 t (omega arith) is also.0)
+verdict-same said found.BelowZero found.BelowZero falls is also = refl
+verdict-same said found.BelowZero (found.Undecided b) falls is also = absurd (also.not_below_zero is)
+verdict-same said (found.Undecided a) (found.Price t) falls is also = absurd (is.not_printed t also.0 also.1)
+verdict-same said (found.Undecided a) found.BelowZero falls is also = absurd (is.not_below_zero also)
+verdict-same said (found.Undecided a) (found.Undecided b) falls is also = ap found.Undecided (open-same said a b is also)
+
+price-same : (low high : PaymentSeries → ℤ → ℕ) (y : ℤ) (to_be : ToCome) (x z : Outcome) → IsPriced y to_be → IsPriceOutcomeFor low high y to_be x → IsPriceOutcomeFor low high y to_be z → x ≡ z
+price-same low high y (many series) x z range is also =
+    is.2
+    ∙ ap prices.placed (verdict-same (λ t. at_least_verdict (ends_of series y (low series y) (high series y)) (dirty_thousandths series.accrued t)) is.0 also.0 (falling series y (low series y) (high series y)) is.1 also.1)
+    ∙ sym also.2
+price-same low high y (one least payment) x z range is also =
+    is.2
+    ∙ ap prices.placed_simple (simple-same (AtLeast payment y) is.0 also.0 (λ amount smaller less reached. AtLeast-smaller payment y amount smaller range less reached) is.1 also.1)
+    ∙ sym also.2
+
+pub prices-one : AllowsOnePrice
+prices-one low high y list said other all is also =
+    answer-one Prices (IsPriceOutcome low high y) list said other
+    (λ xs zs each too. zip-same (λ (candidate : Candidate). IsPriced y (to_come_of candidate.shape)) (IsPriceOutcome low high y) list xs zs
+    (λ candidate x z range. price-same low high y (to_come_of candidate.shape) x z range) (all-priced y list all) each too)
+    is also

@@ -1,0 +1,193 @@
+-- A candidate has one exact outcome.
+use Rattle.std.proofs.Common.{◌≡◌, ◌<◌, ◌≤◌, ◌+◌, ◌-◌, ◌*◌, ◌^◌, ℕ, zero, suc, length, refl, ap, arith, ◌∙◌, ◌⊎◌, ⊎_elim, inl, inr, subst, ℤ, pos, negsuc, ◌+ℤ◌, ◌*ℤ◌, ◌≤ℤ◌, ◌<ℤ◌}
+use Rattle.std.specs.Prelude.{unsigned_abs}
+use Rattle.std.proofs.Math.Nat.{mul-le-mul_left, mul-le-mul_right, one-le-pow, pow-suc}
+use Rattle.std.proofs.lemmas.Int.{ints}
+use Rattle.muni_rule.specs.Accuracy.{thousandths}
+use Rattle.muni_rule.specs.ManyPeriods as periods
+use Rattle.muni_rule.specs.ManyPeriods.{to_come, discount_divisor, asked_power, worth_power}
+use Rattle.muni_rule.specs.Outcomes.{IsBelow, IsAbove, IsPrint, HasOneOutcome}
+use Rattle.muni_rule.specs.Payments.{PaymentSeries}
+use Rattle.muni_rule.specs.Printed.{IsPrintedPrice, IsBelowZero}
+use Rattle.muni_rule.specs.Ranges.{IsManyPeriodsBoundary}
+use Rattle.muni_rule.specs.Schedule.{prints, is_below, is_above, no_time}
+use Rattle.muni_rule.specs.SinglePayment.{SinglePayment, growth, AtLeast, More}
+use Rattle.muni_rule.proofs.AtLeastLemmas.{AtLeast-smaller}
+use Rattle.muni_rule.proofs.EnclosedLemmas.{divisor-least}
+use Rattle.muni_rule.proofs.FallLemmas.{price_falls}
+use Rattle.muni_rule.proofs.ManyPeriodFallLemmas.{at_least-decided}
+use Rattle.muni_rule.proofs.OutcomeLemmas.{Decided, one_outcome}
+use Rattle.muni_simple.specs.Yields.{greatest_printed}
+use Rattle.muni_yield.specs.Outcome as search
+use Rattle.muni_sched.specs.declared.candidate.Candidate.{Candidate}
+use Rattle.muni_sched.specs.declared.candidate.Shape.{Shape}
+use Rattle.muni_sched.specs.declared.candidate.Shape.TheVariants.{Many, One, AtRedemption, Discount}
+use Rattle.muni_sched.specs.AnswerLaws.{HasOne, HasOneExactYield, HaveOneExactYields, HasOneExactPrice, HaveOneExactPrices}
+use Rattle.muni_sched.specs.Candidates.{IsCandidate}
+use Rattle.muni_sched.specs.Exact.{IsExactIn, IsExactSingle, IsExactYieldOf, IsExactYield, IsExactPriceBy, IsExactPriceOf, IsExactPrice}
+use Rattle.muni_sched.specs.Shape.{IsPriceable}
+use Rattle.muni_sched.specs.Sound.{figure}
+use Rattle.muni_sched.specs.ToCome.{ToCome, many, one, to_come_of}
+use Rattle.muni_sched.proofs.PriceSoundLemmas.{IsPriced, IsClosed, priced, all-priced, many-closed, printed-same, below-same}
+use Rattle.muni_sched.proofs.YieldSoundLemmas.{IsInRange, in_range, either_order, AtPrice, MoreThan, many-outcome, in-print, in-below, in-above}
+use Rattle.muni_sched.proofs.ZipLemmas.{zip-has_one}
+
+-- ---- yields
+-- one of the three outcomes is the exact one, and no other
+in-one : (least greatest : ℤ) (AtLeast More : ℤ → Type 0) → HasOneOutcome least greatest AtLeast More → HasOne (IsExactIn least greatest AtLeast More)
+in-one least greatest AtLeast More has =
+    ⊎_elim
+    (λ (below : IsBelow least AtLeast More). record { value = is_below; such = below; only = λ exact is. in-below least greatest AtLeast More exact has below is })
+    (λ (rest : IsAbove greatest AtLeast More ⊎ ((t : ℤ) × IsPrint least greatest AtLeast More t)). ⊎_elim
+    (λ (above : IsAbove greatest AtLeast More). record { value = is_above; such = above; only = λ exact is. in-above least greatest AtLeast More exact has above is })
+    (λ (print : (t : ℤ) × IsPrint least greatest AtLeast More t). record { value = prints print.0; such = print.1; only = λ exact is. in-print least greatest AtLeast More print.0 exact has print.1 is })
+    rest)
+    has.some
+
+le-decided : (x y : ℤ) → Decided (x ≤ℤ y)
+le-decided x y =
+    ⊎_elim
+    (λ (order : x ≤ℤ y). inl order)
+    (λ (past : (y +ℤ pos 1) ≤ℤ x). inr (λ order. omega (arith, ints, past, order)))
+    (either_order x y)
+
+lt-decided : (x y : ℤ) → Decided (x <ℤ y)
+lt-decided x y =
+    ⊎_elim
+    (λ (order : y ≤ℤ x). inr (λ less. omega (arith, ints, order, less)))
+    (λ (past : (x +ℤ pos 1) ≤ℤ y). inl (omega (arith, ints, past)))
+    (either_order y x)
+
+single-outcome : (least : ℤ) (payment : SinglePayment) (amount : ℤ) → least ≤ℤ greatest_printed → pos 0 <ℤ payment.left → pos 0 <ℤ (amount +ℤ payment.accrued) → HasOneOutcome least greatest_printed (λ y. AtLeast payment y amount) (λ y. More payment y amount)
+single-outcome least payment amount order left above =
+    one_outcome least greatest_printed (λ y. AtLeast payment y amount) (λ y. More payment y amount) (price_falls payment amount left above)
+    (λ y. le-decided ((amount +ℤ payment.accrued) *ℤ growth payment y) (payment.due *ℤ pos 360000000))
+    (λ y. lt-decided ((amount +ℤ payment.accrued) *ℤ growth payment y) (payment.due *ℤ pos 360000000))
+    order
+
+-- with no day left there is no yield, and with some there is one outcome
+none-left : (least : ℤ) (payment : SinglePayment) (amount : ℤ) → payment.left ≡ pos 0 → HasOne (IsExactSingle least payment amount)
+none-left least payment amount none = record {
+  value = no_time;
+  such = inl (none, refl);
+  only = λ exact is. ⊎_elim
+      (λ (same : (payment.left ≡ pos 0) × (exact ≡ no_time)). same.1)
+      (λ (some : (pos 0 <ℤ payment.left) × IsExactIn least greatest_printed (λ y. AtLeast payment y amount) (λ y. More payment y amount) exact). absurd (let left = some.0 in omega (arith, ints, none, left)))
+      is;
+}
+
+some-left : (least : ℤ) (payment : SinglePayment) (amount : ℤ) → pos 0 <ℤ payment.left → HasOne (IsExactIn least greatest_printed (λ y. AtLeast payment y amount) (λ y. More payment y amount)) → HasOne (IsExactSingle least payment amount)
+some-left least payment amount left has = record {
+  value = has.value;
+  such = inr (left, has.such);
+  only = λ exact is. ⊎_elim
+      (λ (none : (payment.left ≡ pos 0) × (exact ≡ no_time)). absurd (let zero_left = none.0 in omega (arith, ints, zero_left, left)))
+      (λ (some : (pos 0 <ℤ payment.left) × IsExactIn least greatest_printed (λ y. AtLeast payment y amount) (λ y. More payment y amount) exact). has.only exact some.1)
+      is;
+}
+
+single-one : (least : ℤ) (payment : SinglePayment) (amount : ℤ) → least ≤ℤ greatest_printed → pos 0 ≤ℤ payment.left → pos 0 <ℤ (amount +ℤ payment.accrued) → HasOne (IsExactSingle least payment amount)
+single-one least payment amount order from above =
+    ⊎_elim
+    (λ (to : payment.left ≤ℤ pos 0). none-left least payment amount (omega (arith, ints, from, to)))
+    (λ (some : (pos 0 +ℤ pos 1) ≤ℤ payment.left).
+    let left : pos 0 <ℤ payment.left = omega (arith, ints, some) in
+    some-left least payment amount left (in-one least greatest_printed (λ y. AtLeast payment y amount) (λ y. More payment y amount) (single-outcome least payment amount order left above)))
+    (either_order payment.left (pos 0))
+
+-- the days left are counted from 0 up
+abbrev IsToCome : ToCome → Type 0
+IsToCome (many series) = IsInRange (many series)
+IsToCome (one least payment) = IsInRange (one least payment) × (pos 0 ≤ℤ payment.left)
+
+shape-to_come : (shape : Shape) → IsPriceable shape → IsToCome (to_come_of shape)
+shape-to_come (Many series) is = in_range (Many series) is
+shape-to_come (One payment) is = (in_range (One payment) is, is.left.0)
+shape-to_come (AtRedemption payment) is = (in_range (AtRedemption payment) is, is.left.0)
+shape-to_come (Discount days) is = (in_range (Discount days) is, is.0)
+
+yield-one : (price : ℕ) (to_be : ToCome) → 0 < price → IsToCome to_be → HasOne (IsExactYieldOf price to_be)
+yield-one price (many series) some is = in-one search.least_printed search.greatest_printed (AtPrice series price) (MoreThan series price) (many-outcome series price is.0 is.1)
+yield-one price (one least payment) some is =
+    let above : pos 0 <ℤ (pos (360000 * price) +ℤ payment.accrued) = let accrued = is.0.2 in omega (arith, ints, accrued, some) in
+    let order : least ≤ℤ greatest_printed = let most = is.0.1 in omega (arith, ints, most) in
+    single-one least payment (pos (360000 * price)) order is.1 above
+
+pub candidate-yield : HasOneExactYield
+candidate-yield price candidate some is = yield-one price (to_come_of candidate.shape) some (shape-to_come candidate.shape is)
+
+pub list-yields : HaveOneExactYields
+list-yields price list some all = zip-has_one IsCandidate (IsExactYield price) list (λ candidate. candidate-yield price candidate some) all
+
+-- ---- prices
+-- what holds first and does not hold at last stops to hold somewhere
+last-held : (Holds : ℕ → Type 0) (m : ℕ) → ((k : ℕ) → Decided (Holds k)) → Holds 0 → ¬ (Holds m) → (k : ℕ) × Holds k × ¬ (Holds (k + 1))
+last-held Holds zero decided first last = absurd (last first)
+last-held Holds (suc m) decided first last =
+    ⊎_elim
+    (λ (here : Holds m). let next : m + 1 ≡ suc m = omega arith in (m, here, λ held. last (subst Holds next held)))
+    (λ (not_here : ¬ (Holds m)). last-held Holds m decided first not_here)
+    (decided m)
+
+printed-has_one : (Reaches : ℤ → Type 0) (t : ℕ) → IsClosed Reaches → Reaches (thousandths t) → ¬ (Reaches (thousandths (t + 1))) → HasOne (IsExactPriceBy Reaches)
+printed-has_one Reaches t closed reached not_next =
+    let print : IsPrintedPrice Reaches t = record { reached = reached; next_not_reached = not_next } in
+    let place : figure 1 (t + 1) ≡ pos t = omega (arith, ints) in
+    record { value = prints (pos t); such = print; only = λ exact is. printed-same Reaches t exact closed print is ∙ ap prints place }
+
+-- where some amount is not reached, there is one price
+price-has_one : (Reaches : ℤ → Type 0) (m : ℕ) → IsClosed Reaches → ((amount : ℤ) → Decided (Reaches amount)) → ¬ (Reaches (thousandths m)) → HasOne (IsExactPriceBy Reaches)
+price-has_one Reaches m closed decided missed =
+    ⊎_elim
+    (λ (first : Reaches (thousandths 0)).
+    let last = last-held (λ t. Reaches (thousandths t)) m (λ t. decided (thousandths t)) first missed in
+    printed-has_one Reaches last.0 closed last.1 last.2)
+    (λ (none : ¬ (Reaches (thousandths 0))).
+    let below : IsBelowZero Reaches = record { zero_not_reached = none } in
+    record { value = is_below; such = below; only = λ exact is. below-same Reaches exact closed below is })
+    (decided (thousandths 0))
+
+-- a product with a factor from 1 up is not smaller
+mul-from : (x factor : ℤ) → pos 0 ≤ℤ x → pos 0 <ℤ factor → x ≤ℤ (x *ℤ factor)
+mul-from (pos x) (pos factor) from above = let times : x * 1 ≤ x * factor = mul-le-mul_left x (omega (arith, ints, above)) in omega (arith, ints, times)
+mul-from (pos x) (negsuc factor) from above = absurd (omega (arith, ints, above))
+mul-from (negsuc x) factor from above = absurd (omega (arith, ints, from))
+
+-- one payment does not reach a price past its amount
+single-missed : (payment : SinglePayment) (y : ℤ) → pos 0 <ℤ growth payment y → ¬ (AtLeast payment y (thousandths (unsigned_abs payment.due + unsigned_abs payment.accrued + 1)))
+single-missed payment y above reached =
+    let x : ℤ = thousandths (unsigned_abs payment.due + unsigned_abs payment.accrued + 1) +ℤ payment.accrued in
+    let from : pos 0 ≤ℤ x = omega (arith, ints) in
+    let times : x ≤ℤ (x *ℤ growth payment y) = mul-from x (growth payment y) from above in
+    omega (arith, ints, times, reached)
+
+-- and many payments none past the numerator of their worth
+power-from : (x v e : ℕ) → 1 ≤ x → 1 ≤ v → x ≤ x ^ 180 * v ^ e
+power-from x v e some divides =
+    let powers : 1 ≤ x ^ 179 = one-le-pow 179 x some in
+    let others : 1 ≤ v ^ e = one-le-pow e v divides in
+    let times : 1 * x ≤ x ^ 179 * x = mul-le-mul_right x powers in
+    let all : x ^ 179 * x * 1 ≤ x ^ 179 * x * v ^ e = mul-le-mul_left (x ^ 179 * x) others in
+    rw (pow-suc x 179) (omega (arith, times, all))
+
+many-missed : (series : PaymentSeries) (y : ℤ) → IsManyPeriodsBoundary y → ¬ (periods.AtLeast (to_come series) y (thousandths (worth_power (to_come series) y + 1)))
+many-missed series y within reached =
+    let at_least = reached.at_least in
+    let divisor = divisor-least y within in
+    let least = power-from (360000000 * (worth_power (to_come series) y + 1) + series.accrued) (discount_divisor y) ((length (to_come series).payments - 1) * 180 + (180 - series.a)) (omega arith) (omega (arith, divisor)) in
+    omega (arith, at_least, least)
+
+price-one : (y : ℤ) (to_be : ToCome) → IsPriced y to_be → HasOne (IsExactPriceOf y to_be)
+price-one y (many series) range =
+    price-has_one (periods.AtLeast (to_come series) y) (worth_power (to_come series) y + 1) (many-closed series y) (λ amount. at_least-decided (to_come series) y amount) (many-missed series y range.2)
+price-one y (one least payment) range =
+    price-has_one (AtLeast payment y) (unsigned_abs payment.due + unsigned_abs payment.accrued + 1) (λ amount smaller less reached. AtLeast-smaller payment y amount smaller range less reached)
+    (λ amount. le-decided ((amount +ℤ payment.accrued) *ℤ growth payment y) (payment.due *ℤ pos 360000000))
+    (single-missed payment y range)
+
+pub candidate-price : HasOneExactPrice
+candidate-price y candidate is at_yield given = price-one y (to_come_of candidate.shape) (priced y candidate is at_yield given)
+
+pub list-prices : HaveOneExactPrices
+list-prices y list all =
+    zip-has_one (λ (candidate : Candidate). IsPriced y (to_come_of candidate.shape)) (IsExactPrice y) list (λ candidate. price-one y (to_come_of candidate.shape)) (all-priced y list all)

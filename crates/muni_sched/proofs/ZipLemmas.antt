@@ -1,0 +1,36 @@
+-- Lists that stand for lists, item by item.
+use Rattle.std.proofs.Common.{◌≡◌, List, [], ◌∷◌, All, refl}
+use Rattle.std.specs.List.{AllZip}
+use Rattle.std.proofs.lemmas.List.Elements.{All-head, All-tail}
+use Rattle.muni_sched.specs.AnswerLaws.{HasOne}
+
+-- where two items that stand for one are the same, so are two lists
+pub zip-same : {X Y : Type 0} (Good : X → Type 0) (Is : X → Y → Type 0) (xs : List X) (ys zs : List Y) → ((x : X) (y z : Y) → Good x → Is x y → Is x z → y ≡ z) → All Good xs → AllZip Is xs ys → AllZip Is xs zs → ys ≡ zs
+zip-same Good Is [] [] [] same all is also = refl
+zip-same Good Is [] [] (z ∷ zs) same all is also = absurd also
+zip-same Good Is [] (y ∷ ys) zs same all is also = absurd is
+zip-same Good Is (x ∷ xs) [] zs same all is also = absurd is
+zip-same Good Is (x ∷ xs) (y ∷ ys) [] same all is also = absurd also
+zip-same Good Is (x ∷ xs) (y ∷ ys) (z ∷ zs) same all is also =
+    let first : y ≡ z = same x y z (All-head Good x xs all) is.0 also.0 in
+    let rest : ys ≡ zs = zip-same Good Is xs ys zs same (All-tail Good x xs all) is.1 also.1 in
+    rw (first, rest) refl
+
+none-only : {X Y : Type 0} (Is : X → Y → Type 0) (ys : List Y) → AllZip Is [] ys → ys ≡ []
+none-only Is [] is = refl
+none-only Is (y ∷ ys) is = absurd is
+
+more-only : {X Y : Type 0} (Is : X → Y → Type 0) (x : X) (xs : List X) (ys : List Y) (first : HasOne (Is x)) (rest : HasOne (AllZip Is xs)) → AllZip Is (x ∷ xs) ys → ys ≡ first.value ∷ rest.value
+more-only Is x xs [] first rest is = absurd is
+more-only Is x xs (y ∷ ys) first rest is =
+    let head : y ≡ first.value = first.only y is.0 in
+    let tail : ys ≡ rest.value = rest.only ys is.1 in
+    rw (head, tail) refl
+
+-- where one item stands for each, one list does for all
+pub zip-has_one : {X Y : Type 0} (Good : X → Type 0) (Is : X → Y → Type 0) (xs : List X) → ((x : X) → Good x → HasOne (Is x)) → All Good xs → HasOne (AllZip Is xs)
+zip-has_one Good Is [] each all = record { value = []; such = tt; only = λ ys is. none-only Is ys is }
+zip-has_one Good Is (x ∷ xs) each all =
+    let first : HasOne (Is x) = each x (All-head Good x xs all) in
+    let rest : HasOne (AllZip Is xs) = zip-has_one Good Is xs each (All-tail Good x xs all) in
+    record { value = first.value ∷ rest.value; such = (first.such, rest.such); only = λ ys is. more-only Is x xs ys first rest is }
