@@ -4,7 +4,7 @@ use native.Mathlib.Numerals.{add_seven}
 use Rattle.std.proofs.lemmas.List.FromFn.{filter_of_map_range_with_len_more}
 use Rattle.muni_rule.specs.Civil.{Civil, is_before}
 use Rattle.muni_desk.specs.Book.{state_after, call_at, if_before, calls_before, trade_from, nth_trade}
-use Rattle.muni_desk.specs.Job.{Job}
+use Rattle.muni_desk.specs.Trade.{Trade}
 
 -- no calls, and one call more
 pub calls-none : (maturity : Civil) → [] ≡ calls_before maturity 0
@@ -22,6 +22,6 @@ state-later seed place =
     ap (state_after seed) (sym (add_seven (7 * place)) ∙ more)
 
 -- the trade of a state that stands at a place
-pub trade-there : (seed place workers state : ℕ) (trade : Job) → trade ≡ trade_from state workers → state ≡ state_after seed (7 * place) → trade ≡ nth_trade seed place workers
+pub trade-there : (seed place state : ℕ) (trade : Trade) → trade ≡ trade_from state → state ≡ state_after seed (7 * place) → trade ≡ nth_trade seed place
 unfolding nth_trade
-trade-there seed place workers state trade is there = is ∙ ap (λ s. trade_from s workers) there
+trade-there seed place state trade is there = is ∙ ap trade_from there

@@ -8,11 +8,10 @@ use Rattle.std.proofs.lemmas.List.Sums.{sum_by_push, fold_push}
 use Rattle.muni_rule.specs.Payments.{PaymentSeries}
 use Rattle.muni_msg.specs.declared.figures.Figures.{Figures}
 use Rattle.muni_msg.specs.declared.refusal.Refusal.{Refusal}
-use Rattle.muni_desk.specs.Job.{Job}
-use Rattle.muni_desk.specs.Quote.{IsAnswer}
+use Rattle.muni_desk.specs.Answer.{IsAnswer}
 use Rattle.muni_desk.specs.Book.{nth_trade}
 use Rattle.muni_desk.specs.Drill.{Answered, AreSums, HaveAnswer, IsSummed, IsSummaryText, is_printed, is_undecided, is_outside, is_called, yield_of, accrued_of, summary_lines}
-use Rattle.muni_desk.specs.declared.drill.DrillJob.{DrillJob}
+use Rattle.muni_desk.specs.Trade.{Trade}
 use Rattle.muni_desk.specs.declared.drill.Sums.{Sums}
 
 -- a count with one trade more
@@ -32,15 +31,15 @@ sums-more book it before after so_far more = record {
 }
 
 -- no trade, and one trade more
-pub summed-none : (low high : PaymentSeries → ℤ → ℕ) (seed workers : ℕ) (sums : Sums) → AreSums [] sums → IsSummed low high seed 0 workers sums
-summed-none low high seed workers sums none = record {
+pub summed-none : (low high : PaymentSeries → ℤ → ℕ) (seed : ℕ) (sums : Sums) → AreSums [] sums → IsSummed low high seed 0 sums
+summed-none low high seed sums none = record {
   book = [];
   right = record { trades = refl; right = All-nil (λ it. IsAnswer low high (codes "DRILL") it.trade it.answer) };
   summed = none;
 }
 
-pub summed-more : (low high : PaymentSeries → ℤ → ℕ) (seed count workers : ℕ) (trade : Job) (answer : Result Figures Refusal) (before after : Sums) → IsSummed low high seed count workers before → trade ≡ nth_trade seed count workers → IsAnswer low high (codes "DRILL") trade answer → HaveAnswer before trade.maturity answer after → IsSummed low high seed (count + 1) workers after
-summed-more low high seed count workers trade answer before after so_far is right more =
+pub summed-more : (low high : PaymentSeries → ℤ → ℕ) (seed count : ℕ) (trade : Trade) (answer : Result Figures Refusal) (before after : Sums) → IsSummed low high seed count before → trade ≡ nth_trade seed count → IsAnswer low high (codes "DRILL") trade answer → HaveAnswer before trade.maturity answer after → IsSummed low high seed (count + 1) after
+summed-more low high seed count trade answer before after so_far is right more =
     let it : Answered = record { trade = trade; answer = answer } in
     let earlier = so_far.book in
     record {
@@ -49,14 +48,14 @@ summed-more low high seed count workers trade answer before after so_far is righ
         trades =
             map-append (λ x. x.trade) earlier (it ∷ [])
             ∙ (λ i. so_far.right.trades i ++ is i ∷ [])
-            ∙ sym (map-range_with_len_more (λ place. nth_trade seed place workers) 0 count count (omega arith));
+            ∙ sym (map-range_with_len_more (nth_trade seed) 0 count count (omega arith));
         right = All-push (λ x. IsAnswer low high (codes "DRILL") x.trade x.answer) earlier it so_far.right.right right;
       };
       summed = sums-more earlier it before after so_far.summed more;
     }
 
 -- the lines of the sums are the summary of their book
-pub summary-said : (low high : PaymentSeries → ℤ → ℕ) (job : DrillJob) (sums : Sums) (text : List ℕ) → IsSummed low high job.seed job.count job.workers sums → text ≡ summary_lines sums.trades sums.printed sums.undecided sums.outside sums.yields sums.accrued sums.called → IsSummaryText low high job text
-summary-said low high job sums text summed is =
+pub summary-said : (low high : PaymentSeries → ℤ → ℕ) (seed count : ℕ) (sums : Sums) (text : List ℕ) → IsSummed low high seed count sums → text ≡ summary_lines sums.trades sums.printed sums.undecided sums.outside sums.yields sums.accrued sums.called → IsSummaryText low high seed count text
+summary-said low high seed count sums text summed is =
     let s = summed.summed in
     (summed.book, summed.right, is ∙ (λ i. summary_lines (s.trades i) (s.printed i) (s.undecided i) (s.outside i) (s.yields i) (s.accrued i) (s.called i)))

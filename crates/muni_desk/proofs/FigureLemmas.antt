@@ -1,8 +1,7 @@
 -- What the redemption candidates of an issue allow to be given.
-use Rattle.std.proofs.Common.{◌≡◌, ℕ, zero, suc, ◌+◌, ◌<◌, ◌≤◌, true, false, Bool, Some, None, List, [], ◌∷◌, ◌++◌, length, map, refl, sym, ap, ◌∙◌, subst, arith, ℤ, pos, negsuc, ◌≤ℤ◌}
+use Rattle.std.proofs.Common.{◌≡◌, ℕ, ◌+◌, ◌<◌, true, false, Bool, Some, None, List, [], ◌∷◌, length, map, refl, sym, ap, subst, arith, ℤ, pos, negsuc}
 use Rattle.std.specs.Prelude.{All, Option, option_map, if◌then◌else◌, IfSome}
 use Rattle.std.specs.List.{slice_get}
-use Rattle.std.specs.declared.cmp.Ordering.{Ordering}
 use Rattle.std.proofs.lemmas.List.{length-map, length-append}
 use Rattle.std.proofs.lemmas.List.Elements.{All-head, All-tail, All-cons, All-nil}
 use Rattle.std.proofs.lemmas.Int.{ints}
@@ -17,6 +16,7 @@ use Rattle.muni_days.specs.declared.day.Day.{Day}
 use Rattle.muni_terms.specs.declared.row.Kind.{Kind}
 use Rattle.muni_terms.specs.declared.row.Kind.TheVariants.{Periodic, Zero, AtRedemption, Discount}
 use Rattle.muni_terms.specs.declared.row.IssueRow.{IssueRow}
+use Rattle.muni_sched.proofs.ToldLemmas.{taken}
 use Rattle.muni_sched.specs.Candidates.{HasShape, disclosed, disclosure, disclosures_of, call_redemption}
 use Rattle.muni_sched.specs.PriceAnswer.{IsAtYield, IsShapeAtYield}
 use Rattle.muni_sched.specs.Range.{given_range, IsGivenFor}
@@ -26,14 +26,10 @@ use Rattle.muni_sched.specs.declared.candidate.Shape.{Shape}
 use Rattle.muni_sched.specs.declared.candidate.Shape.TheVariants as shape
 use Rattle.muni_msg.specs.declared.asked.Given.{Given}
 use Rattle.muni_msg.specs.declared.asked.Given.TheVariants.{AtYield, AtPrice, AtRate}
-use Rattle.muni_msg.specs.declared.refusal.Range.{Range}
 use Rattle.muni_desk.specs.GivenFor.{IsDiscounted, IsNote, IsOnBasis}
 use Rattle.muni_desk.specs.Quoted.{IsQuoted, IsRateQuoted}
 use Rattle.muni_desk.specs.Said.{is_wrong_basis, IsQuote}
 use Rattle.muni_desk.specs.declared.figures.Quoted.{Quoted}
-
-taken : {X : Type 0} (x y : X) → Some x ≡ Some y → x ≡ y
-taken x y same = cc
 
 -- the shape of a series is that of one payment, or of many
 either-at_yield : (last : Bool) (series : PaymentSeries) → IsShapeAtYield (if last then shape.One (single (last_payment series)) else shape.Many series)
@@ -111,7 +107,7 @@ pub rate-in_range : (rate : ℤ) (days : ℤ) (of : Shape) → of ≡ shape.Disc
 rate-in_range rate days of is given = subst (λ s. IsWithin (given_range s) rate) is given
 
 pub quote-at_rate : (low high : PaymentSeries → ℤ → ℕ) (rate : ℤ) (list : List Candidate) (quoted : Quoted) → IsRateQuoted rate list quoted → IsQuoted low high (AtRate rate) list quoted
-quote-at_rate low high rate list quoted is = record { place = 0; there = is.there; quoted = is.rated }
+quote-at_rate low high rate list quoted is = record { place = 0; there = is.there; quoted = (refl, is.rated) }
 
 pub shape-there : (list : List Candidate) (note : Candidate) (days : ℤ) → slice_get list 0 ≡ Some note → IfSome (slice_get list 0) (λ first. first.shape ≡ shape.Discount days) → note.shape ≡ shape.Discount days
 shape-there list note days there is = subst (λ first. IfSome first (λ found. found.shape ≡ shape.Discount days)) there is

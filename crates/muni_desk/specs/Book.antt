@@ -4,7 +4,7 @@ use Rattle.std.specs.List.{range_with_len}
 use Rattle.muni_rule.specs.Civil.{Civil, is_before, months_on}
 use Rattle.muni_rule.specs.Redemptions.{Redemption, par_price}
 use Rattle.muni_msg.specs.declared.asked.Given.TheVariants.{AtPrice}
-use Rattle.muni_desk.specs.Job.{Job, periodic}
+use Rattle.muni_desk.specs.Trade.{Trade, periodic}
 
 -- one step of the generator, which is linear and congruential, with a state below 2^64
 unfoldable pub next_state : ℕ → ℕ
@@ -50,8 +50,8 @@ calls_before maturity count =
 
 -- The trade that seven draws make: a security with interest every half-year, which is dated 2020-01-01,
 -- settles in the second half of 2020, and is traded at a price from 90 to 120 dollars.
-abbrev pub trade_of : (x1 x2 x3 x4 x5 x6 x7 workers : ℕ) → Job
-trade_of x1 x2 x3 x4 x5 x6 x7 workers = record {
+abbrev pub trade_of : (x1 x2 x3 x4 x5 x6 x7 : ℕ) → Trade
+trade_of x1 x2 x3 x4 x5 x6 x7 = record {
   kind = periodic (day_in_2020 7 1);
   dated = day_in_2020 1 1;
   maturity = interest_date (1 + x1 % 60);
@@ -60,15 +60,14 @@ trade_of x1 x2 x3 x4 x5 x6 x7 workers = record {
   settlement = day_in_2020 (7 + x4 % 6) (1 + x5 % 28);
   par = 5_000 * (1 + x6 % 200);
   given = AtPrice (90_000_000 + 1_000 * (x7 % 30_001));
-  workers = workers;
 }
 
 -- the trade that the seven draws after a state make
-abbrev pub trade_from : ℕ → ℕ → Job
-trade_from state workers =
+abbrev pub trade_from : ℕ → Trade
+trade_from state =
     trade_of (draw state 1) (draw state 2) (draw state 3) (draw state 4) (draw state 5)
-    (draw state 6) (draw state 7) workers
+    (draw state 6) (draw state 7)
 
 -- the trade at a place of the book, counted from 0: each trade before it took seven draws from the seed on
-unfoldable pub nth_trade : (seed place workers : ℕ) → Job
-nth_trade seed place workers = trade_from (state_after seed (7 * place)) workers
+unfoldable pub nth_trade : (seed place : ℕ) → Trade
+nth_trade seed place = trade_from (state_after seed (7 * place))

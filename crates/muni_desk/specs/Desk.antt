@@ -4,7 +4,7 @@ use Rattle.muni_desk.specs.Words.{is_word}
 use Rattle.muni_desk.specs.QuoteOne as one
 use Rattle.muni_desk.specs.Job as quote
 use Rattle.muni_desk.specs.Drill as drill
-use Rattle.muni_desk.specs.declared.drill.DrillJob.{DrillJob}
+use Rattle.muni_desk.specs.Trade.{Trade}
 
 -- the words are those of the command of this name
 abbrev pub is_command : List ℕ → List (List ℕ) → Bool
@@ -21,12 +21,13 @@ IsNoCommand words =
     (MatchBool (is_command (codes "drill") words) (drill.drill_of (options_of words) ≡ None)
     (one.job_of words ≡ None))
 
--- a fact of what the words ask for: one of `quote`, one of `drill`, and one of `quote-one`
-abbrev pub ForCommand : List (List ℕ) → (quote.Job → Type 0) → (DrillJob → Type 0) → (one.Job → Type 0)
+-- A fact of what the words ask for: of the trade of `quote`, of the seed and the count of `drill`, and of
+-- `quote-one`. No fact can be of the workers.
+abbrev pub ForCommand : List (List ℕ) → (Trade → Type 0) → (ℕ → ℕ → Type 0) → (one.Job → Type 0)
     → Type 0
 ForCommand words OfQuote OfDrill OfQuoteOne =
     MatchBool (is_command (codes "quote") words)
-    (IfSome (quote.job_of (options_of words)) OfQuote)
+    (IfSome (quote.job_of (options_of words)) (λ job. OfQuote job.trade))
     (MatchBool (is_command (codes "drill") words)
-    (IfSome (drill.drill_of (options_of words)) OfDrill)
+    (IfSome (drill.drill_of (options_of words)) (λ job. OfDrill job.seed job.count))
     (IfSome (one.job_of words) OfQuoteOne))

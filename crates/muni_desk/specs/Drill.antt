@@ -12,8 +12,9 @@ use Rattle.muni_msg.specs.declared.figures.Figures.{Figures}
 use Rattle.muni_msg.specs.declared.refusal.Refusal.{Refusal}
 use Rattle.muni_confirm.specs.Line.{line}
 use Rattle.muni_desk.specs.Words.{◌>>=◌, value_of, number_reading}
-use Rattle.muni_desk.specs.Job.{Job, workers_reading}
-use Rattle.muni_desk.specs.Quote.{IsAnswer}
+use Rattle.muni_desk.specs.Job.{workers_reading}
+use Rattle.muni_desk.specs.Trade.{Trade}
+use Rattle.muni_desk.specs.Answer.{IsAnswer}
 use Rattle.muni_desk.specs.Book.{nth_trade}
 use Rattle.muni_desk.specs.declared.drill.DrillJob.{DrillJob}
 use Rattle.muni_desk.specs.declared.drill.Sums.{Sums}
@@ -71,12 +72,12 @@ is_called maturity (Err refused) = false
 
 -- a trade, and what is answered to it
 pub record Answered : Type 0 where
-  pub trade : Job
+  pub trade : Trade
   pub answer : Result Figures Refusal
 
 -- the book has the first so many trades from a seed, and the right answer to each
-pub record IsBook (low high : PaymentSeries → ℤ → ℕ) (seed count workers : ℕ) (book : List Answered) : Type 0 where
-  pub trades : map (λ it. it.trade) book ≡ map (λ place. nth_trade seed place workers) (range_with_len 0 count)
+pub record IsBook (low high : PaymentSeries → ℤ → ℕ) (seed count : ℕ) (book : List Answered) : Type 0 where
+  pub trades : map (λ it. it.trade) book ≡ map (nth_trade seed) (range_with_len 0 count)
   pub right : All (λ it. IsAnswer low high (codes "DRILL") it.trade it.answer) book
 
 -- a line of a word and a number
@@ -102,11 +103,10 @@ summary_text book =
     (sum_by (λ it. accrued_of it.answer) book)
     (count_by (λ it. is_called it.trade.maturity it.answer) book)
 
--- the text is the summary of the book that is asked for
-abbrev pub IsSummaryText : (low high : PaymentSeries → ℤ → ℕ) → DrillJob → List ℕ → Type 0
-IsSummaryText low high drill text =
-    (book : List Answered) × IsBook low high drill.seed drill.count drill.workers book
-    × (text ≡ summary_text book)
+-- the text is the summary of the book that has so many trades from a seed
+abbrev pub IsSummaryText : (low high : PaymentSeries → ℤ → ℕ) → (seed count : ℕ) → List ℕ → Type 0
+IsSummaryText low high seed count text =
+    (book : List Answered) × IsBook low high seed count book × (text ≡ summary_text book)
 
 -- these are the sums over a book
 pub record AreSums (book : List Answered) (sums : Sums) : Type 0 where
@@ -129,9 +129,9 @@ pub record HaveAnswer (before : Sums) (maturity : Civil) (answer : Result Figure
   pub called : sums.called ≡ before.called + cond (is_called maturity answer) 1 0
 
 -- sums over a book that has so many trades
-pub record IsSummed (low high : PaymentSeries → ℤ → ℕ) (seed count workers : ℕ) (sums : Sums) : Type 0 where
+pub record IsSummed (low high : PaymentSeries → ℤ → ℕ) (seed count : ℕ) (sums : Sums) : Type 0 where
   pub book : List Answered
-  pub right : IsBook low high seed count workers book
+  pub right : IsBook low high seed count book
   pub summed : AreSums book sums
 
 -- the sums are as small as the number of trades makes them

@@ -7,31 +7,15 @@ use Rattle.muni_rule.specs.Civil.{Civil}
 use Rattle.muni_rule.specs.Redemptions.{Redemption}
 use Rattle.muni_dec.specs.Digits.{are_digits, number}
 use Rattle.muni_dec.specs.Values.{coupon_reading, price_reading, yield_reading, par_reading}
-use Rattle.muni_days.specs.Day.{civil, day_reading}
-use Rattle.muni_terms.specs.declared.row.Kind.{Kind}
-use Rattle.muni_terms.specs.declared.row.Kind.TheVariants.{Periodic, Zero, AtRedemption, Discount}
+use Rattle.muni_days.specs.Day.{day_reading}
 use Rattle.muni_msg.specs.declared.asked.Given.{Given}
 use Rattle.muni_msg.specs.declared.asked.Given.TheVariants.{AtYield, AtPrice, AtRate}
+use Rattle.muni_desk.specs.Trade.{SecurityKind, periodic, zero, at_redemption, discount, Trade}
 use Rattle.muni_desk.specs.Words.{◌>>=◌, has_name, count_of, is_absent, value_of, values_of}
 
--- the kind of security, with the first interest date where it pays interest every half-year
-pub data SecurityKind : Type 0 where
-  periodic : Civil → SecurityKind
-  zero : SecurityKind
-  at_redemption : SecurityKind
-  discount : SecurityKind
-
--- What is asked for: the terms of a security with its pricing calls in the order in which they are
--- given, the settlement, the par in dollars, what is given, and how many workers may compute.
+-- a trade, and how many workers may compute
 pub record Job : Type 0 where
-  pub kind : SecurityKind
-  pub dated : Civil
-  pub maturity : Civil
-  pub coupon : ℕ
-  pub calls : List Redemption
-  pub settlement : Civil
-  pub par : ℕ
-  pub given : Given
+  pub trade : Trade
   pub workers : ℕ
 
 -- a date that an option gives
@@ -160,9 +144,9 @@ workers_of words =
     if is_absent (codes "--workers=") words then Some 1
     else value_of (codes "--workers=") words >>= λ text. workers_reading text
 
--- the job that known options give
-abbrev pub job_of_options : List (List ℕ) → Option Job
-job_of_options words = do
+-- the trade that known options give
+abbrev pub trade_of : List (List ℕ) → Option Trade
+trade_of words = do
   kind ← value_of (codes "--kind=") words >>= λ text. kind_of text words
   dated ← date_of (codes "--dated=") words
   maturity ← date_of (codes "--maturity=") words
@@ -171,17 +155,16 @@ job_of_options words = do
   settlement ← date_of (codes "--settle=") words
   par ← par_of words
   given ← given_of words
+  Some (record { kind = kind; dated = dated; maturity = maturity; coupon = coupon; calls = calls; settlement = settlement; par = par; given = given })
+
+-- and the job
+abbrev pub job_of_options : List (List ℕ) → Option Job
+job_of_options words = do
+  trade ← trade_of words
   workers ← workers_of words
-  Some (record { kind = kind; dated = dated; maturity = maturity; coupon = coupon; calls = calls; settlement = settlement; par = par; given = given; workers = workers })
+  Some (record { trade = trade; workers = workers })
 
 -- What options ask for: each is known, each but a call stands once at most, and what has to stand
 -- does and reads.
 abbrev pub job_of : List (List ℕ) → Option Job
 job_of words = if list_all is_option words then job_of_options words else None
-
--- a kind of an issue is this one
-abbrev pub security_kind : Kind → SecurityKind
-security_kind (Periodic first) = periodic (civil first)
-security_kind Zero = zero
-security_kind AtRedemption = at_redemption
-security_kind Discount = discount

@@ -6,9 +6,14 @@ pub mod QuoteOneTypes
 pub mod Said
 pub mod GivenFor
 pub mod Quoted
+pub mod Trade
+pub mod TradeTypes
 pub mod Job
 pub mod JobTypes
+pub mod Answer
 pub mod Quote
 pub mod Book
 pub mod Drill
 pub mod Desk
+pub mod Alike
+pub mod DeskLaws

@@ -7,6 +7,7 @@ use Rattle.muni_rule.specs.Accrued.{interest, half_year_interest}
 use Rattle.muni_rule.specs.Payments.{redemption_amount}
 use Rattle.muni_rule.specs.SinglePayment.{SinglePayment, AtLeast}
 use Rattle.muni_rule.specs.Printed.{IsPrintedPrice, IsBelowZero}
+use Rattle.muni_rule.specs.Ranges.{one_period_yields}
 use Rattle.muni_dec.specs.Decimal.{decimal_text}
 use Rattle.muni_dec.specs.Values.{coupon_reading, price_reading, yield_reading}
 use Rattle.muni_days.specs.Day.{day_reading}
@@ -75,7 +76,7 @@ payment_of job = record {
 
 -- the side on which a yield leaves the range of those with six months or less to redemption
 abbrev pub range_refusal : ℤ → Option Refusal
-range_refusal y = option_map GivenOutOfRange (side_of (negsuc 899_999) (pos 9_999_990) y)
+range_refusal y = option_map GivenOutOfRange (side_of one_period_yields.least one_period_yields.greatest y)
 
 -- the refusal before a price is asked for, if there is one: of the settlement, then of the yield
 abbrev pub early_refusal : Job → Option Refusal

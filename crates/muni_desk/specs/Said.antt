@@ -1,6 +1,6 @@
 -- What is said of an issue at given terms: the figures of a trade, or the refusal that applies.
 -- `low` and `high` are the ends that the encloser gives to payments and a yield.
-use Rattle.std.specs.Prelude.{◌≡◌, ℕ, ◌+◌, ◌*◌, ◌/◌, ◌==◌, Bool, true, false, if◌then◌else◌, MatchBool, MatchOption, List, map, All, Option, Some, None, option_map, Result, Ok, Err, ℤ, pos, negsuc, unsigned_abs}
+use Rattle.std.specs.Prelude.{◌≡◌, ℕ, ◌+◌, ◌/◌, ◌==◌, Bool, true, false, if◌then◌else◌, MatchBool, MatchOption, List, map, All, Option, Some, None, option_map, Result, Ok, Err, ℤ, unsigned_abs}
 use Rattle.std.specs.List.{slice_get}
 use Rattle.std.specs.declared.cmp.Ordering.{Ordering}
 use Rattle.std.specs.declared.cmp.Ordering.TheVariants.{Less, Equal, Greater}
@@ -12,14 +12,15 @@ use Rattle.muni_terms.specs.Issue.{settles, accrued_days}
 use Rattle.muni_terms.specs.declared.row.IssueRow.{IssueRow}
 use Rattle.muni_terms.specs.declared.row.Kind.{Kind}
 use Rattle.muni_terms.specs.declared.row.Kind.TheVariants.{Periodic, Zero, AtRedemption, Discount}
-use Rattle.muni_simple.specs.Yields.{IsYieldAnswer}
+use Rattle.muni_simple.specs.Yields.{least_printed, IsYieldAnswer}
+use Rattle.muni_simple.specs.declared.single.Shape1.TheVariants as single
 use Rattle.muni_simple.specs.declared.yields.SimpleYield.{SimpleYield}
 use Rattle.muni_simple.specs.declared.yields.SimpleYield.TheVariants as simple
 use Rattle.muni_yield.specs.Places.{place_verdict}
-use Rattle.muni_sched.specs.Candidates.{disclosed, disclosures_of, HasShape}
-use Rattle.muni_sched.specs.PriceAnswer.{IsLowestPrice, IsRightPrice, IsPriceUndecided}
+use Rattle.muni_sched.specs.Candidates.{disclosed, disclosures_of, redeemed_on, dates_of, HasShape, IsCandidate}
+use Rattle.muni_sched.specs.PriceAnswer.{IsLowestPrice, IsRightPrice, IsPriceUndecided, IsPriceDecided}
 use Rattle.muni_sched.specs.Range.{side_of_first}
-use Rattle.muni_sched.specs.YieldAnswer.{IsLowestYield, IsRightYield, IsYieldUndecided}
+use Rattle.muni_sched.specs.YieldAnswer.{IsLowestYield, IsRightYield, IsYieldUndecided, IsYieldDecided}
 use Rattle.muni_sched.specs.declared.answer.Figure.TheVariants as figure
 use Rattle.muni_sched.specs.declared.answer.LowAnswer.{LowAnswer}
 use Rattle.muni_sched.specs.declared.answer.LowAnswer.TheVariants as answer
@@ -52,7 +53,9 @@ is_wrong_basis AtRedemption (AtRate rate) = true
 -- the redemption candidates of an issue at a settlement, in order of date
 pub record AreCandidates (row : IssueRow) (settlement : Day) (list : List Candidate) : Type 0 where
   pub redemptions : map disclosed list ≡ disclosures_of row settlement
+  pub dates : map redeemed_on list ≡ dates_of row settlement
   pub shapes : All (HasShape row settlement) list
+  pub ranges : All IsCandidate list
 
 abbrev pub range_on : Ordering → Range
 range_on Less = range.Below
@@ -67,21 +70,23 @@ range_of (AtPrice price) list = if price == 0 then Some range.Below else None
 range_of (AtRate rate) list = option_map range_on (side_of_first rate list)
 
 -- The lowest price at a yield: it is the rule's over what is known of the candidates by the ends, right
--- by the exact prices, and undecided only in doubt.
+-- by the exact prices, undecided only in doubt, and decided where none is in doubt.
 pub record IsPriceSaid (low high : PaymentSeries → ℤ → ℕ) (y : ℤ) (list : List Candidate) (said : LowAnswer) : Type 0 where
   pub rule : IsLowestPrice low high y list said
   pub right : IsRightPrice y list said
   pub undecided : IsPriceUndecided y list said
+  pub decided : IsPriceDecided y list said
 
 -- and so of the lowest yield at a price
 pub record IsYieldSaid (low high : PaymentSeries → ℤ → ℕ) (price : ℕ) (list : List Candidate) (said : LowAnswer) : Type 0 where
   pub rule : IsLowestYield (place_verdict low high) price list said
   pub right : IsRightYield price list said
   pub undecided : IsYieldUndecided price list said
+  pub decided : IsYieldDecided price list said
 
 -- the return on a discounted note, so many days before its maturity, at a price that is an amount
 abbrev pub IsReturn : ℤ → ℤ → SimpleYield → Type 0
-IsReturn days price said = IsYieldAnswer (negsuc 44_999) (discounted days) price said
+IsReturn days price said = IsYieldAnswer (least_printed single.AtRedemption) (discounted days) price said
 
 -- The price of a discounted note at a rate, truncated, and its return, which is computed from that price
 -- before it is truncated.
@@ -93,7 +98,7 @@ pub record IsRateSaid (rate : ℤ) (note : Candidate) (price : ℕ) (said : Simp
 
 -- The price and the yield that are said, of candidate c. At a yield the lowest price is computed, and the
 -- given yield rounded. At a price the given price is truncated, and the lowest yield computed from it in
--- full. At a rate both are computed.
+-- full. At a rate both are computed, of the first candidate, which is the only one of a note.
 abbrev pub AreQuoted : (low high : PaymentSeries → ℤ → ℕ) → Given → List Candidate → ℕ → Candidate
     → ℕ → ℤ → Type 0
 AreQuoted low high (AtYield y) list c candidate price yld =
@@ -101,7 +106,7 @@ AreQuoted low high (AtYield y) list c candidate price yld =
 AreQuoted low high (AtPrice given) list c candidate price yld =
     IsYieldSaid low high given list (answer.Low (figure.Yield yld) c) × (price ≡ given / 1000)
 AreQuoted low high (AtRate rate) list c candidate price yld =
-    IsRateSaid rate candidate price (simple.Print yld)
+    (c ≡ 0) × IsRateSaid rate candidate price (simple.Print yld)
 
 -- they are of the candidate at place c
 pub record IsQuote (low high : PaymentSeries → ℤ → ℕ) (given : Given) (list : List Candidate) (candidate : Candidate) (price : ℕ) (yld : ℤ) : Type 0 where

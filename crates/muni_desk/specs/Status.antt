@@ -15,10 +15,10 @@ number_of DoorFault = 7
 number_of NoMemory = 8
 number_of TooLarge = 9
 
--- those that `quote-one` can end in
-abbrev pub IsQuoteOneStatus : Status → Type 0
-IsQuoteOneStatus Done = Unit {0}
-IsQuoteOneStatus Usage = Unit {0}
-IsQuoteOneStatus Refused = Unit {0}
-IsQuoteOneStatus WriteFault = Unit {0}
-IsQuoteOneStatus _ = ⊥
+-- those in which a command that has no store can end
+abbrev pub IsStorelessStatus : Status → Type 0
+IsStorelessStatus Done = Unit {0}
+IsStorelessStatus Usage = Unit {0}
+IsStorelessStatus Refused = Unit {0}
+IsStorelessStatus WriteFault = Unit {0}
+IsStorelessStatus _ = ⊥

@@ -6,9 +6,9 @@ ghost use Rattle.muni_rule.specs.Civil as rule;
 ghost use Rattle.muni_days.specs.Day.{civil};
 ghost use Rattle.muni_sched.specs.Candidates.{call_redemption};
 ghost use Rattle.muni_desk.specs.Book as spec;
-ghost use Rattle.muni_desk.specs.JobTypes as types;
+ghost use Rattle.muni_desk.specs.TradeTypes as types;
 
-use crate::job::Job;
+use crate::trade::Trade;
 use arrayvec::ArrayVec;
 use muni_days::{Day, months_on};
 use muni_dec::{Coupon, Par, Price};
@@ -53,11 +53,10 @@ impl Generator {
         self.state >> 33
     }
 
-    /// The trade that the next seven draws make, for so many workers.
-    pub fn trade(&mut self, workers: u32) -> Job
-        ensures trade { types.job result ≡ spec.trade_from self.old workers }
+    /// The trade that the next seven draws make.
+    pub fn trade(&mut self) -> Trade
+        ensures trade { types.trade result ≡ spec.trade_from self.old }
         ensures state { self.new ≡ spec.state_after self.old 7 }
-        ensures workers { result.workers ≡ workers }
     {
         let maturity = interest_date(1 + self.draw() % 60);
         let coupon = coupon_of(10_000_000 + 1_250_000 * (self.draw() % 49));
@@ -66,7 +65,7 @@ impl Generator {
         let day = 1 + self.draw() % 28;
         let par = par_of(5_000 * (1 + self.draw() % 200));
         let price = price_of(90_000_000 + 1_000 * (self.draw() % 30_001));
-        Job {
+        Trade {
             kind: Kind::Periodic {
                 first: day_in_2020(7, 1),
             },
@@ -77,7 +76,6 @@ impl Generator {
             settlement: day_in_2020(month, day),
             par,
             given: Given::AtPrice(price),
-            workers,
         }
     }
 }

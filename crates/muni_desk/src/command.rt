@@ -7,7 +7,7 @@ ghost use Rattle.muni_desk.specs.Desk.{IsNoCommand, ForCommand};
 ghost use Rattle.muni_desk.specs.Drill as drill;
 ghost use Rattle.muni_desk.specs.Quote as quote;
 ghost use Rattle.muni_desk.specs.QuoteOne as one;
-ghost use Rattle.muni_desk.specs.Status.{IsQuoteOneStatus};
+ghost use Rattle.muni_desk.specs.Status.{IsStorelessStatus};
 
 use crate::Status;
 use crate::drill::drill;
@@ -38,20 +38,22 @@ pub fn desk<O: Sink, R: Threads + Sync, E: Encloser + Sync, G: Gate + Sync>(
 
     // What is written, where the output tells its bytes.
     ensures done { result ≡ Status.Done → ForCommand (map string_bytes words.now)
-        (λ job. Wrote (quote.IsFigureText (E.low encloser.now) (E.high encloser.now) job)
+        (λ trade. Wrote (quote.IsFigureText (E.low encloser.now) (E.high encloser.now) trade)
         (O.bytes output.old) (O.bytes output.new))
-        (λ job. Wrote (drill.IsSummaryText (E.low encloser.now) (E.high encloser.now) job)
+        (λ seed count. Wrote (drill.IsSummaryText (E.low encloser.now) (E.high encloser.now) seed
+        count)
         (O.bytes output.old) (O.bytes output.new))
         (λ job. Wrote (one.IsPriceLine job) (O.bytes output.old) (O.bytes output.new)) }
     ensures refused { result ≡ Status.Refused → ForCommand (map string_bytes words.now)
-        (λ job. Wrote (quote.IsRefusalText (E.low encloser.now) (E.high encloser.now) job)
+        (λ trade. Wrote (quote.IsRefusalText (E.low encloser.now) (E.high encloser.now) trade)
         (O.bytes output.old) (O.bytes output.new))
-        (λ _. ⊥)
+        (λ seed count. ⊥)
         (λ job. Wrote (one.IsRefusalLine job) (O.bytes output.old) (O.bytes output.new)) }
     ensures part { result ≡ Status.WriteFault → ForCommand (map string_bytes words.now)
-        (λ job. WrotePart (quote.IsText (E.low encloser.now) (E.high encloser.now) job)
+        (λ trade. WrotePart (quote.IsText (E.low encloser.now) (E.high encloser.now) trade)
         (O.bytes output.old) (O.bytes output.new))
-        (λ job. WrotePart (drill.IsSummaryText (E.low encloser.now) (E.high encloser.now) job)
+        (λ seed count. WrotePart (drill.IsSummaryText (E.low encloser.now) (E.high encloser.now)
+        seed count)
         (O.bytes output.old) (O.bytes output.new))
         (λ job. WrotePart (one.IsLine job) (O.bytes output.old) (O.bytes output.new)) }
     ensures tells { is_some (O.bytes output.new) ≡ is_some (O.bytes output.old) }
@@ -59,7 +61,7 @@ pub fn desk<O: Sink, R: Threads + Sync, E: Encloser + Sync, G: Gate + Sync>(
     // Only a failing output keeps it from its answer.
     ensures write_fault { result ≡ Status.WriteFault
         → Rose (O.faults output.old) (O.faults output.new) }
-    ensures others { IsQuoteOneStatus result }
+    ensures others { IsStorelessStatus result }
     ensures later { O.faults output.old ≤ O.faults output.new }
 {
     if is_command(words, b"quote") {

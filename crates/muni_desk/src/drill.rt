@@ -6,7 +6,7 @@ ghost use Rattle.muni_dec.specs.Ranges.{IsPrintedYield};
 ghost use Rattle.muni_days.specs.Day.{civil};
 ghost use Rattle.muni_desk.specs.Drill as spec;
 ghost use Rattle.muni_desk.specs.Drill.{drill_of, IsSummaryText, AreSums, HaveAnswer, IsSummed, AreSmall};
-ghost use Rattle.muni_desk.specs.Status.{IsQuoteOneStatus};
+ghost use Rattle.muni_desk.specs.Status.{IsStorelessStatus};
 
 use crate::Status;
 use crate::book::Generator;
@@ -14,7 +14,7 @@ use crate::figures::sum;
 use crate::job::read_workers;
 use crate::numbers::read_number;
 use crate::output::write_line;
-use crate::quote::answer_of;
+use crate::trade::answer_of;
 use crate::words::value_of;
 use arrayvec::ArrayVec;
 use muni_confirm::text::{push_line, push_number_line};
@@ -64,17 +64,18 @@ pub fn drill<O: Sink, R: Threads + Sync, E: Encloser + Sync, G: Gate + Sync>(
 
     // The summary, where the output tells its bytes.
     ensures done { result ≡ Status.Done → IfSome (drill_of (map string_bytes words.now))
-        (λ job. Wrote (IsSummaryText (E.low encloser.now) (E.high encloser.now) job)
+        (λ job. Wrote (IsSummaryText (E.low encloser.now) (E.high encloser.now) job.seed job.count)
         (O.bytes output.old) (O.bytes output.new)) }
     ensures part { result ≡ Status.WriteFault → IfSome (drill_of (map string_bytes words.now))
-        (λ job. WrotePart (IsSummaryText (E.low encloser.now) (E.high encloser.now) job)
+        (λ job. WrotePart (IsSummaryText (E.low encloser.now) (E.high encloser.now) job.seed
+        job.count)
         (O.bytes output.old) (O.bytes output.new)) }
     ensures tells { is_some (O.bytes output.new) ≡ is_some (O.bytes output.old) }
 
     // Only a failing output keeps it from its summary.
     ensures write_fault { result ≡ Status.WriteFault
         → Rose (O.faults output.old) (O.faults output.new) }
-    ensures others { IsQuoteOneStatus result × (result ≢ Status.Refused) }
+    ensures others { IsStorelessStatus result × (result ≢ Status.Refused) }
     ensures later { O.faults output.old ≤ O.faults output.new }
 {
     let Some(job) = read_drill(words) else {
@@ -93,15 +94,16 @@ fn write_summary<O: Sink, R: Threads + Sync, E: Encloser + Sync, G: Gate + Sync>
     requires count { job.count ≤ 1_000 }
     requires workers { (1 ≤ job.workers) × (job.workers ≤ 16) }
     ensures done { result ≡ Status.Done
-        → Wrote (IsSummaryText (E.low encloser.now) (E.high encloser.now) job)
+        → Wrote (IsSummaryText (E.low encloser.now) (E.high encloser.now) job.seed job.count)
         (O.bytes output.old) (O.bytes output.new) }
     ensures part { result ≡ Status.WriteFault
-        → WrotePart (IsSummaryText (E.low encloser.now) (E.high encloser.now) job)
+        → WrotePart (IsSummaryText (E.low encloser.now) (E.high encloser.now) job.seed
+        job.count)
         (O.bytes output.old) (O.bytes output.new) }
     ensures tells { is_some (O.bytes output.new) ≡ is_some (O.bytes output.old) }
     ensures write_fault { result ≡ Status.WriteFault
         → Rose (O.faults output.old) (O.faults output.new) }
-    ensures others { IsQuoteOneStatus result × (result ≢ Status.Refused)
+    ensures others { IsStorelessStatus result × (result ≢ Status.Refused)
         × (result ≢ Status.Usage) }
     ensures later { O.faults output.old ≤ O.faults output.new }
 {
@@ -149,7 +151,8 @@ fn summary_of<R: Threads + Sync, E: Encloser + Sync, G: Gate + Sync>(
 ) -> ArrayVec<u8, 256>
     requires count { job.count ≤ 1_000 }
     requires workers { (1 ≤ job.workers) × (job.workers ≤ 16) }
-    ensures { IsSummaryText (E.low encloser.now) (E.high encloser.now) job result.items }
+    ensures { IsSummaryText (E.low encloser.now) (E.high encloser.now) job.seed job.count
+        result.items }
 {
     let sums = sums_of(rt, job, encloser, gate);
     summary_lines(&sums)
@@ -163,15 +166,14 @@ fn sums_of<R: Threads + Sync, E: Encloser + Sync, G: Gate + Sync>(
 ) -> Sums
     requires count { job.count ≤ 1_000 }
     requires workers { (1 ≤ job.workers) × (job.workers ≤ 16) }
-    ensures { IsSummed (E.low encloser.now) (E.high encloser.now) job.seed job.count job.workers
-        result }
+    ensures { IsSummed (E.low encloser.now) (E.high encloser.now) job.seed job.count result }
 {
     let mut generator = Generator::new(job.seed);
     let mut sums = no_sums();
     for place in 0..job.count {
-        let trade = generator.trade(job.workers);
+        let trade = generator.trade();
         let maturity = trade.maturity;
-        let answer = answer_of(rt, trade, b"DRILL", encloser, gate);
+        let answer = answer_of(rt, trade, b"DRILL", job.workers, encloser, gate);
         sums = with_answer(sums, maturity, &answer);
     }
     sums

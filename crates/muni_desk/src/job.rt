@@ -6,9 +6,12 @@ ghost use Rattle.std.specs.Option.{option_map};
 ghost use Rattle.muni_days.specs.Day.{civil};
 ghost use Rattle.muni_sched.specs.Candidates.{call_redemption};
 ghost use Rattle.muni_desk.specs.Job as spec;
-ghost use Rattle.muni_desk.specs.JobTypes as types;
+ghost use Rattle.muni_desk.specs.JobTypes.{job};
+ghost use Rattle.muni_desk.specs.Trade.{security_kind};
+ghost use Rattle.muni_desk.specs.TradeTypes as types;
 ghost use Rattle.muni_desk.specs.Words.{count_of, values_of};
 
+use crate::trade::Trade;
 use crate::words::{count_of, has_name, is_absent, value_in, value_of, word_at};
 use arrayvec::ArrayVec;
 use muni_days::Day;
@@ -17,31 +20,30 @@ use muni_dec::{Coupon, Par, Price, Yield};
 use muni_msg::Given;
 use muni_terms::{Call, Kind};
 
-/// The terms of a security, the trade in it, and what is given of its figures.
+/// What the options ask for.
 #[derive(Drop)]
 pub struct Job {
-    pub kind: Kind,
-    pub dated: Day,
-    pub maturity: Day,
-    /// The yearly coupon, which is 0 where no interest is paid.
-    pub coupon: Coupon,
-    /// The calls in the order in which they are given.
-    pub calls: ArrayVec<Call, 40>,
-    pub settlement: Day,
-    pub par: Par,
-    pub given: Given,
+    pub trade: Trade,
     /// How many workers may compute at once, from 1 to 16.
     pub workers: u32,
 }
 
 /// What words ask for, where they are options of `quote`.
 pub fn read_job(words: &[String]) -> Option<Job>
-    ensures value { option_map types.job result ≡ spec.job_of (map string_bytes words.now) }
+    ensures value { option_map job result ≡ spec.job_of (map string_bytes words.now) }
     ensures workers { IfSome result (λ job. (1 ≤ job.workers) × (job.workers ≤ 16)) }
 {
     if !are_options(words) {
         return None;
     }
+    let trade = trade_of(words)?;
+    let workers = workers_of(words)?;
+    Some(Job { trade, workers })
+}
+
+fn trade_of(words: &[String]) -> Option<Trade>
+    ensures { option_map types.trade result ≡ spec.trade_of (map string_bytes words.now) }
+{
     let kind = kind_of(value_of(words, b"--kind=")?, words)?;
     let dated = date_of(words, b"--dated=")?;
     let maturity = date_of(words, b"--maturity=")?;
@@ -50,8 +52,7 @@ pub fn read_job(words: &[String]) -> Option<Job>
     let settlement = date_of(words, b"--settle=")?;
     let par = par_of(words)?;
     let given = given_of(words)?;
-    let workers = workers_of(words)?;
-    Some(Job {
+    Some(Trade {
         kind,
         dated,
         maturity,
@@ -60,7 +61,6 @@ pub fn read_job(words: &[String]) -> Option<Job>
         settlement,
         par,
         given,
-        workers,
     })
 }
 
@@ -76,7 +76,7 @@ fn are_options(words: &[String]) -> bool
 }
 
 fn kind_of(text: &[u8], words: &[String]) -> Option<Kind>
-    ensures { option_map spec.security_kind result
+    ensures { option_map security_kind result
         ≡ spec.kind_of text.now (map string_bytes words.now) }
 {
     if text == b"periodic".as_slice() {
@@ -91,7 +91,7 @@ fn kind_of(text: &[u8], words: &[String]) -> Option<Kind>
 }
 
 fn plain_kind(text: &[u8]) -> Option<Kind>
-    ensures { option_map spec.security_kind result ≡ spec.plain_kind text.now }
+    ensures { option_map security_kind result ≡ spec.plain_kind text.now }
 {
     if text == b"zero".as_slice() {
         return Some(Kind::Zero);
@@ -138,7 +138,7 @@ fn no_coupon(words: &[String]) -> Option<Coupon>
 }
 
 fn pays_interest(kind: Kind) -> bool
-    ensures { result ≡ spec.pays_interest (spec.security_kind kind) }
+    ensures { result ≡ spec.pays_interest (security_kind kind) }
 {
     match kind {
         Kind::Periodic { .. } | Kind::AtRedemption => true,

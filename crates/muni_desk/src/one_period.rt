@@ -11,7 +11,7 @@ ghost use Rattle.muni_desk.specs.QuoteOne as spec;
 ghost use Rattle.muni_desk.specs.QuoteOne.{job_of, job_of_values, IsPriceLine, IsRefusalLine, IsLine};
 ghost use Rattle.muni_desk.specs.QuoteOneTypes as types;
 ghost use Rattle.muni_desk.specs.QuoteOneTypes.{IsAnswer};
-ghost use Rattle.muni_desk.specs.Status.{IsQuoteOneStatus};
+ghost use Rattle.muni_desk.specs.Status.{IsStorelessStatus};
 
 use crate::Status;
 use crate::output::{write_line, write_refusal};
@@ -62,7 +62,7 @@ pub fn quote_one<O: Sink>(words: &[String], output: &mut O) -> Status
     // Only a failing output keeps it from its line.
     ensures write_fault { result ≡ Status.WriteFault
         → Rose (O.faults output.old) (O.faults output.new) }
-    ensures others { IsQuoteOneStatus result }
+    ensures others { IsStorelessStatus result }
     ensures later { O.faults output.old ≤ O.faults output.new }
 {
     let Some(job) = read_job(words) else {

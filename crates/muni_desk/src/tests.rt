@@ -94,11 +94,17 @@ fn calls_and_workers_are_read_as_they_are_written(rt: HostRuntime) -> Result<(),
 fn calls_stay_in_their_order(rt: HostRuntime) -> Result<(), Fail> {
     let words = words_of(rt.alloc(), CALLED)?;
     let job = read_job(words.as_slice()).ok_or("a job")?;
-    assert_eq!(rt; job.calls.len(), 2);
-    assert_eq!(rt; job.calls[0].date, Day::of(2027, 1, 1).ok_or("a day")?);
-    assert_eq!(rt; job.calls[0].price.units(), 102_500_000);
-    assert_eq!(rt; job.calls[1].date, Day::of(2025, 7, 1).ok_or("a day")?);
-    assert_eq!(rt; job.calls[1].price.units(), 100_000_000);
+    assert_eq!(rt; job.trade.calls.len(), 2);
+    assert_eq!(rt;
+        job.trade.calls[0].date,
+        Day::of(2027, 1, 1).ok_or("a day")?
+    );
+    assert_eq!(rt; job.trade.calls[0].price.units(), 102_500_000);
+    assert_eq!(rt;
+        job.trade.calls[1].date,
+        Day::of(2025, 7, 1).ok_or("a day")?
+    );
+    assert_eq!(rt; job.trade.calls[1].price.units(), 100_000_000);
     assert_eq!(rt; job.workers, 7);
     Ok(())
 }
@@ -107,7 +113,7 @@ fn calls_stay_in_their_order(rt: HostRuntime) -> Result<(), Fail> {
 fn a_quote_without_calls_has_one_worker(rt: HostRuntime) -> Result<(), Fail> {
     let words = words_of(rt.alloc(), UNCALLED)?;
     let job = read_job(words.as_slice()).ok_or("a job")?;
-    assert!(rt; job.calls.is_empty());
+    assert!(rt; job.trade.calls.is_empty());
     assert_eq!(rt; job.workers, 1);
     Ok(())
 }

@@ -9,11 +9,12 @@ use muni_edge::Gate;
 use muni_multi::{Encloser, Horner};
 use muni_span::worth::Worth;
 use muni_terms::Flows;
-use std::sync::atomic::{AtomicBool, AtomicU32, Ordering};
+use std::alloc::Global;
+use std::sync::atomic::{AtomicBool, AtomicU32, AtomicUsize, Ordering};
 use std::test::Fail;
 
-const AT_A_PRICE: &str = "quote --kind=periodic --dated=2022-01-01 --first=2022-07-01 \
-    --maturity=2044-01-01 --coupon=4 --call=2034-01-01:100 --settle=2024-01-01 --price=108.584";
+const CALLABLE: &str = "quote --kind=periodic --dated=2022-01-01 --first=2022-07-01 \
+    --maturity=2044-01-01 --coupon=4 --call=2034-01-01:100 --settle=2024-01-01";
 
 const ANSWER: &str = "PRICE 108.584 GIVEN/YIELD 3.000 COMPUTED/\
     REDEMPTION 2034-01-01 100.000000 PAR OPTION/ACCRUED DAYS 0/PRINCIPAL 108.58/ACCRUED 0.00/\
@@ -26,6 +27,8 @@ struct Meeting {
     maturity_started: AtomicBool,
     call_met: AtomicBool,
     maturity_met: AtomicBool,
+    /// How often it looks for the other.
+    turns: u32,
 }
 
 impl Gate for Meeting {
@@ -34,21 +37,27 @@ impl Gate for Meeting {
             return;
         }
         if place == 0 {
-            meet(&self.call_started, &self.maturity_started, &self.call_met);
+            meet(
+                &self.call_started,
+                &self.maturity_started,
+                &self.call_met,
+                self.turns,
+            );
         } else {
             meet(
                 &self.maturity_started,
                 &self.call_started,
                 &self.maturity_met,
+                self.turns,
             );
         }
     }
 }
 
-// Raises one flag, and waits for the other for a stated number of turns.
-fn meet(own: &AtomicBool, other: &AtomicBool, met: &AtomicBool) {
+// Raises one flag, and waits for the other for a number of turns.
+fn meet(own: &AtomicBool, other: &AtomicBool, met: &AtomicBool, turns: u32) {
     own.store(true, Ordering::SeqCst);
-    for _turn in 0u32..100_000_000 {
+    for _turn in 0u32..turns {
         if other.load(Ordering::SeqCst) {
             met.store(true, Ordering::SeqCst);
             return;
@@ -56,37 +65,51 @@ fn meet(own: &AtomicBool, other: &AtomicBool, met: &AtomicBool) {
     }
 }
 
-/// Counts the starts, and notes where a round is lower than one before.
-#[derive(Drop)]
-struct Starts {
-    count: AtomicU32,
-    round: AtomicU32,
-    falls: AtomicBool,
+fn none_started(turns: u32) -> Meeting {
+    Meeting {
+        call_started: AtomicBool::new(false),
+        maturity_started: AtomicBool::new(false),
+        call_met: AtomicBool::new(false),
+        maturity_met: AtomicBool::new(false),
+        turns,
+    }
 }
 
-impl Gate for Starts {
-    fn start(&self, round: u32, _place: usize) {
-        let _before = self.count.fetch_add(1, Ordering::SeqCst);
+/// Counts the starts, and the calls that it hands on to `Horner`.
+#[derive(Drop)]
+struct Watching {
+    starts: AtomicU32,
+    calls: AtomicU32,
+    round: AtomicU32,
+    /// The candidate that started last.
+    place: AtomicUsize,
+    /// A round was lower than one before.
+    falls: AtomicBool,
+    /// A call came before its start.
+    early: AtomicBool,
+}
+
+impl Gate for Watching {
+    fn start(&self, round: u32, place: usize) {
+        let _before = self.starts.fetch_add(1, Ordering::SeqCst);
         if round < self.round.load(Ordering::SeqCst) {
             self.falls.store(true, Ordering::SeqCst);
         }
         self.round.store(round, Ordering::SeqCst);
+        self.place.store(place, Ordering::SeqCst);
     }
 }
 
-/// Hands on to `Horner` and counts its calls.
-#[derive(Drop)]
-struct Counting {
-    calls: AtomicU32,
-}
-
-impl Encloser for Counting {
+impl Encloser for Watching {
     ghost low = { λ _ series y. horner_low series y };
 
     ghost high = { λ _ series y. horner_high series y };
 
     fn pv(&self, flows: &Flows, y: i32) -> Worth {
-        let _before = self.calls.fetch_add(1, Ordering::SeqCst);
+        let before = self.calls.fetch_add(1, Ordering::SeqCst);
+        if self.starts.load(Ordering::SeqCst) <= before {
+            self.early.store(true, Ordering::SeqCst);
+        }
         Horner.pv(flows, y)
     }
 
@@ -95,17 +118,29 @@ impl Encloser for Counting {
     ghost narrow = { λ _ series y is many within. horner-narrow series y is many within };
 }
 
+fn nothing_seen() -> Watching {
+    Watching {
+        starts: AtomicU32::new(0),
+        calls: AtomicU32::new(0),
+        round: AtomicU32::new(0),
+        place: AtomicUsize::new(0),
+        falls: AtomicBool::new(false),
+        early: AtomicBool::new(false),
+    }
+}
+
+fn words_with(alloc: Global, price: &str, workers: &str) -> Result<Vec<String>, Fail> {
+    let mut words = words_of(alloc, CALLABLE)?;
+    words.push(String::from_str(alloc, price)?)?;
+    words.push(String::from_str(alloc, workers)?)?;
+    Ok(words)
+}
+
 #[test]
 fn two_workers_halve_two_candidates_side_by_side(rt: HostRuntime) -> Result<(), Fail> {
-    let gate = Meeting {
-        call_started: AtomicBool::new(false),
-        maturity_started: AtomicBool::new(false),
-        call_met: AtomicBool::new(false),
-        maturity_met: AtomicBool::new(false),
-    };
+    let gate = none_started(100_000_000);
     let mut output = sink(rt.alloc(), 512, &[])?;
-    let mut words = words_of(rt.alloc(), AT_A_PRICE)?;
-    words.push(String::from_str(rt.alloc(), "--workers=2")?)?;
+    let words = words_with(rt.alloc(), "--price=108.584", "--workers=2")?;
     let status = desk(&rt, words.as_slice(), &mut output, &Horner, &gate);
     assert_eq!(rt; status, Status::Done);
     assert_eq!(rt; written(rt.alloc(), &output)?.as_str(), ANSWER);
@@ -115,23 +150,42 @@ fn two_workers_halve_two_candidates_side_by_side(rt: HostRuntime) -> Result<(), 
 }
 
 #[test]
-fn a_candidate_that_cannot_be_the_lowest_is_dropped(rt: HostRuntime) -> Result<(), Fail> {
-    let gate = Starts {
-        count: AtomicU32::new(0),
-        round: AtomicU32::new(0),
-        falls: AtomicBool::new(false),
-    };
-    let counting = Counting {
-        calls: AtomicU32::new(0),
-    };
+fn one_worker_halves_one_candidate_after_the_other(rt: HostRuntime) -> Result<(), Fail> {
+    let gate = none_started(10_000_000);
     let mut output = sink(rt.alloc(), 512, &[])?;
-    let mut words = words_of(rt.alloc(), AT_A_PRICE)?;
-    words.push(String::from_str(rt.alloc(), "--workers=1")?)?;
-    let status = desk(&rt, words.as_slice(), &mut output, &counting, &gate);
+    let words = words_with(rt.alloc(), "--price=108.584", "--workers=1")?;
+    let status = desk(&rt, words.as_slice(), &mut output, &Horner, &gate);
+    assert_eq!(rt; status, Status::Done);
+    assert!(rt; !gate.call_met.load(Ordering::SeqCst));
+    assert!(rt; gate.maturity_met.load(Ordering::SeqCst));
+    Ok(())
+}
+
+#[test]
+fn a_candidate_that_cannot_be_the_lowest_is_dropped(rt: HostRuntime) -> Result<(), Fail> {
+    let watching = nothing_seen();
+    let mut output = sink(rt.alloc(), 512, &[])?;
+    let words = words_with(rt.alloc(), "--price=108.584", "--workers=1")?;
+    let status = desk(&rt, words.as_slice(), &mut output, &watching, &watching);
     assert_eq!(rt; status, Status::Done);
     assert_eq!(rt; written(rt.alloc(), &output)?.as_str(), ANSWER);
-    assert!(rt; gate.count.load(Ordering::SeqCst) <= 27);
-    assert!(rt; counting.calls.load(Ordering::SeqCst) <= 27);
-    assert!(rt; !gate.falls.load(Ordering::SeqCst));
+    assert!(rt; watching.starts.load(Ordering::SeqCst) <= 27);
+    assert!(rt; watching.calls.load(Ordering::SeqCst) <= 27);
+    assert!(rt; !watching.falls.load(Ordering::SeqCst));
+    Ok(())
+}
+
+// Below par the maturity has the lower yield, and goes on where the call is dropped.
+#[test]
+fn the_gate_is_told_before_each_question_which_candidate_it_is(
+    rt: HostRuntime,
+) -> Result<(), Fail> {
+    let watching = nothing_seen();
+    let mut output = sink(rt.alloc(), 512, &[])?;
+    let words = words_with(rt.alloc(), "--price=90", "--workers=1")?;
+    let status = desk(&rt, words.as_slice(), &mut output, &watching, &watching);
+    assert_eq!(rt; status, Status::Done);
+    assert!(rt; !watching.early.load(Ordering::SeqCst));
+    assert_eq!(rt; watching.place.load(Ordering::SeqCst), 1);
     Ok(())
 }

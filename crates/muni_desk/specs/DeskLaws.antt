@@ -1,0 +1,93 @@
+-- Laws of what the desk says and writes: it is one.
+use Rattle.std.specs.Prelude.{◌≡◌, ℕ, List, Some, Result, ℤ}
+use Rattle.muni_rule.specs.Payments.{PaymentSeries}
+use Rattle.muni_terms.specs.declared.row.IssueRow.{IssueRow}
+use Rattle.muni_msg.specs.declared.asked.Asked.{Asked}
+use Rattle.muni_msg.specs.declared.figures.Figures.{Figures}
+use Rattle.muni_msg.specs.declared.refusal.Refusal.{Refusal}
+use Rattle.muni_desk.specs.Alike.{AreAlike, AreOneDate}
+use Rattle.muni_desk.specs.Answer.{IsAnswer}
+use Rattle.muni_desk.specs.Desk.{IsNoCommand, ForCommand}
+use Rattle.muni_desk.specs.Drill.{IsSummaryText}
+use Rattle.muni_desk.specs.Quote.{IsFigureText, IsRefusalText, IsText}
+use Rattle.muni_desk.specs.QuoteOne as quote_one
+use Rattle.muni_desk.specs.Said.{IsSaid}
+use Rattle.muni_desk.specs.Trade.{Trade}
+
+-- of the terms of an issue and what is asked one thing is said, and so figures or a refusal but not both
+abbrev pub SaysOne : Type 0
+SaysOne =
+    (low high : PaymentSeries → ℤ → ℕ) (row : IssueRow) (asked : Asked)
+    (one other : Result Figures Refusal) → IsSaid low high row asked one
+    → IsSaid low high row asked other → one ≡ other
+
+-- one answer is right for a trade: two of them tell the same dates, and all else in them is equal
+abbrev pub AnswersOne : Type 0
+AnswersOne =
+    (low high : PaymentSeries → ℤ → ℕ) (name : List ℕ) (trade : Trade)
+    (one other : Result Figures Refusal) → IsAnswer low high name trade one
+    → IsAnswer low high name trade other → AreAlike AreOneDate one other
+
+-- one text answers a trade
+abbrev pub ShowsOneText : Type 0
+ShowsOneText =
+    (low high : PaymentSeries → ℤ → ℕ) (trade : Trade) (text other : List ℕ)
+    → IsText low high trade text → IsText low high trade other → text ≡ other
+
+-- and where one text shows figures, none tells a refusal
+abbrev pub ShowsFiguresOrRefusal : Type 0
+ShowsFiguresOrRefusal =
+    (low high : PaymentSeries → ℤ → ℕ) (trade : Trade) (text other : List ℕ)
+    → IsFigureText low high trade text → ¬ (IsRefusalText low high trade other)
+
+-- one text is the summary of a drill
+abbrev pub ShowsOneSummary : Type 0
+ShowsOneSummary =
+    (low high : PaymentSeries → ℤ → ℕ) (seed count : ℕ) (text other : List ℕ)
+    → IsSummaryText low high seed count text → IsSummaryText low high seed count other
+    → text ≡ other
+
+-- one line answers the words of `quote-one`
+abbrev pub ShowsOneLine : Type 0
+ShowsOneLine =
+    (words : List (List ℕ)) (job : quote_one.Job) (line other : List ℕ)
+    → quote_one.job_of words ≡ Some job → quote_one.IsLine job line → quote_one.IsLine job other
+    → line ≡ other
+
+-- and where one line says a price, none tells a refusal
+abbrev pub ShowsPriceOrRefusal : Type 0
+ShowsPriceOrRefusal =
+    (words : List (List ℕ)) (job : quote_one.Job) (line other : List ℕ)
+    → quote_one.job_of words ≡ Some job → quote_one.IsPriceLine job line
+    → ¬ (quote_one.IsRefusalLine job other)
+
+-- what the desk may write for words where it is done, and where it refuses
+abbrev pub IsDoneText : (low high : PaymentSeries → ℤ → ℕ) → List (List ℕ) → List ℕ → Type 0
+IsDoneText low high words text =
+    ForCommand words (λ trade. IsFigureText low high trade text)
+    (λ seed count. IsSummaryText low high seed count text) (λ job. quote_one.IsPriceLine job text)
+
+abbrev pub IsRefusedText : (low high : PaymentSeries → ℤ → ℕ) → List (List ℕ) → List ℕ → Type 0
+IsRefusedText low high words text =
+    ForCommand words (λ trade. IsRefusalText low high trade text) (λ seed count. ⊥)
+    (λ job. quote_one.IsRefusalLine job text)
+
+-- and what it may write in either case
+abbrev pub IsWrittenText : (low high : PaymentSeries → ℤ → ℕ) → List (List ℕ) → List ℕ → Type 0
+IsWrittenText low high words text =
+    ForCommand words (λ trade. IsText low high trade text)
+    (λ seed count. IsSummaryText low high seed count text) (λ job. quote_one.IsLine job text)
+
+-- for words that are a command it is one text
+abbrev pub WritesOneText : Type 0
+WritesOneText =
+    (low high : PaymentSeries → ℤ → ℕ) (words : List (List ℕ)) (text other : List ℕ)
+    → ¬ (IsNoCommand words) → IsWrittenText low high words text
+    → IsWrittenText low high words other → text ≡ other
+
+-- and the desk is done or it refuses, as the words have it
+abbrev pub EndsOneWay : Type 0
+EndsOneWay =
+    (low high : PaymentSeries → ℤ → ℕ) (words : List (List ℕ)) (text other : List ℕ)
+    → ¬ (IsNoCommand words) → IsDoneText low high words text
+    → ¬ (IsRefusedText low high words other)
