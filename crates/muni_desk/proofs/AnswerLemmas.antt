@@ -10,7 +10,7 @@ use Rattle.muni_msg.specs.declared.figures.Figures.{Figures}
 use Rattle.muni_msg.specs.declared.refusal.Refusal.{Refusal}
 use Rattle.muni_msg.specs.declared.refusal.Refusal.TheVariants.{BadTerms}
 use Rattle.muni_desk.specs.Answer.{IsRow, IsAsked, IsAnswer}
-use Rattle.muni_desk.specs.Said.{IsSaid}
+use Rattle.muni_book.specs.Answers.{IsRightAnswer}
 use Rattle.muni_desk.specs.Trade.{Trade}
 
 by_case : (low high : PaymentSeries → ℤ → ℕ) (name : List ℕ) (trade : Trade) (answer : Result Figures Refusal) → IsAnswer low high name trade answer → MatchResult answer (λ figures. IsAnswer low high name trade (Ok figures)) (λ refusal. IsAnswer low high name trade (Err refusal))
@@ -23,14 +23,14 @@ answer-right low high name trade (Ok figures) right = right
 answer-right low high name trade (Err refusal) right = right
 
 -- terms that pass
-pub answer-said : (low high : PaymentSeries → ℤ → ℕ) (name : List ℕ) (trade : Trade) (row issue : IssueRow) (asked : Asked) (answer : Result Figures Refusal) → IsRow name trade row → IsAsked trade asked → Ok issue ≡ checked row → IsSaid low high issue asked answer → MatchResult answer (λ figures. IsAnswer low high name trade (Ok figures)) (λ refusal. IsAnswer low high name trade (Err refusal))
+pub answer-said : (low high : PaymentSeries → ℤ → ℕ) (name : List ℕ) (trade : Trade) (row issue : IssueRow) (asked : Asked) (answer : Result Figures Refusal) → IsRow name trade row → IsAsked trade asked → Ok issue ≡ checked row → IsRightAnswer low high issue asked answer → MatchResult answer (λ figures. IsAnswer low high name trade (Ok figures)) (λ refusal. IsAnswer low high name trade (Err refusal))
 answer-said low high name trade row issue asked answer is_row is_asked passed said =
-    let By : Result IssueRow TermsFault → Type 0 = λ read. MatchResult read (λ it. IsSaid low high it asked answer) (λ fault. answer ≡ Err (BadTerms fault)) in
+    let By : Result IssueRow TermsFault → Type 0 = λ read. MatchResult read (λ it. IsRightAnswer low high it asked answer) (λ fault. answer ≡ Err (BadTerms fault)) in
     by_case low high name trade answer (record { row = row; asked = asked; is_row = is_row; is_asked = is_asked; answered = subst By passed said })
 
 -- and terms that do not
 pub answer-bad : (low high : PaymentSeries → ℤ → ℕ) (name : List ℕ) (trade : Trade) (row : IssueRow) (asked : Asked) (fault : TermsFault) → IsRow name trade row → IsAsked trade asked → Err fault ≡ checked row → IsAnswer low high name trade (Err (BadTerms fault))
 answer-bad low high name trade row asked fault is_row is_asked failed =
     let answer : Result Figures Refusal = Err (BadTerms fault) in
-    let By : Result IssueRow TermsFault → Type 0 = λ read. MatchResult read (λ it. IsSaid low high it asked answer) (λ other. answer ≡ Err (BadTerms other)) in
+    let By : Result IssueRow TermsFault → Type 0 = λ read. MatchResult read (λ it. IsRightAnswer low high it asked answer) (λ other. answer ≡ Err (BadTerms other)) in
     record { row = row; asked = asked; is_row = is_row; is_asked = is_asked; answered = subst By failed refl }

@@ -34,12 +34,12 @@ use Rattle.muni_msg.specs.declared.asked.Given.TheVariants.{AtYield, AtPrice, At
 use Rattle.muni_msg.specs.declared.figures.Figures.{Figures}
 use Rattle.muni_msg.specs.declared.refusal.Refusal.{Refusal}
 use Rattle.muni_msg.specs.declared.refusal.Refusal.TheVariants.{BadTerms}
-use Rattle.muni_desk.specs.Alike.{AreAlikeFaults, AreAlike, AreOneDate}
+use Rattle.muni_book.specs.Alike.{AreAlikeFaults, AreAlike, AreOneDate}
 use Rattle.muni_desk.specs.Answer.{IsRow}
 use Rattle.muni_desk.specs.DeskLaws.{AnswersOne}
-use Rattle.muni_desk.specs.Said.{is_wrong_basis, AreCandidates, IsSaid}
+use Rattle.muni_book.specs.Answers.{is_wrong_basis, AreCandidates, IsRightAnswer}
 use Rattle.muni_desk.specs.Trade.{Trade, periodic, zero, at_redemption, discount, security_kind}
-use Rattle.muni_desk.proofs.OneSaidLemmas.{AreLikeTerms, said-like}
+use Rattle.muni_book.proofs.UniqueLemmas.{AreLikeTerms, said-like}
 
 -- ---- kinds
 abbrev AreLikeKinds : Kind → Kind → Type 0
@@ -289,8 +289,8 @@ fault-like row terms like =
 
 -- ---- the answer for one row and for the other
 answered-like : (low high : PaymentSeries → ℤ → ℕ) (row terms : IssueRow) (asked request : Asked) (found too : Option TermsFault) (one other : Result Figures Refusal) → AreLikeTerms AreOneDate row asked terms request → AreLikeFound found too →
-    MatchResult (Check.unless_fault row found) (λ issue. IsSaid low high issue asked one) (λ bad. one ≡ Err (BadTerms bad)) →
-    MatchResult (Check.unless_fault terms too) (λ issue. IsSaid low high issue request other) (λ bad. other ≡ Err (BadTerms bad)) → AreAlike AreOneDate one other
+    MatchResult (Check.unless_fault row found) (λ issue. IsRightAnswer low high issue asked one) (λ bad. one ≡ Err (BadTerms bad)) →
+    MatchResult (Check.unless_fault terms too) (λ issue. IsRightAnswer low high issue request other) (λ bad. other ≡ Err (BadTerms bad)) → AreAlike AreOneDate one other
 answered-like low high row terms asked request None None one other like found is also = said-like AreOneDate low high row terms asked request one other like is also
 answered-like low high row terms asked request None (Some bad) one other like found is also = absurd found
 answered-like low high row terms asked request (Some bad) None one other like found is also = absurd found

@@ -27,7 +27,7 @@ use Rattle.muni_desk.specs.Words.{word, is_word}
 use Rattle.muni_desk.specs.DeskLaws.{ShowsOneLine, ShowsPriceOrRefusal}
 use Rattle.muni_confirm.specs.Refusal.{refusal_text}
 use Rattle.muni_desk.proofs.PeriodLemmas.{accrued_days-within}
-use Rattle.muni_desk.proofs.SaidLemmas.{none-mapped}
+use Rattle.muni_book.proofs.FigureCases.{none-mapped}
 
 -- ---- what words that read say
 pub record IsRead (job : Job) : Type 0 where

@@ -10,7 +10,7 @@ use Rattle.muni_msg.specs.Refusal.{number_of}
 use Rattle.muni_msg.specs.declared.figures.Figures.{Figures}
 use Rattle.muni_msg.specs.declared.refusal.Refusal.{Refusal}
 use Rattle.muni_msg.specs.declared.refusal.Refusal.TheVariants as refusal
-use Rattle.muni_desk.specs.Alike.{AreAlikeRefusals, AreAlike, AreOneDate}
+use Rattle.muni_book.specs.Alike.{AreAlikeRefusals, AreAlike, AreOneDate}
 use Rattle.muni_desk.specs.Answer.{IsAnswer}
 use Rattle.muni_desk.specs.DeskLaws.{ShowsOneSummary}
 use Rattle.muni_desk.specs.Drill.{Answered, is_printed, is_undecided, is_outside, is_called, yield_of, accrued_of, summary_lines}

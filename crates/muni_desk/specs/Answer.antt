@@ -10,7 +10,7 @@ use Rattle.muni_msg.specs.declared.asked.Asked.{Asked}
 use Rattle.muni_msg.specs.declared.figures.Figures.{Figures}
 use Rattle.muni_msg.specs.declared.refusal.Refusal.{Refusal}
 use Rattle.muni_msg.specs.declared.refusal.Refusal.TheVariants.{BadTerms}
-use Rattle.muni_desk.specs.Said.{IsSaid}
+use Rattle.muni_book.specs.Answers.{IsRightAnswer}
 use Rattle.muni_desk.specs.Trade.{Trade, security_kind}
 
 -- the terms of the security, as an issue of this name without a number of its own
@@ -34,7 +34,7 @@ pub record IsAsked (trade : Trade) (asked : Asked) : Type 0 where
 abbrev pub IsAnswered : (low high : PaymentSeries → ℤ → ℕ) → IssueRow → Asked
     → Result Figures Refusal → Type 0
 IsAnswered low high row asked answer =
-    MatchResult (checked row) (λ issue. IsSaid low high issue asked answer)
+    MatchResult (checked row) (λ issue. IsRightAnswer low high issue asked answer)
     (λ fault. answer ≡ Err (BadTerms fault))
 
 -- the answer is right, for the security under this name

@@ -1,25 +1,15 @@
 -- Laws of what the desk says and writes: it is one.
 use Rattle.std.specs.Prelude.{◌≡◌, ℕ, List, Some, Result, ℤ}
 use Rattle.muni_rule.specs.Payments.{PaymentSeries}
-use Rattle.muni_terms.specs.declared.row.IssueRow.{IssueRow}
-use Rattle.muni_msg.specs.declared.asked.Asked.{Asked}
 use Rattle.muni_msg.specs.declared.figures.Figures.{Figures}
 use Rattle.muni_msg.specs.declared.refusal.Refusal.{Refusal}
-use Rattle.muni_desk.specs.Alike.{AreAlike, AreOneDate}
+use Rattle.muni_book.specs.Alike.{AreAlike, AreOneDate}
 use Rattle.muni_desk.specs.Answer.{IsAnswer}
 use Rattle.muni_desk.specs.Desk.{IsNoCommand, ForCommand}
 use Rattle.muni_desk.specs.Drill.{IsSummaryText}
 use Rattle.muni_desk.specs.Quote.{IsFigureText, IsRefusalText, IsText}
 use Rattle.muni_desk.specs.QuoteOne as quote_one
-use Rattle.muni_desk.specs.Said.{IsSaid}
 use Rattle.muni_desk.specs.Trade.{Trade}
-
--- of the terms of an issue and what is asked one thing is said, and so figures or a refusal but not both
-abbrev pub SaysOne : Type 0
-SaysOne =
-    (low high : PaymentSeries → ℤ → ℕ) (row : IssueRow) (asked : Asked)
-    (one other : Result Figures Refusal) → IsSaid low high row asked one
-    → IsSaid low high row asked other → one ≡ other
 
 -- one answer is right for a trade: two of them tell the same dates, and all else in them is equal
 abbrev pub AnswersOne : Type 0

@@ -3,9 +3,6 @@ pub mod Words
 pub mod Ranges
 pub mod QuoteOne
 pub mod QuoteOneTypes
-pub mod Said
-pub mod GivenFor
-pub mod Quoted
 pub mod Trade
 pub mod TradeTypes
 pub mod Job
@@ -15,5 +12,4 @@ pub mod Quote
 pub mod Book
 pub mod Drill
 pub mod Desk
-pub mod Alike
 pub mod DeskLaws

@@ -10,13 +10,13 @@ ghost use Rattle.muni_desk.specs.Status.{IsStorelessStatus};
 
 use crate::Status;
 use crate::book::Generator;
-use crate::figures::sum;
 use crate::job::read_workers;
 use crate::numbers::read_number;
 use crate::output::write_line;
 use crate::trade::answer_of;
 use crate::words::value_of;
 use arrayvec::ArrayVec;
+use muni_book::sum;
 use muni_confirm::text::{push_line, push_number_line};
 use muni_days::Day;
 use muni_dec::Cents;

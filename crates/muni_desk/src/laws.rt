@@ -1,12 +1,6 @@
 //! Laws of what the desk says.
 
-ghost use Rattle.muni_desk.specs.DeskLaws.{SaysOne, AnswersOne, ShowsOneText, ShowsFiguresOrRefusal, ShowsOneSummary, ShowsOneLine, ShowsPriceOrRefusal, WritesOneText, EndsOneWay};
-
-/// A law of the definitions: of one issue and one request they allow one thing to be said, and so
-/// figures or a refusal but never both. So it does not depend on how many workers compute.
-pub fn what_is_said_is_one()
-    ensures { SaysOne }
-{}
+ghost use Rattle.muni_desk.specs.DeskLaws.{AnswersOne, ShowsOneText, ShowsFiguresOrRefusal, ShowsOneSummary, ShowsOneLine, ShowsPriceOrRefusal, WritesOneText, EndsOneWay};
 
 /// A law of the definitions: to one trade they allow one answer, with its days by year, month and day.
 pub fn what_is_answered_is_one()

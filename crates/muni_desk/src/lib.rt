@@ -4,7 +4,6 @@
 mod book;
 mod command;
 mod drill;
-mod figures;
 mod job;
 mod laws;
 mod numbers;
@@ -21,7 +20,7 @@ mod words;
 pub use command::desk;
 pub use laws::{
     the_line_is_one, the_summary_is_one, the_text_is_one, what_is_answered_is_one,
-    what_is_said_is_one, what_is_written_is_one,
+    what_is_written_is_one,
 };
 pub use one_period::quote_one;
 pub use status::Status;

@@ -4,8 +4,8 @@ ghost use Rattle.std.specs.Prelude.{◌≡◌, ◌≤◌, length, IfOk, Ok, Err,
 ghost use Rattle.muni_desk.specs.Answer.{IsRow, IsAsked, IsAnswer};
 ghost use Rattle.muni_desk.specs.TradeTypes as types;
 
-use crate::figures::figures;
 use arrayvec::ArrayVec;
+use muni_book::figures;
 use muni_days::Day;
 use muni_dec::{Coupon, Par};
 use muni_edge::Gate;

@@ -1,0 +1,3 @@
+pub mod CandidateLemmas
+pub mod FigureCases
+pub mod UniqueLemmas

@@ -1,0 +1,5 @@
+pub mod Alike
+pub mod Answers
+pub mod AnswerLaws
+pub mod GivenFor
+pub mod Quoted

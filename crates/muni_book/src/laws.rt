@@ -1,0 +1,9 @@
+//! Laws of the answers.
+
+ghost use Rattle.muni_book.specs.AnswerLaws.{AnswersAreUnique};
+
+/// A law of the definitions: of one issue and one request they allow one answer, and so figures or a
+/// refusal but never both. So it does not depend on how many workers compute.
+pub fn the_answer_to_a_request_is_unique()
+    ensures { AnswersAreUnique }
+{}

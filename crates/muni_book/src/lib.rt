@@ -1,0 +1,8 @@
+//! What the book says of a trade: its figures, or why there are none.
+#![tactic(auto)]
+
+mod answers;
+mod laws;
+
+pub use answers::{figures, sum};
+pub use laws::the_answer_to_a_request_is_unique;
