@@ -3,9 +3,9 @@ use Rattle.std.proofs.Common.{◌≡◌, ℕ, ◌+◌, ◌-◌, ◌*◌, ◌/◌
 use Rattle.std.proofs.Math.Nat.{div-mul-le_self, mul-le-mul, mul-le-mul_left, mul-le-mul_right, le_of_mul-le-mul_right, pow-le-pow_left, one-le-pow}
 use Rattle.std.proofs.lemmas.Nat.{pow-add, mul-pow, div_below, le-div}
 use Rattle.muni_rule.specs.Payments.{PaymentSeries, IsSeries, payments_of}
-use Rattle.muni_rule.specs.ManyPeriods.{to_come, discount_divisor, whole_sum, worth_power, asked_power}
+use Rattle.muni_rule.specs.ManyPeriods.{to_come, discount_divisor, sum_to, whole_sum, worth_power, asked_power}
 use Rattle.muni_rule.specs.Ranges.{IsManyPeriodsBoundary}
-use Rattle.muni_rule.specs.WorthEnds.{WorthEnds, HoldsWorth, ends_of, payment_at}
+use Rattle.muni_rule.specs.WorthEnds.{WorthEnds, HoldsWorth, IsNarrow, short_worth, ends_of, payment_at}
 use Rattle.muni_rule.proofs.PowerLemmas.{not-zero, pow-split, power-order}
 use Rattle.muni_rule.proofs.ExactLemmas.{by-cases}
 use Rattle.muni_rule.proofs.EnclosedLemmas.{IsEnclosed, enclosed-holds, divisor-least}
@@ -66,29 +66,29 @@ ends-ordered series y ends some holds =
     let power : 0 < discount_divisor y ^ ((length (payments_of series) - 1) * 180 + (180 - series.a)) = one-le-pow ((length (payments_of series) - 1) * 180 + (180 - series.a)) (discount_divisor y) some in
     power-order ends.lo ends.hi 180 not-zero (le_of_mul-le-mul_right (through (asked_power (to_come series) y ends.lo) (ends.unit ^ 180 * worth_power (to_come series) y) (asked_power (to_come series) y ends.hi) holds.below holds.above) power)
 
-same-narrow : (a : ℕ) → a ≤ a + 360 * 4096
-same-narrow a = omega arith
+same-narrow : (top unit : ℕ) → top ≤ top + 360 * unit
+same-narrow top unit = omega arith
 
-ends-narrow : (series : PaymentSeries) (y : ℤ) (lo hi : ℕ) → hi < lo + 360 * 4096 → (ends_of series y lo hi).hi ≤ (ends_of series y lo hi).lo + 360 * 4096
-ends-narrow series y lo hi narrow =
-    by-cases series y lo hi (λ ends. ends.hi ≤ ends.lo + 360 * 4096)
-    (λ _. same-narrow _)
-    (λ _. same-narrow _)
-    (λ _. same-narrow _)
-    (λ _. let weak : hi ≤ lo + 360 * 4096 = omega (arith, narrow) in weak)
+ends-narrow : (series : PaymentSeries) (y : ℤ) (enclosure : WorthEnds) → IsNarrow enclosure → (ends_of series y enclosure).hi ≤ (ends_of series y enclosure).lo + 360 * (ends_of series y enclosure).unit
+ends-narrow series y enclosure narrow =
+    by-cases series y enclosure (λ ends. ends.hi ≤ ends.lo + 360 * ends.unit)
+    (λ _. same-narrow (sum_to (payment_at series) series.n) 1)
+    (λ _. same-narrow (series.redemption + series.accrued) 1)
+    (λ _. same-narrow (short_worth series (discount_divisor y)).lo (short_worth series (discount_divisor y)).unit)
+    (λ _. let weak : enclosure.hi ≤ enclosure.lo + 360 * enclosure.unit = omega (arith, narrow) in weak)
 
-known-bounded : (series : PaymentSeries) (y : ℤ) (lo hi : ℕ) → IsManyPeriodsBoundary y → IsEnclosed series y lo hi → AreBounded (ends_of series y lo hi)
-known-bounded series y lo hi within given =
-    let holds = enclosed-holds series y lo hi given in
+known-bounded : (series : PaymentSeries) (y : ℤ) (enclosure : WorthEnds) → IsManyPeriodsBoundary y → IsEnclosed series y enclosure → AreBounded (ends_of series y enclosure)
+known-bounded series y enclosure within given =
+    let holds = enclosed-holds series y enclosure given in
     record {
       some = holds.some;
-      ordered = ends-ordered series y (ends_of series y lo hi) given.divisor holds;
-      small = low-small series y (ends_of series y lo hi) given.series_is within holds;
-      narrow = ends-narrow series y lo hi given.narrow;
+      ordered = ends-ordered series y (ends_of series y enclosure) given.divisor holds;
+      small = low-small series y (ends_of series y enclosure) given.series_is within holds;
+      narrow = ends-narrow series y enclosure given.narrow;
     }
 
-pub are-bounded : (series : PaymentSeries) (y : ℤ) (lo hi : ℕ) (ends : WorthEnds) → ends ≡ ends_of series y lo hi → IsManyPeriodsBoundary y → IsEnclosed series y lo hi → AreBounded ends
-are-bounded series y lo hi ends is within given = subst (λ x. AreBounded x) (sym is) (known-bounded series y lo hi within given)
+pub are-bounded : (series : PaymentSeries) (y : ℤ) (enclosure : WorthEnds) (ends : WorthEnds) → ends ≡ ends_of series y enclosure → IsManyPeriodsBoundary y → IsEnclosed series y enclosure → AreBounded ends
+are-bounded series y enclosure ends is within given = subst (λ x. AreBounded x) (sym is) (known-bounded series y enclosure within given)
 
 pub high-small : (ends : WorthEnds) → AreBounded ends → ends.hi / ends.unit < 35000000000000000
 high-small ends known =

@@ -57,24 +57,24 @@ same-outcome one other (Undecided boundary) same outcome = record {
 same-at : (ends : WorthEnds) (low high own accrued t : ℕ) → 0 < ends.unit → low ≡ ends.lo / ends.unit → high ≡ ends.hi / ends.unit → own ≡ accrued → whole_verdict low high (dirty_thousandths own t) ≡ at_least_verdict ends (dirty_thousandths accrued t)
 same-at ends low high own accrued t some lower upper same = rw (lower, upper, same) (same-verdict ends (dirty_thousandths accrued t) some)
 
-pub ends-outcome : (series : PaymentSeries) (y : ℤ) (lo hi : ℕ) (ends : WorthEnds) (low high accrued : ℕ) (answer : PriceAnswer) → ends ≡ ends_of series y lo hi → 0 < ends.unit → low ≡ ends.lo / ends.unit → high ≡ ends.hi / ends.unit → accrued ≡ series.accrued
+pub ends-outcome : (series : PaymentSeries) (y : ℤ) (enclosure : WorthEnds) (ends : WorthEnds) (low high accrued : ℕ) (answer : PriceAnswer) → ends ≡ ends_of series y enclosure → 0 < ends.unit → low ≡ ends.lo / ends.unit → high ≡ ends.hi / ends.unit → accrued ≡ series.accrued
     → IsPriceOutcome (λ t. whole_verdict low high (dirty_thousandths accrued t)) answer
-    → IsPriceOutcome (λ t. at_least_verdict (ends_of series y lo hi) (dirty_thousandths series.accrued t)) answer
-ends-outcome series y lo hi ends low high accrued answer is some lower upper same outcome =
-    same-outcome (λ t. whole_verdict low high (dirty_thousandths accrued t)) (λ t. at_least_verdict (ends_of series y lo hi) (dirty_thousandths series.accrued t)) answer
+    → IsPriceOutcome (λ t. at_least_verdict (ends_of series y enclosure) (dirty_thousandths series.accrued t)) answer
+ends-outcome series y enclosure ends low high accrued answer is some lower upper same outcome =
+    same-outcome (λ t. whole_verdict low high (dirty_thousandths accrued t)) (λ t. at_least_verdict (ends_of series y enclosure) (dirty_thousandths series.accrued t)) answer
     (λ t. same-at ends low high accrued series.accrued t some lower upper same ∙ ap (λ (x : WorthEnds). at_least_verdict x (dirty_thousandths series.accrued t)) is)
     outcome
 
 -- and an outcome is true
-pub outcome-exact : (series : PaymentSeries) (y : ℤ) (lo hi : ℕ) (answer : PriceAnswer) → IsEnclosed series y lo hi → IsPriceOutcome (λ t. at_least_verdict (ends_of series y lo hi) (dirty_thousandths series.accrued t)) answer → IsPriceAnswer (AtLeast (to_come series) y) answer
-outcome-exact series y lo hi (Price t) given outcome = record {
-  reached = at_least-true series y lo hi (360000000 * t) _ given refl outcome.0;
-  next_not_reached = at_least-false series y lo hi (360000000 * (t + 1)) _ given refl outcome.1;
+pub outcome-exact : (series : PaymentSeries) (y : ℤ) (enclosure : WorthEnds) (answer : PriceAnswer) → IsEnclosed series y enclosure → IsPriceOutcome (λ t. at_least_verdict (ends_of series y enclosure) (dirty_thousandths series.accrued t)) answer → IsPriceAnswer (AtLeast (to_come series) y) answer
+outcome-exact series y enclosure (Price t) given outcome = record {
+  reached = at_least-true series y enclosure (360000000 * t) _ given refl outcome.0;
+  next_not_reached = at_least-false series y enclosure (360000000 * (t + 1)) _ given refl outcome.1;
 }
-outcome-exact series y lo hi BelowZero given outcome = record { zero_not_reached = at_least-false series y lo hi 0 _ given refl outcome }
-outcome-exact series y lo hi (Undecided boundary) given outcome = tt
+outcome-exact series y enclosure BelowZero given outcome = record { zero_not_reached = at_least-false series y enclosure 0 _ given refl outcome }
+outcome-exact series y enclosure (Undecided boundary) given outcome = tt
 
-pub outcome-doubtful : (series : PaymentSeries) (y : ℤ) (lo hi : ℕ) (answer : PriceAnswer) → IsEnclosed series y lo hi → IsPriceOutcome (λ t. at_least_verdict (ends_of series y lo hi) (dirty_thousandths series.accrued t)) answer → IsDoubtfulAnswer series y answer
-outcome-doubtful series y lo hi (Price t) given outcome = tt
-outcome-doubtful series y lo hi BelowZero given outcome = tt
-outcome-doubtful series y lo hi (Undecided boundary) given outcome = at_least-doubtful series y lo hi (360000000 * boundary) _ given refl outcome.unsure
+pub outcome-doubtful : (series : PaymentSeries) (y : ℤ) (enclosure : WorthEnds) (answer : PriceAnswer) → IsEnclosed series y enclosure → IsPriceOutcome (λ t. at_least_verdict (ends_of series y enclosure) (dirty_thousandths series.accrued t)) answer → IsDoubtfulAnswer series y answer
+outcome-doubtful series y enclosure (Price t) given outcome = tt
+outcome-doubtful series y enclosure BelowZero given outcome = tt
+outcome-doubtful series y enclosure (Undecided boundary) given outcome = at_least-doubtful series y enclosure (360000000 * boundary) _ given refl outcome.unsure

@@ -7,4 +7,4 @@ pub record AreBounded (ends : WorthEnds) : Type 0 where
   pub some : 1 ≤ ends.unit
   pub ordered : ends.lo ≤ ends.hi
   pub small : ends.lo ≤ ends.unit * 2 ^ 53
-  pub narrow : ends.hi ≤ ends.lo + 360 * 4096
+  pub narrow : ends.hi ≤ ends.lo + 360 * ends.unit

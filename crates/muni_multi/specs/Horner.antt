@@ -4,7 +4,7 @@ use Rattle.std.specs.Prelude.{◌≡◌, ℕ, suc, zero, ◌+◌, ◌-◌, ◌*�
 use Rattle.muni_rule.specs.Payments.{PaymentSeries, IsSeries}
 use Rattle.muni_rule.specs.ManyPeriods.{to_come}
 use Rattle.muni_rule.specs.Ranges.{IsManyPeriodsBoundary}
-use Rattle.muni_rule.specs.WorthEnds.{payment_at}
+use Rattle.muni_rule.specs.WorthEnds.{WorthEnds, enclosure_ends, payment_at}
 use Rattle.muni_multi.specs.LastStep.{discount_low, discount_high, settled_low, settled_high, HoldsSum}
 
 -- the m payments from place j on, on the day of the first of them, discounted by half a year at a time:
@@ -21,13 +21,10 @@ sum_high payment factor (suc m) j =
     (sum_high payment factor m (suc j) * factor + (2 ^ 60 - 1)) / 2 ^ 60 + 4096 * payment j
 
 -- the worth at the settlement
-unfoldable pub horner_low : PaymentSeries → ℤ → ℕ
-horner_low series y =
-    settled_low (sum_low (payment_at series) (discount_low y) series.n 0) y series.a
-
-unfoldable pub horner_high : PaymentSeries → ℤ → ℕ
-horner_high series y =
-    settled_high (sum_high (payment_at series) (discount_high y) series.n 0) y series.a
+unfoldable pub horner_ends : PaymentSeries → ℤ → WorthEnds
+horner_ends series y =
+    enclosure_ends (settled_low (sum_low (payment_at series) (discount_low y) series.n 0) y series.a)
+    (settled_high (sum_high (payment_at series) (discount_high y) series.n 0) y series.a)
 
 -- two numbers are the ends of the discount factor of a yield in range
 pub record AreDiscountEnds (lo hi : ℕ) : Type 0 where

@@ -6,7 +6,7 @@ use Rattle.std.proofs.Math.Nat.{mul-le-mul, mul-le-mul_left, mul-le-mul_right, l
 use Rattle.muni_rule.specs.Payments.{PaymentSeries, IsSeries, payments_of, interest_at_place}
 use Rattle.muni_rule.specs.ManyPeriods.{to_come, discount_divisor, whole_sum}
 use Rattle.muni_rule.specs.Ranges.{IsManyPeriodsBoundary}
-use Rattle.muni_rule.specs.WorthEnds.{HoldsWorth, enclosure_ends, payment_at}
+use Rattle.muni_rule.specs.WorthEnds.{HoldsWorth, IsNarrow, payment_at}
 use Rattle.muni_rule.proofs.SumLemmas.{tail_sum, tail_sum-more, tail_sum-one, tail_sum-all}
 use Rattle.muni_rule.proofs.SeriesLemmas.{payment-early, payment-last, payments-count, whole_sum-series}
 use Rattle.muni_rule.proofs.EnclosedLemmas.{divisor-least, divisor-most}
@@ -18,7 +18,7 @@ use Rattle.muni_span.proofs.FactorSteps.{IsDiscount, IsPart, part-is, last-step}
 use Rattle.muni_span.specs.Powers.{power_low, power_high}
 use Rattle.muni_span.specs.Roots.{root_low, root_high}
 use Rattle.muni_multi.specs.LastStep.{discount_low, discount_high, settled_low, settled_high, IsSettled, LastStepEncloses}
-use Rattle.muni_multi.specs.Horner.{sum_low, sum_high, horner_low, horner_high, IsNarrowSum, SumsAreNarrow}
+use Rattle.muni_multi.specs.Horner.{sum_low, sum_high, horner_ends, IsNarrowSum, SumsAreNarrow}
 
 -- ---- the discount factor
 discount-of : (v lo hi : ℕ) → IsRecipSpan v lo hi → IsRounded v (2000000 * 2 ^ 60) (2000000 * 2 ^ 60) lo hi → IsDiscount v lo hi
@@ -272,15 +272,16 @@ last_step-encloses series y lo hi is within sum order limit narrow =
     round.floor_under round.floor_near round.ceiling_over (let near = round.ceiling_near in omega (arith, near)))
 
 -- ---- both laws
-horner-settled : (series : PaymentSeries) (y : ℤ) → IsSeries series → IsManyPeriodsBoundary y → IsSettled series y (horner_low series y) (horner_high series y)
-unfolding horner_low horner_high
+horner-settled : (series : PaymentSeries) (y : ℤ) → IsSeries series → IsManyPeriodsBoundary y → HoldsWorth (to_come series) y (horner_ends series y) × IsNarrow (horner_ends series y)
+unfolding horner_ends
 horner-settled series y is within =
     let sum = sums-narrow series y is within in
     let narrow = sum.narrow in
-    last_step-encloses series y (sum_low (payment_at series) (discount_low y) series.n 0) (sum_high (payment_at series) (discount_high y) series.n 0) is within sum.holds sum.ordered sum.below_limit (omega (arith, narrow))
+    let settled = last_step-encloses series y (sum_low (payment_at series) (discount_low y) series.n 0) (sum_high (payment_at series) (discount_high y) series.n 0) is within sum.holds sum.ordered sum.below_limit (omega (arith, narrow)) in
+    (settled.holds, settled.narrow)
 
-pub horner-encloses : (series : PaymentSeries) (y : ℤ) → IsSeries series → 2 ≤ series.n → IsManyPeriodsBoundary y → HoldsWorth (to_come series) y (enclosure_ends (horner_low series y) (horner_high series y))
-horner-encloses series y is many within = (horner-settled series y is within).holds
+pub horner-encloses : (series : PaymentSeries) (y : ℤ) → IsSeries series → 2 ≤ series.n → IsManyPeriodsBoundary y → HoldsWorth (to_come series) y (horner_ends series y)
+horner-encloses series y is many within = (horner-settled series y is within).0
 
-pub horner-narrow : (series : PaymentSeries) (y : ℤ) → IsSeries series → 2 ≤ series.n → IsManyPeriodsBoundary y → horner_high series y < horner_low series y + 360 * 4096
-horner-narrow series y is many within = (horner-settled series y is within).narrow
+pub horner-narrow : (series : PaymentSeries) (y : ℤ) → IsSeries series → 2 ≤ series.n → IsManyPeriodsBoundary y → IsNarrow (horner_ends series y)
+horner-narrow series y is many within = (horner-settled series y is within).1

@@ -4,7 +4,7 @@ use Rattle.std.specs.Prelude.{ℕ, ◌+◌, ◌-◌, ◌*◌, ◌/◌, ◌^◌, 
 use Rattle.muni_rule.specs.Payments.{PaymentSeries, IsSeries}
 use Rattle.muni_rule.specs.ManyPeriods.{PeriodicPayments, to_come, discount_divisor, whole_sum}
 use Rattle.muni_rule.specs.Ranges.{IsManyPeriodsBoundary}
-use Rattle.muni_rule.specs.WorthEnds.{HoldsWorth, enclosure_ends}
+use Rattle.muni_rule.specs.WorthEnds.{HoldsWorth, IsNarrow, enclosure_ends}
 use Rattle.muni_span.specs.Powers.{power_low, power_high}
 use Rattle.muni_span.specs.Roots.{root_low, root_high}
 
@@ -32,7 +32,7 @@ pub record HoldsSum (bond : PeriodicPayments) (y : ℤ) (lo hi : ℕ) : Type 0 w
 -- the worth lies between two ends that are less than 10^-9 dollars apart
 pub record IsSettled (series : PaymentSeries) (y : ℤ) (lo hi : ℕ) : Type 0 where
   pub holds : HoldsWorth (to_come series) y (enclosure_ends lo hi)
-  pub narrow : hi < lo + 360 * 4096
+  pub narrow : IsNarrow (enclosure_ends lo hi)
 
 -- So do the ends of every sum whose upper end is below 2^64 and whose width is at most 2^19, after the
 -- last step.

@@ -1,10 +1,10 @@
 //! What encloses the worth of payments.
 
-ghost use Rattle.std.specs.Prelude.{◌≡◌, ℕ, ◌+◌, ◌*◌, ◌<◌, ◌≤◌, ℤ};
+ghost use Rattle.std.specs.Prelude.{◌≡◌, ◌≤◌, ℤ};
 ghost use Rattle.muni_rule.specs.ManyPeriods.{to_come};
 ghost use Rattle.muni_rule.specs.Payments.{PaymentSeries, IsSeries};
 ghost use Rattle.muni_rule.specs.Ranges.{IsManyPeriodsBoundary};
-ghost use Rattle.muni_rule.specs.WorthEnds.{HoldsWorth, enclosure_ends};
+ghost use Rattle.muni_rule.specs.WorthEnds.{WorthEnds, HoldsWorth, IsNarrow, enclosure_ends};
 
 use muni_span::worth::Worth;
 use muni_terms::Flows;
@@ -13,24 +13,21 @@ use muni_terms::Flows;
 ///
 /// To payments and a yield belong two ends, and `pv` gives these and no others.
 pub trait Encloser {
-    ghost low: { Self → PaymentSeries → ℤ → ℕ };
-
-    ghost high: { Self → PaymentSeries → ℤ → ℕ };
+    ghost ends: { Self → PaymentSeries → ℤ → WorthEnds };
 
     /// The ends for at least two payments, at a yield in 10^-6 from -50,005 to 1,000,005.
     fn pv(&self, flows: &Flows, y: i32) -> Worth
         requires many { 2 ≤ flows.now.n }
         requires y { IsManyPeriodsBoundary y }
-        ensures lo { result.lo ≡ low self.now flows.now y }
-        ensures hi { result.hi ≡ high self.now flows.now y };
+        ensures { enclosure_ends result.lo result.hi ≡ ends self.now flows.now y };
 
     // The worth lies between the ends: all three are raised to the power 180.
     ghost encloses: { (e : Self) (series : PaymentSeries) (y : ℤ)
         → IsSeries series → 2 ≤ series.n → IsManyPeriodsBoundary y
-        → HoldsWorth (to_come series) y (enclosure_ends (low e series y) (high e series y)) };
+        → HoldsWorth (to_come series) y (ends e series y) };
 
     // The ends are less than 10^-9 dollars apart.
     ghost narrow: { (e : Self) (series : PaymentSeries) (y : ℤ)
         → IsSeries series → 2 ≤ series.n → IsManyPeriodsBoundary y
-        → high e series y < low e series y + 360 * 4096 };
+        → IsNarrow (ends e series y) };
 }

@@ -17,8 +17,7 @@ use muni_terms::{Flows, flows_are_in_range};
 pub(crate) fn ends<E: Encloser>(encloser: &E, flows: &Flows, y: i32) -> Ends
     requires many { 2 ≤ flows.now.n }
     requires y { IsManyPeriodsBoundary y }
-    ensures value { result ≡ ends_of flows.now y (E.low encloser.now flows.now y)
-        (E.high encloser.now flows.now y) }
+    ensures value { result ≡ ends_of flows.now y (E.ends encloser.now flows.now y) }
     ensures unit { result.unit ≤ 2 ^ 66 }
 {
     if let Some(exact) = exact_worth(flows, divisor_of(y)) {
@@ -36,8 +35,7 @@ pub(crate) fn ends<E: Encloser>(encloser: &E, flows: &Flows, y: i32) -> Ends
 pub(crate) fn bounded_ends<E: Encloser>(encloser: &E, flows: &Flows, y: i32) -> Ends
     requires many { 2 ≤ flows.now.n }
     requires y { IsManyPeriodsBoundary y }
-    ensures value { result ≡ ends_of flows.now y (E.low encloser.now flows.now y)
-        (E.high encloser.now flows.now y) }
+    ensures value { result ≡ ends_of flows.now y (E.ends encloser.now flows.now y) }
     ensures bounded { AreBounded result }
 {
     flows_are_in_range(flows);

@@ -2,7 +2,7 @@
 
 ghost use Rattle.std.specs.Prelude.{◌≡◌, ◌<◌, ◌^◌};
 ghost use Rattle.muni_rule.specs.WorthEnds as rule;
-ghost use Rattle.muni_multi.specs.Horner.{sum_low, sum_high, horner_low, horner_high, AreDiscountEnds, SumsAreNarrow};
+ghost use Rattle.muni_multi.specs.Horner.{sum_low, sum_high, horner_ends, AreDiscountEnds, SumsAreNarrow};
 ghost use Rattle.muni_multi.specs.HornerLaws.{horner-encloses, horner-narrow};
 ghost use Rattle.muni_multi.specs.LastStep.{LastStepEncloses};
 
@@ -20,9 +20,7 @@ use muni_terms::{Flows, flows_are_in_range};
 pub struct Horner;
 
 impl Encloser for Horner {
-    ghost low = { λ _ series y. horner_low series y };
-
-    ghost high = { λ _ series y. horner_high series y };
+    ghost ends = { λ _ series y. horner_ends series y };
 
     fn pv(&self, flows: &Flows, y: i32) -> Worth {
         let discount = recip(y);

@@ -34,7 +34,7 @@ pub fn printed_price<E: Encloser>(encloser: &E, flows: &Flows, y: Yield) -> Pric
     ensures exact { IsPriceAnswer (AtLeast (to_come flows.now) y) result }
     ensures undecided { IsDoubtfulAnswer flows.now y result }
     ensures outcome { IsPriceOutcome (λ t. at_least_verdict
-        (ends_of flows.now y (E.low encloser.now flows.now y) (E.high encloser.now flows.now y))
+        (ends_of flows.now y (E.ends encloser.now flows.now y))
         (dirty_thousandths flows.now.accrued t)) result }
     ensures small { figure result ≤ 100_000_000 }
 {
@@ -47,7 +47,7 @@ fn price_by_ends<E: Encloser>(encloser: &E, flows: &Flows, y: Yield) -> PriceAns
     requires many { 2 ≤ flows.now.n }
     requires y { IsManyPeriodsBoundary y }
     ensures outcome { IsPriceOutcome (λ t. at_least_verdict
-        (ends_of flows.now y (E.low encloser.now flows.now y) (E.high encloser.now flows.now y))
+        (ends_of flows.now y (E.ends encloser.now flows.now y))
         (dirty_thousandths flows.now.accrued t)) result }
     ensures small { figure result ≤ 100_000_000 }
 {

@@ -1,6 +1,6 @@
 ghost use Rattle.std.specs.Prelude.{◌≡◌, ◌≤◌, pos, IfOk};
 ghost use Rattle.muni_rule.specs.Ranges.{IsManyPeriodsBoundary};
-ghost use Rattle.muni_multi.specs.Horner.{horner_low, horner_high};
+ghost use Rattle.muni_multi.specs.Horner.{horner_ends};
 ghost use Rattle.muni_multi.specs.HornerLaws.{horner-encloses, horner-narrow};
 
 mod cases;
@@ -201,9 +201,7 @@ struct Counting {
 }
 
 impl Encloser for Counting {
-    ghost low = { λ _ series y. horner_low series y };
-
-    ghost high = { λ _ series y. horner_high series y };
+    ghost ends = { λ _ series y. horner_ends series y };
 
     fn pv(&self, flows: &Flows, y: i32) -> Worth {
         self.calls.set(self.calls.get().wrapping_add(1));

@@ -23,7 +23,7 @@ pub fn at_least<E: Encloser>(encloser: &E, flows: &Flows, y: i32, price: Price) 
     requires many { 2 ≤ flows.now.n }
     requires y { IsManyPeriodsBoundary y }
     ensures verdict { result ≡ at_least_verdict
-        (ends_of flows.now y (E.low encloser.now flows.now y) (E.high encloser.now flows.now y))
+        (ends_of flows.now y (E.ends encloser.now flows.now y))
         (360_000 * price + flows.now.accrued) }
     ensures yes { result ≡ Verdict.Yes → AtLeast (to_come flows.now) y (pos (360_000 * price)) }
     ensures no { result ≡ Verdict.No →
@@ -40,7 +40,7 @@ pub fn more<E: Encloser>(encloser: &E, flows: &Flows, y: i32, price: Price) -> V
     requires many { 2 ≤ flows.now.n }
     requires y { IsManyPeriodsBoundary y }
     ensures verdict { result ≡ more_verdict
-        (ends_of flows.now y (E.low encloser.now flows.now y) (E.high encloser.now flows.now y))
+        (ends_of flows.now y (E.ends encloser.now flows.now y))
         (360_000 * price + flows.now.accrued) }
     ensures yes { result ≡ Verdict.Yes → More (to_come flows.now) y (pos (360_000 * price)) }
     ensures no { result ≡ Verdict.No → ¬ (More (to_come flows.now) y (pos (360_000 * price))) }

@@ -5,7 +5,7 @@ use Rattle.muni_rule.specs.Payments.{PaymentSeries, IsSeries}
 use Rattle.muni_rule.specs.ManyPeriods.{to_come, discount_divisor, IsWorthAtLeast, IsWorthMore}
 use Rattle.muni_rule.specs.Doubt.{IsNear, IsDoubtful}
 use Rattle.muni_rule.specs.Ranges.{IsManyPeriodsBoundary}
-use Rattle.muni_rule.specs.WorthEnds.{WorthEnds, HoldsWorth, exactly, enclosure_ends, ends_of}
+use Rattle.muni_rule.specs.WorthEnds.{WorthEnds, HoldsWorth, IsNarrow, exactly, ends_of}
 use Rattle.muni_rule.specs.Verdicts.{at_least_verdict, more_verdict}
 use Rattle.muni_rule.specs.declared.verdict.Verdict.{Verdict}
 use Rattle.muni_rule.specs.declared.verdict.Verdict.TheVariants.{Yes, No, Unsure}
@@ -23,58 +23,58 @@ divisor-most (pos n) within = let most = within.1 in omega (arith, ints, most)
 divisor-most (negsuc n) within = omega arith
 
 -- what an encloser tells of a series at a yield
-pub record IsEnclosed (series : PaymentSeries) (y : ℤ) (lo hi : ℕ) : Type 0 where
+pub record IsEnclosed (series : PaymentSeries) (y : ℤ) (enclosure : WorthEnds) : Type 0 where
   pub series_is : IsSeries series
   pub divisor : 0 < discount_divisor y
-  pub holds : HoldsWorth (to_come series) y (enclosure_ends lo hi)
-  pub narrow : hi < lo + 360 * 4096
+  pub holds : HoldsWorth (to_come series) y enclosure
+  pub narrow : IsNarrow enclosure
 
-pub enclosed : (series : PaymentSeries) (y : ℤ) (lo hi : ℕ) → IsSeries series → IsManyPeriodsBoundary y → HoldsWorth (to_come series) y (enclosure_ends lo hi) → hi < lo + 360 * 4096 → IsEnclosed series y lo hi
-enclosed series y lo hi is within holds narrow = record {
+pub enclosed : (series : PaymentSeries) (y : ℤ) (enclosure : WorthEnds) → IsSeries series → IsManyPeriodsBoundary y → HoldsWorth (to_come series) y enclosure → IsNarrow enclosure → IsEnclosed series y enclosure
+enclosed series y enclosure is within holds narrow = record {
   series_is = is;
   divisor = (let least = divisor-least y within in omega (arith, least));
   holds = holds;
   narrow = narrow;
 }
 
-pub enclosed-holds : (series : PaymentSeries) (y : ℤ) (lo hi : ℕ) → IsEnclosed series y lo hi → HoldsWorth (to_come series) y (ends_of series y lo hi)
-enclosed-holds series y lo hi given = ends-hold series y lo hi given.series_is.skip given.divisor given.holds
+pub enclosed-holds : (series : PaymentSeries) (y : ℤ) (enclosure : WorthEnds) → IsEnclosed series y enclosure → HoldsWorth (to_come series) y (ends_of series y enclosure)
+enclosed-holds series y enclosure given = ends-hold series y enclosure given.series_is.skip given.divisor given.holds
 
-pub at_least-true : (series : PaymentSeries) (y : ℤ) (lo hi amount : ℕ) (verdict : Verdict) → IsEnclosed series y lo hi → verdict ≡ at_least_verdict (ends_of series y lo hi) (amount + series.accrued) → verdict ≡ Yes → IsWorthAtLeast (to_come series) y (amount + series.accrued)
-at_least-true series y lo hi amount verdict given is said =
-    at_least-yes (to_come series) y (ends_of series y lo hi) (amount + series.accrued) (enclosed-holds series y lo hi given) (sym is ∙ said)
+pub at_least-true : (series : PaymentSeries) (y : ℤ) (enclosure : WorthEnds) (amount : ℕ) (verdict : Verdict) → IsEnclosed series y enclosure → verdict ≡ at_least_verdict (ends_of series y enclosure) (amount + series.accrued) → verdict ≡ Yes → IsWorthAtLeast (to_come series) y (amount + series.accrued)
+at_least-true series y enclosure amount verdict given is said =
+    at_least-yes (to_come series) y (ends_of series y enclosure) (amount + series.accrued) (enclosed-holds series y enclosure given) (sym is ∙ said)
 
-pub at_least-false : (series : PaymentSeries) (y : ℤ) (lo hi amount : ℕ) (verdict : Verdict) → IsEnclosed series y lo hi → verdict ≡ at_least_verdict (ends_of series y lo hi) (amount + series.accrued) → verdict ≡ No → IsWorthAtLeast (to_come series) y (amount + series.accrued) → ⊥
-at_least-false series y lo hi amount verdict given is said =
-    at_least-no (to_come series) y (ends_of series y lo hi) (amount + series.accrued) given.divisor (enclosed-holds series y lo hi given) (sym is ∙ said)
+pub at_least-false : (series : PaymentSeries) (y : ℤ) (enclosure : WorthEnds) (amount : ℕ) (verdict : Verdict) → IsEnclosed series y enclosure → verdict ≡ at_least_verdict (ends_of series y enclosure) (amount + series.accrued) → verdict ≡ No → IsWorthAtLeast (to_come series) y (amount + series.accrued) → ⊥
+at_least-false series y enclosure amount verdict given is said =
+    at_least-no (to_come series) y (ends_of series y enclosure) (amount + series.accrued) given.divisor (enclosed-holds series y enclosure given) (sym is ∙ said)
 
-pub more-true : (series : PaymentSeries) (y : ℤ) (lo hi amount : ℕ) (verdict : Verdict) → IsEnclosed series y lo hi → verdict ≡ more_verdict (ends_of series y lo hi) (amount + series.accrued) → verdict ≡ Yes → IsWorthMore (to_come series) y (amount + series.accrued)
-more-true series y lo hi amount verdict given is said =
-    more-yes (to_come series) y (ends_of series y lo hi) (amount + series.accrued) given.divisor (enclosed-holds series y lo hi given) (sym is ∙ said)
+pub more-true : (series : PaymentSeries) (y : ℤ) (enclosure : WorthEnds) (amount : ℕ) (verdict : Verdict) → IsEnclosed series y enclosure → verdict ≡ more_verdict (ends_of series y enclosure) (amount + series.accrued) → verdict ≡ Yes → IsWorthMore (to_come series) y (amount + series.accrued)
+more-true series y enclosure amount verdict given is said =
+    more-yes (to_come series) y (ends_of series y enclosure) (amount + series.accrued) given.divisor (enclosed-holds series y enclosure given) (sym is ∙ said)
 
-pub more-false : (series : PaymentSeries) (y : ℤ) (lo hi amount : ℕ) (verdict : Verdict) → IsEnclosed series y lo hi → verdict ≡ more_verdict (ends_of series y lo hi) (amount + series.accrued) → verdict ≡ No → IsWorthMore (to_come series) y (amount + series.accrued) → ⊥
-more-false series y lo hi amount verdict given is said =
-    more-no (to_come series) y (ends_of series y lo hi) (amount + series.accrued) (enclosed-holds series y lo hi given) (sym is ∙ said)
+pub more-false : (series : PaymentSeries) (y : ℤ) (enclosure : WorthEnds) (amount : ℕ) (verdict : Verdict) → IsEnclosed series y enclosure → verdict ≡ more_verdict (ends_of series y enclosure) (amount + series.accrued) → verdict ≡ No → IsWorthMore (to_come series) y (amount + series.accrued) → ⊥
+more-false series y enclosure amount verdict given is said =
+    more-no (to_come series) y (ends_of series y enclosure) (amount + series.accrued) (enclosed-holds series y enclosure given) (sym is ∙ said)
 
 -- Unsure is read off an enclosure alone, and only where the price is near
-doubtful-by : (series : PaymentSeries) (y : ℤ) (lo hi amount : ℕ) (read : WorthEnds → Verdict) → IsSeries series → ((top unit : ℕ) → read (exactly top unit) ≡ Unsure → ⊥) → (read (enclosure_ends lo hi) ≡ Unsure → IsNear (to_come series) y (pos amount)) → read (ends_of series y lo hi) ≡ Unsure → IsDoubtful series y (pos amount)
-doubtful-by series y lo hi amount read is sure near =
-    by-cases series y lo hi (λ ends. read ends ≡ Unsure → IsDoubtful series y (pos amount))
+doubtful-by : (series : PaymentSeries) (y : ℤ) (enclosure : WorthEnds) (amount : ℕ) (read : WorthEnds → Verdict) → IsSeries series → ((top unit : ℕ) → read (exactly top unit) ≡ Unsure → ⊥) → (read enclosure ≡ Unsure → IsNear (to_come series) y (pos amount)) → read (ends_of series y enclosure) ≡ Unsure → IsDoubtful series y (pos amount)
+doubtful-by series y enclosure amount read is sure near =
+    by-cases series y enclosure (λ ends. read ends ≡ Unsure → IsDoubtful series y (pos amount))
     (λ _ said. absurd (sure _ _ said))
     (λ _ said. absurd (sure _ _ said))
     (λ _ said. absurd (sure _ _ said))
     (λ not_exact said. record { near = near said; not_exact = not_exact-sentence series y is not_exact })
 
-pub at_least-doubtful : (series : PaymentSeries) (y : ℤ) (lo hi amount : ℕ) (verdict : Verdict) → IsEnclosed series y lo hi → verdict ≡ at_least_verdict (ends_of series y lo hi) (amount + series.accrued) → verdict ≡ Unsure → IsDoubtful series y (pos amount)
-at_least-doubtful series y lo hi amount verdict given is said =
-    doubtful-by series y lo hi amount (λ ends. at_least_verdict ends (amount + series.accrued)) given.series_is
+pub at_least-doubtful : (series : PaymentSeries) (y : ℤ) (enclosure : WorthEnds) (amount : ℕ) (verdict : Verdict) → IsEnclosed series y enclosure → verdict ≡ at_least_verdict (ends_of series y enclosure) (amount + series.accrued) → verdict ≡ Unsure → IsDoubtful series y (pos amount)
+at_least-doubtful series y enclosure amount verdict given is said =
+    doubtful-by series y enclosure amount (λ ends. at_least_verdict ends (amount + series.accrued)) given.series_is
     (λ top unit. exactly-sure top unit (amount + series.accrued))
-    (unsure-near (to_come series) y lo hi amount given.divisor given.holds given.narrow)
+    (unsure-near (to_come series) y enclosure amount given.divisor given.holds given.narrow)
     (sym is ∙ said)
 
-pub more-doubtful : (series : PaymentSeries) (y : ℤ) (lo hi amount : ℕ) (verdict : Verdict) → IsEnclosed series y lo hi → verdict ≡ more_verdict (ends_of series y lo hi) (amount + series.accrued) → verdict ≡ Unsure → IsDoubtful series y (pos amount)
-more-doubtful series y lo hi amount verdict given is said =
-    doubtful-by series y lo hi amount (λ ends. more_verdict ends (amount + series.accrued)) given.series_is
+pub more-doubtful : (series : PaymentSeries) (y : ℤ) (enclosure : WorthEnds) (amount : ℕ) (verdict : Verdict) → IsEnclosed series y enclosure → verdict ≡ more_verdict (ends_of series y enclosure) (amount + series.accrued) → verdict ≡ Unsure → IsDoubtful series y (pos amount)
+more-doubtful series y enclosure amount verdict given is said =
+    doubtful-by series y enclosure amount (λ ends. more_verdict ends (amount + series.accrued)) given.series_is
     (λ top unit. exactly-sure_more top unit (amount + series.accrued))
-    (unsure-near_more (to_come series) y lo hi amount given.divisor given.holds given.narrow)
+    (unsure-near_more (to_come series) y enclosure amount given.divisor given.holds given.narrow)
     (sym is ∙ said)

@@ -8,7 +8,7 @@ use Rattle.std.proofs.lemmas.Bool.Decides.{nat_tests}
 use Rattle.muni_rule.specs.Payments.{PaymentSeries, payments_of, interest_at_place}
 use Rattle.muni_rule.specs.ManyPeriods.{PeriodicPayments, to_come, discount_divisor, sum_to, discounted_sum, whole_sum, worth_power, asked_power}
 use Rattle.muni_rule.specs.ExactCases.{on_interest_date, is_accrued_whole, is_level, yields_par, is_par_bond, is_short, is_exact_case}
-use Rattle.muni_rule.specs.WorthEnds.{WorthEnds, HoldsWorth, exactly, enclosure_ends, payment_at, more_half_years, short_worth, ends_of}
+use Rattle.muni_rule.specs.WorthEnds.{WorthEnds, HoldsWorth, exactly, payment_at, more_half_years, short_worth, ends_of}
 use Rattle.muni_rule.proofs.PowerLemmas.{pow-one, one-pow, pow-split, fraction-power}
 use Rattle.muni_rule.proofs.SumLemmas.{tail_sum, tail_sum-all, zero_sum, level_sum}
 use Rattle.muni_rule.proofs.SeriesLemmas.{payment-early, payment-last, payments-count, whole_sum-series, worth_power-series, asked_power-series}
@@ -129,26 +129,26 @@ par-holds series y skip bond =
     (or_cases (nat_eq series.a 0 && nat_eq series.accrued 0) (nat_eq series.a 180 && nat_eq series.accrued series.regular) parts.0)
 
 -- a fact that holds of the worth in each exact case, and else of an enclosure, holds of the ends
-pub by-cases : (series : PaymentSeries) (y : ℤ) (lo hi : ℕ) (P : WorthEnds → Type 0)
+pub by-cases : (series : PaymentSeries) (y : ℤ) (enclosure : WorthEnds) (P : WorthEnds → Type 0)
     → (discount_divisor y ≡ 2000000 → P (exactly (sum_to (payment_at series) series.n) 1))
     → (is_par_bond series (discount_divisor y) ≡ true → P (exactly (series.redemption + series.accrued) 1))
     → (is_short series ≡ true → P (short_worth series (discount_divisor y)))
-    → (is_exact_case series (discount_divisor y) ≡ false → P (enclosure_ends lo hi))
-    → P (ends_of series y lo hi)
-by-cases series y lo hi P zero par short enclosed =
-    cond_both (nat_eq (discount_divisor y) 2000000) _ _ (λ (ends : Option WorthEnds). P (unwrap_or ends (enclosure_ends lo hi)))
+    → (is_exact_case series (discount_divisor y) ≡ false → P enclosure)
+    → P (ends_of series y enclosure)
+by-cases series y enclosure P zero par short enclosed =
+    cond_both (nat_eq (discount_divisor y) 2000000) _ _ (λ (ends : Option WorthEnds). P (unwrap_or ends enclosure))
     (λ is. zero (eqb-true (discount_divisor y) 2000000 is))
-    (λ not_zero. cond_both (is_par_bond series (discount_divisor y)) _ _ (λ (ends : Option WorthEnds). P (unwrap_or ends (enclosure_ends lo hi)))
+    (λ not_zero. cond_both (is_par_bond series (discount_divisor y)) _ _ (λ (ends : Option WorthEnds). P (unwrap_or ends enclosure))
     par
-    (λ not_par. cond_both (is_short series) _ _ (λ (ends : Option WorthEnds). P (unwrap_or ends (enclosure_ends lo hi)))
+    (λ not_par. cond_both (is_short series) _ _ (λ (ends : Option WorthEnds). P (unwrap_or ends enclosure))
     short
     (λ not_short. enclosed (or_from (nat_eq (discount_divisor y) 2000000) (is_par_bond series (discount_divisor y) || is_short series) not_zero (or_from (is_par_bond series (discount_divisor y)) (is_short series) not_par not_short)))))
 
 -- where an enclosure holds the worth, the ends do
-pub ends-hold : (series : PaymentSeries) (y : ℤ) (lo hi : ℕ) → series.skip < series.n → 0 < discount_divisor y → HoldsWorth (to_come series) y (enclosure_ends lo hi) → HoldsWorth (to_come series) y (ends_of series y lo hi)
-ends-hold series y lo hi skip some enclosed =
-    by-cases series y lo hi (λ ends. HoldsWorth (to_come series) y ends)
+pub ends-hold : (series : PaymentSeries) (y : ℤ) (enclosure : WorthEnds) → series.skip < series.n → 0 < discount_divisor y → HoldsWorth (to_come series) y enclosure → HoldsWorth (to_come series) y (ends_of series y enclosure)
+ends-hold series y enclosure skip some holds =
+    by-cases series y enclosure (λ ends. HoldsWorth (to_come series) y ends)
     (zero-holds series y skip)
     (par-holds series y skip)
     (short-holds series y skip some)
-    (λ not_exact. enclosed)
+    (λ not_exact. holds)

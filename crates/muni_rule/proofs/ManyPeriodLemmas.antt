@@ -9,7 +9,7 @@ use Rattle.std.proofs.Math.Nat.{mul-le-mul_left, le_of_mul-le-mul_left, mul-pos,
 use Rattle.muni_rule.specs.Payments.{PaymentSeries, IsSeries, payments_of, add_to_last, interest_at_place}
 use Rattle.muni_rule.specs.ManyPeriods.{PeriodicPayments, to_come, discount_divisor, worth_power, asked_power, sum_to, whole_sum, IsWorthAtLeast, IsWorthMore, DirtyAtLeast, DirtyMore}
 use Rattle.muni_rule.specs.ExactCases.{IsAccruedWhole, IsParBond, IsShort, IsExactCase, on_interest_date, is_accrued_whole, is_level, yields_par, is_par_bond, is_short, is_exact_case}
-use Rattle.muni_rule.specs.WorthEnds.{HoldsWorth, exactly, enclosure_ends, payment_at}
+use Rattle.muni_rule.specs.WorthEnds.{HoldsWorth, exactly, payment_at}
 use Rattle.muni_rule.specs.ManyPeriodLaws.{ComparesAs, NothingIsPassed, FirstDayIsFraction, LastDayIsFraction, ZeroYieldIsSum, ParBondIsRedemption, ParYieldIsCoupon, NumbersTellExactCases, IsWorth, ExactCasesAreExact, OthersAreEnclosed}
 use Rattle.muni_rule.proofs.PowerLemmas.{pow-one}
 use Rattle.muni_rule.proofs.SumLemmas.{tail_sum, tail_sum-all, tail_sum-some}
@@ -273,16 +273,16 @@ pub not_exact-sentence : (series : PaymentSeries) (y : ℤ) → IsSeries series 
 not_exact-sentence series y is not_exact exact = false-true (is_exact_case series (discount_divisor y)) not_exact (cases-number series y is exact)
 
 pub exact-worth : ExactCasesAreExact
-exact-worth series y lo hi is some exact =
-    by-cases series y lo hi (λ ends. IsWorth (to_come series) y ends)
+exact-worth series y enclosure is some exact =
+    by-cases series y enclosure (λ ends. IsWorth (to_come series) y ends)
     (λ zero_yield. one-fraction (to_come series) y _ _ (zero-holds series y is.skip zero_yield))
     (λ bond. one-fraction (to_come series) y _ _ (par-holds series y is.skip bond))
     (λ short. one-fraction (to_come series) y _ _ (short-holds series y is.skip some short))
     (λ not_exact. absurd (not_exact-sentence series y is not_exact exact))
 
 pub open-enclosed : OthersAreEnclosed
-open-enclosed series y lo hi is not_exact =
-    by-cases series y lo hi (λ ends. ends ≡ enclosure_ends lo hi)
+open-enclosed series y enclosure is not_exact =
+    by-cases series y enclosure (λ ends. ends ≡ enclosure)
     (λ zero_yield. absurd (not_exact (inl (zero-divisor y zero_yield))))
     (λ bond. absurd (not_exact (inr (inl (bond-sentence series y is bond)))))
     (λ short. absurd (not_exact (inr (inr (short-sentence series short)))))

@@ -6,7 +6,7 @@ use Rattle.std.proofs.lemmas.Int.{ints}
 use Rattle.std.proofs.lemmas.Bool.{leb-true, leb-false, ltb-true, ltb-false}
 use Rattle.muni_rule.specs.ManyPeriods.{PeriodicPayments, discount_divisor, asked_power, worth_power, IsWorthAtLeast, IsWorthMore, DirtyAtLeast}
 use Rattle.muni_rule.specs.Doubt.{IsNear}
-use Rattle.muni_rule.specs.WorthEnds.{WorthEnds, HoldsWorth, exactly, enclosure_ends}
+use Rattle.muni_rule.specs.WorthEnds.{WorthEnds, HoldsWorth, IsNarrow, exactly}
 use Rattle.muni_rule.specs.Verdicts.{at_least_verdict, more_verdict}
 use Rattle.muni_rule.specs.declared.verdict.Verdict.TheVariants.{Yes, No, Unsure}
 use Rattle.muni_rule.proofs.PowerLemmas.{not-zero, reached-power, passed-power, missed-power, not_passed-power}
@@ -104,22 +104,24 @@ near-at bond y ends amount some holds low high = record {
   not_far_above = not_reached bond y ends (amount + 360 + bond.accrued) some holds high;
 }
 
-pub near : (bond : PeriodicPayments) (y : ℤ) (lo hi amount : ℕ) → 0 < discount_divisor y → HoldsWorth bond y (enclosure_ends lo hi) → hi < lo + 360 * 4096 → lo ≤ (amount + bond.accrued) * 4096 → (amount + bond.accrued) * 4096 ≤ hi → IsNear bond y (pos amount)
-near bond y lo hi amount some holds narrow under over =
-    near-at bond y (enclosure_ends lo hi) amount some holds (λ x same. omega arith) (omega arith)
+pub near : (bond : PeriodicPayments) (y : ℤ) (ends : WorthEnds) (amount : ℕ) → 0 < discount_divisor y → HoldsWorth bond y ends → IsNarrow ends → ends.lo ≤ (amount + bond.accrued) * ends.unit → (amount + bond.accrued) * ends.unit ≤ ends.hi → IsNear bond y (pos amount)
+near bond y ends amount some holds narrow under over =
+    near-at bond y ends amount some holds
+    (λ x same. let over_it : (x + 360) * ends.unit ≤ ends.hi = rw same over in omega (arith, narrow, over_it))
+    (omega (arith, narrow, under))
 
-pub unsure-near : (bond : PeriodicPayments) (y : ℤ) (lo hi amount : ℕ) → 0 < discount_divisor y → HoldsWorth bond y (enclosure_ends lo hi) → hi < lo + 360 * 4096 → at_least_verdict (enclosure_ends lo hi) (amount + bond.accrued) ≡ Unsure → IsNear bond y (pos amount)
-unsure-near bond y lo hi amount some holds narrow said =
+pub unsure-near : (bond : PeriodicPayments) (y : ℤ) (ends : WorthEnds) (amount : ℕ) → 0 < discount_divisor y → HoldsWorth bond y ends → IsNarrow ends → at_least_verdict ends (amount + bond.accrued) ≡ Unsure → IsNear bond y (pos amount)
+unsure-near bond y ends amount some holds narrow said =
     let x = amount + bond.accrued in
-    let tests = unsure-test (nat_le (x * 4096) lo) (nat_lt hi (x * 4096)) said in
-    let less = leb-false (x * 4096) lo tests.0 in
-    let order = ltb-false hi (x * 4096) tests.1 in
-    near bond y lo hi amount some holds narrow (omega (arith, less)) order
+    let tests = unsure-test (nat_le (x * ends.unit) ends.lo) (nat_lt ends.hi (x * ends.unit)) said in
+    let less = leb-false (x * ends.unit) ends.lo tests.0 in
+    let order = ltb-false ends.hi (x * ends.unit) tests.1 in
+    near bond y ends amount some holds narrow (omega (arith, less)) order
 
-pub unsure-near_more : (bond : PeriodicPayments) (y : ℤ) (lo hi amount : ℕ) → 0 < discount_divisor y → HoldsWorth bond y (enclosure_ends lo hi) → hi < lo + 360 * 4096 → more_verdict (enclosure_ends lo hi) (amount + bond.accrued) ≡ Unsure → IsNear bond y (pos amount)
-unsure-near_more bond y lo hi amount some holds narrow said =
+pub unsure-near_more : (bond : PeriodicPayments) (y : ℤ) (ends : WorthEnds) (amount : ℕ) → 0 < discount_divisor y → HoldsWorth bond y ends → IsNarrow ends → more_verdict ends (amount + bond.accrued) ≡ Unsure → IsNear bond y (pos amount)
+unsure-near_more bond y ends amount some holds narrow said =
     let x = amount + bond.accrued in
-    let tests = unsure-test (nat_lt (x * 4096) lo) (nat_le hi (x * 4096)) said in
-    let order = ltb-false (x * 4096) lo tests.0 in
-    let less = leb-false hi (x * 4096) tests.1 in
-    near bond y lo hi amount some holds narrow order (omega (arith, less))
+    let tests = unsure-test (nat_lt (x * ends.unit) ends.lo) (nat_le ends.hi (x * ends.unit)) said in
+    let order = ltb-false (x * ends.unit) ends.lo tests.0 in
+    let less = leb-false ends.hi (x * ends.unit) tests.1 in
+    near bond y ends amount some holds narrow order (omega (arith, less))

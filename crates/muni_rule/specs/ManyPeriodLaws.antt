@@ -3,7 +3,7 @@ use Rattle.std.specs.Prelude.{◌≡◌, ℕ, ◌+◌, ◌-◌, ◌*◌, ◌^◌
 use Rattle.muni_rule.specs.Payments.{PaymentSeries, IsSeries}
 use Rattle.muni_rule.specs.ManyPeriods.{PeriodicPayments, to_come, discount_divisor, sum_to, whole_sum, AtLeast, More}
 use Rattle.muni_rule.specs.ExactCases.{IsParBond, IsExactCase, is_exact_case}
-use Rattle.muni_rule.specs.WorthEnds.{WorthEnds, HoldsWorth, enclosure_ends, payment_at, ends_of}
+use Rattle.muni_rule.specs.WorthEnds.{WorthEnds, HoldsWorth, payment_at, ends_of}
 
 -- the price with the accrued interest compares with every amount as the fraction top / unit does
 pub record ComparesAs (bond : PeriodicPayments) (y : ℤ) (top unit : ℕ) : Type 0 where
@@ -67,11 +67,11 @@ pub record IsWorth (bond : PeriodicPayments) (y : ℤ) (ends : WorthEnds) : Type
 -- in an exact case verdicts are read off the worth, and else off the enclosure
 abbrev pub ExactCasesAreExact : Type 0
 ExactCasesAreExact =
-    (series : PaymentSeries) (y : ℤ) (lo hi : ℕ)
+    (series : PaymentSeries) (y : ℤ) (enclosure : WorthEnds)
     → IsSeries series → 0 < discount_divisor y → IsExactCase series y
-    → IsWorth (to_come series) y (ends_of series y lo hi)
+    → IsWorth (to_come series) y (ends_of series y enclosure)
 
 abbrev pub OthersAreEnclosed : Type 0
 OthersAreEnclosed =
-    (series : PaymentSeries) (y : ℤ) (lo hi : ℕ) → IsSeries series → ¬ (IsExactCase series y)
-    → ends_of series y lo hi ≡ enclosure_ends lo hi
+    (series : PaymentSeries) (y : ℤ) (enclosure : WorthEnds)
+    → IsSeries series → ¬ (IsExactCase series y) → ends_of series y enclosure ≡ enclosure

@@ -17,6 +17,10 @@ pub record HoldsWorth (bond : PeriodicPayments) (y : ℤ) (ends : WorthEnds) : T
   pub below : asked_power bond y ends.lo ≤ ends.unit ^ 180 * worth_power bond y
   pub above : ends.unit ^ 180 * worth_power bond y ≤ asked_power bond y ends.hi
 
+-- less than 10^-9 dollars lie between them
+abbrev pub IsNarrow : WorthEnds → Type 0
+IsNarrow ends = ends.hi < ends.lo + 360 * ends.unit
+
 -- ends in 1/4096 of an amount, which enclosures have
 abbrev pub enclosure_ends : ℕ → ℕ → WorthEnds
 enclosure_ends lo hi = record { lo = lo; hi = hi; unit = 4096 }
@@ -49,6 +53,5 @@ exact_worth series v =
     else None))
 
 -- the ends that verdicts are read off: the worth itself in an exact case, and else an enclosure
-abbrev pub ends_of : PaymentSeries → ℤ → ℕ → ℕ → WorthEnds
-ends_of series y lo hi =
-    unwrap_or (exact_worth series (discount_divisor y)) (enclosure_ends lo hi)
+abbrev pub ends_of : PaymentSeries → ℤ → WorthEnds → WorthEnds
+ends_of series y enclosure = unwrap_or (exact_worth series (discount_divisor y)) enclosure

@@ -7,6 +7,7 @@ use Rattle.std.specs.declared.cmp.Ordering.{Ordering}
 use Rattle.muni_days.specs.declared.day.Day.{Day}
 use Rattle.muni_rule.specs.Payments.{PaymentSeries}
 use Rattle.muni_rule.specs.declared.verdict.Verdict.{Verdict}
+use Rattle.muni_rule.specs.WorthEnds.{WorthEnds}
 use Rattle.muni_sched.specs.Answered.{IsLowestAnswer}
 use Rattle.muni_sched.specs.AnswerLaws.{ArePriced}
 use Rattle.muni_sched.specs.Candidates.{IsCandidate}
@@ -128,11 +129,11 @@ side-like Same y (x ∷ xs) (z ∷ zs) alike =
     ∙ sym (first-said y z zs)
 
 -- ---- the lowest price and the lowest yield
-pub price-like : (Same : Day → Day → Type 0) (low high : PaymentSeries → ℤ → ℕ) (y : ℤ) (list others : List Candidate) (said other : LowAnswer) → AllZip (IsLike Same) list others → ArePriced y list → IsLowestPrice low high y list said → IsLowestPrice low high y others other → IsLikeLow Same said other
-price-like Same low high y list others said other alike all is also =
-    let moved = answer-moved Same Prices (IsPriceOutcome low high y) list others other
-    (λ candidate it outcome like so. subst (λ shape. IsPriceOutcomeFor low high y (to_come_of shape) outcome) (sym like.shape) so) alike also in
-    let one : said ≡ moved.other = prices-one low high y list said moved.other all is moved.is in
+pub price-like : (Same : Day → Day → Type 0) (ends : PaymentSeries → ℤ → WorthEnds) (y : ℤ) (list others : List Candidate) (said other : LowAnswer) → AllZip (IsLike Same) list others → ArePriced y list → IsLowestPrice ends y list said → IsLowestPrice ends y others other → IsLikeLow Same said other
+price-like Same ends y list others said other alike all is also =
+    let moved = answer-moved Same Prices (IsPriceOutcome ends y) list others other
+    (λ candidate it outcome like so. subst (λ shape. IsPriceOutcomeFor ends y (to_come_of shape) outcome) (sym like.shape) so) alike also in
+    let one : said ≡ moved.other = prices-one ends y list said moved.other all is moved.is in
     subst (λ it. IsLikeLow Same it other) (sym one) moved.like
 
 pub yield-like : (Same : Day → Day → Type 0) (verdicts : PaymentSeries → ℕ → ℕ → Verdict) (price : ℕ) (list others : List Candidate) (said other : LowAnswer) → AllZip (IsLike Same) list others → 0 < price → All IsCandidate list → IsLowestYield verdicts price list said → IsLowestYield verdicts price others other → IsLikeLow Same said other

@@ -84,8 +84,8 @@ ends-fall ends x z order missed reached =
     let times : x * ends.unit ≤ z * ends.unit = mul-le-mul_right ends.unit order in
     grind (arith, times)
 
-falling : (series : PaymentSeries) (y : ℤ) (lo hi : ℕ) → IsFalling (λ t. at_least_verdict (ends_of series y lo hi) (dirty_thousandths series.accrued t))
-falling series y lo hi t u order = ends-fall (ends_of series y lo hi) (dirty_thousandths series.accrued t) (dirty_thousandths series.accrued u) (omega (arith, order))
+falling : (series : PaymentSeries) (y : ℤ) (enclosure : WorthEnds) → IsFalling (λ t. at_least_verdict (ends_of series y enclosure) (dirty_thousandths series.accrued t))
+falling series y enclosure t u order = ends-fall (ends_of series y enclosure) (dirty_thousandths series.accrued t) (dirty_thousandths series.accrued u) (omega (arith, order))
 
 figure-same : (said : ℕ → Verdict) (s t : ℕ) → IsFalling said → multi.IsPriceOutcome said (found.Price s) → multi.IsPriceOutcome said (found.Price t) → s ≡ t
 figure-same said s t falls is also =
@@ -118,19 +118,19 @@ verdict-same said (found.Undecided a) (found.Price t) falls is also = absurd (is
 verdict-same said (found.Undecided a) found.BelowZero falls is also = absurd (is.not_below_zero also)
 verdict-same said (found.Undecided a) (found.Undecided b) falls is also = ap found.Undecided (open-same said a b is also)
 
-price-same : (low high : PaymentSeries → ℤ → ℕ) (y : ℤ) (to_be : ToCome) (x z : Outcome) → IsPriced y to_be → IsPriceOutcomeFor low high y to_be x → IsPriceOutcomeFor low high y to_be z → x ≡ z
-price-same low high y (many series) x z range is also =
+price-same : (ends : PaymentSeries → ℤ → WorthEnds) (y : ℤ) (to_be : ToCome) (x z : Outcome) → IsPriced y to_be → IsPriceOutcomeFor ends y to_be x → IsPriceOutcomeFor ends y to_be z → x ≡ z
+price-same ends y (many series) x z range is also =
     is.2
-    ∙ ap prices.placed (verdict-same (λ t. at_least_verdict (ends_of series y (low series y) (high series y)) (dirty_thousandths series.accrued t)) is.0 also.0 (falling series y (low series y) (high series y)) is.1 also.1)
+    ∙ ap prices.placed (verdict-same (λ t. at_least_verdict (ends_of series y (ends series y)) (dirty_thousandths series.accrued t)) is.0 also.0 (falling series y (ends series y)) is.1 also.1)
     ∙ sym also.2
-price-same low high y (one least payment) x z range is also =
+price-same ends y (one least payment) x z range is also =
     is.2
     ∙ ap prices.placed_simple (simple-same (AtLeast payment y) is.0 also.0 (λ amount smaller less reached. AtLeast-smaller payment y amount smaller range less reached) is.1 also.1)
     ∙ sym also.2
 
 pub prices-one : AllowsOnePrice
-prices-one low high y list said other all is also =
-    answer-one Prices (IsPriceOutcome low high y) list said other
-    (λ xs zs each too. zip-same (λ (candidate : Candidate). IsPriced y (to_come_of candidate.shape)) (IsPriceOutcome low high y) list xs zs
-    (λ candidate x z range. price-same low high y (to_come_of candidate.shape) x z range) (all-priced y list all) each too)
+prices-one ends y list said other all is also =
+    answer-one Prices (IsPriceOutcome ends y) list said other
+    (λ xs zs each too. zip-same (λ (candidate : Candidate). IsPriced y (to_come_of candidate.shape)) (IsPriceOutcome ends y) list xs zs
+    (λ candidate x z range. price-same ends y (to_come_of candidate.shape) x z range) (all-priced y list all) each too)
     is also

@@ -16,7 +16,7 @@ use Rattle.muni_rule.specs.Ranges.{IsWithin, IsManyPeriodsBoundary}
 use Rattle.muni_rule.specs.Schedule.{ExactOutcome, prints, is_below, is_above, no_time, IsFrom}
 use Rattle.muni_rule.specs.SinglePayment.{SinglePayment, growth, AtLeast}
 use Rattle.muni_rule.specs.Verdicts.{at_least_verdict, dirty_thousandths, IsUndecidedAt}
-use Rattle.muni_rule.specs.WorthEnds.{ends_of}
+use Rattle.muni_rule.specs.WorthEnds.{WorthEnds, ends_of}
 use Rattle.muni_rule.specs.declared.verdict.Verdict.{Verdict}
 use Rattle.muni_rule.specs.declared.verdict.Verdict.TheVariants as verdict
 use Rattle.muni_rule.proofs.AtLeastLemmas.{AtLeast-smaller}
@@ -138,27 +138,27 @@ many-closed series y = λ amount smaller less reached. many-smaller (to_come ser
 amount-of : (b : ℕ) → thousandths b ≡ (figure 1 (b + 1) *ℤ pos 360000000)
 amount-of b = let place : figure 1 (b + 1) ≡ pos b = omega (arith, ints) in ap pos (omega arith) ∙ ap (λ t. t *ℤ pos 360000000) (sym place)
 
-many-unsure : (series : PaymentSeries) (y : ℤ) (lo hi b : ℕ) (exactly : ExactOutcome) → IsEnclosed series y lo hi → IsUndecidedAt (λ t. at_least_verdict (ends_of series y lo hi) (dirty_thousandths series.accrued t)) b → IsDoubtful series y (thousandths b) → IsExactPriceOf y (many series) exactly
+many-unsure : (series : PaymentSeries) (y : ℤ) (enclosure : WorthEnds) (b : ℕ) (exactly : ExactOutcome) → IsEnclosed series y enclosure → IsUndecidedAt (λ t. at_least_verdict (ends_of series y enclosure) (dirty_thousandths series.accrued t)) b → IsDoubtful series y (thousandths b) → IsExactPriceOf y (many series) exactly
     → IsSoundUnsure 1 0 (λ t. IsInDoubt (many series) y (t *ℤ pos 360000000)) b exactly
-many-unsure series y lo hi b exactly given is doubt exact_is = record {
+many-unsure series y enclosure b exactly given is doubt exact_is = record {
   doubtful = let amount : thousandths b ≡ (figure 1 (b + 1) *ℤ pos 360000000) = amount-of b in subst (IsDoubtful series y) amount doubt;
   timed = price-timed (periods.AtLeast (to_come series) y) exactly exact_is;
   reached = λ other.
       let before : b - 1 < b = omega (arith, other) in
-      let said = reached-below (λ t. at_least_verdict (ends_of series y lo hi) (dirty_thousandths series.accrued t)) b (b - 1) is before in
-      let reached : periods.AtLeast (to_come series) y (thousandths (b - 1)) = at_least-true series y lo hi (360000000 * (b - 1)) _ given refl said in
+      let said = reached-below (λ t. at_least_verdict (ends_of series y enclosure) (dirty_thousandths series.accrued t)) b (b - 1) is before in
+      let reached : periods.AtLeast (to_come series) y (thousandths (b - 1)) = at_least-true series y enclosure (360000000 * (b - 1)) _ given refl said in
       let place : pos (b - 1) ≡ figure 1 b = omega (arith, ints, other) in
       subst (λ t. IsFrom t exactly) place (price-from (periods.AtLeast (to_come series) y) (b - 1) exactly (many-closed series y) reached exact_is);
 }
 
-many-sound : (series : PaymentSeries) (y : ℤ) (lo hi : ℕ) (answer : PriceAnswer) (exactly : ExactOutcome) → IsEnclosed series y lo hi → multi.IsPriceOutcome (λ t. at_least_verdict (ends_of series y lo hi) (dirty_thousandths series.accrued t)) answer → IsExactPriceOf y (many series) exactly
+many-sound : (series : PaymentSeries) (y : ℤ) (enclosure : WorthEnds) (answer : PriceAnswer) (exactly : ExactOutcome) → IsEnclosed series y enclosure → multi.IsPriceOutcome (λ t. at_least_verdict (ends_of series y enclosure) (dirty_thousandths series.accrued t)) answer → IsExactPriceOf y (many series) exactly
     → IsSound 1 0 (λ t. IsInDoubt (many series) y (t *ℤ pos 360000000)) (placed answer) exactly
-many-sound series y lo hi (found.Price t) exactly given is exact_is =
-    printed-same (periods.AtLeast (to_come series) y) t exactly (many-closed series y) (outcome-exact series y lo hi (found.Price t) given is) exact_is
-many-sound series y lo hi found.BelowZero exactly given is exact_is =
-    below-same (periods.AtLeast (to_come series) y) exactly (many-closed series y) (outcome-exact series y lo hi found.BelowZero given is) exact_is
-many-sound series y lo hi (found.Undecided b) exactly given is exact_is =
-    many-unsure series y lo hi b exactly given is (outcome-doubtful series y lo hi (found.Undecided b) given is) exact_is
+many-sound series y enclosure (found.Price t) exactly given is exact_is =
+    printed-same (periods.AtLeast (to_come series) y) t exactly (many-closed series y) (outcome-exact series y enclosure (found.Price t) given is) exact_is
+many-sound series y enclosure found.BelowZero exactly given is exact_is =
+    below-same (periods.AtLeast (to_come series) y) exactly (many-closed series y) (outcome-exact series y enclosure found.BelowZero given is) exact_is
+many-sound series y enclosure (found.Undecided b) exactly given is exact_is =
+    many-unsure series y enclosure b exactly given is (outcome-doubtful series y enclosure (found.Undecided b) given is) exact_is
 
 -- ---- one payment
 single-sound : (payment : SinglePayment) (y : ℤ) (answer : SimplePrice) (IsDoubtfulAt : ℤ → Type 0) (exactly : ExactOutcome) → pos 0 <ℤ growth payment y → simple.IsPriceAnswer (AtLeast payment y) answer → IsExactPriceBy (AtLeast payment y) exactly → IsSound 1 0 IsDoubtfulAt (placed_simple answer) exactly
@@ -169,15 +169,15 @@ single-sound payment y exact.BelowZero D exactly above is exact_is =
 
 -- ---- each candidate
 -- two ends enclose the worth of every series at this yield
-abbrev pub AreEnclosedAt : (low high : PaymentSeries → ℤ → ℕ) → ℤ → Type 0
-AreEnclosedAt low high y = (series : PaymentSeries) → IsSeries series → 2 ≤ series.n → IsManyPeriodsBoundary y → IsEnclosed series y (low series y) (high series y)
+abbrev pub AreEnclosedAt : (ends : PaymentSeries → ℤ → WorthEnds) → ℤ → Type 0
+AreEnclosedAt ends y = (series : PaymentSeries) → IsSeries series → 2 ≤ series.n → IsManyPeriodsBoundary y → IsEnclosed series y (ends series y)
 
-one-sound : (low high : PaymentSeries → ℤ → ℕ) (y : ℤ) (to_be : ToCome) (outcome : Outcome) (exactly : ExactOutcome) → IsPriced y to_be → AreEnclosedAt low high y → IsPriceOutcomeFor low high y to_be outcome → IsExactPriceOf y to_be exactly
+one-sound : (ends : PaymentSeries → ℤ → WorthEnds) (y : ℤ) (to_be : ToCome) (outcome : Outcome) (exactly : ExactOutcome) → IsPriced y to_be → AreEnclosedAt ends y → IsPriceOutcomeFor ends y to_be outcome → IsExactPriceOf y to_be exactly
     → IsSound 1 0 (λ t. IsInDoubt to_be y (t *ℤ pos 360000000)) outcome exactly
-one-sound low high y (many series) outcome exactly range law is exact_is =
+one-sound ends y (many series) outcome exactly range law is exact_is =
     subst (λ x. IsSound 1 0 (λ t. IsInDoubt (many series) y (t *ℤ pos 360000000)) x exactly) (sym is.2)
-    (many-sound series y (low series y) (high series y) is.0 exactly (law series range.0 range.1 range.2) is.1 exact_is)
-one-sound low high y (one least payment) outcome exactly range law is exact_is =
+    (many-sound series y (ends series y) is.0 exactly (law series range.0 range.1 range.2) is.1 exact_is)
+one-sound ends y (one least payment) outcome exactly range law is exact_is =
     subst (λ x. IsSound 1 0 (λ t. ⊥) x exactly) (sym is.2) (single-sound payment y is.0 (λ t. ⊥) exactly range is.1 exact_is)
 
 -- all candidates may be priced at a yield
@@ -194,17 +194,17 @@ rest-priced y candidate list all = record {
 pub all-priced : (y : ℤ) (list : List Candidate) → ArePriced y list → All (λ (candidate : Candidate). IsPriced y (to_come_of candidate.shape)) list
 all-priced y list all = λ i candidate inside. priced y (slice_index_or list i candidate) (all.candidates i candidate inside) (all.at_yield i candidate inside) (all.given i candidate inside)
 
-pub prices-sound : (low high : PaymentSeries → ℤ → ℕ) (y : ℤ) (list : List Candidate) (outcomes : List Outcome) (exactly : List ExactOutcome) → ArePriced y list → AreEnclosedAt low high y → AllZip (IsPriceOutcome low high y) list outcomes → AllZip (IsExactPrice y) list exactly
+pub prices-sound : (ends : PaymentSeries → ℤ → WorthEnds) (y : ℤ) (list : List Candidate) (outcomes : List Outcome) (exactly : List ExactOutcome) → ArePriced y list → AreEnclosedAt ends y → AllZip (IsPriceOutcome ends y) list outcomes → AllZip (IsExactPrice y) list exactly
     → AreSound 1 0 (λ k t. IsCandidateInDoubt list k y (t *ℤ pos 360000000)) outcomes (exact_at exactly)
-prices-sound low high y [] [] [] all law is exact_is k = refl
-prices-sound low high y [] [] (e ∷ exactly) all law is exact_is k = absurd exact_is
-prices-sound low high y [] (x ∷ outcomes) exactly all law is exact_is k = absurd is
-prices-sound low high y (candidate ∷ list) [] exactly all law is exact_is k = absurd is
-prices-sound low high y (candidate ∷ list) (x ∷ outcomes) [] all law is exact_is k = absurd exact_is
-prices-sound low high y (candidate ∷ list) (x ∷ outcomes) (e ∷ exactly) all law is exact_is zero =
-    one-sound low high y (to_come_of candidate.shape) x e (first-priced y candidate list all) law is.0 exact_is.0
-prices-sound low high y (candidate ∷ list) (x ∷ outcomes) (e ∷ exactly) all law is exact_is (suc k) =
-    prices-sound low high y list outcomes exactly (rest-priced y candidate list all) law is.1 exact_is.1 k
+prices-sound ends y [] [] [] all law is exact_is k = refl
+prices-sound ends y [] [] (e ∷ exactly) all law is exact_is k = absurd exact_is
+prices-sound ends y [] (x ∷ outcomes) exactly all law is exact_is k = absurd is
+prices-sound ends y (candidate ∷ list) [] exactly all law is exact_is k = absurd is
+prices-sound ends y (candidate ∷ list) (x ∷ outcomes) [] all law is exact_is k = absurd exact_is
+prices-sound ends y (candidate ∷ list) (x ∷ outcomes) (e ∷ exactly) all law is exact_is zero =
+    one-sound ends y (to_come_of candidate.shape) x e (first-priced y candidate list all) law is.0 exact_is.0
+prices-sound ends y (candidate ∷ list) (x ∷ outcomes) (e ∷ exactly) all law is exact_is (suc k) =
+    prices-sound ends y list outcomes exactly (rest-priced y candidate list all) law is.1 exact_is.1 k
 
 -- ---- doubt
 simple-sure : (answer : SimplePrice) (s : ℕ) → ¬ (placed_simple answer ≡ Unsure s)
@@ -216,17 +216,17 @@ found-doubt series y s (found.Price t) doubt same = absurd (let never : Print (t
 found-doubt series y s found.BelowZero doubt same = absurd (let never : Below ≡ Unsure s = same in cc)
 found-doubt series y s (found.Undecided b) doubt same = let place : b ≡ s = cc in subst (λ t. IsDoubtful series y (thousandths t)) place doubt
 
-one-doubt : (low high : PaymentSeries → ℤ → ℕ) (y : ℤ) (s : ℕ) (to_be : ToCome) (outcome : Outcome) → IsPriced y to_be → AreEnclosedAt low high y → IsPriceOutcomeFor low high y to_be outcome → outcome ≡ Unsure s → IsInDoubt to_be y (thousandths s)
-one-doubt low high y s (many series) outcome range law is same =
-    found-doubt series y s is.0 (outcome-doubtful series y (low series y) (high series y) is.0 (law series range.0 range.1 range.2) is.1) (sym is.2 ∙ same)
-one-doubt low high y s (one least payment) outcome range law is same = simple-sure is.0 s (sym is.2 ∙ same)
+one-doubt : (ends : PaymentSeries → ℤ → WorthEnds) (y : ℤ) (s : ℕ) (to_be : ToCome) (outcome : Outcome) → IsPriced y to_be → AreEnclosedAt ends y → IsPriceOutcomeFor ends y to_be outcome → outcome ≡ Unsure s → IsInDoubt to_be y (thousandths s)
+one-doubt ends y s (many series) outcome range law is same =
+    found-doubt series y s is.0 (outcome-doubtful series y (ends series y) is.0 (law series range.0 range.1 range.2) is.1) (sym is.2 ∙ same)
+one-doubt ends y s (one least payment) outcome range law is same = simple-sure is.0 s (sym is.2 ∙ same)
 
-pub prices-doubt : (low high : PaymentSeries → ℤ → ℕ) (y : ℤ) (s c : ℕ) (list : List Candidate) (outcomes : List Outcome) → ArePriced y list → AreEnclosedAt low high y → AllZip (IsPriceOutcome low high y) list outcomes → outcome_at outcomes c ≡ Unsure s → IsCandidateInDoubt list c y (thousandths s)
-prices-doubt low high y s c [] [] all law is same = absurd (let never : Above ≡ Unsure s = same in cc)
-prices-doubt low high y s c [] (x ∷ outcomes) all law is same = absurd is
-prices-doubt low high y s c (candidate ∷ list) [] all law is same = absurd is
-prices-doubt low high y s zero (candidate ∷ list) (x ∷ outcomes) all law is same = one-doubt low high y s (to_come_of candidate.shape) x (first-priced y candidate list all) law is.0 same
-prices-doubt low high y s (suc c) (candidate ∷ list) (x ∷ outcomes) all law is same = prices-doubt low high y s c list outcomes (rest-priced y candidate list all) law is.1 same
+pub prices-doubt : (ends : PaymentSeries → ℤ → WorthEnds) (y : ℤ) (s c : ℕ) (list : List Candidate) (outcomes : List Outcome) → ArePriced y list → AreEnclosedAt ends y → AllZip (IsPriceOutcome ends y) list outcomes → outcome_at outcomes c ≡ Unsure s → IsCandidateInDoubt list c y (thousandths s)
+prices-doubt ends y s c [] [] all law is same = absurd (let never : Above ≡ Unsure s = same in cc)
+prices-doubt ends y s c [] (x ∷ outcomes) all law is same = absurd is
+prices-doubt ends y s c (candidate ∷ list) [] all law is same = absurd is
+prices-doubt ends y s zero (candidate ∷ list) (x ∷ outcomes) all law is same = one-doubt ends y s (to_come_of candidate.shape) x (first-priced y candidate list all) law is.0 same
+prices-doubt ends y s (suc c) (candidate ∷ list) (x ∷ outcomes) all law is same = prices-doubt ends y s c list outcomes (rest-priced y candidate list all) law is.1 same
 
 -- ---- a price is neither above all figures nor without time
 many-timed : (answer : PriceAnswer) → ¬ (placed answer ≡ NoTime)
@@ -247,16 +247,16 @@ one-not_above : (answer : SimplePrice) → ¬ (placed_simple answer ≡ Above)
 one-not_above (exact.Price t) never = cc
 one-not_above exact.BelowZero never = cc
 
-timed : (low high : PaymentSeries → ℤ → ℕ) (y : ℤ) (to_be : ToCome) (outcome : Outcome) → IsPriceOutcomeFor low high y to_be outcome → ¬ (outcome ≡ NoTime)
-timed low high y (many series) outcome is never = many-timed is.0 (sym is.2 ∙ never)
-timed low high y (one least payment) outcome is never = one-timed is.0 (sym is.2 ∙ never)
+timed : (ends : PaymentSeries → ℤ → WorthEnds) (y : ℤ) (to_be : ToCome) (outcome : Outcome) → IsPriceOutcomeFor ends y to_be outcome → ¬ (outcome ≡ NoTime)
+timed ends y (many series) outcome is never = many-timed is.0 (sym is.2 ∙ never)
+timed ends y (one least payment) outcome is never = one-timed is.0 (sym is.2 ∙ never)
 
-pub all-timed : (low high : PaymentSeries → ℤ → ℕ) (y : ℤ) (list : List Candidate) (outcomes : List Outcome) → AllZip (IsPriceOutcome low high y) list outcomes → (c : ℕ) → ¬ (outcome_at outcomes c ≡ NoTime)
-all-timed low high y [] [] is c never = let wrong : Above ≡ NoTime = never in cc
-all-timed low high y [] (x ∷ outcomes) is c never = absurd is
-all-timed low high y (candidate ∷ list) [] is c never = absurd is
-all-timed low high y (candidate ∷ list) (x ∷ outcomes) is zero never = timed low high y (to_come_of candidate.shape) x is.0 never
-all-timed low high y (candidate ∷ list) (x ∷ outcomes) is (suc c) never = all-timed low high y list outcomes is.1 c never
+pub all-timed : (ends : PaymentSeries → ℤ → WorthEnds) (y : ℤ) (list : List Candidate) (outcomes : List Outcome) → AllZip (IsPriceOutcome ends y) list outcomes → (c : ℕ) → ¬ (outcome_at outcomes c ≡ NoTime)
+all-timed ends y [] [] is c never = let wrong : Above ≡ NoTime = never in cc
+all-timed ends y [] (x ∷ outcomes) is c never = absurd is
+all-timed ends y (candidate ∷ list) [] is c never = absurd is
+all-timed ends y (candidate ∷ list) (x ∷ outcomes) is zero never = timed ends y (to_come_of candidate.shape) x is.0 never
+all-timed ends y (candidate ∷ list) (x ∷ outcomes) is (suc c) never = all-timed ends y list outcomes is.1 c never
 
 -- where all are above, the first is none of these
 not-above : (outcomes : List Outcome) (outcome : Outcome) → outcome_at outcomes 0 ≡ outcome → ¬ (outcome ≡ Above) → ¬ (outcome ≡ NoTime) → ¬ (AllAreAbove 0 outcomes)
@@ -266,12 +266,12 @@ not-above outcomes Below same other time all = all.reach.none_below 0 (inl same)
 not-above outcomes Above same other time all = other refl
 not-above outcomes NoTime same other time all = time refl
 
-first-below_all : (low high : PaymentSeries → ℤ → ℕ) (y : ℤ) (to_be : ToCome) (outcome : Outcome) → IsPriceOutcomeFor low high y to_be outcome → ¬ (outcome ≡ Above)
-first-below_all low high y (many series) outcome is never = many-not_above is.0 (sym is.2 ∙ never)
-first-below_all low high y (one least payment) outcome is never = one-not_above is.0 (sym is.2 ∙ never)
+first-below_all : (ends : PaymentSeries → ℤ → WorthEnds) (y : ℤ) (to_be : ToCome) (outcome : Outcome) → IsPriceOutcomeFor ends y to_be outcome → ¬ (outcome ≡ Above)
+first-below_all ends y (many series) outcome is never = many-not_above is.0 (sym is.2 ∙ never)
+first-below_all ends y (one least payment) outcome is never = one-not_above is.0 (sym is.2 ∙ never)
 
-pub never-above : (low high : PaymentSeries → ℤ → ℕ) (y : ℤ) (list : List Candidate) (outcomes : List Outcome) → 0 < length list → AllZip (IsPriceOutcome low high y) list outcomes → ¬ (AllAreAbove 0 outcomes)
-never-above low high y [] outcomes some is all = absurd (omega arith)
-never-above low high y (candidate ∷ list) [] some is all = absurd is
-never-above low high y (candidate ∷ list) (x ∷ outcomes) some is all =
-    not-above (x ∷ outcomes) x refl (first-below_all low high y (to_come_of candidate.shape) x is.0) (timed low high y (to_come_of candidate.shape) x is.0) all
+pub never-above : (ends : PaymentSeries → ℤ → WorthEnds) (y : ℤ) (list : List Candidate) (outcomes : List Outcome) → 0 < length list → AllZip (IsPriceOutcome ends y) list outcomes → ¬ (AllAreAbove 0 outcomes)
+never-above ends y [] outcomes some is all = absurd (omega arith)
+never-above ends y (candidate ∷ list) [] some is all = absurd is
+never-above ends y (candidate ∷ list) (x ∷ outcomes) some is all =
+    not-above (x ∷ outcomes) x refl (first-below_all ends y (to_come_of candidate.shape) x is.0) (timed ends y (to_come_of candidate.shape) x is.0) all

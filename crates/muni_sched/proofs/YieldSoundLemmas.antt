@@ -17,6 +17,7 @@ use Rattle.muni_rule.proofs.FallLemmas.{price_falls}
 use Rattle.muni_rule.proofs.ManyPeriodFallLemmas.{many_periods-fall, at_least-decided, more-decided}
 use Rattle.muni_rule.proofs.OutcomeLemmas.{one_outcome}
 use Rattle.muni_rule.proofs.YieldLemmas.{reached-le}
+use Rattle.muni_rule.specs.WorthEnds.{WorthEnds}
 use Rattle.muni_simple.specs.Yields.{IsYieldAnswer, greatest_printed}
 use Rattle.muni_simple.specs.declared.yields.SimpleYield.{SimpleYield}
 use Rattle.muni_simple.specs.declared.yields.SimpleYield.TheVariants as simple
@@ -146,12 +147,12 @@ many-outcome series price is more =
     one_outcome search.least_printed search.greatest_printed (AtPrice series price) (MoreThan series price) (many_periods-fall series (pos (360000 * price)) is more)
     (λ y. at_least-decided (to_come series) y (pos (360000 * price))) (λ y. more-decided (to_come series) y (pos (360000 * price))) (omega (arith, ints))
 
-final-sound : (low high : PaymentSeries → ℤ → ℕ) (series : PaymentSeries) (price : ℕ) (exact : ExactOutcome) → IsSeries series → 2 ≤ series.n → 0 < price → AreEnclosed series (low series) (high series) → IsExactYieldOf price (many series) exact
-    → IsSound 90001 85000 (λ t. IsInDoubt (many series) (boundary t) (pos (360000 * price))) (final (place_verdict low high) price series) exact
-final-sound low high series price exact is more some law exactly =
-    many-sound series price (final_of (place_verdict low high) series price) exact (yield_verdict (low series) (high series) series price) is more
+final-sound : (ends : PaymentSeries → ℤ → WorthEnds) (series : PaymentSeries) (price : ℕ) (exact : ExactOutcome) → IsSeries series → 2 ≤ series.n → 0 < price → AreEnclosed series (ends series) → IsExactYieldOf price (many series) exact
+    → IsSound 90001 85000 (λ t. IsInDoubt (many series) (boundary t) (pos (360000 * price))) (final (place_verdict ends) price series) exact
+final-sound ends series price exact is more some law exactly =
+    many-sound series price (final_of (place_verdict ends) series price) exact (yield_verdict (ends series) series price) is more
     (many-outcome series price is more)
-    (final-true low high series price is more some law) (final-doubtful low high series price more some law) (final-verdict low high series price more some) exactly
+    (final-true ends series price is more some law) (final-doubtful ends series price more some law) (final-verdict ends series price more some) exactly
 
 -- ---- one payment
 -- an exact outcome as the calculator answers it
@@ -191,24 +192,24 @@ single-sound least payment price outcome D exact range some told exactly =
     subst (λ x. IsSound 90001 85000 D x exact) (sym (told.2 ∙ ap placed_simple same)) (simple-sound least payment (pos (360000 * price)) D exact range.0 above wanted)
 
 -- ---- each candidate
-one-sound : (low high : PaymentSeries → ℤ → ℕ) (price : ℕ) (to_be : ToCome) (outcome : Outcome) (exact : ExactOutcome) → IsInRange to_be → 0 < price → ((series : PaymentSeries) → IsSeries series → 2 ≤ series.n → AreEnclosed series (low series) (high series))
-    → IsOutcomeFor (final (place_verdict low high) price) price to_be outcome → IsExactYieldOf price to_be exact → IsSound 90001 85000 (λ t. IsInDoubt to_be (boundary t) (pos (360000 * price))) outcome exact
-one-sound low high price (many series) outcome exact range some law is exactly =
-    subst (λ x. IsSound 90001 85000 (λ t. IsInDoubt (many series) (boundary t) (pos (360000 * price))) x exact) (sym is) (final-sound low high series price exact range.0 range.1 some (law series range.0 range.1) exactly)
-one-sound low high price (one least payment) outcome exact range some law is exactly = single-sound least payment price outcome (λ t. ⊥) exact range some is exactly
+one-sound : (ends : PaymentSeries → ℤ → WorthEnds) (price : ℕ) (to_be : ToCome) (outcome : Outcome) (exact : ExactOutcome) → IsInRange to_be → 0 < price → ((series : PaymentSeries) → IsSeries series → 2 ≤ series.n → AreEnclosed series (ends series))
+    → IsOutcomeFor (final (place_verdict ends) price) price to_be outcome → IsExactYieldOf price to_be exact → IsSound 90001 85000 (λ t. IsInDoubt to_be (boundary t) (pos (360000 * price))) outcome exact
+one-sound ends price (many series) outcome exact range some law is exactly =
+    subst (λ x. IsSound 90001 85000 (λ t. IsInDoubt (many series) (boundary t) (pos (360000 * price))) x exact) (sym is) (final-sound ends series price exact range.0 range.1 some (law series range.0 range.1) exactly)
+one-sound ends price (one least payment) outcome exact range some law is exactly = single-sound least payment price outcome (λ t. ⊥) exact range some is exactly
 
-pub yields-sound : (low high : PaymentSeries → ℤ → ℕ) (price : ℕ) (list : List Candidate) (outcomes : List Outcome) (exact : List ExactOutcome) → 0 < price → All IsCandidate list → ((series : PaymentSeries) → IsSeries series → 2 ≤ series.n → AreEnclosed series (low series) (high series))
-    → AllZip (IsYieldOutcome (place_verdict low high) price) list outcomes → AllZip (IsExactYield price) list exact
+pub yields-sound : (ends : PaymentSeries → ℤ → WorthEnds) (price : ℕ) (list : List Candidate) (outcomes : List Outcome) (exact : List ExactOutcome) → 0 < price → All IsCandidate list → ((series : PaymentSeries) → IsSeries series → 2 ≤ series.n → AreEnclosed series (ends series))
+    → AllZip (IsYieldOutcome (place_verdict ends) price) list outcomes → AllZip (IsExactYield price) list exact
     → AreSound 90001 85000 (λ c t. IsCandidateInDoubt list c (boundary t) (pos (360000 * price))) outcomes (exact_at exact)
-yields-sound low high price [] [] [] some all law is exactly k = refl
-yields-sound low high price [] [] (e ∷ exact) some all law is exactly k = absurd exactly
-yields-sound low high price [] (x ∷ outcomes) exact some all law is exactly k = absurd is
-yields-sound low high price (candidate ∷ list) [] exact some all law is exactly k = absurd is
-yields-sound low high price (candidate ∷ list) (x ∷ outcomes) [] some all law is exactly k = absurd exactly
-yields-sound low high price (candidate ∷ list) (x ∷ outcomes) (e ∷ exact) some all law is exactly zero =
-    one-sound low high price (to_come_of candidate.shape) x e (in_range candidate.shape (All-head IsCandidate candidate list all)) some law is.0 exactly.0
-yields-sound low high price (candidate ∷ list) (x ∷ outcomes) (e ∷ exact) some all law is exactly (suc k) =
-    yields-sound low high price list outcomes exact some (All-tail IsCandidate candidate list all) law is.1 exactly.1 k
+yields-sound ends price [] [] [] some all law is exactly k = refl
+yields-sound ends price [] [] (e ∷ exact) some all law is exactly k = absurd exactly
+yields-sound ends price [] (x ∷ outcomes) exact some all law is exactly k = absurd is
+yields-sound ends price (candidate ∷ list) [] exact some all law is exactly k = absurd is
+yields-sound ends price (candidate ∷ list) (x ∷ outcomes) [] some all law is exactly k = absurd exactly
+yields-sound ends price (candidate ∷ list) (x ∷ outcomes) (e ∷ exact) some all law is exactly zero =
+    one-sound ends price (to_come_of candidate.shape) x e (in_range candidate.shape (All-head IsCandidate candidate list all)) some law is.0 exactly.0
+yields-sound ends price (candidate ∷ list) (x ∷ outcomes) (e ∷ exact) some all law is exactly (suc k) =
+    yields-sound ends price list outcomes exact some (All-tail IsCandidate candidate list all) law is.1 exactly.1 k
 
 -- ---- doubt, where nothing is known of the exact yields
 -- where an outcome is unsure, what is to come is in doubt at the boundary
@@ -228,19 +229,19 @@ found-doubt series price s (found.Unsure lower) said doubt verdict same =
     subst (λ n. IsDoubtful series (boundary (figure 90001 (n + 1))) (pos (360000 * price))) place
     (subst (λ t. IsDoubtful series (boundary t) (pos (360000 * price))) (sym (figure-next lower (omega (arith, ints, from)))) doubt.doubtful)
 
-one-doubt : (low high : PaymentSeries → ℤ → ℕ) (price s : ℕ) (to_be : ToCome) (outcome : Outcome) → IsInRange to_be → 0 < price → ((series : PaymentSeries) → IsSeries series → 2 ≤ series.n → AreEnclosed series (low series) (high series))
-    → IsOutcomeFor (final (place_verdict low high) price) price to_be outcome → outcome ≡ Unsure s → IsInDoubt to_be (boundary (figure 90001 (s + 1))) (pos (360000 * price))
-one-doubt low high price s (many series) outcome range some law is same =
-    found-doubt series price s (final_of (place_verdict low high) series price) (yield_verdict (low series) (high series) series price)
-    (final-doubtful low high series price range.1 some (law series range.0 range.1)) (final-verdict low high series price range.1 some) (sym is ∙ same)
-one-doubt low high price s (one least payment) outcome range some law is same = simple-sure is.0 s (sym is.2 ∙ same)
+one-doubt : (ends : PaymentSeries → ℤ → WorthEnds) (price s : ℕ) (to_be : ToCome) (outcome : Outcome) → IsInRange to_be → 0 < price → ((series : PaymentSeries) → IsSeries series → 2 ≤ series.n → AreEnclosed series (ends series))
+    → IsOutcomeFor (final (place_verdict ends) price) price to_be outcome → outcome ≡ Unsure s → IsInDoubt to_be (boundary (figure 90001 (s + 1))) (pos (360000 * price))
+one-doubt ends price s (many series) outcome range some law is same =
+    found-doubt series price s (final_of (place_verdict ends) series price) (yield_verdict (ends series) series price)
+    (final-doubtful ends series price range.1 some (law series range.0 range.1)) (final-verdict ends series price range.1 some) (sym is ∙ same)
+one-doubt ends price s (one least payment) outcome range some law is same = simple-sure is.0 s (sym is.2 ∙ same)
 
-pub yields-doubt : (low high : PaymentSeries → ℤ → ℕ) (price s c : ℕ) (list : List Candidate) (outcomes : List Outcome) → 0 < price → All IsCandidate list → ((series : PaymentSeries) → IsSeries series → 2 ≤ series.n → AreEnclosed series (low series) (high series))
-    → AllZip (IsYieldOutcome (place_verdict low high) price) list outcomes → outcome_at outcomes c ≡ Unsure s → IsCandidateInDoubt list c (boundary (figure 90001 (s + 1))) (pos (360000 * price))
-yields-doubt low high price s c [] [] some all law is same = absurd (let never : Above ≡ Unsure s = same in cc)
-yields-doubt low high price s c [] (x ∷ outcomes) some all law is same = absurd is
-yields-doubt low high price s c (candidate ∷ list) [] some all law is same = absurd is
-yields-doubt low high price s zero (candidate ∷ list) (x ∷ outcomes) some all law is same =
-    one-doubt low high price s (to_come_of candidate.shape) x (in_range candidate.shape (All-head IsCandidate candidate list all)) some law is.0 same
-yields-doubt low high price s (suc c) (candidate ∷ list) (x ∷ outcomes) some all law is same =
-    yields-doubt low high price s c list outcomes some (All-tail IsCandidate candidate list all) law is.1 same
+pub yields-doubt : (ends : PaymentSeries → ℤ → WorthEnds) (price s c : ℕ) (list : List Candidate) (outcomes : List Outcome) → 0 < price → All IsCandidate list → ((series : PaymentSeries) → IsSeries series → 2 ≤ series.n → AreEnclosed series (ends series))
+    → AllZip (IsYieldOutcome (place_verdict ends) price) list outcomes → outcome_at outcomes c ≡ Unsure s → IsCandidateInDoubt list c (boundary (figure 90001 (s + 1))) (pos (360000 * price))
+yields-doubt ends price s c [] [] some all law is same = absurd (let never : Above ≡ Unsure s = same in cc)
+yields-doubt ends price s c [] (x ∷ outcomes) some all law is same = absurd is
+yields-doubt ends price s c (candidate ∷ list) [] some all law is same = absurd is
+yields-doubt ends price s zero (candidate ∷ list) (x ∷ outcomes) some all law is same =
+    one-doubt ends price s (to_come_of candidate.shape) x (in_range candidate.shape (All-head IsCandidate candidate list all)) some law is.0 same
+yields-doubt ends price s (suc c) (candidate ∷ list) (x ∷ outcomes) some all law is same =
+    yields-doubt ends price s c list outcomes some (All-tail IsCandidate candidate list all) law is.1 same

@@ -4,6 +4,7 @@ use Rattle.std.specs.Prelude.{◌≡◌, ℕ, ◌<◌, List, All, ℤ}
 use Rattle.std.specs.List.{AllZip}
 use Rattle.muni_rule.specs.Payments.{PaymentSeries}
 use Rattle.muni_rule.specs.declared.verdict.Verdict.{Verdict}
+use Rattle.muni_rule.specs.WorthEnds.{WorthEnds}
 use Rattle.muni_sched.specs.declared.answer.LowAnswer.{LowAnswer}
 use Rattle.muni_sched.specs.declared.candidate.Candidate.{Candidate}
 use Rattle.muni_sched.specs.Answered.{IsDecided}
@@ -57,8 +58,8 @@ AllowsOneYield =
 -- and for given ends of the worths one lowest price
 abbrev pub AllowsOnePrice : Type 0
 AllowsOnePrice =
-    (low high : PaymentSeries → ℤ → ℕ) (y : ℤ) (list : List Candidate) (one other : LowAnswer)
-    → ArePriced y list → IsLowestPrice low high y list one → IsLowestPrice low high y list other
+    (ends : PaymentSeries → ℤ → WorthEnds) (y : ℤ) (list : List Candidate) (one other : LowAnswer)
+    → ArePriced y list → IsLowestPrice ends y list one → IsLowestPrice ends y list other
     → one ≡ other
 
 -- of the answers that are not undecided, at most one is right

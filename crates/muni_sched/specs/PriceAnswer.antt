@@ -6,7 +6,7 @@ use Rattle.muni_rule.specs.Payments.{PaymentSeries}
 use Rattle.muni_rule.specs.Schedule.{ExactOutcome}
 use Rattle.muni_rule.specs.SinglePayment.{AtLeast}
 use Rattle.muni_rule.specs.Verdicts.{at_least_verdict, dirty_thousandths}
-use Rattle.muni_rule.specs.WorthEnds.{ends_of}
+use Rattle.muni_rule.specs.WorthEnds.{WorthEnds, ends_of}
 use Rattle.muni_multi.specs.Prices as multi
 use Rattle.muni_multi.specs.declared.price.PriceAnswer.{PriceAnswer}
 use Rattle.muni_multi.specs.declared.price.PriceAnswer.TheVariants as found
@@ -49,29 +49,29 @@ placed_simple (exact.Price t) = Print (t + 1)
 placed_simple exact.BelowZero = Below
 
 -- the verdict on the price of many payments, by the two ends that an encloser gives
-abbrev pub IsManyOutcome : (low high : PaymentSeries → ℤ → ℕ) → ℤ → PaymentSeries → PriceAnswer
+abbrev pub IsManyOutcome : (ends : PaymentSeries → ℤ → WorthEnds) → ℤ → PaymentSeries → PriceAnswer
     → Type 0
-IsManyOutcome low high y series answer =
-    multi.IsPriceOutcome (λ t. at_least_verdict (ends_of series y (low series y) (high series y))
+IsManyOutcome ends y series answer =
+    multi.IsPriceOutcome (λ t. at_least_verdict (ends_of series y (ends series y))
     (dirty_thousandths series.accrued t)) answer
 
 -- One payment to come has its exact outcome, and many have that of verdicts.
-abbrev pub IsPriceOutcomeFor : (low high : PaymentSeries → ℤ → ℕ) → ℤ → ToCome → Outcome → Type 0
-IsPriceOutcomeFor low high y (many series) outcome =
-    (answer : PriceAnswer) × IsManyOutcome low high y series answer × (outcome ≡ placed answer)
-IsPriceOutcomeFor low high y (one least payment) outcome =
+abbrev pub IsPriceOutcomeFor : (ends : PaymentSeries → ℤ → WorthEnds) → ℤ → ToCome → Outcome → Type 0
+IsPriceOutcomeFor ends y (many series) outcome =
+    (answer : PriceAnswer) × IsManyOutcome ends y series answer × (outcome ≡ placed answer)
+IsPriceOutcomeFor ends y (one least payment) outcome =
     (answer : SimplePrice) × simple.IsPriceAnswer (AtLeast payment y) answer
     × (outcome ≡ placed_simple answer)
 
-abbrev pub IsPriceOutcome : (low high : PaymentSeries → ℤ → ℕ) → ℤ → Candidate → Outcome → Type 0
-IsPriceOutcome low high y candidate outcome =
-    IsPriceOutcomeFor low high y (to_come_of candidate.shape) outcome
+abbrev pub IsPriceOutcome : (ends : PaymentSeries → ℤ → WorthEnds) → ℤ → Candidate → Outcome → Type 0
+IsPriceOutcome ends y candidate outcome =
+    IsPriceOutcomeFor ends y (to_come_of candidate.shape) outcome
 
 -- the rule's answer over the outcomes of all candidates
-abbrev pub IsLowestPrice : (low high : PaymentSeries → ℤ → ℕ) → ℤ → List Candidate → LowAnswer
+abbrev pub IsLowestPrice : (ends : PaymentSeries → ℤ → WorthEnds) → ℤ → List Candidate → LowAnswer
     → Type 0
-IsLowestPrice low high y list answer =
-    IsLowestAnswer Prices (IsPriceOutcome low high y) list answer
+IsLowestPrice ends y list answer =
+    IsLowestAnswer Prices (IsPriceOutcome ends y) list answer
 
 -- candidate c is in doubt at a boundary between two prices
 abbrev pub IsPriceInDoubt : ℤ → List Candidate → ℕ → Boundary → Type 0

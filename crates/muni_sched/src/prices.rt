@@ -30,7 +30,7 @@ pub fn lowest_price<E: Encloser>(list: &[Candidate], y: Yield, encloser: &E) -> 
     requires candidates { All IsCandidate list.now }
     requires at_yield { All IsAtYield list.now }
     requires given { All (IsGivenFor y) list.now }
-    ensures lowest { IsLowestPrice (E.low encloser.now) (E.high encloser.now) y list.now result }
+    ensures lowest { IsLowestPrice (E.ends encloser.now) y list.now result }
     ensures right { IsRightPrice y list.now result }
     ensures undecided { IsPriceUndecided y list.now result }
     ensures decided { IsPriceDecided y list.now result }
@@ -47,7 +47,7 @@ fn outcomes_at<E: Encloser>(encloser: &E, list: &[Candidate], y: Yield) -> Array
     requires candidates { All IsCandidate list.now }
     requires at_yield { All IsAtYield list.now }
     requires given { All (IsGivenFor y) list.now }
-    ensures each { AllZip (IsPriceOutcome (E.low encloser.now) (E.high encloser.now) y) list.now
+    ensures each { AllZip (IsPriceOutcome (E.ends encloser.now) y) list.now
         result.items }
     ensures range { All (IsOn Prices) result.items }
 {
@@ -62,7 +62,7 @@ fn price_outcome<E: Encloser>(encloser: &E, candidate: &Candidate, y: Yield) -> 
     requires candidate { IsCandidate candidate.now }
     requires at_yield { IsAtYield candidate.now }
     requires given { IsGivenFor y candidate.now }
-    ensures outcome { IsPriceOutcome (E.low encloser.now) (E.high encloser.now) y candidate.now
+    ensures outcome { IsPriceOutcome (E.ends encloser.now) y candidate.now
         result }
     ensures range { IsOn Prices result }
 {
@@ -112,9 +112,9 @@ fn price_answer<E: Encloser>(
     requires at_yield { All IsAtYield list.now }
     requires given { All (IsGivenFor y) list.now }
     requires over { IsLowestOver Prices
-        (IsPriceOutcome (E.low encloser.now) (E.high encloser.now) y) list.now lowest }
+        (IsPriceOutcome (E.ends encloser.now) y) list.now lowest }
     requires within { IsLowestOn Prices (length list.now) lowest }
-    ensures lowest { IsLowestPrice (E.low encloser.now) (E.high encloser.now) y list.now result }
+    ensures lowest { IsLowestPrice (E.ends encloser.now) y list.now result }
     ensures right { IsRightPrice y list.now result }
     ensures undecided { IsPriceUndecided y list.now result }
     ensures decided { IsPriceDecided y list.now result }

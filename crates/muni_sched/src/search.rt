@@ -137,7 +137,7 @@ impl Search {
         requires workers { 0 < workers }
         requires can { CanRefine self.old }
         ensures { self.new
-            ≡ refined (place_verdict (E.low encloser.now) (E.high encloser.now)) self.old }
+            ≡ refined (place_verdict (E.ends encloser.now)) self.old }
     {
         ask_each(rt, self.held.as_mut_slice(), workers, round, encloser, gate);
         record_settled(self.held.as_slice(), self.known.as_mut_slice());
@@ -211,7 +211,7 @@ fn ask_each<R: Threads + Sync, E: Encloser + Sync, G: Gate + Sync>(
     requires workers { 0 < workers }
     requires each { All IsOpen held.old }
     ensures { held.new
-        ≡ map (asked (place_verdict (E.low encloser.now) (E.high encloser.now))) held.old }
+        ≡ map (asked (place_verdict (E.ends encloser.now))) held.old }
 {
     thread::for_each_mut(
         rt,
@@ -220,7 +220,7 @@ fn ask_each<R: Threads + Sync, E: Encloser + Sync, G: Gate + Sync>(
         &|_, one: &mut Held|
             requires { IsOpen one.now }
             ensures { one.exit.now ≡ asked
-                (place_verdict (E.low encloser.entry.now) (E.high encloser.entry.now))
+                (place_verdict (E.ends encloser.entry.now))
                 one.entry.now }
         {
             gate.start(round, one.place);

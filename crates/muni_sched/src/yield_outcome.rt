@@ -79,7 +79,7 @@ pub(crate) fn yield_outcome<E: Encloser, L: Ledger>(
     requires candidate { IsCandidate candidate.now }
     requires price { 0 < price }
     requires room { steps.old + 19 < 2 ^ 64 }
-    ensures outcome { IsYieldOutcome (place_verdict (E.low encloser.now) (E.high encloser.now))
+    ensures outcome { IsYieldOutcome (place_verdict (E.ends encloser.now))
         price candidate.now result }
     ensures range { IsOn Yields result }
     ensures steps { (steps.old ≤ steps.new) × (steps.new ≤ steps.old + 19) }

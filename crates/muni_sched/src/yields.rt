@@ -42,7 +42,7 @@ pub fn lowest_yield<R: Threads + Sync, E: Encloser + Sync, G: Gate + Sync, L: Le
     requires price { 0 < price }
     requires workers { (1 ≤ workers) × (workers ≤ 16) }
     requires room { steps.old + 19 < 2 ^ 64 }
-    ensures lowest { IsLowestYield (place_verdict (E.low encloser.now) (E.high encloser.now)) price
+    ensures lowest { IsLowestYield (place_verdict (E.ends encloser.now)) price
         list.now result }
     ensures right { IsRightYield price list.now result }
     ensures undecided { IsYieldUndecided price list.now result }
@@ -68,7 +68,7 @@ pub fn lowest_yield_in_turn<E: Encloser, L: Ledger>(
     requires candidates { All IsCandidate list.now }
     requires price { 0 < price }
     requires room { steps.old + 19 * length list.now < 2 ^ 64 }
-    ensures lowest { IsLowestYield (place_verdict (E.low encloser.now) (E.high encloser.now)) price
+    ensures lowest { IsLowestYield (place_verdict (E.ends encloser.now)) price
         list.now result }
     ensures right { IsRightYield price list.now result }
     ensures undecided { IsYieldUndecided price list.now result }
@@ -96,7 +96,7 @@ fn searched<R: Threads + Sync, E: Encloser + Sync, G: Gate + Sync, L: Ledger>(
     requires price { 0 < price }
     requires workers { 1 ≤ workers }
     requires room { steps.old + 19 < 2 ^ 64 }
-    ensures out { IsSearchedOut (place_verdict (E.low encloser.now) (E.high encloser.now)) price
+    ensures out { IsSearchedOut (place_verdict (E.ends encloser.now)) price
         list.now result }
     ensures steps { (steps.old ≤ steps.new) × (steps.new ≤ steps.old + 19) }
 {
@@ -120,8 +120,8 @@ fn outcomes_in_turn<E: Encloser, L: Ledger>(
     requires candidates { All IsCandidate list.now }
     requires price { 0 < price }
     requires room { steps.old + 19 * length list.now < 2 ^ 64 }
-    ensures each { AllZip (IsYieldOutcome (place_verdict (E.low encloser.now)
-        (E.high encloser.now)) price) list.now result.items }
+    ensures each { AllZip (IsYieldOutcome (place_verdict (E.ends encloser.now)) price) list.now
+        result.items }
     ensures range { All (IsOn Yields) result.items }
     ensures steps { (steps.old ≤ steps.new) × (steps.new ≤ steps.old + 19 * length list.now) }
 {
@@ -141,10 +141,10 @@ fn yield_answer<E: Encloser>(
 ) -> LowAnswer
     requires candidates { All IsCandidate list.now }
     requires price { 0 < price }
-    requires over { IsLowestOver Yields (IsYieldOutcome (place_verdict (E.low encloser.now)
-        (E.high encloser.now)) price) list.now lowest }
+    requires over { IsLowestOver Yields (IsYieldOutcome (place_verdict (E.ends encloser.now)) price)
+        list.now lowest }
     requires within { IsLowestOn Yields (length list.now) lowest }
-    ensures lowest { IsLowestYield (place_verdict (E.low encloser.now) (E.high encloser.now)) price
+    ensures lowest { IsLowestYield (place_verdict (E.ends encloser.now)) price
         list.now result }
     ensures right { IsRightYield price list.now result }
     ensures undecided { IsYieldUndecided price list.now result }

@@ -3,6 +3,7 @@ use Rattle.std.proofs.Common.{◌≡◌, ◌<◌, ◌≤◌, ◌+◌, ◌*◌, �
 use Rattle.muni_rule.specs.ManyPeriods.{to_come, AtLeast, More}
 use Rattle.muni_rule.specs.Payments.{PaymentSeries, IsSeries}
 use Rattle.muni_rule.specs.declared.verdict.Verdict.{Verdict}
+use Rattle.muni_rule.specs.WorthEnds.{WorthEnds}
 use Rattle.muni_yield.specs.Bracket.{YieldBracket, start_of, is_settled, halved, run, IsBracket, IsAnswered}
 use Rattle.muni_yield.specs.Outcome.{IsYieldOutcome, IsDoubtfulOutcome, IsVerdictOutcome}
 use Rattle.muni_yield.specs.Places.{place_verdict, yield_verdict}
@@ -55,21 +56,21 @@ run-answered (suc count) verdicts series price bracket is same_series same_price
     (settled-or_pending bracket)
 
 -- the final outcome is that of verdicts
-pub final-verdict : (low high : PaymentSeries → ℤ → ℕ) (series : PaymentSeries) (price : ℕ) → 2 ≤ series.n → 0 < price → IsVerdictOutcome (yield_verdict (low series) (high series) series price) (final_of (place_verdict low high) series price)
+pub final-verdict : (ends : PaymentSeries → ℤ → WorthEnds) (series : PaymentSeries) (price : ℕ) → 2 ≤ series.n → 0 < price → IsVerdictOutcome (yield_verdict (ends series) series price) (final_of (place_verdict ends) series price)
 unfolding final_of
-final-verdict low high series price many some =
-    let verdicts = place_verdict low high in
+final-verdict ends series price many some =
+    let verdicts = place_verdict ends in
     let start = start_of series price in
     let is = start-is series price many some in
     let out = run-out 19 verdicts start is (omega arith) in
-    settled-verdict (yield_verdict (low series) (high series) series price) (run 19 verdicts start) out.is out.settled
+    settled-verdict (yield_verdict (ends series) series price) (run 19 verdicts start) out.is out.settled
     (run-answered 19 verdicts series price start is refl refl (record { low = inl refl; high = inl (refl, refl) }))
 
 -- so it is true, and unsure only in doubt
-pub final-true : (low high : PaymentSeries → ℤ → ℕ) (series : PaymentSeries) (price : ℕ) → IsSeries series → 2 ≤ series.n → 0 < price → AreEnclosed series (low series) (high series) → IsYieldOutcome (λ y. AtLeast (to_come series) y (pos (360000 * price))) (λ y. More (to_come series) y (pos (360000 * price))) (final_of (place_verdict low high) series price)
-final-true low high series price is many some law =
-    outcome-true series (low series) (high series) price (final_of (place_verdict low high) series price) is many law (final-verdict low high series price many some)
+pub final-true : (ends : PaymentSeries → ℤ → WorthEnds) (series : PaymentSeries) (price : ℕ) → IsSeries series → 2 ≤ series.n → 0 < price → AreEnclosed series (ends series) → IsYieldOutcome (λ y. AtLeast (to_come series) y (pos (360000 * price))) (λ y. More (to_come series) y (pos (360000 * price))) (final_of (place_verdict ends) series price)
+final-true ends series price is many some law =
+    outcome-true series (ends series) price (final_of (place_verdict ends) series price) is many law (final-verdict ends series price many some)
 
-pub final-doubtful : (low high : PaymentSeries → ℤ → ℕ) (series : PaymentSeries) (price : ℕ) → 2 ≤ series.n → 0 < price → AreEnclosed series (low series) (high series) → IsDoubtfulOutcome series price (final_of (place_verdict low high) series price)
-final-doubtful low high series price many some law =
-    outcome-doubtful series (low series) (high series) price (final_of (place_verdict low high) series price) law (final-verdict low high series price many some)
+pub final-doubtful : (ends : PaymentSeries → ℤ → WorthEnds) (series : PaymentSeries) (price : ℕ) → 2 ≤ series.n → 0 < price → AreEnclosed series (ends series) → IsDoubtfulOutcome series price (final_of (place_verdict ends) series price)
+final-doubtful ends series price many some law =
+    outcome-doubtful series (ends series) price (final_of (place_verdict ends) series price) law (final-verdict ends series price many some)

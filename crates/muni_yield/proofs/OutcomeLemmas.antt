@@ -9,6 +9,7 @@ use Rattle.muni_rule.specs.Outcomes.{HasOneOutcome}
 use Rattle.muni_rule.specs.Payments.{PaymentSeries, IsSeries}
 use Rattle.muni_rule.specs.declared.verdict.Verdict.{Verdict}
 use Rattle.muni_rule.specs.declared.verdict.Verdict.TheVariants as verdict
+use Rattle.muni_rule.specs.WorthEnds.{WorthEnds}
 use Rattle.muni_rule.proofs.YieldLemmas.{print-in_range}
 use Rattle.muni_rule.proofs.OutcomeLemmas.{one_outcome}
 use Rattle.muni_rule.proofs.ManyPeriodFallLemmas.{many_periods-fall, at_least-decided, more-decided}
@@ -126,18 +127,18 @@ unfolding final_of
 settled-final verdicts series price count bracket settled same = ap outcome_of (sym (run-settled count verdicts bracket settled) ∙ same)
 
 -- an outcome by verdicts is true
-pub outcome-true : (series : PaymentSeries) (low high : ℤ → ℕ) (price : ℕ) (outcome : Outcome) → IsSeries series → 2 ≤ series.n → AreEnclosed series low high → IsVerdictOutcome (yield_verdict low high series price) outcome → IsYieldOutcome (λ y. AtLeast (to_come series) y (pos (360000 * price))) (λ y. More (to_come series) y (pos (360000 * price))) outcome
-outcome-true series low high price (Print t) is many law said =
+pub outcome-true : (series : PaymentSeries) (ends : ℤ → WorthEnds) (price : ℕ) (outcome : Outcome) → IsSeries series → 2 ≤ series.n → AreEnclosed series ends → IsVerdictOutcome (yield_verdict ends series price) outcome → IsYieldOutcome (λ y. AtLeast (to_come series) y (pos (360000 * price))) (λ y. More (to_come series) y (pos (360000 * price))) outcome
+outcome-true series ends price (Print t) is many law said =
     let least = said.least in
     let most = said.most in
     print-in_range (many_periods-fall series (pos (360000 * price)) is many) least_printed greatest_printed t least most
     (record {
-      reached = tells series low high price t verdict.Yes law least (omega (arith, ints, most)) said.reached;
-      next_not_reached = tells series low high price (t +ℤ pos 1) verdict.No law (omega (arith, ints, least)) (omega (arith, ints, most)) said.next_not_reached;
+      reached = tells series ends price t verdict.Yes law least (omega (arith, ints, most)) said.reached;
+      next_not_reached = tells series ends price (t +ℤ pos 1) verdict.No law (omega (arith, ints, least)) (omega (arith, ints, most)) said.next_not_reached;
     })
-outcome-true series low high price Below is many law said = record { least_not_reached = tells series low high price least_printed verdict.No law (omega (arith, ints)) (omega (arith, ints)) said }
-outcome-true series low high price Above is many law said = tells series low high price (greatest_printed +ℤ pos 1) verdict.Yes law (omega (arith, ints)) (omega (arith, ints)) said
-outcome-true series low high price (Unsure lower) is many law said = tt
+outcome-true series ends price Below is many law said = record { least_not_reached = tells series ends price least_printed verdict.No law (omega (arith, ints)) (omega (arith, ints)) said }
+outcome-true series ends price Above is many law said = tells series ends price (greatest_printed +ℤ pos 1) verdict.Yes law (omega (arith, ints)) (omega (arith, ints)) said
+outcome-true series ends price (Unsure lower) is many law said = tt
 
 not-least : (lower : ℤ) → negsuc 5000 ≤ℤ lower → (lower ≡ negsuc 5000) ⊎ (negsuc 4999 ≤ℤ lower)
 not-least lower least =
@@ -146,20 +147,20 @@ not-least lower least =
     (λ (more : 1 ≤ unsigned_abs (lower +ℤ pos 5001)). inr (omega (arith, ints)))
     (cases_lt (unsigned_abs (lower +ℤ pos 5001)) 1)
 
-pub outcome-doubtful : (series : PaymentSeries) (low high : ℤ → ℕ) (price : ℕ) (outcome : Outcome) → AreEnclosed series low high → IsVerdictOutcome (yield_verdict low high series price) outcome → IsDoubtfulOutcome series price outcome
-outcome-doubtful series low high price (Print t) law said = tt
-outcome-doubtful series low high price Below law said = tt
-outcome-doubtful series low high price Above law said = tt
-outcome-doubtful series low high price (Unsure lower) law said =
+pub outcome-doubtful : (series : PaymentSeries) (ends : ℤ → WorthEnds) (price : ℕ) (outcome : Outcome) → AreEnclosed series ends → IsVerdictOutcome (yield_verdict ends series price) outcome → IsDoubtfulOutcome series price outcome
+outcome-doubtful series ends price (Print t) law said = tt
+outcome-doubtful series ends price Below law said = tt
+outcome-doubtful series ends price Above law said = tt
+outcome-doubtful series ends price (Unsure lower) law said =
     let least = said.least in
     let most = said.most in
     record {
-      doubtful = tells series low high price (lower +ℤ pos 1) verdict.Unsure law (omega (arith, ints, least)) (omega (arith, ints, most)) said.unsure;
+      doubtful = tells series ends price (lower +ℤ pos 1) verdict.Unsure law (omega (arith, ints, least)) (omega (arith, ints, most)) said.unsure;
       reached = ⊎_elim
           (λ (below : lower ≡ negsuc 5000). inl below)
-          (λ (yes : yield_verdict low high series price lower ≡ verdict.Yes). ⊎_elim
+          (λ (yes : yield_verdict ends series price lower ≡ verdict.Yes). ⊎_elim
           (λ (below : lower ≡ negsuc 5000). inl below)
-          (λ (from : negsuc 4999 ≤ℤ lower). inr (tells series low high price lower verdict.Yes law from (omega (arith, ints, most)) yes))
+          (λ (from : negsuc 4999 ≤ℤ lower). inr (tells series ends price lower verdict.Yes law from (omega (arith, ints, most)) yes))
           (not-least lower least))
           said.reached;
     }

@@ -20,12 +20,12 @@ reached_verdict ends amount (pos (suc less)) =
 reached_verdict ends amount (negsuc less) = more_verdict (ends (boundary (negsuc less))) amount
 
 -- the same for the payments of a series and a price, by the two ends that an encloser gives
-abbrev pub yield_verdict : (ℤ → ℕ) → (ℤ → ℕ) → PaymentSeries → ℕ → ℤ → Verdict
-yield_verdict low high series price t =
-    reached_verdict (λ y. ends_of series y (low y) (high y))
+abbrev pub yield_verdict : (ℤ → WorthEnds) → PaymentSeries → ℕ → ℤ → Verdict
+yield_verdict ends series price t =
+    reached_verdict (λ y. ends_of series y (ends y))
     (360_000 * price + series.accrued) t
 
 -- and at a place
-abbrev pub place_verdict : (PaymentSeries → ℤ → ℕ) → (PaymentSeries → ℤ → ℕ) → PaymentSeries → ℕ → ℕ → Verdict
-place_verdict low high series price place =
-    yield_verdict (low series) (high series) series price (yield_at place)
+abbrev pub place_verdict : (PaymentSeries → ℤ → WorthEnds) → PaymentSeries → ℕ → ℕ → Verdict
+place_verdict ends series price place =
+    yield_verdict (ends series) series price (yield_at place)

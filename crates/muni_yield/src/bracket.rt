@@ -120,11 +120,11 @@ impl Bracket {
     pub fn halve<E: Encloser>(&mut self, encloser: &E)
         requires open { spec.is_settled self.old ≡ false }
         ensures halved { self.new
-            ≡ spec.halved (place_verdict (E.low encloser.now) (E.high encloser.now)) self.old }
+            ≡ spec.halved (place_verdict (E.ends encloser.now)) self.old }
         ensures count { self.new.halvings ≡ self.old.halvings + 1 }
-        ensures answered { IsAnswered (place_verdict (E.low encloser.now) (E.high encloser.now)
+        ensures answered { IsAnswered (place_verdict (E.ends encloser.now)
             self.old.series self.old.price) self.old
-            → IsAnswered (place_verdict (E.low encloser.now) (E.high encloser.now)
+            → IsAnswered (place_verdict (E.ends encloser.now)
             self.old.series self.old.price) self.new }
     {
         let place = self.question();

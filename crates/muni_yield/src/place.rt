@@ -45,7 +45,7 @@ pub fn ask<E: Encloser>(encloser: &E, flows: &Flows, price: Price, place: u32) -
     requires many { 2 ≤ flows.now.n }
     requires some { 1 ≤ place }
     requires most { place ≤ 105_002 }
-    ensures { result ≡ spec.place_verdict (E.low encloser.now) (E.high encloser.now) flows.now
+    ensures { result ≡ spec.place_verdict (E.ends encloser.now) flows.now
         price place }
 {
     if place > 5_001 {

@@ -31,12 +31,12 @@ pub fn printed_yield<E: Encloser, L: Ledger>(
         (λ y. More (to_come flows.now) y (pos (360_000 * price))) result }
     ensures doubtful { IsDoubtfulOutcome flows.now price result }
     ensures range { IsInRange result }
-    ensures verdicts { IsVerdictOutcome (yield_verdict (E.low encloser.now flows.now)
-        (E.high encloser.now flows.now) flows.now price) result }
+    ensures verdicts { IsVerdictOutcome (yield_verdict (E.ends encloser.now flows.now) flows.now
+        price) result }
     ensures outcome { result
-        ≡ final_of (place_verdict (E.low encloser.now) (E.high encloser.now)) flows.now price }
-    ensures steps { steps.new ≡ steps.old + (run 19 (place_verdict (E.low encloser.now)
-        (E.high encloser.now)) (start_of flows.now price)).halvings }
+        ≡ final_of (place_verdict (E.ends encloser.now)) flows.now price }
+    ensures steps { steps.new ≡ steps.old + (run 19 (place_verdict (E.ends encloser.now))
+        (start_of flows.now price)).halvings }
     ensures few { steps.new ≤ steps.old + 19 }
 {
     flows_are_in_range(flows);
@@ -53,12 +53,12 @@ fn settled<E: Encloser, L: Ledger>(
     requires many { 2 ≤ flows.now.n }
     requires price { 0 < price }
     requires room { steps.old + 19 < 2 ^ 64 }
-    ensures verdicts { IsVerdictOutcome (yield_verdict (E.low encloser.now flows.now)
-        (E.high encloser.now flows.now) flows.now price) result }
+    ensures verdicts { IsVerdictOutcome (yield_verdict (E.ends encloser.now flows.now) flows.now
+        price) result }
     ensures outcome { result
-        ≡ final_of (place_verdict (E.low encloser.now) (E.high encloser.now)) flows.now price }
-    ensures steps { steps.new ≡ steps.old + (run 19 (place_verdict (E.low encloser.now)
-        (E.high encloser.now)) (start_of flows.now price)).halvings }
+        ≡ final_of (place_verdict (E.ends encloser.now)) flows.now price }
+    ensures steps { steps.new ≡ steps.old + (run 19 (place_verdict (E.ends encloser.now))
+        (start_of flows.now price)).halvings }
     ensures few { steps.new ≤ steps.old + 19 }
 {
     let mut bracket = Bracket::start(*flows, price);

@@ -1,5 +1,5 @@
 ghost use Rattle.std.specs.Prelude.{◌≡◌, ◌<◌, ◌≤◌, true, length, All, IfOk};
-ghost use Rattle.muni_multi.specs.Horner.{horner_low, horner_high};
+ghost use Rattle.muni_multi.specs.Horner.{horner_ends};
 ghost use Rattle.muni_multi.specs.HornerLaws.{horner-encloses, horner-narrow};
 ghost use Rattle.muni_sched.specs.Candidates.{IsCandidate};
 ghost use Rattle.muni_sched.specs.PriceAnswer.{IsAtYield};
@@ -245,9 +245,7 @@ struct CountingEncloser {
 }
 
 impl Encloser for CountingEncloser {
-    ghost low = { λ _ series y. horner_low series y };
-
-    ghost high = { λ _ series y. horner_high series y };
+    ghost ends = { λ _ series y. horner_ends series y };
 
     fn pv(&self, flows: &Flows, y: i32) -> Worth {
         let _ = self.calls.fetch_add(1, Ordering::SeqCst);

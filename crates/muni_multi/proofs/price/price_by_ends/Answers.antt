@@ -18,8 +18,7 @@ price_between-requires-clause-small g c = let small = high-small c.bounded_ends-
 
 pub returns-clause-outcome : goal.returns-clause-outcome
 returns-clause-outcome g c =
-    let low = g.E.Encloser.low c.args.encloser.now c.args.flows.now c.args.y in
-    let high = g.E.Encloser.high c.args.encloser.now c.args.flows.now c.args.y in
-    let value : c.bounded_ends-ends.result ≡ ends_of c.args.flows.now c.args.y low high = search rules in
-    ends-outcome c.args.flows.now c.args.y low high c.bounded_ends-ends.result c.whole_low.result c.whole_high.result c.accrued.result c.price_between.result
+    let enclosure = g.E.Encloser.ends c.args.encloser.now c.args.flows.now c.args.y in
+    let value : c.bounded_ends-ends.result ≡ ends_of c.args.flows.now c.args.y enclosure = search rules in
+    ends-outcome c.args.flows.now c.args.y enclosure c.bounded_ends-ends.result c.whole_low.result c.whole_high.result c.accrued.result c.price_between.result
     value c.bounded_ends-ends.ensures.bounded.some c.whole_low.ensures c.whole_high.ensures c.accrued.ensures.value c.price_between.ensures.outcome

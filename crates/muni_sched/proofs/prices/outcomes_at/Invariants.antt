@@ -7,7 +7,7 @@ use Rattle.muni_sched.proofs.prices.outcomes_at.Given as goal
 
 abbrev pub invariant-loop-i : goal.invariant-loop-i
 invariant-loop-i g l = record {
-  each : AllZip (IsPriceOutcome (g.E.Encloser.low l.encloser) (g.E.Encloser.high l.encloser) l.y) (take l.i l.list) l.outcomes.items;
+  each : AllZip (IsPriceOutcome (g.E.Encloser.ends l.encloser) l.y) (take l.i l.list) l.outcomes.items;
   range : All (IsOn Prices) l.outcomes.items;
   room : length l.outcomes.items ≡ l.i;
 }

@@ -9,7 +9,7 @@ pub returns : goal.returns
 returns g c =
     let old = c.args.held.now in
     let new = c.for_each_mut.new.s in
-    let ask = asked (place_verdict (g.E.Encloser.low c.args.encloser.now) (g.E.Encloser.high c.args.encloser.now)) in
+    let ask = asked (place_verdict (g.E.Encloser.ends c.args.encloser.now)) in
     let count : length new ≡ length old = search rules in
     let each : (k : ℕ) (d : Held) → k < length old → get_or new k d ≡ ask (get_or old k d) = λ k d h. search (rules, c.for_each_mut.ensures) in
     same_lists new (map ask old) (count ∙ sym (length-map old ask)) (λ k d h. let inside : k < length old = omega arith in each k d inside ∙ sym (get_or-map ask old k d d inside))

@@ -8,7 +8,7 @@ use Rattle.muni_sched.proofs.yields.lowest_yield.Goals as goal
 
 pub yield_answer-requires-clause-over : goal.yield_answer-requires-clause-over
 yield_answer-requires-clause-over g c =
-    let verdicts = place_verdict (g.E.Encloser.low c.args.encloser.now) (g.E.Encloser.high c.args.encloser.now) in
+    let verdicts = place_verdict (g.E.Encloser.ends c.args.encloser.now) in
     let out = c.searched-search.ensures.out in
     let lowest = c.lowest_of-lowest.result in
     let ranked : IsRanked 85000 c.searched-search.result.known.items lowest = search (rules, c.lowest_of-lowest.ensures.ranked) in
@@ -16,7 +16,7 @@ yield_answer-requires-clause-over g c =
 
 pub yield_answer-requires-clause-within : goal.yield_answer-requires-clause-within
 yield_answer-requires-clause-within g c =
-    let verdicts = place_verdict (g.E.Encloser.low c.args.encloser.now) (g.E.Encloser.high c.args.encloser.now) in
+    let verdicts = place_verdict (g.E.Encloser.ends c.args.encloser.now) in
     let out = c.searched-search.ensures.out in
     let lowest = c.lowest_of-lowest.result in
     let ranked : IsRanked 85000 c.searched-search.result.known.items lowest = search (rules, c.lowest_of-lowest.ensures.ranked) in

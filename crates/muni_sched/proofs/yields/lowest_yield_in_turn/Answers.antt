@@ -8,7 +8,7 @@ use Rattle.muni_sched.proofs.yields.lowest_yield_in_turn.Goals as goal
 
 pub yield_answer-requires-clause-within : goal.yield_answer-requires-clause-within
 yield_answer-requires-clause-within g c =
-    let verdicts = place_verdict (g.E.Encloser.low c.args.encloser.now) (g.E.Encloser.high c.args.encloser.now) in
+    let verdicts = place_verdict (g.E.Encloser.ends c.args.encloser.now) in
     let outcomes = c.outcomes_in_turn-outcomes.result.items in
     let lowest = c.lowest_of-lowest.result in
     let ranked : IsRanked 85000 outcomes lowest = search (rules, c.lowest_of-lowest.ensures.ranked) in

@@ -9,7 +9,7 @@ use Rattle.muni_sched.proofs.yields.outcomes_in_turn.Goals as goal
 
 pub loop-i-preserved : goal.loop-i-preserved
 loop-i-preserved g c =
-    let verdicts = place_verdict (g.E.Encloser.low c.args.encloser.now) (g.E.Encloser.high c.args.encloser.now) in
+    let verdicts = place_verdict (g.E.Encloser.ends c.args.encloser.now) in
     let outcome = c.yield_outcome.result in
     let so_far = c.loop-i.invariant in
     let before = so_far.steps in

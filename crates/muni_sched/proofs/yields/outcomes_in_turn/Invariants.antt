@@ -8,7 +8,7 @@ use Rattle.muni_sched.proofs.yields.outcomes_in_turn.Given as goal
 
 abbrev pub invariant-loop-i : goal.invariant-loop-i
 invariant-loop-i g l = record {
-  each : AllZip (IsYieldOutcome (place_verdict (g.E.Encloser.low l.encloser) (g.E.Encloser.high l.encloser)) l.price) (take l.i l.list) l.outcomes.items;
+  each : AllZip (IsYieldOutcome (place_verdict (g.E.Encloser.ends l.encloser)) l.price) (take l.i l.list) l.outcomes.items;
   range : All (IsOn Yields) l.outcomes.items;
   room : length l.outcomes.items ≡ l.i;
   steps : (l.fn.steps ≤ l.steps) × (l.steps ≤ l.fn.steps + 19 * l.i);

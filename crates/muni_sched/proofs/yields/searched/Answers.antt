@@ -6,7 +6,7 @@ use Rattle.muni_sched.proofs.yields.searched.Goals as goal
 
 pub loop-steps-init : goal.loop-steps-init
 loop-steps-init g c =
-    let verdicts = place_verdict (g.E.Encloser.low c.args.encloser.now) (g.E.Encloser.high c.args.encloser.now) in
+    let verdicts = place_verdict (g.E.Encloser.ends c.args.encloser.now) in
     record {
       final = started-final verdicts c.args.price c.args.list.now c.start-search.result c.requires.price c.requires.candidates c.requires.few c.start-search.ensures;
       most = omega arith;
@@ -15,7 +15,7 @@ loop-steps-init g c =
 
 pub tick-requires : goal.tick-requires
 tick-requires g c =
-    let verdicts = place_verdict (g.E.Encloser.low c.args.encloser.now) (g.E.Encloser.high c.args.encloser.now) in
+    let verdicts = place_verdict (g.E.Encloser.ends c.args.encloser.now) in
     let known = c.loop-steps.invariant in
     let some : c.is_over.result ≡ false = search rules in
     let few = round-few verdicts known.final.finals c.loop-steps.round c.loop-steps.search known.final.refined (sym c.is_over.ensures ∙ some) in
@@ -28,7 +28,7 @@ overflow_add-round g c = let most = c.loop-steps.invariant.most in omega (arith,
 
 pub loop-steps-smaller : goal.loop-steps-smaller
 loop-steps-smaller g c =
-    let verdicts = place_verdict (g.E.Encloser.low c.args.encloser.now) (g.E.Encloser.high c.args.encloser.now) in
+    let verdicts = place_verdict (g.E.Encloser.ends c.args.encloser.now) in
     let is = c.loop-steps.invariant.final in
     let some : c.is_over.result ≡ false = search rules in
     let few = round-few verdicts is.finals c.loop-steps.round c.loop-steps.search is.refined (sym c.is_over.ensures ∙ some) in
@@ -37,7 +37,7 @@ loop-steps-smaller g c =
 
 pub loop-steps-preserved : goal.loop-steps-preserved
 loop-steps-preserved g c =
-    let verdicts = place_verdict (g.E.Encloser.low c.args.encloser.now) (g.E.Encloser.high c.args.encloser.now) in
+    let verdicts = place_verdict (g.E.Encloser.ends c.args.encloser.now) in
     let known = c.loop-steps.invariant in
     let some : c.is_over.result ≡ false = search rules in
     let few = round-few verdicts known.final.finals c.loop-steps.round c.loop-steps.search known.final.refined (sym c.is_over.ensures ∙ some) in
@@ -49,7 +49,7 @@ loop-steps-preserved g c =
 
 pub returns-clause-out : goal.returns-clause-out
 returns-clause-out g c =
-    let verdicts = place_verdict (g.E.Encloser.low c.args.encloser.now) (g.E.Encloser.high c.args.encloser.now) in
+    let verdicts = place_verdict (g.E.Encloser.ends c.args.encloser.now) in
     let over : c.is_over.result ≡ true = search rules in
     searched-out verdicts c.args.price c.args.list.now c.loop-steps.round c.loop-steps.search (sym c.is_over.ensures ∙ over) c.loop-steps.invariant.final
 

@@ -5,7 +5,7 @@ use Rattle.muni_sched.proofs.yields.searched.Given as goal
 
 abbrev pub invariant-loop-steps : goal.invariant-loop-steps
 invariant-loop-steps g l = record {
-  final : IsFinal (place_verdict (g.E.Encloser.low l.encloser) (g.E.Encloser.high l.encloser)) l.fn.price l.list l.round l.search;
+  final : IsFinal (place_verdict (g.E.Encloser.ends l.encloser)) l.fn.price l.list l.round l.search;
   most : l.round ≤ 19;
   steps : l.steps ≡ l.fn.steps + l.round;
 }

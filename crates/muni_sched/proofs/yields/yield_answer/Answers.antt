@@ -14,25 +14,24 @@ use Rattle.muni_sched.proofs.yields.yield_answer.Goals as goal
 
 pub returns : goal.returns
 returns g c =
-    let low = g.E.Encloser.low c.args.encloser.now in
-    let high = g.E.Encloser.high c.args.encloser.now in
+    let ends = g.E.Encloser.ends c.args.encloser.now in
     let price = c.args.price in
     let list = c.args.list.now in
     let over = c.requires.over in
-    let law : (series : PaymentSeries) → IsSeries series → 2 ≤ series.n → AreEnclosed series (low series) (high series) =
-    λ series is more y within. enclosed series y (low series y) (high series y) is within
+    let law : (series : PaymentSeries) → IsSeries series → 2 ≤ series.n → AreEnclosed series (ends series) =
+    λ series is more y within. enclosed series y (ends series y) is within
     (g.met.E.Encloser.encloses c.args.encloser.now series y is more within)
     (g.met.E.Encloser.narrow c.args.encloser.now series y is more within) in
     let undecided : IsYieldUndecided price list c.answer.result =
     told-undecided Yields (IsYieldInDoubt price list) list c.args.lowest c.answer.result c.answer.ensures.told
-    (λ s k same. yields-doubt low high price s k list over.outcomes c.requires.price c.requires.candidates law over.each
+    (λ s k same. yields-doubt ends price s k list over.outcomes c.requires.price c.requires.candidates law over.each
     (undecided_unsure 85000 s k over.outcomes (subst (IsLowest 85000 over.outcomes) same over.rule))) in
     record {
       lowest = record { lowest = c.args.lowest; over = over; told = c.answer.ensures.told };
       right = λ exact exactly. record {
         lowest = c.args.lowest;
         right = sound_right 90001 85000 (λ k t. IsCandidateInDoubt list k (boundary t) (pos (360000 * price))) (exact_at exact) over.outcomes c.args.lowest
-            (yields-sound low high price list over.outcomes exact c.requires.price c.requires.candidates law over.each exactly) over.rule;
+            (yields-sound ends price list over.outcomes exact c.requires.price c.requires.candidates law over.each exactly) over.rule;
         told = c.answer.ensures.told;
       };
       undecided = undecided;

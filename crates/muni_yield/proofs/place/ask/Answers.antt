@@ -6,18 +6,16 @@ use Rattle.muni_yield.proofs.place.ask.Goals as goal
 
 pub returns-then-place-gt5001 : goal.returns-then-place-gt5001
 returns-then-place-gt5001 g c =
-    let low = g.E.Encloser.low c.args.encloser.now in
-    let high = g.E.Encloser.high c.args.encloser.now in
+    let ends = g.E.Encloser.ends c.args.encloser.now in
     let series = c.args.flows.now in
     let y = c.boundary_at.result in
-    let said : c.at_least.result ≡ at_least_verdict (ends_of series y (low series y) (high series y)) (360000 * c.args.price + series.accrued) = search rules in
-    asked-above low high series c.args.price c.args.place y c.at_least.result c.if-place-gt5001.true c.boundary_at.ensures.value said
+    let said : c.at_least.result ≡ at_least_verdict (ends_of series y (ends series y)) (360000 * c.args.price + series.accrued) = search rules in
+    asked-above ends series c.args.price c.args.place y c.at_least.result c.if-place-gt5001.true c.boundary_at.ensures.value said
 
 pub returns-else-place-gt5001 : goal.returns-else-place-gt5001
 returns-else-place-gt5001 g c =
-    let low = g.E.Encloser.low c.args.encloser.now in
-    let high = g.E.Encloser.high c.args.encloser.now in
+    let ends = g.E.Encloser.ends c.args.encloser.now in
     let series = c.args.flows.now in
     let y = c.boundary_at-else-place-gt5001.result in
-    let said : c.more.result ≡ more_verdict (ends_of series y (low series y) (high series y)) (360000 * c.args.price + series.accrued) = search rules in
-    asked-below low high series c.args.price c.args.place y c.more.result c.if-place-gt5001.false c.boundary_at-else-place-gt5001.ensures.value said
+    let said : c.more.result ≡ more_verdict (ends_of series y (ends series y)) (360000 * c.args.price + series.accrued) = search rules in
+    asked-below ends series c.args.price c.args.place y c.more.result c.if-place-gt5001.false c.boundary_at-else-place-gt5001.ensures.value said

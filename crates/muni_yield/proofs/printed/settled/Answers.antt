@@ -11,7 +11,7 @@ pub returns-in-Some-clause-verdicts : goal.returns-in-Some-clause-verdicts
 returns-in-Some-clause-verdicts g c =
     let bracket = c.loop-outcome.bracket in
     let series = c.args.flows.now in
-    let said = yield_verdict (g.E.Encloser.low c.args.encloser.now series) (g.E.Encloser.high c.args.encloser.now series) series c.args.price in
+    let said = yield_verdict (g.E.Encloser.ends c.args.encloser.now series) series c.args.price in
     let some : settled_as bracket ≡ Some c.in-Some.outcome = sym c.settled.ensures ∙ c.in-Some.is in
     let end = settled-some bracket c.in-Some.outcome some in
     subst (IsVerdictOutcome said) end.1 (settled-verdict said bracket c.loop-outcome.invariant.is end.0 c.loop-outcome.invariant.answered)
@@ -19,7 +19,7 @@ returns-in-Some-clause-verdicts g c =
 pub returns-in-Some-clause-outcome : goal.returns-in-Some-clause-outcome
 returns-in-Some-clause-outcome g c =
     let bracket = c.loop-outcome.bracket in
-    let verdicts = place_verdict (g.E.Encloser.low c.args.encloser.now) (g.E.Encloser.high c.args.encloser.now) in
+    let verdicts = place_verdict (g.E.Encloser.ends c.args.encloser.now) in
     let some : settled_as bracket ≡ Some c.in-Some.outcome = sym c.settled.ensures ∙ c.in-Some.is in
     let end = settled-some bracket c.in-Some.outcome some in
     sym end.1 ∙ settled-final verdicts c.args.flows.now c.args.price (19 - bracket.halvings) bracket end.0 c.loop-outcome.invariant.rest
@@ -27,7 +27,7 @@ returns-in-Some-clause-outcome g c =
 pub returns-in-Some-clause-steps : goal.returns-in-Some-clause-steps
 returns-in-Some-clause-steps g c =
     let bracket = c.loop-outcome.bracket in
-    let verdicts = place_verdict (g.E.Encloser.low c.args.encloser.now) (g.E.Encloser.high c.args.encloser.now) in
+    let verdicts = place_verdict (g.E.Encloser.ends c.args.encloser.now) in
     let some : settled_as bracket ≡ Some c.in-Some.outcome = sym c.settled.ensures ∙ c.in-Some.is in
     let end = settled-some bracket c.in-Some.outcome some in
     let last : bracket ≡ run 19 verdicts (start_of c.args.flows.now c.args.price) = sym (run-settled (19 - bracket.halvings) verdicts bracket end.0) ∙ c.loop-outcome.invariant.rest in
@@ -46,7 +46,7 @@ pub loop-outcome-preserved : goal.loop-outcome-preserved
 loop-outcome-preserved g c =
     let bracket = c.loop-outcome.bracket in
     let known = c.loop-outcome.invariant in
-    let verdicts = place_verdict (g.E.Encloser.low c.args.encloser.now) (g.E.Encloser.high c.args.encloser.now) in
+    let verdicts = place_verdict (g.E.Encloser.ends c.args.encloser.now) in
     let none : settled_as bracket ≡ None = cc in
     let pending : is_settled bracket ≡ false = settled-none bracket none in
     let next = halved-next verdicts bracket known.is pending in

@@ -8,9 +8,9 @@ invariant-loop-outcome g l = record {
   is : IsBracket l.bracket;
   series : l.bracket.series ≡ l.flows;
   price : l.bracket.price ≡ l.fn.price;
-  rest : run (19 - l.bracket.halvings) (place_verdict (g.E.Encloser.low l.encloser) (g.E.Encloser.high l.encloser)) l.bracket
-      ≡ run 19 (place_verdict (g.E.Encloser.low l.encloser) (g.E.Encloser.high l.encloser)) (start_of l.flows l.fn.price);
-  answered : IsAnswered (place_verdict (g.E.Encloser.low l.encloser) (g.E.Encloser.high l.encloser) l.flows l.fn.price) l.bracket;
+  rest : run (19 - l.bracket.halvings) (place_verdict (g.E.Encloser.ends l.encloser)) l.bracket
+      ≡ run 19 (place_verdict (g.E.Encloser.ends l.encloser)) (start_of l.flows l.fn.price);
+  answered : IsAnswered (place_verdict (g.E.Encloser.ends l.encloser) l.flows l.fn.price) l.bracket;
   steps : l.steps ≡ l.fn.steps + l.bracket.halvings;
 }
 

@@ -8,14 +8,14 @@ use Rattle.muni_sched.proofs.search.Search.refine.Goals as goal
 
 pub record_settled-requires-clause-brackets : goal.record_settled-requires-clause-brackets
 record_settled-requires-clause-brackets g c =
-    let verdicts = place_verdict (g.E.Encloser.low c.args.encloser.now) (g.E.Encloser.high c.args.encloser.now) in
+    let verdicts = place_verdict (g.E.Encloser.ends c.args.encloser.now) in
     let held = c.args.self.now.held.items in
     let now = asked-now verdicts held c.as_mut_slice.result.now c.ask_each.new.held c.as_slice.result.now c.as_mut_slice.ensures.value c.ask_each.ensures c.as_slice.ensures.value in
     subst (All IsHeldBracket) (sym now) (asked-brackets verdicts held c.requires.can.each)
 
 pub record_settled-requires-clause-places : goal.record_settled-requires-clause-places
 record_settled-requires-clause-places g c =
-    let verdicts = place_verdict (g.E.Encloser.low c.args.encloser.now) (g.E.Encloser.high c.args.encloser.now) in
+    let verdicts = place_verdict (g.E.Encloser.ends c.args.encloser.now) in
     let held = c.args.self.now.held.items in
     let now = asked-now verdicts held c.as_mut_slice.result.now c.ask_each.new.held c.as_slice.result.now c.as_mut_slice.ensures.value c.ask_each.ensures c.as_slice.ensures.value in
     subst (λ known. All (λ (one : Held). one.place < length known) c.as_slice.result.now) (sym c.as_mut_slice-2.ensures.value)
@@ -23,21 +23,21 @@ record_settled-requires-clause-places g c =
 
 pub least_ceiling-self-requires : goal.least_ceiling-self-requires
 least_ceiling-self-requires g c =
-    let verdicts = place_verdict (g.E.Encloser.low c.args.encloser.now) (g.E.Encloser.high c.args.encloser.now) in
+    let verdicts = place_verdict (g.E.Encloser.ends c.args.encloser.now) in
     let held = c.args.self.now.held.items in
     let now = asked-now verdicts held c.as_mut_slice.result.now c.ask_each.new.held c.as_slice-2.result.now c.as_mut_slice.ensures.value c.ask_each.ensures c.as_slice-2.ensures.value in
     subst (All IsHeldBracket) (sym now) (asked-brackets verdicts held c.requires.can.each)
 
 pub still_needed-self-requires-clause-brackets : goal.still_needed-self-requires-clause-brackets
 still_needed-self-requires-clause-brackets g c =
-    let verdicts = place_verdict (g.E.Encloser.low c.args.encloser.now) (g.E.Encloser.high c.args.encloser.now) in
+    let verdicts = place_verdict (g.E.Encloser.ends c.args.encloser.now) in
     let held = c.args.self.now.held.items in
     let now = asked-now verdicts held c.as_mut_slice.result.now c.ask_each.new.held c.as_slice-3.result.now c.as_mut_slice.ensures.value c.ask_each.ensures c.as_slice-3.ensures.value in
     subst (All IsHeldBracket) (sym now) (asked-brackets verdicts held c.requires.can.each)
 
 pub returns : goal.returns
 returns g c =
-    let verdicts = place_verdict (g.E.Encloser.low c.args.encloser.now) (g.E.Encloser.high c.args.encloser.now) in
+    let verdicts = place_verdict (g.E.Encloser.ends c.args.encloser.now) in
     let search = c.args.self.now in
     let held = search.held.items in
     let settled = asked-now verdicts held c.as_mut_slice.result.now c.ask_each.new.held c.as_slice.result.now c.as_mut_slice.ensures.value c.ask_each.ensures c.as_slice.ensures.value in
