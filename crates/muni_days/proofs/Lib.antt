@@ -1,3 +1,4 @@
 pub mod CivilLemmas
 pub mod OrderLemmas
-pub mod SameDateLemmas
+pub mod DayLemmas
+pub mod FormLemmas

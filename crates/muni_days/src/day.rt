@@ -1,34 +1,24 @@
-ghost use Rattle.std.specs.Prelude.{◌≡◌, ◌↔◌, ◌≤ℤ◌, true, pos, nat_eq};
+ghost use Rattle.std.specs.Prelude.{◌≡◌, ◌↔◌, ◌≤◌, ◌≤ℤ◌, true, length, pos, nat_eq};
 ghost use Rattle.std.specs.Cmp.{partial_order_from_own_ties};
 ghost use Rattle.std.specs.Cmp.Rules.{comparing};
-ghost use Rattle.std.specs.Option.{option_map};
 ghost use Rattle.std.specs.Ordering.{on, nat_cmp, as_partial_cmp};
 ghost use Rattle.std.proofs.Common.{rules};
 ghost use Rattle.arrayvec.specs.ArrayVec.{array_vec_len};
+ghost use Rattle.muni_days.specs.Calendar as calendar;
+ghost use Rattle.muni_days.specs.Form.{digits_reading, numbers_reading};
 
 use arrayvec::ArrayVec;
-use jiff::civil::Date;
+use jiff::civil;
 use muni_dec::digits::{push_last_digits, read_digits};
 use std::cmp::Ordering;
-use std::marker::Model;
 
 /// A day of the civil calendar from 1900-01-01 to 2199-12-31. Days are ordered by date.
 #[derive(Clone, Copy, Debug)]
 pub struct Day {
-    date: Date,
-}
-
-impl Model for Day {
-    ghost use Rattle.jiff.specs.declared.civil.dates.Date.{Date as Plain};
-    ghost use Rattle.muni_days.specs.Range.{IsDeskDate};
-
-    ghost Value = { Plain };
-
-    ghost view = { λ day. day.date };
-
-    ghost invariant = { λ day. IsDeskDate day.date };
-
-    ghost inverse = { λ date. record { date = date } };
+    year: u16,
+    month: u8,
+    day: u8,
+    ghost real: { calendar.is_day (record { year = year; month = month; day = day }) ≡ true },
 }
 
 /// Why a text names no day.
@@ -40,38 +30,79 @@ pub enum DayFault {
     NoSuchDay,
 }
 
+impl DayFault {
+    ghost use Rattle.muni_days.specs.Fault.{fault_number};
+
+    /// The number of the fault, 1 or 2.
+    pub fn number(&self) -> u32
+        ensures { result ≡ fault_number self.now }
+    {
+        match self {
+            DayFault::Form => 1,
+            DayFault::NoSuchDay => 2,
+        }
+    }
+}
+
+fn is_day(year: u64, month: u64, day: u64) -> bool
+    ensures { result ≡ calendar.is_day (record { year = year; month = month; day = day }) }
+{
+    if year < 1900 || year > 2199 || month > 12 || day > 31 {
+        return false;
+    }
+    civil::Date::new(year as i16, month as i8, day as i8).is_ok()
+}
+
+#[tactic(auto, using(crate::proofs::FormLemmas::few_digits))]
+fn read_few_digits(text: &[u8]) -> Option<u64>
+    requires { length text.now ≤ 4 }
+    ensures { result ≡ digits_reading text.now }
+{
+    read_digits(text).ok()
+}
+
+fn read_numbers(text: &[u8]) -> Option<(u64, u64, u64)>
+    ensures { result ≡ numbers_reading text.now }
+{
+    if text.len() != 10 || text[4] != b'-' || text[7] != b'-' {
+        return None;
+    }
+    let year = read_few_digits(&text[..4])?;
+    let month = read_few_digits(&text[5..7])?;
+    let day = read_few_digits(&text[8..10])?;
+    Some((year, month, day))
+}
+
 impl Day {
-    ghost use Rattle.muni_days.specs.Day.{civil, civil_read, place_of, if_day, day_reading, day_text};
+    ghost use Rattle.muni_days.specs.Day.{civil, place_of, if_day, day_reading, day_text};
+
+    /// The first day of the desk, 1900-01-01.
+    pub const FIRST: Day = Day {
+        year: 1900,
+        month: 1,
+        day: 1,
+    };
 
     /// Reads a day as `2024-02-29`.
     pub fn read(text: &[u8]) -> Result<Day, DayFault>
-        ensures { civil_read result ≡ day_reading text.now }
+        ensures { result ≡ day_reading text.now }
     {
-        if text.len() != 10 || text[4] != b'-' || text[7] != b'-' {
-            return Err(DayFault::Form);
-        }
-        let year = read_digits(&text[..4]);
-        let month = read_digits(&text[5..7]);
-        let day = read_digits(&text[8..10]);
-        let (Ok(year), Ok(month), Ok(day)) = (year, month, day) else {
-            return Err(DayFault::Form);
-        };
-        match Day::of(year, month, day) {
-            Some(day) => Ok(day),
-            None => Err(DayFault::NoSuchDay),
-        }
+        let (year, month, day) = read_numbers(text).ok_or(DayFault::Form)?;
+        Day::of(year, month, day).ok_or(DayFault::NoSuchDay)
     }
 
     /// The day of a year, a month from 1 and a day from 1, if the calendar and the desk have it.
     pub fn of(year: u64, month: u64, day: u64) -> Option<Day>
-        ensures { option_map civil result
-            ≡ if_day (record { year = year; month = month; day = day }) }
+        ensures { result ≡ if_day (record { year = year; month = month; day = day }) }
     {
-        if year < 1900 || year > 2199 || month > 12 || day > 31 {
+        if !is_day(year, month, day) {
             return None;
         }
-        let date = Date::new(year as i16, month as i8, day as i8).ok()?;
-        Some(Day { date })
+        Some(Day {
+            year: year as u16,
+            month: month as u8,
+            day: day as u8,
+        })
     }
 
     /// The year, from 1900 to 2199.
@@ -79,7 +110,7 @@ impl Day {
         ensures value { result ≡ pos (civil self.now).year }
         ensures range { (pos 1900 ≤ℤ result) × (result ≤ℤ pos 2199) }
     {
-        i32::from(self.date.year())
+        i32::from(self.year)
     }
 
     /// The month, from 1 to 12.
@@ -87,7 +118,7 @@ impl Day {
         ensures value { result ≡ pos (civil self.now).month }
         ensures range { (pos 1 ≤ℤ result) × (result ≤ℤ pos 12) }
     {
-        i32::from(self.date.month())
+        i32::from(self.month)
     }
 
     /// The day of the month, from 1 to 31.
@@ -95,21 +126,7 @@ impl Day {
         ensures value { result ≡ pos (civil self.now).day }
         ensures range { (pos 1 ≤ℤ result) × (result ≤ℤ pos 31) }
     {
-        i32::from(self.date.day())
-    }
-
-    /// Whether both are the same day.
-    #[tactic(auto, using(crate::proofs::SameDateLemmas::same_date))]
-    pub fn same(&self, other: &Day) -> bool
-        ensures { (result ≡ true) ↔ (self.now ≡ other.now) }
-    {
-        if self.date.year() != other.date.year() {
-            return false;
-        }
-        if self.date.month() != other.date.month() {
-            return false;
-        }
-        self.date.day() == other.date.day()
+        i32::from(self.day)
     }
 
     /// Replaces the text by the day as `2024-02-29`.
@@ -139,7 +156,11 @@ impl PartialEq for Day {
 
     ghost laws = { Prim.search (comparing, rules) };
 
-    fn eq(&self, other: &Day) -> bool {
+    #[tactic(auto, using(crate::proofs::DayLemmas::day_decides))]
+    fn eq(&self, other: &Day) -> bool
+        ensures value { result ≡ on place_of nat_eq self.now other.now }
+        ensures same { (result ≡ true) ↔ (self.now ≡ other.now) }
+    {
         self.place() == other.place()
     }
 }

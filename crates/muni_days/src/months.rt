@@ -1,7 +1,6 @@
 //! Steps of whole months.
 
 ghost use Rattle.std.specs.Prelude.{◌≡◌, ◌≤◌, ◌≤ℤ◌, ◌+ℤ◌, pos, negsuc, unsigned_abs};
-ghost use Rattle.std.specs.Option.{option_map};
 ghost use Rattle.muni_rule.specs.Civil as rule;
 ghost use Rattle.muni_days.specs.Day.{civil, if_day};
 
@@ -9,11 +8,12 @@ use crate::Day;
 
 /// The same day of the month so many months later, or earlier where the number is negative.
 ///
-/// None where that day is outside the desk's range.
+/// The day of the month is 28 at most, and the months are 1,200 at most either way. None where
+/// that day is outside the desk's range.
 pub fn months_on(date: Day, months: i32) -> Option<Day>
-    requires day { date.day ≤ 28 }
+    requires day { (civil date).day ≤ 28 }
     requires months { (negsuc 1199 ≤ℤ months) × (months ≤ℤ pos 1200) }
-    ensures { option_map civil result ≡ if_day (rule.months_on (civil date) months) }
+    ensures { result ≡ if_day (rule.months_on (civil date) months) }
 {
     let index = month_index_on(date, months);
     Day::of(index / 12, index % 12 + 1, date.day() as u64)

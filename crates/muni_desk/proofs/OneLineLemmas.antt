@@ -12,8 +12,8 @@ use Rattle.muni_rule.specs.Ranges.{IsOnePeriodYield}
 use Rattle.muni_rule.specs.SinglePayment.{growth, AtLeast}
 use Rattle.muni_rule.proofs.AtLeastLemmas.{AtLeast-smaller}
 use Rattle.muni_dec.specs.Values.{coupon_reading, price_reading, yield_reading}
-use Rattle.muni_days.specs.Day.{is_day, has_form, numbers, day_reading}
-use Rattle.muni_days.specs.declared.day.DayFault.TheVariants.{Form, NoSuchDay}
+use Rattle.muni_days.specs.Day.{civil, day_reading}
+use Rattle.muni_days.proofs.CivilLemmas.{is_civil}
 use Rattle.muni_simple.specs.declared.single.Shape1.TheVariants.{OnePeriod}
 use Rattle.muni_simple.proofs.GrowthLemmas.{growth-within}
 use Rattle.muni_sched.proofs.PriceSoundLemmas.{IsClosed, printed-one}
@@ -35,24 +35,6 @@ pub record IsRead (job : Job) : Type 0 where
   pub next_date : IsCivil job.next
   pub settlement : IsCivil job.settlement
 
-civil-read : (date : Civil) → is_day date ≡ true → IsCivil date
-civil-read date day = record {
-  month_from = grind (arith, nat_tests);
-  month_to = grind (arith, nat_tests);
-  day_from = grind (arith, nat_tests);
-  day_to = grind (arith, nat_tests);
-}
-
-date-read : (form day : Bool) (date read : Civil) → result_ok (if form then (if day then Ok date else Err NoSuchDay) else Err Form) ≡ Some read → (day ≡ true) × (date ≡ read)
-date-read true true date read is = (refl, let same : Some date ≡ Some read = is in cc)
-date-read true false date read is = absurd (let never : None ≡ Some read = is in cc)
-date-read false day date read is = absurd (let never : None ≡ Some read = is in cc)
-
-day-read : (text : List ℕ) (date : Civil) → result_ok (day_reading text) ≡ Some date → IsCivil date
-day-read text date is =
-    let read = date-read (has_form text) (is_day (numbers text)) (numbers text) date is in
-    subst IsCivil read.1 (civil-read (numbers text) read.0)
-
 if-some : {X : Type 0} (test : Bool) (value : Option X) (x : X) → (if test then value else None) ≡ Some x → (test ≡ true) × (value ≡ Some x)
 if-some true value x is = (refl, is)
 if-some false value x is = absurd (let never : None ≡ Some x = is in cc)
@@ -70,7 +52,7 @@ values-read coupon next settlement redemption yld job is =
     option_and_then_some _ (result_ok (day_reading settlement)) job behind_next (λ s s_is behind_settlement.
     option_and_then_some _ (result_ok (price_reading redemption)) job behind_settlement (λ r r_is behind_redemption.
     option_and_then_some _ (result_ok (yield_reading yld)) job behind_redemption (λ y y_is last.
-    next-read (record { coupon = c; next = n; settlement = s; redemption = r; yld = y }) job last (day-read next n n_is) (day-read settlement s s_is))))))
+    next-read (record { coupon = c; next = civil n; settlement = civil s; redemption = r; yld = y }) job last (is_civil n) (is_civil s))))))
 
 words-read : (words : List (List ℕ)) (job : Job) → job_of words ≡ Some job → IsRead job
 words-read words job is =

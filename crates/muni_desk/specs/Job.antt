@@ -7,7 +7,7 @@ use Rattle.muni_rule.specs.Civil.{Civil}
 use Rattle.muni_rule.specs.Redemptions.{Redemption}
 use Rattle.muni_dec.specs.Digits.{are_digits, number}
 use Rattle.muni_dec.specs.Values.{coupon_reading, price_reading, yield_reading, par_reading}
-use Rattle.muni_days.specs.Day.{day_reading}
+use Rattle.muni_days.specs.Day.{civil, day_reading}
 use Rattle.muni_msg.specs.declared.asked.Given.{Given}
 use Rattle.muni_msg.specs.declared.asked.Given.TheVariants.{AtYield, AtPrice, AtRate}
 use Rattle.muni_desk.specs.Trade.{SecurityKind, periodic, zero, at_redemption, discount, Trade}
@@ -20,7 +20,8 @@ pub record Job : Type 0 where
 
 -- a date that an option gives
 abbrev pub date_of : List ℕ → List (List ℕ) → Option Civil
-date_of name words = value_of name words >>= λ text. result_ok (day_reading text)
+date_of name words =
+    option_map civil (value_of name words >>= λ text. result_ok (day_reading text))
 
 -- the kinds that are named by their word alone
 abbrev pub plain_kind : List ℕ → Option SecurityKind
@@ -76,7 +77,7 @@ abbrev pub call_reading_at : List ℕ → ℕ → Option Redemption
 call_reading_at text colon = do
   date ← result_ok (day_reading (take colon text))
   price ← result_ok (price_reading (drop (colon + 1) text))
-  Some (record { date = date; price = price })
+  Some (record { date = civil date; price = price })
 
 -- a text as a call: a date, a colon and a price, which may hold no colon more
 abbrev pub call_reading : List ℕ → Option Redemption

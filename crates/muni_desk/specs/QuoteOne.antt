@@ -10,7 +10,7 @@ use Rattle.muni_rule.specs.Printed.{IsPrintedPrice, IsBelowZero}
 use Rattle.muni_rule.specs.Ranges.{one_period_yields}
 use Rattle.muni_dec.specs.Decimal.{decimal_text}
 use Rattle.muni_dec.specs.Values.{coupon_reading, price_reading, yield_reading}
-use Rattle.muni_days.specs.Day.{day_reading}
+use Rattle.muni_days.specs.Day.{civil, day_reading}
 use Rattle.muni_msg.specs.declared.refusal.Range.TheVariants.{PriceBelowZero}
 use Rattle.muni_msg.specs.declared.refusal.Refusal.{Refusal}
 use Rattle.muni_msg.specs.declared.refusal.Refusal.TheVariants.{SettleOutside, GivenOutOfRange}
@@ -43,7 +43,7 @@ job_of_values coupon next settlement redemption yld = do
   s ← result_ok (day_reading settlement)
   r ← result_ok (price_reading redemption)
   y ← result_ok (yield_reading yld)
-  if_next (record { coupon = c; next = n; settlement = s; redemption = r; yld = y })
+  if_next (record { coupon = c; next = civil n; settlement = civil s; redemption = r; yld = y })
 
 -- what words ask for: they are the command's name and the five values, in order
 abbrev pub job_of : List (List ℕ) → Option Job

@@ -78,10 +78,7 @@ impl Asked {
         if self.par.units() != other.par.units() {
             return false;
         }
-        if !self.settle.same(&other.settle) {
-            return false;
-        }
-        same_given(&self.given, &other.given)
+        self.settle == other.settle && same_given(&self.given, &other.given)
     }
 }
 

@@ -30,11 +30,11 @@ pub struct Candidate {
 
 impl Default for Candidate {
     fn default() -> Self {
-        let (Some(date), Some(price)) = (Day::of(1900, 1, 1), Price::of(0)) else {
+        let Some(price) = Price::of(0) else {
             unreachable!()
         };
         Candidate {
-            date,
+            date: Day::FIRST,
             price,
             label: Label::Maturity,
             shape: Shape::Discount { days: 0 },

@@ -16,10 +16,13 @@ pub struct Call {
 
 impl Default for Call {
     fn default() -> Self {
-        let (Some(date), Some(price)) = (Day::of(1900, 1, 1), Price::of(0)) else {
+        let Some(price) = Price::of(0) else {
             unreachable!()
         };
-        Call { date, price }
+        Call {
+            date: Day::FIRST,
+            price,
+        }
     }
 }
 
@@ -125,7 +128,7 @@ fn same_kind(kind: &Kind, other: &Kind) -> bool
     ensures { (result ≡ true) ↔ (kind.now ≡ other.now) }
 {
     match (kind, other) {
-        (Kind::Periodic { first }, Kind::Periodic { first: other }) => first.same(other),
+        (Kind::Periodic { first }, Kind::Periodic { first: other }) => *first == *other,
         (Kind::Zero, Kind::Zero) => true,
         (Kind::AtRedemption, Kind::AtRedemption) => true,
         (Kind::Discount, Kind::Discount) => true,
@@ -133,27 +136,10 @@ fn same_kind(kind: &Kind, other: &Kind) -> bool
     }
 }
 
-fn same_call(call: &Call, other: &Call) -> bool
-    ensures { (result ≡ true) ↔ (call.now ≡ other.now) }
-{
-    if !call.date.same(&other.date) {
-        return false;
-    }
-    call.price.units() == other.price.units()
-}
-
 fn same_calls(calls: &[Call], other: &[Call]) -> bool
     ensures { (result ≡ true) ↔ (calls.now ≡ other.now) }
 {
-    if calls.len() != other.len() {
-        return false;
-    }
-    for (i, call) in calls.iter().enumerate() {
-        if !same_call(call, &other[i]) {
-            return false;
-        }
-    }
-    true
+    calls == other
 }
 
 impl IssueRow {
@@ -176,24 +162,12 @@ impl IssueRow {
     pub fn same(&self, other: &IssueRow) -> bool
         ensures { (result ≡ true) ↔ (self.now ≡ other.now) }
     {
-        if !same_bytes(&self.cusip, &other.cusip) {
-            return false;
-        }
-        if !same_bytes(&self.name, &other.name) {
-            return false;
-        }
-        if !same_kind(&self.kind, &other.kind) {
-            return false;
-        }
-        if !self.dated.same(&other.dated) {
-            return false;
-        }
-        if !self.maturity.same(&other.maturity) {
-            return false;
-        }
-        if self.coupon.units() != other.coupon.units() {
-            return false;
-        }
-        same_calls(&self.calls, &other.calls)
+        same_bytes(&self.cusip, &other.cusip)
+            && same_bytes(&self.name, &other.name)
+            && same_kind(&self.kind, &other.kind)
+            && self.dated == other.dated
+            && self.maturity == other.maturity
+            && self.coupon == other.coupon
+            && same_calls(&self.calls, &other.calls)
     }
 }

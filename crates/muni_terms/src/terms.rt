@@ -107,17 +107,25 @@ fn early_fault(row: &IssueRow) -> Option<TermsFault>
     None
 }
 
+fn is_coupon_call_date(first: Day, maturity: Day, date: Day) -> bool
+    ensures { result ≡ rule.is_coupon_call_date (civil first) (civil maturity) (civil date) }
+{
+    is_quasi_date(first, date) && date < maturity && first <= date
+}
+
+fn is_zero_call_date(dated: Day, maturity: Day, date: Day) -> bool
+    ensures { result ≡ rule.is_zero_call_date (civil dated) (civil maturity) (civil date) }
+{
+    is_quasi_date(maturity, date) && date < maturity && dated < date
+}
+
 fn is_call_date(row: &IssueRow, date: Day) -> bool
     ensures { result ≡ spec.is_call_date row.now.kind (civil row.now.dated)
         (civil row.now.maturity) (civil date) }
 {
     match row.kind {
-        Kind::Periodic { first } => {
-            is_quasi_date(first, date) && date < row.maturity && first <= date
-        }
-        Kind::Zero => {
-            is_quasi_date(row.maturity, date) && date < row.maturity && row.dated < date
-        }
+        Kind::Periodic { first } => is_coupon_call_date(first, row.maturity, date),
+        Kind::Zero => is_zero_call_date(row.dated, row.maturity, date),
         Kind::AtRedemption | Kind::Discount => false,
     }
 }

@@ -54,7 +54,7 @@ fn is_boundary(boundary: &Boundary, text: &str) -> Result<bool, Fail> {
 }
 
 fn is_day(date: &Day, text: &str) -> Result<bool, Fail> {
-    Ok(date.same(&day(text)?))
+    Ok(*date == day(text)?)
 }
 
 // Whether it is the answer that a case names.

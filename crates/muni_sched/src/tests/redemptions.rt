@@ -63,7 +63,7 @@ fn shape_is(
 fn candidate_is(rt: &impl Abort, candidate: &Candidate, expected: &str) -> Result<(), Fail> {
     let mut words = expected.split(' ');
     let date = day(words.next().ok_or("a date")?)?;
-    assert!(rt; candidate.date.same(&date), "{expected}");
+    assert!(rt; candidate.date == date, "{expected}");
     let at = price(words.next().ok_or("a price")?)?;
     assert_eq!(rt; candidate.price.units(), at.units(), "{expected}");
     let label = words.next().ok_or("a label")?;
