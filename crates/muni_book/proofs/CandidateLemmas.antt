@@ -8,6 +8,7 @@ use Rattle.std.proofs.lemmas.Int.{ints}
 use Rattle.muni_rule.specs.Accuracy.{rounded_yield}
 use Rattle.muni_rule.specs.LastPayment.{is_last_period, last_payment}
 use Rattle.muni_rule.specs.Payments.{PaymentSeries}
+use Rattle.muni_rule.specs.WorthEnds.{WorthEnds}
 use Rattle.muni_rule.specs.Ranges.{IsWithin, IsOnePeriodYield, IsDiscountRate}
 use Rattle.muni_rule.specs.Redemptions.{calls_after, redemptions_after, at_maturity}
 use Rattle.muni_dec.specs.Ranges.{IsPrintedYield}
@@ -106,15 +107,15 @@ of-first Such (first ∷ rest) candidate there all = subst Such (taken first can
 pub rate-in_range : (rate : ℤ) (days : ℤ) (of : Shape) → of ≡ shape.Discount days → IsWithin (given_range of) rate → IsDiscountRate rate
 rate-in_range rate days of is given = subst (λ s. IsWithin (given_range s) rate) is given
 
-pub quote-at_rate : (low high : PaymentSeries → ℤ → ℕ) (rate : ℤ) (list : List Candidate) (quoted : Quoted) → IsRateQuoted rate list quoted → IsQuoted low high (AtRate rate) list quoted
-quote-at_rate low high rate list quoted is = record { place = 0; there = is.there; quoted = (refl, is.rated) }
+pub quote-at_rate : (ends : PaymentSeries → ℤ → WorthEnds) (rate : ℤ) (list : List Candidate) (quoted : Quoted) → IsRateQuoted rate list quoted → IsQuoted ends (AtRate rate) list quoted
+quote-at_rate ends rate list quoted is = record { place = 0; there = is.there; quoted = (refl, is.rated) }
 
 pub shape-there : (list : List Candidate) (note : Candidate) (days : ℤ) → slice_get list 0 ≡ Some note → IfSome (slice_get list 0) (λ first. first.shape ≡ shape.Discount days) → note.shape ≡ shape.Discount days
 shape-there list note days there is = subst (λ first. IfSome first (λ found. found.shape ≡ shape.Discount days)) there is
 
 -- figures of a quote's price and yield are those of the quote
-pub quote-filled : (low high : PaymentSeries → ℤ → ℕ) (given : Given) (list lent : List Candidate) (candidate : Candidate) (price p : ℕ) (yld y : ℤ) → lent ≡ list → p ≡ price → y ≡ yld → IsQuote low high given lent candidate price yld → IsQuote low high given list candidate p y
-quote-filled low high given list lent candidate price p yld y same at by quote =
-    subst (λ l. IsQuote low high given l candidate p y) same
-    (subst (λ n. IsQuote low high given lent candidate n y) (sym at)
-    (subst (λ z. IsQuote low high given lent candidate price z) (sym by) quote))
+pub quote-filled : (ends : PaymentSeries → ℤ → WorthEnds) (given : Given) (list lent : List Candidate) (candidate : Candidate) (price p : ℕ) (yld y : ℤ) → lent ≡ list → p ≡ price → y ≡ yld → IsQuote ends given lent candidate price yld → IsQuote ends given list candidate p y
+quote-filled ends given list lent candidate price p yld y same at by quote =
+    subst (λ l. IsQuote ends given l candidate p y) same
+    (subst (λ n. IsQuote ends given lent candidate n y) (sym at)
+    (subst (λ z. IsQuote ends given lent candidate price z) (sym by) quote))

@@ -8,6 +8,7 @@ use Rattle.muni_days.specs.declared.day.Day.{Day}
 use Rattle.muni_rule.specs.Accuracy.{TruncatesTo, IsAtMost}
 use Rattle.muni_rule.specs.Discount.{discount_price, discounted}
 use Rattle.muni_rule.specs.Payments.{PaymentSeries}
+use Rattle.muni_rule.specs.WorthEnds.{WorthEnds}
 use Rattle.muni_rule.specs.Ranges.{IsDiscountRate}
 use Rattle.muni_simple.specs.declared.yields.SimpleYield.{SimpleYield}
 use Rattle.muni_simple.specs.declared.yields.SimpleYield.TheVariants as simple
@@ -63,13 +64,13 @@ pub record IsCase (Same : Day → Day → Type 0) (given : Given) (list others :
   pub in_range : IsInRange given list
 
 -- ---- the lowest price and the lowest yield
-price-said : (Same : Day → Day → Type 0) (low high : PaymentSeries → ℤ → ℕ) (y : ℤ) (list others : List Candidate) (said other : LowAnswer) → IsCase Same (AtYield y) list others → IsPriceSaid low high y list said → IsPriceSaid low high y others other → IsLikeLow Same said other
-price-said Same low high y list others said other both is also =
-    price-like Same low high y list others said other both.alike (record { candidates = both.candidates; at_yield = both.basis; given = both.in_range }) is.rule also.rule
+price-said : (Same : Day → Day → Type 0) (ends : PaymentSeries → ℤ → WorthEnds) (y : ℤ) (list others : List Candidate) (said other : LowAnswer) → IsCase Same (AtYield y) list others → IsPriceSaid ends y list said → IsPriceSaid ends y others other → IsLikeLow Same said other
+price-said Same ends y list others said other both is also =
+    price-like Same ends y list others said other both.alike (record { candidates = both.candidates; at_yield = both.basis; given = both.in_range }) is.rule also.rule
 
-yield-said : (Same : Day → Day → Type 0) (low high : PaymentSeries → ℤ → ℕ) (price : ℕ) (list others : List Candidate) (said other : LowAnswer) → IsCase Same (AtPrice price) list others → IsYieldSaid low high price list said → IsYieldSaid low high price others other → IsLikeLow Same said other
-yield-said Same low high price list others said other both is also =
-    yield-like Same (place_verdict low high) price list others said other both.alike both.in_range both.candidates is.rule also.rule
+yield-said : (Same : Day → Day → Type 0) (ends : PaymentSeries → ℤ → WorthEnds) (price : ℕ) (list others : List Candidate) (said other : LowAnswer) → IsCase Same (AtPrice price) list others → IsYieldSaid ends price list said → IsYieldSaid ends price others other → IsLikeLow Same said other
+yield-said Same ends price list others said other both is also =
+    yield-like Same (place_verdict ends) price list others said other both.alike both.in_range both.candidates is.rule also.rule
 
 -- ---- the return at a rate
 price-above : (rate days : ℤ) → IsDiscountRate rate → pos 0 ≤ℤ days → days ≤ℤ pos 720 → pos 0 <ℤ (discount_price rate days +ℤ pos 0)
@@ -114,18 +115,18 @@ like-there : (Same : Day → Day → Type 0) (list others : List Candidate) (c d
 like-there Same list others c d candidate other alike same there also =
     like-at Same list others c candidate other alike there (subst (λ n. slice_get others n ≡ Some other) (sym same) also)
 
-pub quote-like : (Same : Day → Day → Type 0) (low high : PaymentSeries → ℤ → ℕ) (given : Given) (list others : List Candidate) (candidate other : Candidate) (price p : ℕ) (yld y : ℤ) → IsCase Same given list others → IsQuote low high given list candidate price yld → IsQuote low high given others other p y → IsLikeQuote Same candidate other price p yld y
-quote-like Same low high (AtYield g) list others candidate other price p yld y both is also =
+pub quote-like : (Same : Day → Day → Type 0) (ends : PaymentSeries → ℤ → WorthEnds) (given : Given) (list others : List Candidate) (candidate other : Candidate) (price p : ℕ) (yld y : ℤ) → IsCase Same given list others → IsQuote ends given list candidate price yld → IsQuote ends given others other p y → IsLikeQuote Same candidate other price p yld y
+quote-like Same ends (AtYield g) list others candidate other price p yld y both is also =
     let low_like : answer.Low (figure.Price p) also.place ≡ answer.Low (figure.Price price) is.place =
-    price-said Same low high g list others (answer.Low (figure.Price price) is.place) (answer.Low (figure.Price p) also.place) both is.quoted.0 also.quoted.0 in
+    price-said Same ends g list others (answer.Low (figure.Price price) is.place) (answer.Low (figure.Price p) also.place) both is.quoted.0 also.quoted.0 in
     let same : is.place ≡ also.place = cc in
     record { redemption = like-there Same list others is.place also.place candidate other both.alike same is.there also.there; same_price = cc; same_yield = is.quoted.1 ∙ sym also.quoted.1 }
-quote-like Same low high (AtPrice g) list others candidate other price p yld y both is also =
+quote-like Same ends (AtPrice g) list others candidate other price p yld y both is also =
     let low_like : answer.Low (figure.Yield y) also.place ≡ answer.Low (figure.Yield yld) is.place =
-    yield-said Same low high g list others (answer.Low (figure.Yield yld) is.place) (answer.Low (figure.Yield y) also.place) both is.quoted.0 also.quoted.0 in
+    yield-said Same ends g list others (answer.Low (figure.Yield yld) is.place) (answer.Low (figure.Yield y) also.place) both is.quoted.0 also.quoted.0 in
     let same : is.place ≡ also.place = cc in
     record { redemption = like-there Same list others is.place also.place candidate other both.alike same is.there also.there; same_price = is.quoted.1 ∙ sym also.quoted.1; same_yield = cc }
-quote-like Same low high (AtRate rate) list others candidate other price p yld y both is also =
+quote-like Same ends (AtRate rate) list others candidate other price p yld y both is also =
     let there : slice_get list 0 ≡ Some candidate = subst (λ n. slice_get list n ≡ Some candidate) is.quoted.0 is.there in
     let too : slice_get others 0 ≡ Some other = subst (λ n. slice_get others n ≡ Some other) also.quoted.0 also.there in
     let one = is.quoted.1 in
@@ -181,26 +182,26 @@ return-refused Same date day simple.Above refused also like is so =
 return-refused Same date day simple.NoTime refused also like is so =
     subst (λ it. AreAlikeRefusals Same it also) (taken (refusal.NoTime date) refused is) (day, like, taken also (refusal.NoTime day) (sym so))
 
-pub late-like : (Same : Day → Day → Type 0) (low high : PaymentSeries → ℤ → ℕ) (given : Given) (list others : List Candidate) (refused also : Refusal) → IsCase Same given list others → IsLateRefusal low high given list refused → IsLateRefusal low high given others also → AreAlikeRefusals Same refused also
-late-like Same low high (AtYield y) list others refused also both is so =
-    price-refused Same is.0 so.0 refused also (price-said Same low high y list others is.0 so.0 both is.1 so.1) is.2 so.2
-late-like Same low high (AtPrice price) list others refused also both is so =
-    yield-refused Same is.0 so.0 refused also (yield-said Same low high price list others is.0 so.0 both is.1 so.1) is.2 so.2
-late-like Same low high (AtRate rate) list others refused also both is so =
+pub late-like : (Same : Day → Day → Type 0) (ends : PaymentSeries → ℤ → WorthEnds) (given : Given) (list others : List Candidate) (refused also : Refusal) → IsCase Same given list others → IsLateRefusal ends given list refused → IsLateRefusal ends given others also → AreAlikeRefusals Same refused also
+late-like Same ends (AtYield y) list others refused also both is so =
+    price-refused Same is.0 so.0 refused also (price-said Same ends y list others is.0 so.0 both is.1 so.1) is.2 so.2
+late-like Same ends (AtPrice price) list others refused also both is so =
+    yield-refused Same is.0 so.0 refused also (yield-said Same ends price list others is.0 so.0 both is.1 so.1) is.2 so.2
+late-like Same ends (AtRate rate) list others refused also both is so =
     let same = rate-said Same rate list others is.note so.note is.days so.days is.said so.said both is.there so.there is.shape so.shape is.return so.return in
     return-refused Same is.note.date so.note.date is.said refused also same.like.date is.applies (subst (λ said. return_refusal so.note.date said ≡ Some also) (sym same.same_said) so.applies)
 
 -- ---- a quote and a refusal exclude each other
-pub quote-late : (Same : Day → Day → Type 0) (low high : PaymentSeries → ℤ → ℕ) (given : Given) (list others : List Candidate) (candidate : Candidate) (price : ℕ) (yld : ℤ) (refused : Refusal) → IsCase Same given list others → IsQuote low high given list candidate price yld → ¬ (IsLateRefusal low high given others refused)
-quote-late Same low high (AtYield y) list others candidate price yld refused both is so =
+pub quote-late : (Same : Day → Day → Type 0) (ends : PaymentSeries → ℤ → WorthEnds) (given : Given) (list others : List Candidate) (candidate : Candidate) (price : ℕ) (yld : ℤ) (refused : Refusal) → IsCase Same given list others → IsQuote ends given list candidate price yld → ¬ (IsLateRefusal ends given others refused)
+quote-late Same ends (AtYield y) list others candidate price yld refused both is so =
     let low_is = answer.Low (figure.Price price) is.place in
-    let like : so.0 ≡ low_is = price-said Same low high y list others low_is so.0 both is.quoted.0 so.1 in
+    let like : so.0 ≡ low_is = price-said Same ends y list others low_is so.0 both is.quoted.0 so.1 in
     let never : None ≡ Some refused = sym (ap price_refusal like) ∙ so.2 in cc
-quote-late Same low high (AtPrice given) list others candidate price yld refused both is so =
+quote-late Same ends (AtPrice given) list others candidate price yld refused both is so =
     let low_is = answer.Low (figure.Yield yld) is.place in
-    let like : so.0 ≡ low_is = yield-said Same low high given list others low_is so.0 both is.quoted.0 so.1 in
+    let like : so.0 ≡ low_is = yield-said Same ends given list others low_is so.0 both is.quoted.0 so.1 in
     let never : None ≡ Some refused = sym (ap yield_refusal like) ∙ so.2 in cc
-quote-late Same low high (AtRate rate) list others candidate price yld refused both is so =
+quote-late Same ends (AtRate rate) list others candidate price yld refused both is so =
     let there : slice_get list 0 ≡ Some candidate = subst (λ n. slice_get list n ≡ Some candidate) is.quoted.0 is.there in
     let one = is.quoted.1 in
     let same = rate-said Same rate list others candidate so.note one.days so.days (simple.Print yld) so.said both there so.there one.shape so.shape one.return so.return in
@@ -214,16 +215,16 @@ like-low Same (answer.Below date) found c like = absurd (let never = like.2 in c
 like-low Same answer.Above found c like = absurd (let never = like in cc)
 like-low Same (answer.NoTime date) found c like = absurd (let never = like.2 in cc)
 
-pub late-quote : (Same : Day → Day → Type 0) (low high : PaymentSeries → ℤ → ℕ) (given : Given) (list others : List Candidate) (candidate : Candidate) (price : ℕ) (yld : ℤ) (refused : Refusal) → IsCase Same given list others → IsLateRefusal low high given list refused → ¬ (IsQuote low high given others candidate price yld)
-late-quote Same low high (AtYield y) list others candidate price yld refused both so is =
+pub late-quote : (Same : Day → Day → Type 0) (ends : PaymentSeries → ℤ → WorthEnds) (given : Given) (list others : List Candidate) (candidate : Candidate) (price : ℕ) (yld : ℤ) (refused : Refusal) → IsCase Same given list others → IsLateRefusal ends given list refused → ¬ (IsQuote ends given others candidate price yld)
+late-quote Same ends (AtYield y) list others candidate price yld refused both so is =
     let low_is = answer.Low (figure.Price price) is.place in
-    let like : so.0 ≡ low_is = like-low Same so.0 (figure.Price price) is.place (price-said Same low high y list others so.0 low_is both so.1 is.quoted.0) in
+    let like : so.0 ≡ low_is = like-low Same so.0 (figure.Price price) is.place (price-said Same ends y list others so.0 low_is both so.1 is.quoted.0) in
     let never : None ≡ Some refused = sym (ap price_refusal like) ∙ so.2 in cc
-late-quote Same low high (AtPrice given) list others candidate price yld refused both so is =
+late-quote Same ends (AtPrice given) list others candidate price yld refused both so is =
     let low_is = answer.Low (figure.Yield yld) is.place in
-    let like : so.0 ≡ low_is = like-low Same so.0 (figure.Yield yld) is.place (yield-said Same low high given list others so.0 low_is both so.1 is.quoted.0) in
+    let like : so.0 ≡ low_is = like-low Same so.0 (figure.Yield yld) is.place (yield-said Same ends given list others so.0 low_is both so.1 is.quoted.0) in
     let never : None ≡ Some refused = sym (ap yield_refusal like) ∙ so.2 in cc
-late-quote Same low high (AtRate rate) list others candidate price yld refused both so is =
+late-quote Same ends (AtRate rate) list others candidate price yld refused both so is =
     let there : slice_get others 0 ≡ Some candidate = subst (λ n. slice_get others n ≡ Some candidate) is.quoted.0 is.there in
     let one = is.quoted.1 in
     let same = rate-said Same rate list others so.note candidate so.days one.days so.said (simple.Print yld) both so.there there so.shape one.shape so.return one.return in

@@ -1,5 +1,5 @@
 -- What is said of terms that are alike is alike, and so of one issue it is one.
-use Rattle.std.proofs.Common.{◌≡◌, ℕ, ◌+◌, Bool, true, false, List, [], ◌∷◌, Option, Some, None, map, refl, sym, subst, ap, ◌∙◌, Result, Ok, Err, ℤ, unsigned_abs}
+use Rattle.std.proofs.Common.{◌≡◌, ◌+◌, Bool, true, false, List, [], ◌∷◌, Option, Some, None, map, refl, sym, subst, ap, ◌∙◌, Result, Ok, Err, ℤ, unsigned_abs}
 use Rattle.std.specs.Prelude.{All, MatchBool, MatchOption}
 use Rattle.std.specs.List.{AllZip}
 use Rattle.std.proofs.lemmas.Bool.{MatchBool-at_true, MatchBool-at_false}
@@ -7,6 +7,7 @@ use Rattle.std.proofs.lemmas.List.Elements.{All-head, All-tail}
 use Rattle.muni_days.specs.declared.day.Day.{Day}
 use Rattle.muni_rule.specs.Accuracy.{accrued_cents, principal_cents}
 use Rattle.muni_rule.specs.Payments.{PaymentSeries}
+use Rattle.muni_rule.specs.WorthEnds.{WorthEnds}
 use Rattle.muni_terms.specs.Issue.{settles, accrued_days}
 use Rattle.muni_terms.specs.declared.row.IssueRow.{IssueRow}
 use Rattle.muni_terms.specs.declared.row.TermsFault.{TermsFault}
@@ -46,11 +47,11 @@ case-of Same row terms asked request list others like is also basis inside = rec
 }
 
 -- ---- figures, and figures
-figures-like : (Same : Day → Day → Type 0) (low high : PaymentSeries → ℤ → ℕ) (row terms : IssueRow) (asked request : Asked) (figures other : Figures) → AreLikeTerms Same row asked terms request → IsFigures low high row asked figures → IsFigures low high terms request other → AreAlikeFigures Same figures other
-figures-like Same low high row terms asked request figures other like is also =
+figures-like : (Same : Day → Day → Type 0) (ends : PaymentSeries → ℤ → WorthEnds) (row terms : IssueRow) (asked request : Asked) (figures other : Figures) → AreLikeTerms Same row asked terms request → IsFigures ends row asked figures → IsFigures ends terms request other → AreAlikeFigures Same figures other
+figures-like Same ends row terms asked request figures other like is also =
     let both = case-of Same row terms asked request is.list also.list like is.candidates also.candidates is.basis is.in_range in
-    let quote : IsQuote low high asked.given also.list also.candidate other.price other.yld = subst (λ given. IsQuote low high given also.list also.candidate other.price other.yld) (sym like.given) also.quote in
-    let same = quote-like Same low high asked.given is.list also.list is.candidate also.candidate figures.price other.price figures.yld other.yld both is.quote quote in
+    let quote : IsQuote ends asked.given also.list also.candidate other.price other.yld = subst (λ given. IsQuote ends given also.list also.candidate other.price other.yld) (sym like.given) also.quote in
+    let same = quote-like Same ends asked.given is.list also.list is.candidate also.candidate figures.price other.price figures.yld other.yld both is.quote quote in
     let days : figures.days ≡ other.days = taken figures.days other.days (is.amounts.days ∙ like.days ∙ sym also.amounts.days) in
     let principal : figures.principal ≡ other.principal = is.amounts.principal ∙ (λ i. principal_cents (like.par i) (same.same_price i)) ∙ sym also.amounts.principal in
     let accrued : figures.accrued ≡ other.accrued = is.amounts.accrued ∙ (λ i. accrued_cents (like.coupon i) (like.par i) (unsigned_abs (days i))) ∙ sym also.amounts.accrued in
@@ -77,59 +78,59 @@ by-range Same None Late Too refused also late is so = late refl is so
 by-range Same (Some side) Late Too refused also late is so = subst (λ it. AreAlikeRefusals Same it also) (sym is) so
 
 -- what applies to one request applies to another that gives the same
-moved-given : (Same : Day → Day → Type 0) (low high : PaymentSeries → ℤ → ℕ) (row terms : IssueRow) (asked request : Asked) (list : List Candidate) (also : Refusal) → AreLikeTerms Same row asked terms request → AreCandidates row asked.settle list → (so : IsSettledRefusal low high terms request also) → MatchOption (range_of asked.given list) (IsLateRefusal low high asked.given so.list also) (λ out. also ≡ refusal.GivenOutOfRange out)
-moved-given Same low high row terms asked request list also like are so =
-    let given = subst (λ given. MatchOption (range_of given so.list) (IsLateRefusal low high given so.list also) (λ out. also ≡ refusal.GivenOutOfRange out)) (sym like.given) so.applies in
+moved-given : (Same : Day → Day → Type 0) (ends : PaymentSeries → ℤ → WorthEnds) (row terms : IssueRow) (asked request : Asked) (list : List Candidate) (also : Refusal) → AreLikeTerms Same row asked terms request → AreCandidates row asked.settle list → (so : IsSettledRefusal ends terms request also) → MatchOption (range_of asked.given list) (IsLateRefusal ends asked.given so.list also) (λ out. also ≡ refusal.GivenOutOfRange out)
+moved-given Same ends row terms asked request list also like are so =
+    let given = subst (λ given. MatchOption (range_of given so.list) (IsLateRefusal ends given so.list also) (λ out. also ≡ refusal.GivenOutOfRange out)) (sym like.given) so.applies in
     let range : range_of asked.given list ≡ range_of asked.given so.list = range-like Same asked.given list so.list (like.lists list so.list are so.candidates) in
-    subst (λ side. MatchOption side (IsLateRefusal low high asked.given so.list also) (λ out. also ≡ refusal.GivenOutOfRange out)) (sym range) given
+    subst (λ side. MatchOption side (IsLateRefusal ends asked.given so.list also) (λ out. also ≡ refusal.GivenOutOfRange out)) (sym range) given
 
-settled-like : (Same : Day → Day → Type 0) (low high : PaymentSeries → ℤ → ℕ) (row terms : IssueRow) (asked request : Asked) (refused also : Refusal) → AreLikeTerms Same row asked terms request → is_wrong_basis row.kind asked.given ≡ false → IsSettledRefusal low high row asked refused → IsSettledRefusal low high terms request also → AreAlikeRefusals Same refused also
-settled-like Same low high row terms asked request refused also like basis is so =
-    by-range Same (range_of asked.given is.list) (IsLateRefusal low high asked.given is.list refused) (IsLateRefusal low high asked.given so.list also) refused also
-    (λ inside late too. late-like Same low high asked.given is.list so.list refused also (case-of Same row terms asked request is.list so.list like is.candidates so.candidates basis inside) late too)
-    is.applies (moved-given Same low high row terms asked request is.list also like is.candidates so)
+settled-like : (Same : Day → Day → Type 0) (ends : PaymentSeries → ℤ → WorthEnds) (row terms : IssueRow) (asked request : Asked) (refused also : Refusal) → AreLikeTerms Same row asked terms request → is_wrong_basis row.kind asked.given ≡ false → IsSettledRefusal ends row asked refused → IsSettledRefusal ends terms request also → AreAlikeRefusals Same refused also
+settled-like Same ends row terms asked request refused also like basis is so =
+    by-range Same (range_of asked.given is.list) (IsLateRefusal ends asked.given is.list refused) (IsLateRefusal ends asked.given so.list also) refused also
+    (λ inside late too. late-like Same ends asked.given is.list so.list refused also (case-of Same row terms asked request is.list so.list like is.candidates so.candidates basis inside) late too)
+    is.applies (moved-given Same ends row terms asked request is.list also like is.candidates so)
 
 -- the tests of another's basis and settlement
-moved-tests : (Same : Day → Day → Type 0) (low high : PaymentSeries → ℤ → ℕ) (row terms : IssueRow) (asked request : Asked) (also : Refusal) → AreLikeTerms Same row asked terms request → IsRefusal low high terms request also → MatchBool (is_wrong_basis row.kind asked.given) (also ≡ refusal.WrongBasis) (MatchBool (settles row asked.settle) (IsSettledRefusal low high terms request also) (also ≡ refusal.SettleOutside))
-moved-tests Same low high row terms asked request also like so =
-    let Late : Type 0 = IsSettledRefusal low high terms request also in
+moved-tests : (Same : Day → Day → Type 0) (ends : PaymentSeries → ℤ → WorthEnds) (row terms : IssueRow) (asked request : Asked) (also : Refusal) → AreLikeTerms Same row asked terms request → IsRefusal ends terms request also → MatchBool (is_wrong_basis row.kind asked.given) (also ≡ refusal.WrongBasis) (MatchBool (settles row asked.settle) (IsSettledRefusal ends terms request also) (also ≡ refusal.SettleOutside))
+moved-tests Same ends row terms asked request also like so =
+    let Late : Type 0 = IsSettledRefusal ends terms request also in
     subst (λ test. MatchBool test (also ≡ refusal.WrongBasis) (MatchBool (settles row asked.settle) Late (also ≡ refusal.SettleOutside))) (sym like.basis)
     (subst (λ test. MatchBool (is_wrong_basis terms.kind request.given) (also ≡ refusal.WrongBasis) (MatchBool test Late (also ≡ refusal.SettleOutside))) (sym like.settled) so)
 
-refusal-like : (Same : Day → Day → Type 0) (low high : PaymentSeries → ℤ → ℕ) (row terms : IssueRow) (asked request : Asked) (refused also : Refusal) → AreLikeTerms Same row asked terms request → IsRefusal low high row asked refused → IsRefusal low high terms request also → AreAlikeRefusals Same refused also
-refusal-like Same low high row terms asked request refused also like is so =
-    by-tests Same (is_wrong_basis row.kind asked.given) (settles row asked.settle) (IsSettledRefusal low high row asked refused) (IsSettledRefusal low high terms request also) refused also
-    (λ basis late too. settled-like Same low high row terms asked request refused also like basis late too)
-    is (moved-tests Same low high row terms asked request also like so)
+refusal-like : (Same : Day → Day → Type 0) (ends : PaymentSeries → ℤ → WorthEnds) (row terms : IssueRow) (asked request : Asked) (refused also : Refusal) → AreLikeTerms Same row asked terms request → IsRefusal ends row asked refused → IsRefusal ends terms request also → AreAlikeRefusals Same refused also
+refusal-like Same ends row terms asked request refused also like is so =
+    by-tests Same (is_wrong_basis row.kind asked.given) (settles row asked.settle) (IsSettledRefusal ends row asked refused) (IsSettledRefusal ends terms request also) refused also
+    (λ basis late too. settled-like Same ends row terms asked request refused also like basis late too)
+    is (moved-tests Same ends row terms asked request also like so)
 
 -- ---- figures and a refusal exclude each other
-figures-refused : (Same : Day → Day → Type 0) (low high : PaymentSeries → ℤ → ℕ) (row terms : IssueRow) (asked request : Asked) (figures : Figures) (refused : Refusal) → AreLikeTerms Same row asked terms request → IsFigures low high row asked figures → ¬ (IsRefusal low high terms request refused)
-figures-refused Same low high row terms asked request figures refused like is so =
-    let tests = moved-tests Same low high row terms asked request refused like so in
-    let behind = MatchBool-at_false (refused ≡ refusal.WrongBasis) (MatchBool (settles row asked.settle) (IsSettledRefusal low high terms request refused) (refused ≡ refusal.SettleOutside)) is.basis tests in
-    let settled : IsSettledRefusal low high terms request refused = MatchBool-at_true (IsSettledRefusal low high terms request refused) (refused ≡ refusal.SettleOutside) is.settled behind in
-    let late : IsLateRefusal low high asked.given settled.list refused = subst (λ side. MatchOption side (IsLateRefusal low high asked.given settled.list refused) (λ out. refused ≡ refusal.GivenOutOfRange out)) is.in_range (moved-given Same low high row terms asked request is.list refused like is.candidates settled) in
+figures-refused : (Same : Day → Day → Type 0) (ends : PaymentSeries → ℤ → WorthEnds) (row terms : IssueRow) (asked request : Asked) (figures : Figures) (refused : Refusal) → AreLikeTerms Same row asked terms request → IsFigures ends row asked figures → ¬ (IsRefusal ends terms request refused)
+figures-refused Same ends row terms asked request figures refused like is so =
+    let tests = moved-tests Same ends row terms asked request refused like so in
+    let behind = MatchBool-at_false (refused ≡ refusal.WrongBasis) (MatchBool (settles row asked.settle) (IsSettledRefusal ends terms request refused) (refused ≡ refusal.SettleOutside)) is.basis tests in
+    let settled : IsSettledRefusal ends terms request refused = MatchBool-at_true (IsSettledRefusal ends terms request refused) (refused ≡ refusal.SettleOutside) is.settled behind in
+    let late : IsLateRefusal ends asked.given settled.list refused = subst (λ side. MatchOption side (IsLateRefusal ends asked.given settled.list refused) (λ out. refused ≡ refusal.GivenOutOfRange out)) is.in_range (moved-given Same ends row terms asked request is.list refused like is.candidates settled) in
     let both = case-of Same row terms asked request is.list settled.list like is.candidates settled.candidates is.basis is.in_range in
-    quote-late Same low high asked.given is.list settled.list is.candidate figures.price figures.yld refused both is.quote late
+    quote-late Same ends asked.given is.list settled.list is.candidate figures.price figures.yld refused both is.quote late
 
-refused-figures : (Same : Day → Day → Type 0) (low high : PaymentSeries → ℤ → ℕ) (row terms : IssueRow) (asked request : Asked) (refused : Refusal) (figures : Figures) → AreLikeTerms Same row asked terms request → IsRefusal low high row asked refused → ¬ (IsFigures low high terms request figures)
-refused-figures Same low high row terms asked request refused figures like so is =
+refused-figures : (Same : Day → Day → Type 0) (ends : PaymentSeries → ℤ → WorthEnds) (row terms : IssueRow) (asked request : Asked) (refused : Refusal) (figures : Figures) → AreLikeTerms Same row asked terms request → IsRefusal ends row asked refused → ¬ (IsFigures ends terms request figures)
+refused-figures Same ends row terms asked request refused figures like so is =
     let basis : is_wrong_basis row.kind asked.given ≡ false = like.basis ∙ is.basis in
-    let behind = MatchBool-at_false (refused ≡ refusal.WrongBasis) (MatchBool (settles row asked.settle) (IsSettledRefusal low high row asked refused) (refused ≡ refusal.SettleOutside)) basis so in
-    let settled : IsSettledRefusal low high row asked refused = MatchBool-at_true (IsSettledRefusal low high row asked refused) (refused ≡ refusal.SettleOutside) (like.settled ∙ is.settled) behind in
-    let quote : IsQuote low high asked.given is.list is.candidate figures.price figures.yld = subst (λ given. IsQuote low high given is.list is.candidate figures.price figures.yld) (sym like.given) is.quote in
+    let behind = MatchBool-at_false (refused ≡ refusal.WrongBasis) (MatchBool (settles row asked.settle) (IsSettledRefusal ends row asked refused) (refused ≡ refusal.SettleOutside)) basis so in
+    let settled : IsSettledRefusal ends row asked refused = MatchBool-at_true (IsSettledRefusal ends row asked refused) (refused ≡ refusal.SettleOutside) (like.settled ∙ is.settled) behind in
+    let quote : IsQuote ends asked.given is.list is.candidate figures.price figures.yld = subst (λ given. IsQuote ends given is.list is.candidate figures.price figures.yld) (sym like.given) is.quote in
     let inside : range_of asked.given settled.list ≡ None =
     range-like Same asked.given settled.list is.list (like.lists settled.list is.list settled.candidates is.candidates)
     ∙ ap (λ given. range_of given is.list) like.given ∙ is.in_range in
-    let late : IsLateRefusal low high asked.given settled.list refused = subst (λ side. MatchOption side (IsLateRefusal low high asked.given settled.list refused) (λ out. refused ≡ refusal.GivenOutOfRange out)) inside settled.applies in
+    let late : IsLateRefusal ends asked.given settled.list refused = subst (λ side. MatchOption side (IsLateRefusal ends asked.given settled.list refused) (λ out. refused ≡ refusal.GivenOutOfRange out)) inside settled.applies in
     let both = case-of Same row terms asked request settled.list is.list like settled.candidates is.candidates basis inside in
-    late-quote Same low high asked.given settled.list is.list is.candidate figures.price figures.yld refused both late quote
+    late-quote Same ends asked.given settled.list is.list is.candidate figures.price figures.yld refused both late quote
 
-pub said-like : (Same : Day → Day → Type 0) (low high : PaymentSeries → ℤ → ℕ) (row terms : IssueRow) (asked request : Asked) (one other : Result Figures Refusal) → AreLikeTerms Same row asked terms request → IsRightAnswer low high row asked one → IsRightAnswer low high terms request other → AreAlike Same one other
-said-like Same low high row terms asked request (Ok figures) (Ok other) like is also = figures-like Same low high row terms asked request figures other like is also
-said-like Same low high row terms asked request (Ok figures) (Err refused) like is so = figures-refused Same low high row terms asked request figures refused like is so
-said-like Same low high row terms asked request (Err refused) (Ok figures) like so is = refused-figures Same low high row terms asked request refused figures like so is
-said-like Same low high row terms asked request (Err refused) (Err also) like is so = refusal-like Same low high row terms asked request refused also like is so
+pub said-like : (Same : Day → Day → Type 0) (ends : PaymentSeries → ℤ → WorthEnds) (row terms : IssueRow) (asked request : Asked) (one other : Result Figures Refusal) → AreLikeTerms Same row asked terms request → IsRightAnswer ends row asked one → IsRightAnswer ends terms request other → AreAlike Same one other
+said-like Same ends row terms asked request (Ok figures) (Ok other) like is also = figures-like Same ends row terms asked request figures other like is also
+said-like Same ends row terms asked request (Ok figures) (Err refused) like is so = figures-refused Same ends row terms asked request figures refused like is so
+said-like Same ends row terms asked request (Err refused) (Ok figures) like so is = refused-figures Same ends row terms asked request refused figures like so is
+said-like Same ends row terms asked request (Err refused) (Err also) like is so = refusal-like Same ends row terms asked request refused also like is so
 
 -- ---- one issue has one list of candidates
 shapes-same : (row : IssueRow) (settlement : Day) (candidate other : Candidate) → candidate.date ≡ other.date → candidate.price ≡ other.price → HasShape row settlement candidate → HasShape row settlement other → candidate.shape ≡ other.shape
@@ -218,4 +219,4 @@ answers-same (Err refused) (Ok figures) like = absurd like
 answers-same (Err refused) (Err other) like = ap Err (refusals-same refused other like)
 
 pub answers-unique : AnswersAreUnique
-answers-unique low high row asked one other is also = answers-same one other (said-like (λ date day. date ≡ day) low high row row asked asked one other (themselves row asked) is also)
+answers-unique ends row asked one other is also = answers-same one other (said-like (λ date day. date ≡ day) ends row row asked asked one other (themselves row asked) is also)

@@ -1,6 +1,7 @@
 -- A law of what is answered.
-use Rattle.std.specs.Prelude.{◌≡◌, ℕ, Result, ℤ}
+use Rattle.std.specs.Prelude.{◌≡◌, Result, ℤ}
 use Rattle.muni_rule.specs.Payments.{PaymentSeries}
+use Rattle.muni_rule.specs.WorthEnds.{WorthEnds}
 use Rattle.muni_terms.specs.declared.row.IssueRow.{IssueRow}
 use Rattle.muni_msg.specs.declared.asked.Asked.{Asked}
 use Rattle.muni_msg.specs.declared.figures.Figures.{Figures}
@@ -10,6 +11,6 @@ use Rattle.muni_book.specs.Answers.{IsRightAnswer}
 -- the right answer to a request is unique, and so it is figures or a refusal but not both
 abbrev pub AnswersAreUnique : Type 0
 AnswersAreUnique =
-    (low high : PaymentSeries → ℤ → ℕ) (row : IssueRow) (asked : Asked)
-    (answer other : Result Figures Refusal) → IsRightAnswer low high row asked answer
-    → IsRightAnswer low high row asked other → answer ≡ other
+    (ends : PaymentSeries → ℤ → WorthEnds) (row : IssueRow) (asked : Asked)
+    (answer other : Result Figures Refusal) → IsRightAnswer ends row asked answer
+    → IsRightAnswer ends row asked other → answer ≡ other

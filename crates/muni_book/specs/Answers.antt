@@ -1,5 +1,5 @@
 -- What is said of an issue at given terms: the figures of a trade, or the refusal that applies.
--- `low` and `high` are the ends that the encloser gives to payments and a yield.
+-- `ends` are those that the encloser gives to payments and a yield.
 use Rattle.std.specs.Prelude.{◌≡◌, ℕ, ◌+◌, ◌/◌, ◌==◌, Bool, true, false, if◌then◌else◌, MatchBool, MatchOption, List, map, All, Option, Some, None, option_map, Result, Ok, Err, ℤ, unsigned_abs}
 use Rattle.std.specs.List.{slice_get}
 use Rattle.std.specs.declared.cmp.Ordering.{Ordering}
@@ -7,6 +7,7 @@ use Rattle.std.specs.declared.cmp.Ordering.TheVariants.{Less, Equal, Greater}
 use Rattle.muni_rule.specs.Accuracy.{TruncatesTo, IsAtMost, rounded_yield, accrued_cents, principal_cents}
 use Rattle.muni_rule.specs.Discount.{discount_price, discounted}
 use Rattle.muni_rule.specs.Payments.{PaymentSeries}
+use Rattle.muni_rule.specs.WorthEnds.{WorthEnds}
 use Rattle.muni_days.specs.declared.day.Day.{Day}
 use Rattle.muni_terms.specs.Issue.{settles, accrued_days}
 use Rattle.muni_terms.specs.declared.row.IssueRow.{IssueRow}
@@ -71,15 +72,15 @@ range_of (AtRate rate) list = option_map range_on (side_of_first rate list)
 
 -- The lowest price at a yield: it is the rule's over what is known of the candidates by the ends, right
 -- by the exact prices, undecided only in doubt, and decided where none is in doubt.
-pub record IsPriceSaid (low high : PaymentSeries → ℤ → ℕ) (y : ℤ) (list : List Candidate) (said : LowAnswer) : Type 0 where
-  pub rule : IsLowestPrice low high y list said
+pub record IsPriceSaid (ends : PaymentSeries → ℤ → WorthEnds) (y : ℤ) (list : List Candidate) (said : LowAnswer) : Type 0 where
+  pub rule : IsLowestPrice ends y list said
   pub right : IsRightPrice y list said
   pub undecided : IsPriceUndecided y list said
   pub decided : IsPriceDecided y list said
 
 -- and so of the lowest yield at a price
-pub record IsYieldSaid (low high : PaymentSeries → ℤ → ℕ) (price : ℕ) (list : List Candidate) (said : LowAnswer) : Type 0 where
-  pub rule : IsLowestYield (place_verdict low high) price list said
+pub record IsYieldSaid (ends : PaymentSeries → ℤ → WorthEnds) (price : ℕ) (list : List Candidate) (said : LowAnswer) : Type 0 where
+  pub rule : IsLowestYield (place_verdict ends) price list said
   pub right : IsRightYield price list said
   pub undecided : IsYieldUndecided price list said
   pub decided : IsYieldDecided price list said
@@ -99,20 +100,20 @@ pub record IsRateSaid (rate : ℤ) (note : Candidate) (price : ℕ) (said : Simp
 -- The price and the yield that are said, of candidate c. At a yield the lowest price is computed, and the
 -- given yield rounded. At a price the given price is truncated, and the lowest yield computed from it in
 -- full. At a rate both are computed, of the first candidate, which is the only one of a note.
-abbrev pub AreQuoted : (low high : PaymentSeries → ℤ → ℕ) → Given → List Candidate → ℕ → Candidate
+abbrev pub AreQuoted : (ends : PaymentSeries → ℤ → WorthEnds) → Given → List Candidate → ℕ → Candidate
     → ℕ → ℤ → Type 0
-AreQuoted low high (AtYield y) list c candidate price yld =
-    IsPriceSaid low high y list (answer.Low (figure.Price price) c) × (yld ≡ rounded_yield y)
-AreQuoted low high (AtPrice given) list c candidate price yld =
-    IsYieldSaid low high given list (answer.Low (figure.Yield yld) c) × (price ≡ given / 1000)
-AreQuoted low high (AtRate rate) list c candidate price yld =
+AreQuoted ends (AtYield y) list c candidate price yld =
+    IsPriceSaid ends y list (answer.Low (figure.Price price) c) × (yld ≡ rounded_yield y)
+AreQuoted ends (AtPrice given) list c candidate price yld =
+    IsYieldSaid ends given list (answer.Low (figure.Yield yld) c) × (price ≡ given / 1000)
+AreQuoted ends (AtRate rate) list c candidate price yld =
     (c ≡ 0) × IsRateSaid rate candidate price (simple.Print yld)
 
 -- they are of the candidate at place c
-pub record IsQuote (low high : PaymentSeries → ℤ → ℕ) (given : Given) (list : List Candidate) (candidate : Candidate) (price : ℕ) (yld : ℤ) : Type 0 where
+pub record IsQuote (ends : PaymentSeries → ℤ → WorthEnds) (given : Given) (list : List Candidate) (candidate : Candidate) (price : ℕ) (yld : ℤ) : Type 0 where
   pub place : ℕ
   pub there : slice_get list place ≡ Some candidate
-  pub quoted : AreQuoted low high given list place candidate price yld
+  pub quoted : AreQuoted ends given list place candidate price yld
 
 -- what is disclosed of the redemption is that of a candidate
 pub record IsRedemption (candidate : Candidate) (figures : Figures) : Type 0 where
@@ -128,14 +129,14 @@ pub record AreAmounts (row : IssueRow) (asked : Asked) (figures : Figures) : Typ
   pub total : figures.total ≡ figures.principal + figures.accrued
 
 -- these are the figures
-pub record IsFigures (low high : PaymentSeries → ℤ → ℕ) (row : IssueRow) (asked : Asked) (figures : Figures) : Type 0 where
+pub record IsFigures (ends : PaymentSeries → ℤ → WorthEnds) (row : IssueRow) (asked : Asked) (figures : Figures) : Type 0 where
   pub basis : is_wrong_basis row.kind asked.given ≡ false
   pub settled : settles row asked.settle ≡ true
   pub list : List Candidate
   pub candidates : AreCandidates row asked.settle list
   pub in_range : range_of asked.given list ≡ None
   pub candidate : Candidate
-  pub quote : IsQuote low high asked.given list candidate figures.price figures.yld
+  pub quote : IsQuote ends asked.given list candidate figures.price figures.yld
   pub disclosed : IsRedemption candidate figures
   pub amounts : AreAmounts row asked figures
 
@@ -173,29 +174,29 @@ pub record IsRateRefusal (rate : ℤ) (list : List Candidate) (refused : Refusal
   pub applies : return_refusal note.date said ≡ Some refused
 
 -- the refusal applies where a figure is asked for
-abbrev pub IsLateRefusal : (low high : PaymentSeries → ℤ → ℕ) → Given → List Candidate → Refusal → Type 0
-IsLateRefusal low high (AtYield y) list refused =
-    (said : LowAnswer) × IsPriceSaid low high y list said × (price_refusal said ≡ Some refused)
-IsLateRefusal low high (AtPrice price) list refused =
-    (said : LowAnswer) × IsYieldSaid low high price list said × (yield_refusal said ≡ Some refused)
-IsLateRefusal low high (AtRate rate) list refused = IsRateRefusal rate list refused
+abbrev pub IsLateRefusal : (ends : PaymentSeries → ℤ → WorthEnds) → Given → List Candidate → Refusal → Type 0
+IsLateRefusal ends (AtYield y) list refused =
+    (said : LowAnswer) × IsPriceSaid ends y list said × (price_refusal said ≡ Some refused)
+IsLateRefusal ends (AtPrice price) list refused =
+    (said : LowAnswer) × IsYieldSaid ends price list said × (yield_refusal said ≡ Some refused)
+IsLateRefusal ends (AtRate rate) list refused = IsRateRefusal rate list refused
 
 -- the refusal applies on a day on which the issue settles: of what is given, or else a late one
-pub record IsSettledRefusal (low high : PaymentSeries → ℤ → ℕ) (row : IssueRow) (asked : Asked) (refused : Refusal) : Type 0 where
+pub record IsSettledRefusal (ends : PaymentSeries → ℤ → WorthEnds) (row : IssueRow) (asked : Asked) (refused : Refusal) : Type 0 where
   pub list : List Candidate
   pub candidates : AreCandidates row asked.settle list
   pub applies : MatchOption (range_of asked.given list)
-      (IsLateRefusal low high asked.given list refused)
+      (IsLateRefusal ends asked.given list refused)
       (λ side. refused ≡ refusal.GivenOutOfRange side)
 
 -- the refusal applies first: of the basis, the settlement, what is given, and then of the figure
-abbrev pub IsRefusal : (low high : PaymentSeries → ℤ → ℕ) → IssueRow → Asked → Refusal → Type 0
-IsRefusal low high row asked refused =
+abbrev pub IsRefusal : (ends : PaymentSeries → ℤ → WorthEnds) → IssueRow → Asked → Refusal → Type 0
+IsRefusal ends row asked refused =
     MatchBool (is_wrong_basis row.kind asked.given) (refused ≡ refusal.WrongBasis)
-    (MatchBool (settles row asked.settle) (IsSettledRefusal low high row asked refused)
+    (MatchBool (settles row asked.settle) (IsSettledRefusal ends row asked refused)
     (refused ≡ refusal.SettleOutside))
 
 -- what is said of an issue
-abbrev pub IsRightAnswer : (low high : PaymentSeries → ℤ → ℕ) → IssueRow → Asked → Result Figures Refusal → Type 0
-IsRightAnswer low high row asked (Ok figures) = IsFigures low high row asked figures
-IsRightAnswer low high row asked (Err refused) = IsRefusal low high row asked refused
+abbrev pub IsRightAnswer : (ends : PaymentSeries → ℤ → WorthEnds) → IssueRow → Asked → Result Figures Refusal → Type 0
+IsRightAnswer ends row asked (Ok figures) = IsFigures ends row asked figures
+IsRightAnswer ends row asked (Err refused) = IsRefusal ends row asked refused

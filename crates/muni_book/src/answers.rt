@@ -53,7 +53,7 @@ pub fn figures<R: Threads + Sync, E: Encloser + Sync, G: Gate + Sync>(
     gate: &G,
 ) -> Result<Figures, Refusal>
     requires { (1 ≤ workers) × (workers ≤ 16) }
-    ensures said { IsRightAnswer (E.low encloser.now) (E.high encloser.now) issue.now asked.now result }
+    ensures said { IsRightAnswer (E.ends encloser.now) issue.now asked.now result }
     ensures accrued { IfOk result (λ figures. figures.accrued ≤ 60_000_000_000) }
 {
     if is_wrong_basis(issue.row().kind, asked.given) {
@@ -135,8 +135,8 @@ fn quote_of<R: Threads + Sync, E: Encloser + Sync, G: Gate + Sync>(
     requires few { length list.now ≤ 41 }
     requires workers { (1 ≤ workers) × (workers ≤ 16) }
     ensures said { MatchResult result
-        (IsQuoted (E.low encloser.now) (E.high encloser.now) given list.now)
-        (IsLateRefusal (E.low encloser.now) (E.high encloser.now) given list.now) }
+        (IsQuoted (E.ends encloser.now) given list.now)
+        (IsLateRefusal (E.ends encloser.now) given list.now) }
     ensures range { IfOk result (λ q. q.price ≤ 100_000_000) }
 {
     match given {
@@ -153,8 +153,8 @@ fn at_yield<E: Encloser>(list: &[Candidate], y: Yield, encloser: &E) -> Result<Q
     requires some { 0 < length list.now }
     requires few { length list.now ≤ 41 }
     ensures said { MatchResult result
-        (IsQuoted (E.low encloser.now) (E.high encloser.now) (Given.AtYield y) list.now)
-        (IsLateRefusal (E.low encloser.now) (E.high encloser.now) (Given.AtYield y) list.now) }
+        (IsQuoted (E.ends encloser.now) (Given.AtYield y) list.now)
+        (IsLateRefusal (E.ends encloser.now) (Given.AtYield y) list.now) }
     ensures range { IfOk result (λ q. q.price ≤ 100_000_000) }
 {
     match price_said(list, y, encloser) {
@@ -175,7 +175,7 @@ fn price_said<E: Encloser>(list: &[Candidate], y: Yield, encloser: &E) -> LowAns
     requires in_range { All (IsGivenFor y) list.now }
     requires some { 0 < length list.now }
     requires few { length list.now ≤ 41 }
-    ensures said { IsPriceSaid (E.low encloser.now) (E.high encloser.now) y list.now result }
+    ensures said { IsPriceSaid (E.ends encloser.now) y list.now result }
     ensures price { IsOfPrice result }
     ensures figure { NamesPrice (length list.now) result }
 {
@@ -232,8 +232,8 @@ fn at_price<R: Threads + Sync, E: Encloser + Sync, G: Gate + Sync>(
     requires price { 0 < price }
     requires workers { (1 ≤ workers) × (workers ≤ 16) }
     ensures said { MatchResult result
-        (IsQuoted (E.low encloser.now) (E.high encloser.now) (Given.AtPrice price) list.now)
-        (IsLateRefusal (E.low encloser.now) (E.high encloser.now) (Given.AtPrice price) list.now) }
+        (IsQuoted (E.ends encloser.now) (Given.AtPrice price) list.now)
+        (IsLateRefusal (E.ends encloser.now) (Given.AtPrice price) list.now) }
     ensures range { IfOk result (λ q. q.price ≤ 100_000_000) }
 {
     match yield_said(rt, list, price, workers, encloser, gate) {
@@ -261,7 +261,7 @@ fn yield_said<R: Threads + Sync, E: Encloser + Sync, G: Gate + Sync>(
     requires few { length list.now ≤ 41 }
     requires price { 0 < price }
     requires workers { (1 ≤ workers) × (workers ≤ 16) }
-    ensures said { IsYieldSaid (E.low encloser.now) (E.high encloser.now) price list.now result }
+    ensures said { IsYieldSaid (E.ends encloser.now) price list.now result }
     ensures figure { NamesYield (length list.now) result }
 {
     counted::<_, _, _, Brand>(rt, list, price, workers, encloser, gate, Blank::new(1))
@@ -284,7 +284,7 @@ fn counted<R: Threads + Sync, E: Encloser + Sync, G: Gate + Sync, L: Ledger>(
     requires name { blank.name ≡ L.name }
     requires parts { blank.parts ≡ L.parts }
     requires some { 0 < blank.parts }
-    ensures said { IsYieldSaid (E.low encloser.now) (E.high encloser.now) price list.now result }
+    ensures said { IsYieldSaid (E.ends encloser.now) price list.now result }
     ensures figure { NamesYield (length list.now) result }
 {
     let mut steps = Steps::<L>::open(blank);

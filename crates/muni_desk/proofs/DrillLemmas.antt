@@ -6,6 +6,7 @@ use Rattle.std.proofs.lemmas.List.Elements.{All-nil, All-push}
 use Rattle.std.proofs.lemmas.List.FromFn.{map-range_with_len_more}
 use Rattle.std.proofs.lemmas.List.Sums.{sum_by_push, fold_push}
 use Rattle.muni_rule.specs.Payments.{PaymentSeries}
+use Rattle.muni_rule.specs.WorthEnds.{WorthEnds}
 use Rattle.muni_msg.specs.declared.figures.Figures.{Figures}
 use Rattle.muni_msg.specs.declared.refusal.Refusal.{Refusal}
 use Rattle.muni_desk.specs.Answer.{IsAnswer}
@@ -31,15 +32,15 @@ sums-more book it before after so_far more = record {
 }
 
 -- no trade, and one trade more
-pub summed-none : (low high : PaymentSeries → ℤ → ℕ) (seed : ℕ) (sums : Sums) → AreSums [] sums → IsSummed low high seed 0 sums
-summed-none low high seed sums none = record {
+pub summed-none : (ends : PaymentSeries → ℤ → WorthEnds) (seed : ℕ) (sums : Sums) → AreSums [] sums → IsSummed ends seed 0 sums
+summed-none ends seed sums none = record {
   book = [];
-  right = record { trades = refl; right = All-nil (λ it. IsAnswer low high (codes "DRILL") it.trade it.answer) };
+  right = record { trades = refl; right = All-nil (λ it. IsAnswer ends (codes "DRILL") it.trade it.answer) };
   summed = none;
 }
 
-pub summed-more : (low high : PaymentSeries → ℤ → ℕ) (seed count : ℕ) (trade : Trade) (answer : Result Figures Refusal) (before after : Sums) → IsSummed low high seed count before → trade ≡ nth_trade seed count → IsAnswer low high (codes "DRILL") trade answer → HaveAnswer before trade.maturity answer after → IsSummed low high seed (count + 1) after
-summed-more low high seed count trade answer before after so_far is right more =
+pub summed-more : (ends : PaymentSeries → ℤ → WorthEnds) (seed count : ℕ) (trade : Trade) (answer : Result Figures Refusal) (before after : Sums) → IsSummed ends seed count before → trade ≡ nth_trade seed count → IsAnswer ends (codes "DRILL") trade answer → HaveAnswer before trade.maturity answer after → IsSummed ends seed (count + 1) after
+summed-more ends seed count trade answer before after so_far is right more =
     let it : Answered = record { trade = trade; answer = answer } in
     let earlier = so_far.book in
     record {
@@ -49,13 +50,13 @@ summed-more low high seed count trade answer before after so_far is right more =
             map-append (λ x. x.trade) earlier (it ∷ [])
             ∙ (λ i. so_far.right.trades i ++ is i ∷ [])
             ∙ sym (map-range_with_len_more (nth_trade seed) 0 count count (omega arith));
-        right = All-push (λ x. IsAnswer low high (codes "DRILL") x.trade x.answer) earlier it so_far.right.right right;
+        right = All-push (λ x. IsAnswer ends (codes "DRILL") x.trade x.answer) earlier it so_far.right.right right;
       };
       summed = sums-more earlier it before after so_far.summed more;
     }
 
 -- the lines of the sums are the summary of their book
-pub summary-said : (low high : PaymentSeries → ℤ → ℕ) (seed count : ℕ) (sums : Sums) (text : List ℕ) → IsSummed low high seed count sums → text ≡ summary_lines sums.trades sums.printed sums.undecided sums.outside sums.yields sums.accrued sums.called → IsSummaryText low high seed count text
-summary-said low high seed count sums text summed is =
+pub summary-said : (ends : PaymentSeries → ℤ → WorthEnds) (seed count : ℕ) (sums : Sums) (text : List ℕ) → IsSummed ends seed count sums → text ≡ summary_lines sums.trades sums.printed sums.undecided sums.outside sums.yields sums.accrued sums.called → IsSummaryText ends seed count text
+summary-said ends seed count sums text summed is =
     let s = summed.summed in
     (summed.book, summed.right, is ∙ (λ i. summary_lines (s.trades i) (s.printed i) (s.undecided i) (s.outside i) (s.yields i) (s.accrued i) (s.called i)))

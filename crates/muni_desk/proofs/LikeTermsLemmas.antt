@@ -9,6 +9,7 @@ use Rattle.muni_rule.specs.LastPayment.{note_payment}
 use Rattle.muni_rule.specs.DayCount.{days360}
 use Rattle.muni_rule.specs.Accrued.{coupon_accrued_days}
 use Rattle.muni_rule.specs.Payments.{PaymentSeries, coupon_series, zero_series}
+use Rattle.muni_rule.specs.WorthEnds.{WorthEnds}
 use Rattle.muni_rule.specs.QuasiDates.{is_quasi_date}
 use Rattle.muni_rule.specs.Redemptions.{Redemption, redemptions_after}
 use Rattle.muni_rule.specs.Terms.{is_name, is_dated_date, is_interest_day, is_first_interest_short, is_series_short, is_coupon_call_date, is_call_price}
@@ -288,13 +289,13 @@ fault-like row terms like =
     (calls-like row terms None None row.calls.items terms.calls.items like tt like.calls)
 
 -- ---- the answer for one row and for the other
-answered-like : (low high : PaymentSeries → ℤ → ℕ) (row terms : IssueRow) (asked request : Asked) (found too : Option TermsFault) (one other : Result Figures Refusal) → AreLikeTerms AreOneDate row asked terms request → AreLikeFound found too →
-    MatchResult (Check.unless_fault row found) (λ issue. IsRightAnswer low high issue asked one) (λ bad. one ≡ Err (BadTerms bad)) →
-    MatchResult (Check.unless_fault terms too) (λ issue. IsRightAnswer low high issue request other) (λ bad. other ≡ Err (BadTerms bad)) → AreAlike AreOneDate one other
-answered-like low high row terms asked request None None one other like found is also = said-like AreOneDate low high row terms asked request one other like is also
-answered-like low high row terms asked request None (Some bad) one other like found is also = absurd found
-answered-like low high row terms asked request (Some bad) None one other like found is also = absurd found
-answered-like low high row terms asked request (Some bad) (Some ill) one other like found is also =
+answered-like : (ends : PaymentSeries → ℤ → WorthEnds) (row terms : IssueRow) (asked request : Asked) (found too : Option TermsFault) (one other : Result Figures Refusal) → AreLikeTerms AreOneDate row asked terms request → AreLikeFound found too →
+    MatchResult (Check.unless_fault row found) (λ issue. IsRightAnswer ends issue asked one) (λ bad. one ≡ Err (BadTerms bad)) →
+    MatchResult (Check.unless_fault terms too) (λ issue. IsRightAnswer ends issue request other) (λ bad. other ≡ Err (BadTerms bad)) → AreAlike AreOneDate one other
+answered-like ends row terms asked request None None one other like found is also = said-like AreOneDate ends row terms asked request one other like is also
+answered-like ends row terms asked request None (Some bad) one other like found is also = absurd found
+answered-like ends row terms asked request (Some bad) None one other like found is also = absurd found
+answered-like ends row terms asked request (Some bad) (Some ill) one other like found is also =
     subst (λ it. AreAlike AreOneDate it other) (sym is) (subst (AreAlike AreOneDate (Err (BadTerms bad))) (sym also) (ill, found, refl))
 
 rows-like : (name : List ℕ) (trade : Trade) (row terms : IssueRow) → IsRow name trade row → IsRow name trade terms → AreLikeRows row terms
@@ -309,8 +310,8 @@ rows-like name trade row terms is also = record {
 }
 
 pub answer-one : AnswersOne
-answer-one low high name trade one other is also =
+answer-one ends name trade one other is also =
     let rows = rows-like name trade is.row also.row is.is_row also.is_row in
     let settle : AreOneDate is.asked.settle also.asked.settle = is.is_asked.settlement ∙ sym also.is_asked.settlement in
     let like = terms-like is.row also.row is.asked also.asked rows settle (is.is_asked.given ∙ sym also.is_asked.given) (is.is_asked.par ∙ sym also.is_asked.par) in
-    answered-like low high is.row also.row is.asked also.asked (Check.fault_of is.row) (Check.fault_of also.row) one other like (fault-like is.row also.row rows) is.answered also.answered
+    answered-like ends is.row also.row is.asked also.asked (Check.fault_of is.row) (Check.fault_of also.row) one other like (fault-like is.row also.row rows) is.answered also.answered

@@ -33,21 +33,21 @@ by-command words A B C D E F G of_quote of_drill of_line some is also =
     some is also
 
 pub command-one : WritesOneText
-command-one low high words text other some is also =
-    by-command words (λ trade. IsText low high trade text) (λ trade. IsText low high trade other)
-    (λ seed count. IsSummaryText low high seed count text) (λ seed count. IsSummaryText low high seed count other)
+command-one ends words text other some is also =
+    by-command words (λ trade. IsText ends trade text) (λ trade. IsText ends trade other)
+    (λ seed count. IsSummaryText ends seed count text) (λ seed count. IsSummaryText ends seed count other)
     (λ job. quote_one.IsLine job text) (λ job. quote_one.IsLine job other) (text ≡ other)
-    (λ trade a b. text-one low high trade text other a b)
-    (λ seed count a b. summary-one low high seed count text other a b)
+    (λ trade a b. text-one ends trade text other a b)
+    (λ seed count a b. summary-one ends seed count text other a b)
     (λ job read a b. line-one words job text other read a b)
     some is also
 
 pub either-way : EndsOneWay
-either-way low high words text other some is so =
-    by-command words (λ trade. IsFigureText low high trade text) (λ trade. IsRefusalText low high trade other)
-    (λ seed count. IsSummaryText low high seed count text) (λ seed count. ⊥)
+either-way ends words text other some is so =
+    by-command words (λ trade. IsFigureText ends trade text) (λ trade. IsRefusalText ends trade other)
+    (λ seed count. IsSummaryText ends seed count text) (λ seed count. ⊥)
     (λ job. quote_one.IsPriceLine job text) (λ job. quote_one.IsRefusalLine job other) ⊥
-    (λ trade a b. either-text low high trade text other a b)
+    (λ trade a b. either-text ends trade text other a b)
     (λ seed count a b. b)
     (λ job read a b. either-line words job text other read a b)
     some is so

@@ -6,6 +6,7 @@ use Rattle.std.proofs.lemmas.List.Elements.{All-head, All-tail, length_all_zip}
 use Rattle.std.proofs.lemmas.List.Sums.{sum_by-cons}
 use Rattle.muni_rule.specs.Civil.{is_before}
 use Rattle.muni_rule.specs.Payments.{PaymentSeries}
+use Rattle.muni_rule.specs.WorthEnds.{WorthEnds}
 use Rattle.muni_msg.specs.Refusal.{number_of}
 use Rattle.muni_msg.specs.declared.figures.Figures.{Figures}
 use Rattle.muni_msg.specs.declared.refusal.Refusal.{Refusal}
@@ -89,26 +90,26 @@ yields-same total (x ∷ xs) (z ∷ zs) zip =
     ap (λ y. fold (λ sum it. sum +ℤ yield_of it.answer) (total +ℤ y) xs) zip.0.seen.yields ∙ yields-same (total +ℤ yield_of z.answer) xs zs zip.1
 
 -- ---- books of the same trades
-books-seen : (low high : PaymentSeries → ℤ → ℕ) (book others : List Answered) → map (λ it. it.trade) book ≡ map (λ it. it.trade) others → All (λ it. IsAnswer low high (codes "DRILL") it.trade it.answer) book → All (λ it. IsAnswer low high (codes "DRILL") it.trade it.answer) others → AllZip IsSeenAs book others
-books-seen low high [] [] same is also = tt
-books-seen low high [] (z ∷ zs) same is also = absurd (let never : [] ≡ z.trade ∷ map (λ (it : Answered). it.trade) zs = same in cc)
-books-seen low high (x ∷ xs) [] same is also = absurd (let never : x.trade ∷ map (λ (it : Answered). it.trade) xs ≡ [] = same in cc)
-books-seen low high (x ∷ xs) (z ∷ zs) same is also =
-    let Right : Answered → Type 0 = λ it. IsAnswer low high (codes "DRILL") it.trade it.answer in
+books-seen : (ends : PaymentSeries → ℤ → WorthEnds) (book others : List Answered) → map (λ it. it.trade) book ≡ map (λ it. it.trade) others → All (λ it. IsAnswer ends (codes "DRILL") it.trade it.answer) book → All (λ it. IsAnswer ends (codes "DRILL") it.trade it.answer) others → AllZip IsSeenAs book others
+books-seen ends [] [] same is also = tt
+books-seen ends [] (z ∷ zs) same is also = absurd (let never : [] ≡ z.trade ∷ map (λ (it : Answered). it.trade) zs = same in cc)
+books-seen ends (x ∷ xs) [] same is also = absurd (let never : x.trade ∷ map (λ (it : Answered). it.trade) xs ≡ [] = same in cc)
+books-seen ends (x ∷ xs) (z ∷ zs) same is also =
+    let Right : Answered → Type 0 = λ it. IsAnswer ends (codes "DRILL") it.trade it.answer in
     let all : x.trade ∷ map (λ (it : Answered). it.trade) xs ≡ z.trade ∷ map (λ (it : Answered). it.trade) zs = same in
     let trade : x.trade ≡ z.trade = cc in
     let rest : map (λ (it : Answered). it.trade) xs ≡ map (λ (it : Answered). it.trade) zs = cc in
-    let one : IsAnswer low high (codes "DRILL") z.trade x.answer = subst (λ of. IsAnswer low high (codes "DRILL") of x.answer) trade (All-head Right x xs is) in
-    let other : IsAnswer low high (codes "DRILL") z.trade z.answer = All-head Right z zs also in (
-      record { trade = trade; seen = seen-alike z.trade x.answer z.answer (answer-one low high (codes "DRILL") z.trade x.answer z.answer one other) },
-      books-seen low high xs zs rest (All-tail Right x xs is) (All-tail Right z zs also),
+    let one : IsAnswer ends (codes "DRILL") z.trade x.answer = subst (λ of. IsAnswer ends (codes "DRILL") of x.answer) trade (All-head Right x xs is) in
+    let other : IsAnswer ends (codes "DRILL") z.trade z.answer = All-head Right z zs also in (
+      record { trade = trade; seen = seen-alike z.trade x.answer z.answer (answer-one ends (codes "DRILL") z.trade x.answer z.answer one other) },
+      books-seen ends xs zs rest (All-tail Right x xs is) (All-tail Right z zs also),
     )
 
 pub summary-one : ShowsOneSummary
-summary-one low high seed count text other is also =
+summary-one ends seed count text other is also =
     let book = is.0 in
     let others = also.0 in
-    let zip = books-seen low high book others (is.1.trades ∙ sym also.1.trades) is.1.right also.1.right in
+    let zip = books-seen ends book others (is.1.trades ∙ sym also.1.trades) is.1.right also.1.right in
     let trades = length_all_zip IsSeenAs book others zip in
     let printed = count-same (λ it. is_printed it.answer) book others (λ it one seen. seen.seen.printed) zip in
     let undecided = count-same (λ it. is_undecided it.answer) book others (λ it one seen. seen.seen.undecided) zip in

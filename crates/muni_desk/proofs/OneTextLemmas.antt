@@ -93,12 +93,12 @@ refusal-shown refusal.WrongBasis other like = sym (ap refusal_text like)
 
 -- ---- texts
 pub text-one : ShowsOneText
-text-one low high trade text other (inl is) (inl also) =
-    is.2 ∙ figures-shown is.0 also.0 trade.given (answer-one low high (codes "QUOTE") trade (Ok is.0) (Ok also.0) is.1 also.1) ∙ sym also.2
-text-one low high trade text other (inl is) (inr so) = absurd (answer-one low high (codes "QUOTE") trade (Ok is.0) (Err so.0) is.1 so.1)
-text-one low high trade text other (inr so) (inl is) = absurd (answer-one low high (codes "QUOTE") trade (Err so.0) (Ok is.0) so.1 is.1)
-text-one low high trade text other (inr is) (inr also) =
-    is.2 ∙ refusal-shown is.0 also.0 (answer-one low high (codes "QUOTE") trade (Err is.0) (Err also.0) is.1 also.1) ∙ sym also.2
+text-one ends trade text other (inl is) (inl also) =
+    is.2 ∙ figures-shown is.0 also.0 trade.given (answer-one ends (codes "QUOTE") trade (Ok is.0) (Ok also.0) is.1 also.1) ∙ sym also.2
+text-one ends trade text other (inl is) (inr so) = absurd (answer-one ends (codes "QUOTE") trade (Ok is.0) (Err so.0) is.1 so.1)
+text-one ends trade text other (inr so) (inl is) = absurd (answer-one ends (codes "QUOTE") trade (Err so.0) (Ok is.0) so.1 is.1)
+text-one ends trade text other (inr is) (inr also) =
+    is.2 ∙ refusal-shown is.0 also.0 (answer-one ends (codes "QUOTE") trade (Err is.0) (Err also.0) is.1 also.1) ∙ sym also.2
 
 pub either-text : ShowsFiguresOrRefusal
-either-text low high trade text other is so = answer-one low high (codes "QUOTE") trade (Ok is.0) (Err so.0) is.1 so.1
+either-text ends trade text other is so = answer-one ends (codes "QUOTE") trade (Ok is.0) (Err so.0) is.1 so.1

@@ -25,8 +25,8 @@ last_counted-small : (first day : ℕ) → first ≤ 28 → last_counted first d
 last_counted-small first day h = grind (arith, nat_tests)
 
 days360-within : (start settlement next : Civil) → IsPeriod start next → 1 ≤ settlement.day → settlement.day ≤ 31 → order_of start ≤ order_of settlement → order_of settlement < order_of next → (pos 0 ≤ℤ days360 start settlement) × (days360 start settlement ≤ℤ pos 180)
-days360-within start settlement next period low high after before =
-    let r = within_six_months (start.year * 12 + start.month) (settlement.year * 12 + settlement.month) start.day settlement.day period.from period.to low high (omega arith) (omega arith) in
+days360-within start settlement next period ends after before =
+    let r = within_six_months (start.year * 12 + start.month) (settlement.year * 12 + settlement.month) start.day settlement.day period.from period.to ends (omega arith) (omega arith) in
     rw (first_counted-small start.day period.to, last_counted-small start.day settlement.day period.to) (omega (arith, ints), omega (arith, ints))
 
 six_months_before : (next : Civil) → 1902 ≤ next.year → 1 ≤ next.month → 1 ≤ next.day → next.day ≤ 28 → IsPeriod (months_on next (negsuc 5)) next
@@ -41,7 +41,7 @@ le_and_lt : (a b c d : ℕ) → nat_le a b && nat_lt c d ≡ true → (a ≤ b) 
 le_and_lt a b c d h = grind (arith, nat_tests)
 
 pub accrued_days-within : (job : Job) → is_next job.next ≡ true → settles job ≡ true → 1 ≤ job.next.month → 1 ≤ job.next.day → 1 ≤ job.settlement.day → job.settlement.day ≤ 31 → (pos 0 ≤ℤ accrued_days job) × (accrued_days job ≤ℤ pos 180)
-accrued_days-within job next settles month day low high =
+accrued_days-within job next settles month day ends =
     let date = both_le job.next.day 28 1902 job.next.year next in
     let order = le_and_lt (order_of (period_start job)) (order_of job.settlement) (order_of job.settlement) (order_of job.next) settles in
-    days360-within (period_start job) job.settlement job.next (six_months_before job.next date.1 month day date.0) low high order.0 order.1
+    days360-within (period_start job) job.settlement job.next (six_months_before job.next date.1 month day date.0) ends order.0 order.1

@@ -1,7 +1,8 @@
 -- What is answered to a trade.
--- `low` and `high` are the ends that the encloser gives to payments and a yield.
+-- `ends` are those that the encloser gives to payments and a yield.
 use Rattle.std.specs.Prelude.{◌≡◌, MatchResult, List, ℕ, map, codes, Result, Err, ℤ}
 use Rattle.muni_rule.specs.Payments.{PaymentSeries}
+use Rattle.muni_rule.specs.WorthEnds.{WorthEnds}
 use Rattle.muni_days.specs.Day.{civil}
 use Rattle.muni_terms.specs.Check.{checked}
 use Rattle.muni_terms.specs.declared.row.IssueRow.{IssueRow}
@@ -31,16 +32,16 @@ pub record IsAsked (trade : Trade) (asked : Asked) : Type 0 where
   pub given : asked.given ≡ trade.given
 
 -- the answer for a row of terms: their first fault, or what is said of the issue
-abbrev pub IsAnswered : (low high : PaymentSeries → ℤ → ℕ) → IssueRow → Asked
+abbrev pub IsAnswered : (ends : PaymentSeries → ℤ → WorthEnds) → IssueRow → Asked
     → Result Figures Refusal → Type 0
-IsAnswered low high row asked answer =
-    MatchResult (checked row) (λ issue. IsRightAnswer low high issue asked answer)
+IsAnswered ends row asked answer =
+    MatchResult (checked row) (λ issue. IsRightAnswer ends issue asked answer)
     (λ fault. answer ≡ Err (BadTerms fault))
 
 -- the answer is right, for the security under this name
-pub record IsAnswer (low high : PaymentSeries → ℤ → ℕ) (name : List ℕ) (trade : Trade) (answer : Result Figures Refusal) : Type 0 where
+pub record IsAnswer (ends : PaymentSeries → ℤ → WorthEnds) (name : List ℕ) (trade : Trade) (answer : Result Figures Refusal) : Type 0 where
   pub row : IssueRow
   pub asked : Asked
   pub is_row : IsRow name trade row
   pub is_asked : IsAsked trade asked
-  pub answered : IsAnswered low high row asked answer
+  pub answered : IsAnswered ends row asked answer

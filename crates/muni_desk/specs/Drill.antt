@@ -1,10 +1,11 @@
 -- The command `drill`: a book of generated trades, what is answered to each, and the sums of the answers.
--- `low` and `high` are the ends that the encloser gives to payments and a yield.
+-- `ends` are those that the encloser gives to payments and a yield.
 use Rattle.std.specs.Prelude.{◌≡◌, ℕ, ◌+◌, ◌*◌, ◌≤◌, ◌==◌, ◌||◌, Bool, true, false, cond, if◌then◌else◌, List, [], ◌∷◌, ◌++◌, length, map, fold, sum_by, count_by, All, codes, decimal, Option, Some, None, Result, Ok, Err, ℤ, pos, ◌+ℤ◌, ◌≤ℤ◌}
 use Rattle.std.specs.Fmt.{signed_decimal}
 use Rattle.std.specs.List.{range_with_len}
 use Rattle.muni_rule.specs.Civil.{Civil, is_before}
 use Rattle.muni_rule.specs.Payments.{PaymentSeries}
+use Rattle.muni_rule.specs.WorthEnds.{WorthEnds}
 use Rattle.muni_dec.specs.Decimal.{decimal_text}
 use Rattle.muni_days.specs.Day.{civil}
 use Rattle.muni_msg.specs.Refusal.{number_of}
@@ -76,9 +77,9 @@ pub record Answered : Type 0 where
   pub answer : Result Figures Refusal
 
 -- the book has the first so many trades from a seed, and the right answer to each
-pub record IsBook (low high : PaymentSeries → ℤ → ℕ) (seed count : ℕ) (book : List Answered) : Type 0 where
+pub record IsBook (ends : PaymentSeries → ℤ → WorthEnds) (seed count : ℕ) (book : List Answered) : Type 0 where
   pub trades : map (λ it. it.trade) book ≡ map (nth_trade seed) (range_with_len 0 count)
-  pub right : All (λ it. IsAnswer low high (codes "DRILL") it.trade it.answer) book
+  pub right : All (λ it. IsAnswer ends (codes "DRILL") it.trade it.answer) book
 
 -- a line of a word and a number
 abbrev pub number_line : List ℕ → ℕ → List ℕ
@@ -104,9 +105,9 @@ summary_text book =
     (count_by (λ it. is_called it.trade.maturity it.answer) book)
 
 -- the text is the summary of the book that has so many trades from a seed
-abbrev pub IsSummaryText : (low high : PaymentSeries → ℤ → ℕ) → (seed count : ℕ) → List ℕ → Type 0
-IsSummaryText low high seed count text =
-    (book : List Answered) × IsBook low high seed count book × (text ≡ summary_text book)
+abbrev pub IsSummaryText : (ends : PaymentSeries → ℤ → WorthEnds) → (seed count : ℕ) → List ℕ → Type 0
+IsSummaryText ends seed count text =
+    (book : List Answered) × IsBook ends seed count book × (text ≡ summary_text book)
 
 -- these are the sums over a book
 pub record AreSums (book : List Answered) (sums : Sums) : Type 0 where
@@ -129,9 +130,9 @@ pub record HaveAnswer (before : Sums) (maturity : Civil) (answer : Result Figure
   pub called : sums.called ≡ before.called + cond (is_called maturity answer) 1 0
 
 -- sums over a book that has so many trades
-pub record IsSummed (low high : PaymentSeries → ℤ → ℕ) (seed count : ℕ) (sums : Sums) : Type 0 where
+pub record IsSummed (ends : PaymentSeries → ℤ → WorthEnds) (seed count : ℕ) (sums : Sums) : Type 0 where
   pub book : List Answered
-  pub right : IsBook low high seed count book
+  pub right : IsBook ends seed count book
   pub summed : AreSums book sums
 
 -- the sums are as small as the number of trades makes them

@@ -38,21 +38,21 @@ pub fn desk<O: Sink, R: Threads + Sync, E: Encloser + Sync, G: Gate + Sync>(
 
     // What is written, where the output tells its bytes.
     ensures done { result ≡ Status.Done → ForCommand (map string_bytes words.now)
-        (λ trade. Wrote (quote.IsFigureText (E.low encloser.now) (E.high encloser.now) trade)
+        (λ trade. Wrote (quote.IsFigureText (E.ends encloser.now) trade)
         (O.bytes output.old) (O.bytes output.new))
-        (λ seed count. Wrote (drill.IsSummaryText (E.low encloser.now) (E.high encloser.now) seed
+        (λ seed count. Wrote (drill.IsSummaryText (E.ends encloser.now) seed
         count)
         (O.bytes output.old) (O.bytes output.new))
         (λ job. Wrote (one.IsPriceLine job) (O.bytes output.old) (O.bytes output.new)) }
     ensures refused { result ≡ Status.Refused → ForCommand (map string_bytes words.now)
-        (λ trade. Wrote (quote.IsRefusalText (E.low encloser.now) (E.high encloser.now) trade)
+        (λ trade. Wrote (quote.IsRefusalText (E.ends encloser.now) trade)
         (O.bytes output.old) (O.bytes output.new))
         (λ seed count. ⊥)
         (λ job. Wrote (one.IsRefusalLine job) (O.bytes output.old) (O.bytes output.new)) }
     ensures part { result ≡ Status.WriteFault → ForCommand (map string_bytes words.now)
-        (λ trade. WrotePart (quote.IsText (E.low encloser.now) (E.high encloser.now) trade)
+        (λ trade. WrotePart (quote.IsText (E.ends encloser.now) trade)
         (O.bytes output.old) (O.bytes output.new))
-        (λ seed count. WrotePart (drill.IsSummaryText (E.low encloser.now) (E.high encloser.now)
+        (λ seed count. WrotePart (drill.IsSummaryText (E.ends encloser.now)
         seed count)
         (O.bytes output.old) (O.bytes output.new))
         (λ job. WrotePart (one.IsLine job) (O.bytes output.old) (O.bytes output.new)) }

@@ -64,10 +64,10 @@ pub fn drill<O: Sink, R: Threads + Sync, E: Encloser + Sync, G: Gate + Sync>(
 
     // The summary, where the output tells its bytes.
     ensures done { result ≡ Status.Done → IfSome (drill_of (map string_bytes words.now))
-        (λ job. Wrote (IsSummaryText (E.low encloser.now) (E.high encloser.now) job.seed job.count)
+        (λ job. Wrote (IsSummaryText (E.ends encloser.now) job.seed job.count)
         (O.bytes output.old) (O.bytes output.new)) }
     ensures part { result ≡ Status.WriteFault → IfSome (drill_of (map string_bytes words.now))
-        (λ job. WrotePart (IsSummaryText (E.low encloser.now) (E.high encloser.now) job.seed
+        (λ job. WrotePart (IsSummaryText (E.ends encloser.now) job.seed
         job.count)
         (O.bytes output.old) (O.bytes output.new)) }
     ensures tells { is_some (O.bytes output.new) ≡ is_some (O.bytes output.old) }
@@ -94,10 +94,10 @@ fn write_summary<O: Sink, R: Threads + Sync, E: Encloser + Sync, G: Gate + Sync>
     requires count { job.count ≤ 1_000 }
     requires workers { (1 ≤ job.workers) × (job.workers ≤ 16) }
     ensures done { result ≡ Status.Done
-        → Wrote (IsSummaryText (E.low encloser.now) (E.high encloser.now) job.seed job.count)
+        → Wrote (IsSummaryText (E.ends encloser.now) job.seed job.count)
         (O.bytes output.old) (O.bytes output.new) }
     ensures part { result ≡ Status.WriteFault
-        → WrotePart (IsSummaryText (E.low encloser.now) (E.high encloser.now) job.seed
+        → WrotePart (IsSummaryText (E.ends encloser.now) job.seed
         job.count)
         (O.bytes output.old) (O.bytes output.new) }
     ensures tells { is_some (O.bytes output.new) ≡ is_some (O.bytes output.old) }
@@ -151,7 +151,7 @@ fn summary_of<R: Threads + Sync, E: Encloser + Sync, G: Gate + Sync>(
 ) -> ArrayVec<u8, 256>
     requires count { job.count ≤ 1_000 }
     requires workers { (1 ≤ job.workers) × (job.workers ≤ 16) }
-    ensures { IsSummaryText (E.low encloser.now) (E.high encloser.now) job.seed job.count
+    ensures { IsSummaryText (E.ends encloser.now) job.seed job.count
         result.items }
 {
     let sums = sums_of(rt, job, encloser, gate);
@@ -166,7 +166,7 @@ fn sums_of<R: Threads + Sync, E: Encloser + Sync, G: Gate + Sync>(
 ) -> Sums
     requires count { job.count ≤ 1_000 }
     requires workers { (1 ≤ job.workers) × (job.workers ≤ 16) }
-    ensures { IsSummed (E.low encloser.now) (E.high encloser.now) job.seed job.count result }
+    ensures { IsSummed (E.ends encloser.now) job.seed job.count result }
 {
     let mut generator = Generator::new(job.seed);
     let mut sums = no_sums();

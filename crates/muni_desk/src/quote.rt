@@ -33,13 +33,13 @@ pub fn quote<O: Sink, R: Threads + Sync, E: Encloser + Sync, G: Gate + Sync>(
 
     // The text, where the output tells its bytes.
     ensures done { result ≡ Status.Done → IfSome (spec.job_of (map string_bytes words.now))
-        (λ job. Wrote (IsFigureText (E.low encloser.now) (E.high encloser.now) job.trade)
+        (λ job. Wrote (IsFigureText (E.ends encloser.now) job.trade)
         (O.bytes output.old) (O.bytes output.new)) }
     ensures refused { result ≡ Status.Refused → IfSome (spec.job_of (map string_bytes words.now))
-        (λ job. Wrote (IsRefusalText (E.low encloser.now) (E.high encloser.now) job.trade)
+        (λ job. Wrote (IsRefusalText (E.ends encloser.now) job.trade)
         (O.bytes output.old) (O.bytes output.new)) }
     ensures part { result ≡ Status.WriteFault → IfSome (spec.job_of (map string_bytes words.now))
-        (λ job. WrotePart (IsText (E.low encloser.now) (E.high encloser.now) job.trade)
+        (λ job. WrotePart (IsText (E.ends encloser.now) job.trade)
         (O.bytes output.old) (O.bytes output.new)) }
     ensures tells { is_some (O.bytes output.new) ≡ is_some (O.bytes output.old) }
 
@@ -66,13 +66,13 @@ fn write_answer<O: Sink, R: Threads + Sync, E: Encloser + Sync, G: Gate + Sync>(
 ) -> Status
     requires { (1 ≤ workers) × (workers ≤ 16) }
     ensures done { result ≡ Status.Done
-        → Wrote (IsFigureText (E.low encloser.now) (E.high encloser.now) (types.trade trade))
+        → Wrote (IsFigureText (E.ends encloser.now) (types.trade trade))
         (O.bytes output.old) (O.bytes output.new) }
     ensures refused { result ≡ Status.Refused
-        → Wrote (IsRefusalText (E.low encloser.now) (E.high encloser.now) (types.trade trade))
+        → Wrote (IsRefusalText (E.ends encloser.now) (types.trade trade))
         (O.bytes output.old) (O.bytes output.new) }
     ensures part { result ≡ Status.WriteFault
-        → WrotePart (IsText (E.low encloser.now) (E.high encloser.now) (types.trade trade))
+        → WrotePart (IsText (E.ends encloser.now) (types.trade trade))
         (O.bytes output.old) (O.bytes output.new) }
     ensures tells { is_some (O.bytes output.new) ≡ is_some (O.bytes output.old) }
     ensures write_fault { result ≡ Status.WriteFault

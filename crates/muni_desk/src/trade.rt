@@ -41,9 +41,9 @@ pub fn answer_of<R: Threads + Sync, E: Encloser + Sync, G: Gate + Sync>(
     requires workers { (1 ≤ workers) × (workers ≤ 16) }
     requires name { length name.now ≤ 60 }
     ensures right { MatchResult result
-        (λ figures. IsAnswer (E.low encloser.now) (E.high encloser.now) name.now (types.trade trade)
+        (λ figures. IsAnswer (E.ends encloser.now) name.now (types.trade trade)
         (Ok figures))
-        (λ refusal. IsAnswer (E.low encloser.now) (E.high encloser.now) name.now (types.trade trade)
+        (λ refusal. IsAnswer (E.ends encloser.now) name.now (types.trade trade)
         (Err refusal)) }
     ensures accrued { IfOk result (λ figures. figures.accrued ≤ 60_000_000_000) }
 {

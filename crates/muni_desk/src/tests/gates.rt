@@ -1,6 +1,6 @@
 //! What a gate and an encloser see of a quote at a price.
 
-ghost use Rattle.muni_multi.specs.Horner.{horner_low, horner_high};
+ghost use Rattle.muni_multi.specs.Horner.{horner_ends};
 ghost use Rattle.muni_multi.specs.HornerLaws.{horner-encloses, horner-narrow};
 
 use super::{sink, words_of, written};
@@ -101,9 +101,7 @@ impl Gate for Watching {
 }
 
 impl Encloser for Watching {
-    ghost low = { λ _ series y. horner_low series y };
-
-    ghost high = { λ _ series y. horner_high series y };
+    ghost ends = { λ _ series y. horner_ends series y };
 
     fn pv(&self, flows: &Flows, y: i32) -> Worth {
         let before = self.calls.fetch_add(1, Ordering::SeqCst);

@@ -9,14 +9,13 @@ returns-in-Ok-clause-said g c =
     let row = c.args.issue.now in
     let asked = c.args.asked.now in
     let list = c.candidates_of-list.result.items in
-    let low = g.E.Encloser.low c.args.encloser.now in
-    let high = g.E.Encloser.high c.args.encloser.now in
+    let ends = g.E.Encloser.ends c.args.encloser.now in
     let quoted = c.in-Ok.quoted in
     let basis : is_wrong_basis row.kind asked.given ≡ false = search rules in
     let settled : settles row asked.settle ≡ true = search rules in
     let in_range : range_of asked.given list ≡ None = search rules in
-    let quote : IsQuote low high asked.given list quoted.redemption c.filled.result.price c.filled.result.yld =
-    quote-filled low high asked.given list c.as_slice-2.result.now quoted.redemption quoted.price c.filled.result.price quoted.yld c.filled.result.yld
+    let quote : IsQuote ends asked.given list quoted.redemption c.filled.result.price c.filled.result.yld =
+    quote-filled ends asked.given list c.as_slice-2.result.now quoted.redemption quoted.price c.filled.result.price quoted.yld c.filled.result.yld
     c.as_slice-2.ensures.value c.filled.ensures.price c.filled.ensures.yld c.in-Ok.ensures.said in
     record {
       basis = basis;

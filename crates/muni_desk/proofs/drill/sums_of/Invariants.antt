@@ -7,7 +7,7 @@ use Rattle.muni_desk.proofs.drill.sums_of.Given as goal
 abbrev pub invariant-loop-place : goal.invariant-loop-place
 invariant-loop-place g l = record {
   state : l.generator ≡ state_after l.job.seed (7 * l.place);
-  summed : IsSummed (g.E.Encloser.low l.encloser) (g.E.Encloser.high l.encloser) l.job.seed l.place l.sums;
+  summed : IsSummed (g.E.Encloser.ends l.encloser) l.job.seed l.place l.sums;
   small : AreSmall l.sums;
   trades : l.sums.trades ≡ l.place;
 }
