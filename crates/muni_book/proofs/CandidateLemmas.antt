@@ -11,7 +11,7 @@ use Rattle.muni_rule.specs.Payments.{PaymentSeries}
 use Rattle.muni_rule.specs.WorthEnds.{WorthEnds}
 use Rattle.muni_rule.specs.Ranges.{IsWithin, IsOnePeriodYield, IsDiscountRate}
 use Rattle.muni_rule.specs.Redemptions.{calls_after, redemptions_after, at_maturity}
-use Rattle.muni_dec.specs.Ranges.{IsPrintedYield}
+use Rattle.muni_dec.specs.Ranges.{IsYield3}
 use Rattle.muni_days.specs.Day.{civil}
 use Rattle.muni_days.specs.declared.day.Day.{Day}
 use Rattle.muni_terms.specs.declared.row.Kind.{Kind}
@@ -84,7 +84,7 @@ some-candidate row settlement list same =
     omega (arith, left, right, more, both)
 
 -- a yield that may be given is shown in the printed range
-given-rounded : (y : ℤ) → IsOnePeriodYield y → IsPrintedYield (rounded_yield y)
+given-rounded : (y : ℤ) → IsOnePeriodYield y → IsYield3 (rounded_yield y)
 given-rounded (pos y) given = (omega (arith, ints), omega (arith, ints))
 given-rounded (negsuc less) given = (omega (arith, ints), omega (arith, ints))
 
@@ -94,7 +94,7 @@ widest y (shape.One payment) at given = given
 widest y (shape.AtRedemption payment) at given = let least = given.0 in let most = given.1 in (omega (arith, ints, least), most)
 widest y (shape.Discount days) at given = absurd at
 
-pub first-rounded : (y : ℤ) (list : List Candidate) → 0 < length list → All IsAtYield list → All (IsGivenFor y) list → IsPrintedYield (rounded_yield y)
+pub first-rounded : (y : ℤ) (list : List Candidate) → 0 < length list → All IsAtYield list → All (IsGivenFor y) list → IsYield3 (rounded_yield y)
 first-rounded y [] some at given = absurd (omega (arith, some))
 first-rounded y (candidate ∷ rest) some at given =
     given-rounded y (widest y candidate.shape (All-head IsAtYield candidate rest at) (All-head (IsGivenFor y) candidate rest given))

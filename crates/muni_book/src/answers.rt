@@ -360,8 +360,5 @@ pub fn sum(one: Cents, other: Cents) -> Cents
     requires other { other ≤ 1_000_000_000_000_000 }
     ensures { result ≡ one + other }
 {
-    match Cents::of(one.units() + other.units()) {
-        Some(sum) => sum,
-        None => unreachable!(),
-    }
+    one.plus(other)
 }

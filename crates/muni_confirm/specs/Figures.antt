@@ -8,7 +8,7 @@ use Rattle.muni_terms.specs.declared.disclosure.Label.TheVariants.{Maturity, Par
 use Rattle.muni_msg.specs.declared.asked.Given.{Given}
 use Rattle.muni_msg.specs.declared.asked.Given.TheVariants.{AtYield, AtPrice, AtRate}
 use Rattle.muni_msg.specs.declared.figures.Figures.{Figures}
-use Rattle.muni_confirm.specs.Line.{line}
+use Rattle.muni_dec.specs.Line.{line}
 
 -- whether the price was given or computed
 abbrev pub price_source : Given → List ℕ

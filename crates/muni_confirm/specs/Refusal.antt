@@ -14,7 +14,7 @@ use Rattle.muni_msg.specs.declared.refusal.Range.{Range}
 use Rattle.muni_msg.specs.declared.refusal.Range.TheVariants.{Below, Above, PriceBelowZero}
 use Rattle.muni_msg.specs.declared.refusal.Refusal.{Refusal}
 use Rattle.muni_msg.specs.declared.refusal.Refusal.TheVariants.{UnknownIssue, UnknownTrade, Conflict, BadTerms, SettleOutside, GivenOutOfRange, YieldBelow, YieldAbove, NoTime, Undecided, Canceled, WrongNumber, VersionsFull, DeskFull, WrongBasis}
-use Rattle.muni_confirm.specs.Line.{line}
+use Rattle.muni_dec.specs.Line.{line}
 
 -- other contents are kept: those of an issue, or of the version with this number
 abbrev pub kept_parts : Kept → List (List ℕ)

@@ -2,11 +2,11 @@
 
 ghost use Rattle.std.specs.Prelude.{◌≡◌, ◌+◌, ◌≤◌, ◌++◌, [], ◌∷◌, length};
 ghost use Rattle.arrayvec.specs.ArrayVec.{array_vec_len};
-ghost use Rattle.muni_confirm.specs.Line.{line};
+ghost use Rattle.muni_dec.specs.Line.{line};
 ghost use Rattle.muni_confirm.specs.Figures.{price_source, yield_source, rate_line, price_lines, label_text, redemption_line, money_lines, figure_text};
 
-use crate::text::{push, push_line, push_number_line, push_part};
 use arrayvec::ArrayVec;
+use muni_dec::text::{push, push_line, push_number_line, push_part};
 use muni_msg::{Figures, Given};
 use muni_terms::Label;
 

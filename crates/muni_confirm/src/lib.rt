@@ -5,7 +5,6 @@ mod figures;
 mod refusal;
 #[cfg(test)]
 mod tests;
-pub mod text;
 
 pub use figures::figure_lines;
 pub use refusal::refusal_line;

@@ -4,12 +4,12 @@ ghost use Rattle.std.specs.Prelude.{◌≡◌, ◌+◌, ◌≤◌, ◌++◌, [],
 ghost use Rattle.arrayvec.specs.ArrayVec.{array_vec_len};
 ghost use Rattle.muni_msg.specs.Refusal.{number_of, name_of};
 ghost use Rattle.muni_days.specs.Day.{civil, day_text};
-ghost use Rattle.muni_confirm.specs.Line.{behind_blanks};
+ghost use Rattle.muni_dec.specs.Line.{behind_blanks};
 ghost use Rattle.muni_confirm.specs.Refusal.{kept_parts, fault_day, fault_parts, range_text, boundary_parts, detail, refusal_text};
 
-use crate::text::{push, push_number, push_part};
 use arrayvec::ArrayVec;
 use muni_days::Day;
+use muni_dec::text::{push, push_number, push_part};
 use muni_msg::{Kept, Range, Refusal, refusal_name};
 use muni_terms::{Boundary, TermsFault};
 

@@ -140,9 +140,9 @@ TOTAL 101.98
 
 #[test]
 fn the_longest_figures_have_room(rt: HostRuntime) -> Result<(), Fail> {
-    let greatest = Cents::of(i64::MAX).ok_or("cents")?;
+    let greatest = Cents::of(9_223_372_036_854_775_807).ok_or("cents")?;
     let longest = Figures {
-        price: Price3::of(i64::MAX).ok_or("a price")?,
+        price: Price3::of(9_223_372_036_854_775_807).ok_or("a price")?,
         yld: Yield3::of(-90_000).ok_or("a yield")?,
         redemption: day("2199-12-31")?,
         at: Price::of(999_999_999).ok_or("a price")?,

@@ -13,7 +13,7 @@ use Rattle.muni_dec.specs.Digits.{are_digits, digits_end, number}
 use Rattle.muni_dec.specs.Decimal.{reading, reading_at, fraction_reading, units_of, signed_reading, behind_sign, without_sign}
 use Rattle.muni_dec.specs.Grammar.{Magnitude, IsMagnitude, IsFraction, fraction_bytes, fraction_units, magnitude_bytes, magnitude_units, WritesDecimal, WritesSigned}
 
-both : (a b : Bool) → a && b ≡ true → (a ≡ true) × (b ≡ true)
+pub both : (a b : Bool) → a && b ≡ true → (a ≡ true) × (b ≡ true)
 both true b h = (refl, h)
 both false b h = absurd (cc)
 
@@ -41,12 +41,12 @@ digits_all : (text : List ℕ) → AllDigits 10 text → list_all is_ascii_digit
 digits_all [] h = refl
 digits_all (c ∷ text) h = rw (is_digit c h.0, digits_all text h.1) refl
 
-numeral : (text : List ℕ) → are_digits text ≡ true → IsNumeral 10 text
+pub numeral : (text : List ℕ) → are_digits text ≡ true → IsNumeral 10 text
 numeral text h =
     let p = both (ltb 0 (length text)) (list_all is_ascii_digit text) h in
     (grind (arith, nat_tests), all_digits text p.1)
 
-numeral_is : (text : List ℕ) → IsNumeral 10 text → are_digits text ≡ true
+pub numeral_is : (text : List ℕ) → IsNumeral 10 text → are_digits text ≡ true
 numeral_is text h =
     let some : ltb 0 (length text) ≡ true = grind (arith, nat_tests) in
     rw (some, digits_all text h.1) refl

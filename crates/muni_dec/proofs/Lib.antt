@@ -1,2 +1,3 @@
 pub mod DigitsLemmas
 pub mod GrammarLemmas
+pub mod NumberLemmas

@@ -4,3 +4,5 @@ pub mod Ranges
 pub mod Capped
 pub mod Values
 pub mod Grammar
+pub mod Numbers
+pub mod Line

@@ -2,7 +2,7 @@
 
 ghost use Rattle.std.specs.Prelude.{◌≡◌, ◌*◌, ◌/◌, ◌≤◌, ◌≤ℤ◌, pos, unsigned_abs};
 ghost use Rattle.muni_rule.specs.Accuracy as rule;
-ghost use Rattle.muni_dec.specs.Ranges.{IsPrintedYield};
+ghost use Rattle.muni_dec.specs.Ranges.{IsYield3};
 
 use crate::{Cents, Coupon, Par, Price, Price3, Yield, Yield3};
 
@@ -11,15 +11,12 @@ pub fn trunc3(price: Price) -> Price3
     ensures value { result ≡ price / 1000 }
     ensures truncated { rule.TruncatesTo (rule.IsAtMost (pos (360_000 * price))) result }
 {
-    match Price3::of(price.units() / 1000) {
-        Some(shown) => shown,
-        None => unreachable!(),
-    }
+    Price3::new(price.units() / 1000)
 }
 
 /// A given yield as it is shown, rounded to thousandths of a percent.
 pub fn round_yield(y: Yield) -> Yield3
-    requires { IsPrintedYield (rule.rounded_yield y) }
+    requires { IsYield3 (rule.rounded_yield y) }
     ensures { result ≡ rule.rounded_yield y }
 {
     let magnitude = (y.units().unsigned_abs() + 5) / 10;
@@ -28,10 +25,7 @@ pub fn round_yield(y: Yield) -> Yield3
     } else {
         magnitude as i64
     };
-    match Yield3::of(rounded) {
-        Some(shown) => shown,
-        None => unreachable!(),
-    }
+    Yield3::new(rounded)
 }
 
 /// The accrued interest of a trade: truncated to thousandths of a dollar and rounded to cents.
@@ -40,8 +34,8 @@ pub fn accrued_cents(coupon: Coupon, par: Par, days: i32) -> Cents
     ensures value { result ≡ rule.accrued_cents coupon par (unsigned_abs days) }
     ensures range { result ≤ 60_000_000_000 }
 {
-    let thousandths = accrued_thousandths(coupon.units() as u64, par.units() as u64, days as u64);
-    cents((thousandths + 5) / 10)
+    let thousandths = accrued_thousandths(coupon.units(), par.units(), days as u64);
+    Cents::new((thousandths + 5) / 10)
 }
 
 fn accrued_thousandths(coupon: u64, par: u64, days: u64) -> u64
@@ -60,15 +54,5 @@ pub fn principal_cents(par: Par, price: Price3) -> Cents
     ensures value { result ≡ rule.principal_cents par price }
     ensures range { result ≤ 100_000_000_000_000 }
 {
-    cents((par.units() as u64 * price.units() as u64 + 500) / 1000)
-}
-
-fn cents(units: u64) -> Cents
-    requires { units ≤ 1_000_000_000_000_000 }
-    ensures { result ≡ units }
-{
-    match Cents::of(units as i64) {
-        Some(cents) => cents,
-        None => unreachable!(),
-    }
+    Cents::new((par.units() * price.units() + 500) / 1000)
 }

@@ -1,14 +1,30 @@
 //! Digits, as decimals and dates read and write them.
 
-ghost use Rattle.std.specs.Prelude.{◌≡◌, ◌+◌, ◌≤◌, ◌++◌, min, decimal, true, false, length, MatchResult};
+ghost use Rattle.std.specs.Prelude.{◌≡◌, ◌+◌, ◌^◌, ◌≤◌, ◌++◌, min, decimal, true, false, length, IfSome, MatchResult};
 ghost use Rattle.arrayvec.specs.ArrayVec.{array_vec_len};
-ghost use Rattle.muni_dec.specs.Digits.{are_digits, digits_end, number, last_digits};
+ghost use Rattle.muni_dec.specs.Digits.{are_digits, digits_end, number, number_reading, last_digits};
 
 use arrayvec::ArrayVec;
 use itoa::Buffer;
 
-/// The greatest number that is told apart. It lies past every range of the desk.
+/// The greatest number of a decimal that is told apart. It lies past every range of a decimal.
 pub const LIMIT: u64 = 100_000_000_000;
+
+/// The number that a text writes in at most so many digits, where it lies in a range.
+pub fn read_number(text: &[u8], most_digits: usize, least: u64, greatest: u64) -> Option<u64>
+    ensures value { result ≡ number_reading most_digits least greatest text.now }
+    ensures range { IfSome result (λ number. (least ≤ number) × (number ≤ greatest)) }
+{
+    if text.len() > most_digits {
+        return None;
+    }
+    match read_up_to(text, 1 << 64) {
+        Ok(number) if u128::from(least) <= number && number <= u128::from(greatest) => {
+            Some(number as u64)
+        }
+        _ => None,
+    }
+}
 
 /// The number that a run of digits writes, or [`LIMIT`] where it is greater.
 ///
@@ -16,6 +32,21 @@ pub const LIMIT: u64 = 100_000_000_000;
 pub fn read_digits(text: &[u8]) -> Result<u64, usize>
     ensures { MatchResult result
         (λ n. (are_digits text.now ≡ true) × (n ≡ min LIMIT (number text.now))
+        × (digits_end text.now ≡ length text.now))
+        (λ at. (are_digits text.now ≡ false) × (at ≡ digits_end text.now)
+        × (at ≤ length text.now)) }
+{
+    match read_up_to(text, u128::from(LIMIT)) {
+        Ok(number) => Ok(number as u64),
+        Err(at) => Err(at),
+    }
+}
+
+// The number that a run of digits writes, or a limit where it is greater.
+fn read_up_to(text: &[u8], limit: u128) -> Result<u128, usize>
+    requires { limit ≤ 2 ^ 64 }
+    ensures { MatchResult result
+        (λ n. (are_digits text.now ≡ true) × (n ≡ min limit (number text.now))
         × (digits_end text.now ≡ length text.now))
         (λ at. (are_digits text.now ≡ false) × (at ≡ digits_end text.now)
         × (at ≤ length text.now)) }
@@ -28,7 +59,7 @@ pub fn read_digits(text: &[u8]) -> Result<u64, usize>
         if !b.is_ascii_digit() {
             return Err(i);
         }
-        value = (value * 10 + u64::from(*b - b'0')).min(LIMIT);
+        value = (value * 10 + u128::from(*b - b'0')).min(limit);
     }
     Ok(value)
 }

@@ -2,23 +2,20 @@
 #![tactic(auto)]
 
 mod accuracy;
-mod cents;
-mod coupon;
+mod amount;
 mod decimal;
 pub mod digits;
 mod fault;
 pub mod grammar;
 mod par;
-mod price;
-mod yields;
+mod percent;
+pub mod text;
 
 pub use accuracy::{accrued_cents, principal_cents, round_yield, trunc3};
-pub use cents::Cents;
-pub use coupon::Coupon;
+pub use amount::{Amount, Cents, Coupon, Price, Price3};
 pub use fault::DecFault;
 pub use par::Par;
-pub use price::{Price, Price3};
-pub use yields::{Yield, Yield3};
+pub use percent::{Percent, Yield, Yield3};
 
 #[cfg(test)]
 mod tests;

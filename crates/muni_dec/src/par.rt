@@ -1,7 +1,7 @@
-ghost use Rattle.std.specs.Prelude.{◌≡◌, ◌↔◌, ◌≤◌, pos, decimal, IsSome, IfSome};
+ghost use Rattle.std.specs.Prelude.{◌≡◌, ◌≤◌, decimal};
 ghost use Rattle.arrayvec.specs.ArrayVec.{array_vec_len};
-ghost use Rattle.muni_dec.specs.Ranges.{IsPar};
-ghost use Rattle.muni_dec.specs.Values.{par_reading};
+ghost use Rattle.muni_dec.specs.Ranges.{IsAmount};
+ghost use Rattle.muni_dec.specs.Values.{if_par, par_reading};
 
 use crate::DecFault;
 use crate::decimal::read_whole;
@@ -11,18 +11,21 @@ use std::marker::Model;
 
 /// The par of a trade, from 1 to 1,000,000,000, in dollars.
 #[derive(Clone, Copy, Debug, PartialEq, Eq, PartialOrd, Ord)]
-pub struct Par(u32);
+pub struct Par {
+    units: u64,
+}
 
 impl Model for Par {
-    ghost use Rattle.std.specs.Prelude.{ℕ, ◌≤◌};
+    ghost use Rattle.std.specs.Prelude.{ℕ};
+    ghost use Rattle.muni_dec.specs.Ranges.{IsAmount};
 
     ghost Value = { ℕ };
 
-    ghost view = { λ par. par.0 };
+    ghost view = { λ par. par.units };
 
-    ghost invariant = { λ par. (1 ≤ par.0) × (par.0 ≤ 1_000_000_000) };
+    ghost invariant = { λ par. IsAmount 1 1_000_000_000 par.units };
 
-    ghost inverse = { λ units. record { 0 = units } };
+    ghost inverse = { λ units. record { units = units } };
 }
 
 impl Par {
@@ -31,29 +34,33 @@ impl Par {
     pub fn read(text: &[u8]) -> Result<Par, DecFault>
         ensures { result ≡ par_reading text.now }
     {
-        match read_whole(text)? {
-            units @ 1..=1_000_000_000 => Ok(Par(units as u32)),
-            _ => Err(DecFault::OutOfRange),
-        }
+        Par::of(read_whole(text)?).ok_or(DecFault::OutOfRange)
     }
 
-    /// The par of so many dollars.
-    pub fn of(units: i64) -> Option<Par>
-        ensures found { IsSome result ↔ IsPar units }
-        ensures value { IfSome result (λ par. pos par ≡ units) }
+    /// The par of so many dollars, from 1 to 1,000,000,000.
+    pub fn of(units: u64) -> Option<Par>
+        ensures { result ≡ if_par units }
     {
         match units {
-            1..=1_000_000_000 => Some(Par(units as u32)),
+            1..=1_000_000_000 => Some(Par { units }),
             _ => None,
         }
     }
 
-    /// The par in dollars.
-    pub fn units(&self) -> i64
-        ensures value { result ≡ pos self.now }
-        ensures range { IsPar result }
+    /// The par of so many dollars.
+    pub fn new(units: u64) -> Par
+        requires { IsAmount 1 1_000_000_000 units }
+        ensures { result ≡ units }
     {
-        i64::from(self.0)
+        Par { units }
+    }
+
+    /// The par in dollars.
+    pub fn units(&self) -> u64
+        ensures value { result ≡ self.now }
+        ensures range { IsAmount 1 1_000_000_000 result }
+    {
+        self.units
     }
 
     /// Replaces the text by the par in digits alone.
@@ -62,6 +69,6 @@ impl Par {
         ensures len { array_vec_len text.new ≤ 20 }
     {
         text.clear();
-        push_number(text, u64::from(self.0));
+        push_number(text, self.units);
     }
 }

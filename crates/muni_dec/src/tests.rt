@@ -73,10 +73,9 @@ fn faults_tell_their_kind_and_place(rt: HostRuntime) -> Result<(), Fail> {
 
 #[test]
 fn units_outside_a_range_are_no_value(rt: HostRuntime) -> Result<(), Fail> {
-    assert!(rt; Coupon::of(300_000_001).is_none() && Coupon::of(-1).is_none());
-    assert!(rt; Price::of(1_000_000_000).is_none() && Price::of(-1).is_none());
+    assert!(rt; Coupon::of(300_000_001).is_none());
+    assert!(rt; Price::of(1_000_000_000).is_none());
     assert!(rt; Yield::of(10_000_000).is_none() && Yield::of(-1_000_000).is_none());
-    assert!(rt; Price3::of(-1).is_none());
     assert_eq!(rt;
         Coupon::of(300_000_000).map(|c| c.units()),
         Some(300_000_000)

@@ -11,7 +11,7 @@ use Rattle.muni_msg.specs.declared.figures.Figures.{Figures}
 use Rattle.muni_msg.specs.declared.refusal.Refusal.{Refusal}
 use Rattle.muni_msg.specs.declared.refusal.Refusal.TheVariants as refusal
 use Rattle.muni_confirm.specs.Figures.{price_lines, label_text, days_line, money_lines, figure_text}
-use Rattle.muni_confirm.specs.Line.{line}
+use Rattle.muni_dec.specs.Line.{line}
 use Rattle.muni_confirm.specs.Refusal.{fault_parts, boundary_parts, refusal_text}
 use Rattle.muni_book.specs.Alike.{AreAlikeFigures, AreAlikeFaults, AreAlikeRefusals, AreOneDate}
 use Rattle.muni_desk.specs.DeskLaws.{ShowsOneText, ShowsFiguresOrRefusal}

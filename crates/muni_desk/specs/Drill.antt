@@ -7,12 +7,13 @@ use Rattle.muni_rule.specs.Civil.{Civil, is_before}
 use Rattle.muni_rule.specs.Payments.{PaymentSeries}
 use Rattle.muni_rule.specs.WorthEnds.{WorthEnds}
 use Rattle.muni_dec.specs.Decimal.{decimal_text}
+use Rattle.muni_dec.specs.Digits.{number_reading}
 use Rattle.muni_days.specs.Day.{civil}
 use Rattle.muni_msg.specs.Refusal.{number_of}
 use Rattle.muni_msg.specs.declared.figures.Figures.{Figures}
 use Rattle.muni_msg.specs.declared.refusal.Refusal.{Refusal}
-use Rattle.muni_confirm.specs.Line.{line}
-use Rattle.muni_desk.specs.Words.{◌>>=◌, value_of, number_reading}
+use Rattle.muni_dec.specs.Line.{line}
+use Rattle.muni_desk.specs.Words.{◌>>=◌, value_of}
 use Rattle.muni_desk.specs.Job.{workers_reading}
 use Rattle.muni_desk.specs.Trade.{Trade}
 use Rattle.muni_desk.specs.Answer.{IsAnswer}
@@ -23,7 +24,7 @@ use Rattle.muni_desk.specs.declared.drill.Sums.{Sums}
 -- a number up to the greatest one that an option gives
 abbrev pub number_given : List ℕ → ℕ → List (List ℕ) → Option ℕ
 number_given name greatest words =
-    value_of name words >>= λ text. number_reading greatest text
+    value_of name words >>= λ text. number_reading 20 0 greatest text
 
 -- the workers that an option gives
 abbrev pub workers_given : List (List ℕ) → Option ℕ

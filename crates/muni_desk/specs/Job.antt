@@ -5,7 +5,7 @@ use Rattle.std.specs.Result.{result_ok}
 use Rattle.std.specs.Str.{bytes_eq}
 use Rattle.muni_rule.specs.Civil.{Civil}
 use Rattle.muni_rule.specs.Redemptions.{Redemption}
-use Rattle.muni_dec.specs.Digits.{are_digits, number}
+use Rattle.muni_dec.specs.Digits.{number_reading}
 use Rattle.muni_dec.specs.Values.{coupon_reading, price_reading, yield_reading, par_reading}
 use Rattle.muni_days.specs.Day.{civil, day_reading}
 use Rattle.muni_msg.specs.declared.asked.Given.{Given}
@@ -134,10 +134,7 @@ given_of words =
 
 -- from 1 to 16 workers, in 20 digits at most
 abbrev pub workers_reading : List ℕ → Option ℕ
-workers_reading text =
-    if nat_le (length text) 20
-    && (are_digits text && (nat_le 1 (number text) && nat_le (number text) 16))
-    then Some (number text) else None
+workers_reading text = number_reading 20 1 16 text
 
 -- the workers, which are one where no number is given
 abbrev pub workers_of : List (List ℕ) → Option ℕ

@@ -43,9 +43,3 @@ value_of name words =
 abbrev pub values_of : List ℕ → List (List ℕ) → List (List ℕ)
 values_of name words =
     map (λ word. value_in name word) (filter (λ word. has_name name word) words)
-
--- a number up to the greatest one, in 20 digits at most
-abbrev pub number_reading : ℕ → List ℕ → Option ℕ
-number_reading greatest text =
-    if nat_le (length text) 20 && (are_digits text && nat_le (number text) greatest)
-    then Some (number text) else None

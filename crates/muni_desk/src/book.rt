@@ -145,28 +145,19 @@ fn coupon_of(units: u64) -> Coupon
     requires { units ≤ 300_000_000 }
     ensures { result ≡ units }
 {
-    match Coupon::of(units as i64) {
-        Some(coupon) => coupon,
-        None => unreachable!(),
-    }
+    Coupon::new(units)
 }
 
 fn par_of(dollars: u64) -> Par
     requires { (1 ≤ dollars) × (dollars ≤ 1_000_000_000) }
     ensures { result ≡ dollars }
 {
-    match Par::of(dollars as i64) {
-        Some(par) => par,
-        None => unreachable!(),
-    }
+    Par::new(dollars)
 }
 
 fn price_of(units: u64) -> Price
     requires { units ≤ 999_999_999 }
     ensures { result ≡ units }
 {
-    match Price::of(units as i64) {
-        Some(price) => price,
-        None => unreachable!(),
-    }
+    Price::new(units)
 }

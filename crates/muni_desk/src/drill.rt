@@ -2,7 +2,7 @@
 
 ghost use Rattle.std.specs.Prelude.{◌≡◌, ◌≢◌, ◌↔◌, ◌+◌, ◌<◌, ◌≤◌, ◌≤ℤ◌, ◌+ℤ◌, pos, negsuc, [], cond, is_some, map, None, IfOk, IfSome, string_bytes};
 ghost use Rattle.muni_edge.specs.Sink.{Rose, Wrote, WrotePart};
-ghost use Rattle.muni_dec.specs.Ranges.{IsPrintedYield};
+ghost use Rattle.muni_dec.specs.Ranges.{IsYield3};
 ghost use Rattle.muni_days.specs.Day.{civil};
 ghost use Rattle.muni_desk.specs.Drill as spec;
 ghost use Rattle.muni_desk.specs.Drill.{drill_of, IsSummaryText, AreSums, HaveAnswer, IsSummed, AreSmall};
@@ -11,15 +11,15 @@ ghost use Rattle.muni_desk.specs.Status.{IsStorelessStatus};
 use crate::Status;
 use crate::book::Generator;
 use crate::job::read_workers;
-use crate::numbers::read_number;
 use crate::output::write_line;
 use crate::trade::answer_of;
 use crate::words::value_of;
 use arrayvec::ArrayVec;
 use muni_book::sum;
-use muni_confirm::text::{push_line, push_number_line};
 use muni_days::Day;
 use muni_dec::Cents;
+use muni_dec::digits::read_number;
+use muni_dec::text::{push_line, push_number_line};
 use muni_edge::{Gate, Sink};
 use muni_msg::{Figures, Refusal};
 use muni_multi::Encloser;
@@ -133,7 +133,7 @@ fn number_given(words: &[String], name: &[u8], greatest: u64) -> Option<u64>
     ensures value { result ≡ spec.number_given name.now greatest (map string_bytes words.now) }
     ensures range { IfSome result (λ number. number ≤ greatest) }
 {
-    read_number(value_of(words, name)?, greatest)
+    read_number(value_of(words, name)?, 20, 0, greatest)
 }
 
 fn workers_given(words: &[String]) -> Option<u32>
@@ -221,7 +221,7 @@ fn one_if(test: bool) -> u64
 
 fn yields_with(before: i64, yld: i64) -> i64
     requires before { (negsuc 999_999_999 ≤ℤ before) × (before ≤ℤ pos 1_000_000_000) }
-    requires yld { IsPrintedYield yld }
+    requires yld { IsYield3 yld }
     ensures { result ≡ before +ℤ yld }
 {
     before + yld
@@ -230,10 +230,7 @@ fn yields_with(before: i64, yld: i64) -> i64
 fn no_money() -> Cents
     ensures { result ≡ 0 }
 {
-    match Cents::of(0) {
-        Some(cents) => cents,
-        None => unreachable!(),
-    }
+    Cents::ZERO
 }
 
 fn is_printed(answer: &Result<Figures, Refusal>) -> bool
@@ -266,7 +263,7 @@ fn is_outside(answer: &Result<Figures, Refusal>) -> bool
 
 fn yield_of(answer: &Result<Figures, Refusal>) -> i64
     ensures value { result ≡ spec.yield_of answer.now }
-    ensures range { IsPrintedYield result }
+    ensures range { IsYield3 result }
 {
     match answer {
         Ok(figures) => figures.yld.units(),

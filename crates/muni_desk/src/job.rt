@@ -15,7 +15,7 @@ use crate::trade::Trade;
 use crate::words::{count_of, has_name, is_absent, value_in, value_of, word_at};
 use arrayvec::ArrayVec;
 use muni_days::Day;
-use muni_dec::digits::read_digits;
+use muni_dec::digits::read_number;
 use muni_dec::{Coupon, Par, Price, Yield};
 use muni_msg::Given;
 use muni_terms::{Call, Kind};
@@ -131,7 +131,7 @@ fn no_coupon(words: &[String]) -> Option<Coupon>
     ensures { result ≡ spec.no_coupon (map string_bytes words.now) }
 {
     if is_absent(words, b"--coupon=") {
-        Coupon::of(0)
+        Some(Coupon::new(0))
     } else {
         None
     }
@@ -199,7 +199,7 @@ fn par_of(words: &[String]) -> Option<Par>
     ensures { result ≡ spec.par_of (map string_bytes words.now) }
 {
     if is_absent(words, b"--par=") {
-        return Par::of(100);
+        return Some(Par::new(100));
     }
     Par::read(value_of(words, b"--par=")?).ok()
 }
@@ -294,11 +294,6 @@ pub fn read_workers(text: &[u8]) -> Option<u32>
     ensures value { result ≡ spec.workers_reading text.now }
     ensures range { IfSome result (λ workers. (1 ≤ workers) × (workers ≤ 16)) }
 {
-    if text.len() > 20 {
-        return None;
-    }
-    match read_digits(text) {
-        Ok(workers @ 1..=16) => Some(workers as u32),
-        _ => None,
-    }
+    let workers = read_number(text, 20, 1, 16)?;
+    Some(workers as u32)
 }

@@ -6,7 +6,6 @@ mod command;
 mod drill;
 mod job;
 mod laws;
-mod numbers;
 mod one_period;
 mod output;
 mod quote;

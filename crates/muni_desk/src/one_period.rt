@@ -185,7 +185,7 @@ fn payment_of(job: &Job, start: Day) -> Single
 {
     let accrued_days = accrued_days(job, start);
     Single {
-        due: half_year_interest(job.coupon) as i64 + 360_000 * job.redemption.units(),
+        due: half_year_interest(job.coupon) as i64 + 360_000 * job.redemption.units() as i64,
         accrued: interest(job.coupon, accrued_days as u32) as i64,
         left: 180 - accrued_days,
     }

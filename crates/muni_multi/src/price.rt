@@ -85,8 +85,5 @@ fn price_of(thousandths: u64) -> Price3
     requires { thousandths ≤ 100_000_000 }
     ensures { result ≡ thousandths }
 {
-    match Price3::of(thousandths as i64) {
-        Some(price) => price,
-        None => unreachable!(),
-    }
+    Price3::new(thousandths)
 }

@@ -56,7 +56,7 @@ fn dirty_amount(flows: &Flows, price: Price) -> u64
     ensures value { result ≡ 360_000 * price + flows.now.accrued }
     ensures small { result < 2 ^ 50 }
 {
-    360_000 * price.units() as u64 + flows.accrued()
+    360_000 * price.units() + flows.accrued()
 }
 
 fn at_least_at(ends: &Ends, amount: u64) -> Verdict

@@ -30,12 +30,9 @@ pub struct Candidate {
 
 impl Default for Candidate {
     fn default() -> Self {
-        let Some(price) = Price::of(0) else {
-            unreachable!()
-        };
         Candidate {
             date: Day::FIRST,
-            price,
+            price: Price::new(0),
             label: Label::Maturity,
             shape: Shape::Discount { days: 0 },
         }

@@ -90,8 +90,5 @@ fn label_of(maturity: Day, date: Day, price: Price) -> Label
 fn hundred_dollars() -> Price
     ensures { result ≡ par_price }
 {
-    match Price::of(100_000_000) {
-        Some(price) => price,
-        None => unreachable!(),
-    }
+    Price::PAR
 }

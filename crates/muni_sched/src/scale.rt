@@ -60,30 +60,21 @@ fn boundary_above(scale: Scale, place: u32) -> Boundary
 fn price_at(thousandths: u32) -> Price3
     ensures { result ≡ thousandths }
 {
-    match Price3::of(i64::from(thousandths)) {
-        Some(price) => price,
-        None => unreachable!(),
-    }
+    Price3::new(u64::from(thousandths))
 }
 
 fn yield_at(place: u32) -> Yield3
     requires { IsOn Scale.Yields (Print place) }
     ensures { result ≡ spec.yield_at place }
 {
-    match Yield3::of(i64::from(place) - i64::from(ZERO_YIELD)) {
-        Some(yld) => yld,
-        None => unreachable!(),
-    }
+    Yield3::new(i64::from(place) - i64::from(ZERO_YIELD))
 }
 
 fn boundary_yield(place: u32) -> Yield
     requires { IsOn Scale.Yields (Unsure place) }
     ensures { result ≡ spec.boundary_yield place }
 {
-    match Yield::of(10 * (i64::from(place) + 1 - i64::from(ZERO_YIELD)) - 5) {
-        Some(yld) => yld,
-        None => unreachable!(),
-    }
+    Yield::new(10 * (i64::from(place) + 1 - i64::from(ZERO_YIELD)) - 5)
 }
 
 /// The lowest figure over candidates, with the dates of those that have none.

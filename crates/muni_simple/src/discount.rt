@@ -24,10 +24,7 @@ pub fn rate_price(rate: Yield, days: i32) -> Price3
     ensures value { TruncatesTo (IsAtMost (rule.discount_price rate days)) result }
     ensures range { result ≤ 100_000 }
 {
-    match Price3::of((price_at(rate, days) / 360_000_000) as i64) {
-        Some(price) => price,
-        None => unreachable!(),
-    }
+    Price3::new(price_at(rate, days) / 360_000_000)
 }
 
 /// The return on the price at a discount rate, which is taken before it is truncated.
@@ -50,7 +47,7 @@ pub fn discount_return(price: Price, days: i32) -> SimpleYield
     ensures exact { IsYieldAnswer (negsuc 44_999) (rule.discounted days)
         (pos (360_000 * price)) result }
 {
-    let amount = 360_000 * price.units() as u64;
+    let amount = 360_000 * price.units();
     yield_at(PAR, 0, days as u64, amount, LEAST_RETURN)
 }
 

@@ -32,7 +32,7 @@ pub fn single_price(single: &Single, shape: Shape1, y: Yield) -> SimplePrice
     ensures range { PrintsAtMost 100_000_000 result }
 {
     match thousandths_reached(single, shape, y) {
-        Some(thousandths) => SimplePrice::Price(price_of(thousandths)),
+        Some(thousandths) => SimplePrice::Price(Price3::new(thousandths)),
         None => SimplePrice::BelowZero,
     }
 }
@@ -77,14 +77,4 @@ fn truncated(due: u64, accrued: u64, growth: u64) -> Option<u64>
         return None;
     }
     Some(((worth - taken_off) / (u128::from(growth) * YEAR)) as u64)
-}
-
-fn price_of(thousandths: u64) -> Price3
-    requires { thousandths ≤ 100_000_000 }
-    ensures { result ≡ thousandths }
-{
-    match Price3::of(thousandths as i64) {
-        Some(price) => price,
-        None => unreachable!(),
-    }
 }

@@ -1,4 +1,4 @@
-ghost use Rattle.std.specs.Prelude.{◌≡◌, pos, IfOk};
+ghost use Rattle.std.specs.Prelude.{◌≡◌, IfOk};
 
 use crate::{
     Shape1, SimplePrice, SimpleYield, Single, discount_return, rate_price, rate_return,
@@ -29,8 +29,8 @@ fn yield_of(units: i64) -> Result<Yield, Fail>
     Ok(Yield::of(units).ok_or("a yield")?)
 }
 
-fn price_of(units: i64) -> Result<Price, Fail>
-    ensures { IfOk result (λ price. pos price ≡ units) }
+fn price_of(units: u64) -> Result<Price, Fail>
+    ensures { IfOk result (λ price. price ≡ units) }
 {
     Ok(Price::of(units).ok_or("a price")?)
 }
@@ -39,7 +39,7 @@ fn shown(units: i64) -> Result<SimpleYield, Fail> {
     Ok(SimpleYield::Print(Yield3::of(units).ok_or("a yield")?))
 }
 
-fn priced(units: i64) -> Result<SimplePrice, Fail> {
+fn priced(units: u64) -> Result<SimplePrice, Fail> {
     Ok(SimplePrice::Price(Price3::of(units).ok_or("a price")?))
 }
 

@@ -33,7 +33,7 @@ pub fn single_yield(single: &Single, shape: Shape1, price: Price) -> SimpleYield
         single.due as u64,
         single.accrued as u64,
         single.left as u64,
-        360_000 * price.units() as u64,
+        360_000 * price.units(),
         least_magnitude(shape),
     )
 }
@@ -98,10 +98,7 @@ fn shown_from_below(y: u64, least: u64) -> SimpleYield
     if magnitude > least {
         return SimpleYield::Below;
     }
-    match Yield3::of(-(magnitude as i64)) {
-        Some(shown) => SimpleYield::Print(shown),
-        None => unreachable!(),
-    }
+    SimpleYield::Print(Yield3::new(-(magnitude as i64)))
 }
 
 /// A law of the definitions: an answer that the contracts allow is the only one, so that each of the

@@ -39,7 +39,7 @@ fn coupon_units(coupon: Coupon) -> u64
     ensures value { result ≡ coupon }
     ensures range { result ≤ 300_000_000 }
 {
-    coupon.units() as u64
+    coupon.units()
 }
 
 /// The interest for up to 720 days, in 1/(360 * 10^9) dollars per 100 of par.

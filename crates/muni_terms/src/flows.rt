@@ -168,7 +168,7 @@ fn redemption_amount(price: Price) -> u64
     ensures value { result ≡ rule.redemption_amount price }
     ensures range { (360_000_000_000 ≤ result) × (result ≤ 72_000_000_000_000) }
 {
-    360_000 * price.units() as u64
+    360_000 * price.units()
 }
 
 /// The payments of an issue with coupons.

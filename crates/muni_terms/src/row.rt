@@ -16,12 +16,9 @@ pub struct Call {
 
 impl Default for Call {
     fn default() -> Self {
-        let Some(price) = Price::of(0) else {
-            unreachable!()
-        };
         Call {
             date: Day::FIRST,
-            price,
+            price: Price::new(0),
         }
     }
 }

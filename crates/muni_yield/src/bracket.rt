@@ -55,10 +55,7 @@ impl Model for Bracket {
 impl Default for Bracket {
     /// The search at a price of 100 for the default payments.
     fn default() -> Bracket {
-        match Price::of(100_000_000) {
-            Some(price) => Bracket::start(Flows::default(), price),
-            None => unreachable!(),
-        }
+        Bracket::start(Flows::default(), Price::PAR)
     }
 }
 

@@ -24,10 +24,7 @@ pub fn printed_at(place: u32) -> Yield3
     requires { place ≤ 105_003 }
     ensures { result ≡ spec.yield_at place }
 {
-    match Yield3::of(i64::from(yield_at(place))) {
-        Some(yld) => yld,
-        None => unreachable!(),
-    }
+    Yield3::new(i64::from(yield_at(place)))
 }
 
 // Where the yields begin that are printed as the one at a place or above, in 10^-6.

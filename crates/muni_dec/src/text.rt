@@ -2,7 +2,7 @@
 
 ghost use Rattle.std.specs.Prelude.{◌≡◌, ◌+◌, ◌≤◌, ◌++◌, [], ◌∷◌, length};
 ghost use Rattle.arrayvec.specs.ArrayVec.{array_vec_len};
-ghost use Rattle.muni_confirm.specs.Line.{behind_blanks, line};
+ghost use Rattle.muni_dec.specs.Line.{behind_blanks, line};
 
 use arrayvec::ArrayVec;
 use itoa::{Buffer, Integer};

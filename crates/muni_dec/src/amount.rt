@@ -1,0 +1,158 @@
+//! Decimals from 0 up, each kind with its places and its range.
+
+ghost use Rattle.std.specs.Prelude.{◌≡◌, ◌+◌, ◌≤◌};
+ghost use Rattle.arrayvec.specs.ArrayVec.{array_vec_len};
+ghost use Rattle.muni_dec.specs.Decimal.{decimal_text};
+ghost use Rattle.muni_dec.specs.Ranges.{IsAmount};
+ghost use Rattle.muni_dec.specs.Values.{amount_reading, if_amount, price_reading, if_price, coupon_reading, if_coupon, if_printed_price, if_money};
+
+use crate::DecFault;
+use crate::decimal::{push_decimal, read_decimal};
+use arrayvec::ArrayVec;
+use std::marker::Model;
+
+/// A decimal with so many places, from the least to the greatest number of units of the last place.
+#[derive(Clone, Copy, Debug, PartialEq, Eq, PartialOrd, Ord)]
+pub struct Amount<const PLACES: usize, const LEAST: u64, const GREATEST: u64> {
+    units: u64,
+}
+
+/// A given price or a redemption price without accrued interest, from 0 to 999.999999, in 10^-6
+/// dollars per 100 of par.
+pub type Price = Amount<6, 0, 999_999_999>;
+
+/// A printed price without accrued interest, from 0 up, in 10^-3 dollars per 100 of par.
+pub type Price3 = Amount<3, 0, 9_223_372_036_854_775_807>;
+
+/// A coupon, from 0 to 30 percent a year, in 10^-7 dollars per 100 of par and year.
+pub type Coupon = Amount<7, 0, 300_000_000>;
+
+/// An amount of money from 0 up, in cents.
+pub type Cents = Amount<2, 0, 9_223_372_036_854_775_807>;
+
+impl<const PLACES: usize, const LEAST: u64, const GREATEST: u64> Model
+    for Amount<PLACES, LEAST, GREATEST> {
+    ghost use Rattle.std.specs.Prelude.{ℕ};
+    ghost use Rattle.muni_dec.specs.Ranges.{IsAmount};
+
+    ghost Value = { ℕ };
+
+    ghost view = { λ amount. amount.units };
+
+    ghost invariant = { λ amount. IsAmount LEAST GREATEST amount.units };
+
+    ghost inverse = { λ units. record { units = units } };
+}
+
+impl<const PLACES: usize, const LEAST: u64, const GREATEST: u64> Amount<PLACES, LEAST, GREATEST> {
+    /// The decimal of so many units.
+    pub fn new(units: u64) -> Self
+        requires { IsAmount LEAST GREATEST units }
+        ensures { result ≡ units }
+    {
+        Amount { units }
+    }
+
+    // The decimal of so many units, if they lie in its range.
+    fn in_range(units: u64) -> Option<Self>
+        ensures { result ≡ if_amount LEAST GREATEST units }
+    {
+        if units < LEAST || units > GREATEST {
+            return None;
+        }
+        Some(Amount { units })
+    }
+
+    /// The number of units.
+    pub fn units(&self) -> u64
+        ensures value { result ≡ self.now }
+        ensures range { IsAmount LEAST GREATEST result }
+    {
+        self.units
+    }
+
+    /// Replaces the text by the decimal with all its places.
+    pub fn print_into(&self, text: &mut ArrayVec<u8, 32>)
+        requires { (1 ≤ PLACES) × (PLACES ≤ 7) }
+        ensures items { text.new.items ≡ decimal_text PLACES self.now }
+        ensures len { array_vec_len text.new ≤ 29 }
+    {
+        text.clear();
+        push_decimal(text, self.units, PLACES);
+    }
+
+    #[tactic(auto, unfolding(crate::specs::Values::amount_reading))]
+    fn read_places(text: &[u8]) -> Result<Self, DecFault>
+        requires places { PLACES ≤ 7 }
+        requires told_apart { GREATEST ≤ 99_999_999_999 }
+        ensures { result ≡ amount_reading PLACES LEAST GREATEST text.now }
+    {
+        Self::in_range(read_decimal(text, PLACES)?).ok_or(DecFault::OutOfRange)
+    }
+}
+
+impl Price {
+    /// 100 dollars, the price of a redemption at maturity.
+    pub const PAR: Price = Amount { units: 100_000_000 };
+
+    /// Reads a price with at most six decimals, as `101.5`.
+    #[tactic(auto, unfolding(crate::specs::Values::price_reading))]
+    pub fn read(text: &[u8]) -> Result<Price, DecFault>
+        ensures { result ≡ price_reading text.now }
+    {
+        Price::read_places(text)
+    }
+
+    /// The price of so many units, from 0 to 999,999,999.
+    pub fn of(units: u64) -> Option<Price>
+        ensures { result ≡ if_price units }
+    {
+        Price::in_range(units)
+    }
+}
+
+impl Price3 {
+    /// The printed price of so many units.
+    pub fn of(units: u64) -> Option<Price3>
+        ensures { result ≡ if_printed_price units }
+    {
+        Price3::in_range(units)
+    }
+}
+
+impl Coupon {
+    /// Reads a coupon with at most seven decimals, as `4.125`.
+    #[tactic(auto, unfolding(crate::specs::Values::coupon_reading))]
+    pub fn read(text: &[u8]) -> Result<Coupon, DecFault>
+        ensures { result ≡ coupon_reading text.now }
+    {
+        Coupon::read_places(text)
+    }
+
+    /// The coupon of so many units, from 0 to 300,000,000.
+    pub fn of(units: u64) -> Option<Coupon>
+        ensures { result ≡ if_coupon units }
+    {
+        Coupon::in_range(units)
+    }
+}
+
+impl Cents {
+    /// No money.
+    pub const ZERO: Cents = Amount { units: 0 };
+
+    /// The amount of so many cents.
+    pub fn of(units: u64) -> Option<Cents>
+        ensures { result ≡ if_money units }
+    {
+        Cents::in_range(units)
+    }
+
+    /// Two amounts together.
+    pub fn plus(self, other: Cents) -> Cents
+        requires { self + other ≤ 9_223_372_036_854_775_807 }
+        ensures { result ≡ self + other }
+    {
+        Cents::new(self.units + other.units)
+    }
+}
