@@ -12,7 +12,7 @@ use Rattle.muni_dec.specs.Digits.{are_digits, number}
 digit_is : (c : ℕ) → is_ascii_digit c ≡ true → digit_value c < 10
 digit_is c digit = grind (arith, nat_tests)
 
-all_digits : (text : List ℕ) → list_all is_ascii_digit text ≡ true → AllDigits 10 text
+pub all_digits : (text : List ℕ) → list_all is_ascii_digit text ≡ true → AllDigits 10 text
 all_digits [] digits = tt
 all_digits (c ∷ text) digits =
     let both = and_parts (is_ascii_digit c) (list_all is_ascii_digit text) digits in

@@ -2,3 +2,5 @@ pub mod CivilLemmas
 pub mod OrderLemmas
 pub mod DayLemmas
 pub mod FormLemmas
+pub mod TextLemmas
+pub mod ReadingLemmas

@@ -3,6 +3,7 @@
 
 mod count;
 mod day;
+pub mod laws;
 mod months;
 
 pub use count::days360;

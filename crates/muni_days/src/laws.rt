@@ -1,0 +1,21 @@
+//! Laws: what days are, and which texts name them.
+
+ghost use Rattle.muni_days.specs.Laws.{DaysAreReal, DaysAreDates, DaysAreInOrder, ReadsDays, RefusesOtherForms, RefusesOtherDates};
+
+/// A law: every day is one of the calendar, days of one year, month and day are one day, and days
+/// are ordered by date.
+pub fn days_are_their_dates()
+    ensures real { DaysAreReal }
+    ensures same { DaysAreDates }
+    ensures order { DaysAreInOrder }
+{}
+
+/// A law: a text is read as a day exactly where it is the ten bytes of that day.
+///
+/// Any other text is refused by the fault of the form where it is not four digits, a dash, two
+/// digits, a dash and two digits, and else since there is no such day.
+pub fn days_are_read_as_they_are_written()
+    ensures days { ReadsDays }
+    ensures form { RefusesOtherForms }
+    ensures calendar { RefusesOtherDates }
+{}
