@@ -4,18 +4,16 @@ use Rattle.std.specs.Prelude.{nat_lt, slice_index}
 use Rattle.std.proofs.lemmas.Bool.Decides.{nat_tests}
 use Rattle.std.proofs.lemmas.Bool.{and_parts}
 use Rattle.std.proofs.lemmas.List.{take_all, length-take, length-take-le, length-drop, drop-drop, get_or-drop}
-use Rattle.std.proofs.lemmas.Str.Parse.{numerals_by_value, tells_digits, digits_value_short}
 use Rattle.std.proofs.lemmas.List.Folds.{list_all-append}
 use Rattle.std.proofs.lemmas.Int.Digits.{digits_value_push}
 use Rattle.std.proofs.Math.Seq.{split_at, take-suc}
 use Rattle.std.specs.List.{list_all}
-use Rattle.std.specs.Str.Parse.{AllDigits}
 use Rattle.std.specs.Char.{is_ascii_digit, digit_value}
 use Rattle.muni_dec.specs.Digits.{are_digits, number, last_digits}
 use Rattle.muni_rule.specs.Civil.{Civil}
 use Rattle.muni_days.specs.Form.{has_form, numbers}
 use Rattle.muni_days.specs.Day.{day_text}
-use Rattle.muni_days.proofs.FormLemmas.{all_digits}
+use Rattle.muni_days.proofs.FormLemmas.{number-few}
 use Rattle.muni_days.specs.Laws.{IsFormed}
 
 -- ---- the last digits of a number
@@ -62,10 +60,11 @@ last_digits-take text (suc count) digits few =
     let more = last_digits-take text count digits (omega arith) in
     (λ i. last_digits count (front i) ++ (48 + last i) ∷ []) ∙ (λ i. more i ++ digit.0 i ∷ []) ∙ sym taken
 
-last_digits-number : (text : List ℕ) (count : ℕ) → list_all is_ascii_digit text ≡ true → length text ≡ count → last_digits count (number text) ≡ text
+last_digits-number : (text : List ℕ) (count : ℕ) → are_digits text ≡ true → length text ≡ count → last_digits count (number text) ≡ text
 last_digits-number text count digits len =
     let all : take count text ≡ text = take_all count text (omega arith) in
-    ap (λ it. last_digits count (number it)) (sym all) ∙ last_digits-take text count digits (omega arith) ∙ all
+    let each = (and_parts (nat_lt 0 (length text)) (list_all is_ascii_digit text) digits).1 in
+    ap (λ it. last_digits count (number it)) (sym all) ∙ last_digits-take text count each (omega arith) ∙ all
 
 -- ---- the form
 -- a text of the form of a day, by its parts
@@ -73,12 +72,9 @@ record HasParts (text : List ℕ) : Type 0 where
   pub len : length text ≡ 10
   pub dash : get_or text 4 0 ≡ 45
   pub second_dash : get_or text 7 0 ≡ 45
-  pub year : list_all is_ascii_digit (take 4 text) ≡ true
-  pub month : list_all is_ascii_digit (take 2 (drop 5 text)) ≡ true
-  pub day : list_all is_ascii_digit (take 2 (drop 8 text)) ≡ true
-
-digits_of : (text : List ℕ) → are_digits text ≡ true → list_all is_ascii_digit text ≡ true
-digits_of text digits = (and_parts (nat_lt 0 (length text)) (list_all is_ascii_digit text) digits).1
+  pub year : are_digits (take 4 text) ≡ true
+  pub month : are_digits (take 2 (drop 5 text)) ≡ true
+  pub day : are_digits (take 2 (drop 8 text)) ≡ true
 
 has_parts : (text : List ℕ) → has_form text ≡ true → HasParts text
 has_parts text form =
@@ -91,9 +87,9 @@ has_parts text form =
       len = grind (arith, nat_tests);
       dash = grind (arith, nat_tests);
       second_dash = grind (arith, nat_tests);
-      year = digits_of (take 4 text) year.0;
-      month = digits_of (take 2 (drop 5 text)) month.0;
-      day = digits_of (take 2 (drop 8 text)) month.1;
+      year = year.0;
+      month = month.0;
+      day = month.1;
     }
 
 -- a text around the byte at a place
@@ -120,18 +116,15 @@ text-numbers text form =
     let day = last_digits-number (take 2 (drop 8 text)) 2 parts.day (length-take-le 2 (drop 8 text) (omega (arith, length-drop 8 text))) in
     parts-joined text parts ∙ (λ i. sym year i ++ 45 ∷ (sym month i ++ 45 ∷ sym day i))
 
-few_digits : (text : List ℕ) (count : ℕ) → list_all is_ascii_digit text ≡ true → length text ≤ count → number text < 10 ^ count
-few_digits text count digits few = digits_value_short (numerals_by_value (AllDigits 10) tells_digits) text count (all_digits text digits) few
-
 pub is_formed : (text : List ℕ) → has_form text ≡ true → IsFormed text
 is_formed text form =
     let parts = has_parts text form in
     let len = parts.len in
     record {
       date = numbers text;
-      year = few_digits (take 4 text) 4 parts.year (omega (arith, length-take 4 text));
-      month = few_digits (take 2 (drop 5 text)) 2 parts.month (omega (arith, length-take 2 (drop 5 text)));
-      day = few_digits (take 2 (drop 8 text)) 2 parts.day (omega (arith, length-take 2 (drop 8 text)));
+      year = number-few (take 4 text) 4 parts.year (omega (arith, length-take 4 text));
+      month = number-few (take 2 (drop 5 text)) 2 parts.month (omega (arith, length-take 2 (drop 5 text)));
+      day = number-few (take 2 (drop 8 text)) 2 parts.day (omega (arith, length-take 2 (drop 8 text)));
       bytes = text-numbers text form;
     }
 

@@ -9,7 +9,7 @@ ghost use Rattle.muni_days.specs.Form.{digits_reading, numbers_reading};
 
 use arrayvec::ArrayVec;
 use jiff::civil;
-use muni_dec::digits::{push_last_digits, read_digits};
+use muni_dec::digits::{push_last_digits, read_number};
 use std::cmp::Ordering;
 
 /// A day of the civil calendar from 1900-01-01 to 2199-12-31. Days are ordered by date.
@@ -58,7 +58,7 @@ fn read_few_digits(text: &[u8]) -> Option<u64>
     requires { length text.now ≤ 4 }
     ensures { result ≡ digits_reading text.now }
 {
-    read_digits(text).ok()
+    read_number(text, 4, 0, 9_999)
 }
 
 fn read_numbers(text: &[u8]) -> Option<(u64, u64, u64)>
