@@ -23,15 +23,17 @@ pub trait Door {
     /// How often it has failed.
     ghost faults: { Self → ℕ };
 
-    /// Binds the door to a port, and leaves the links where they are.
+    /// Binds the door to a port, and leaves the links where they are. What succeeds counts no fault.
     fn bind(&mut self, port: u16) -> Result<(), Failed>
         ensures tells { is_some (state self.new) ≡ is_some (state self.old) }
         ensures bound { OnOk result (state self.new ≡ option_map (bound_to port) (state self.old)) }
         ensures unchanged { OnErr result (state self.new ≡ state self.old) }
+        ensures uncounted { OnOk result (faults self.new ≡ faults self.old) }
         ensures later { faults self.old ≤ faults self.new }
         ensures failed { OnErr result (Rose (faults self.old) (faults self.new)) };
 
-    /// Gives out the first link that waits, or `None` where none does. A port has to be bound.
+    /// Gives out the first link that waits, or `None` where none does. A port has to be bound. What
+    /// succeeds counts no fault.
     fn accept(&mut self) -> Result<Option<Self::L>, Failed>
         requires { IfSome (state self.old) (λ door. IsSome door.port) }
 
@@ -41,6 +43,7 @@ pub trait Door {
         ensures given_out { IfOk result
             (λ given. state self.new ≡ option_map (after_accept given) (state self.old)) }
         ensures unchanged { OnErr result (state self.new ≡ state self.old) }
+        ensures uncounted { OnOk result (faults self.new ≡ faults self.old) }
         ensures later { faults self.old ≤ faults self.new }
         ensures failed { OnErr result (Rose (faults self.old) (faults self.new)) };
 
@@ -117,6 +120,7 @@ impl Door for MemDoor {
     fn bind(&mut self, port: u16) -> Result<(), Failed>
         ensures bound { OnOk result (self.new.door ≡ bound_to port self.old.door) }
         ensures unchanged { OnErr result (self.new.door ≡ self.old.door) }
+        ensures uncounted { OnOk result (self.new.calls.faults ≡ self.old.calls.faults) }
         ensures later { self.old.calls.faults ≤ self.new.calls.faults }
 
         // It fails exactly at the listed calls.
@@ -135,6 +139,7 @@ impl Door for MemDoor {
         ensures given_out { IfOk result
             (λ given. self.new.door ≡ after_accept given self.old.door) }
         ensures unchanged { OnErr result (self.new.door ≡ self.old.door) }
+        ensures uncounted { OnOk result (self.new.calls.faults ≡ self.old.calls.faults) }
         ensures later { self.old.calls.faults ≤ self.new.calls.faults }
 
         // It fails exactly at the listed calls.

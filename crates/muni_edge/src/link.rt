@@ -96,6 +96,8 @@ impl Source for MemLink {
         ensures beyond { IfOk result (λ count. drop count room.new ≡ drop count room.old) }
         ensures after { self.new.source ≡ after_take self.old.source (length room.old) }
         ensures keeps { self.new.sink ≡ self.old.sink }
+        ensures uncounted { OnOk result
+            (self.new.source.calls.faults ≡ self.old.source.calls.faults) }
         ensures later { self.old.source.calls.faults ≤ self.new.source.calls.faults }
     {
         self.source.take(room)
@@ -117,6 +119,7 @@ impl Sink for MemLink {
             ((count : ℕ) × (self.new.sink.bytes ≡ self.old.sink.bytes ++ take count piece.now)) }
         ensures after { self.new.sink ≡ after_put self.old.sink piece.now }
         ensures keeps { self.new.source ≡ self.old.source }
+        ensures uncounted { OnOk result (self.new.sink.calls.faults ≡ self.old.sink.calls.faults) }
         ensures later { self.old.sink.calls.faults ≤ self.new.sink.calls.faults }
     {
         self.sink.put(piece)

@@ -20,11 +20,12 @@ pub trait Sink {
     /// that is nothing else, nothing.
     ghost put_keeps: { Self → Self → Type 0 } = { λ _ _. Unit {0} };
 
-    /// Appends the piece, or after a failure a prefix of it.
+    /// Appends the piece, or after a failure a prefix of it. What succeeds counts no fault.
     fn put(&mut self, piece: &[u8]) -> Result<(), Failed>
         ensures tells { is_some (bytes self.new) ≡ is_some (bytes self.old) }
         ensures written { OnOk result (HasWritten (bytes self.old) (bytes self.new) piece.now) }
         ensures part { OnErr result (HasWrittenPart (bytes self.old) (bytes self.new) piece.now) }
+        ensures uncounted { OnOk result (faults self.new ≡ faults self.old) }
         ensures later { faults self.old ≤ faults self.new }
         ensures failed { OnErr result (Rose (faults self.old) (faults self.new)) }
         ensures keeps { put_keeps self.old self.new };
@@ -82,6 +83,7 @@ impl Sink for MemSink {
         ensures part { OnErr result
             ((count : ℕ) × (self.new.bytes ≡ self.old.bytes ++ take count piece.now)) }
         ensures after { self.new ≡ after_put self.old piece.now }
+        ensures uncounted { OnOk result (self.new.calls.faults ≡ self.old.calls.faults) }
         ensures later { self.old.calls.faults ≤ self.new.calls.faults }
     {
         self.calls.make()?;

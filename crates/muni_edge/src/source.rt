@@ -1,6 +1,6 @@
 //! What bytes are taken from.
 
-ghost use Rattle.std.specs.Prelude.{◌≡◌, ◌<◌, ◌≤◌, ◌++◌, ℕ, List, Option, Some, length, min, take, drop, is_some, is_ok, not, OnErr, IfOk};
+ghost use Rattle.std.specs.Prelude.{◌≡◌, ◌<◌, ◌≤◌, ◌++◌, ℕ, List, Option, Some, length, min, take, drop, is_some, is_ok, not, OnOk, OnErr, IfOk};
 ghost use Rattle.std.specs.Io.KnownBytes.{Consumes, IsAtEnd};
 ghost use Rattle.muni_edge.specs.Calls.{is_listed};
 ghost use Rattle.muni_edge.specs.Sink.{Rose};
@@ -22,7 +22,8 @@ pub trait Source {
     /// that is nothing else, nothing.
     ghost take_keeps: { Self → Self → Type 0 } = { λ _ _. Unit {0} };
 
-    /// Moves the next bytes to the front of `room`, and returns how many. 0 is the end of input.
+    /// Moves the next bytes to the front of `room`, and returns how many. 0 is the end of input. What
+    /// succeeds counts no fault.
     ///
     /// The rest of `room`, and after a failure all of it, may hold anything.
     fn take(&mut self, room: &mut [u8]) -> Result<usize, Failed>
@@ -34,6 +35,7 @@ pub trait Source {
             (λ count. Consumes (left self.old) (left self.new) (take count room.new)) }
         ensures end { IfOk result (λ count. count ≡ 0 → IsAtEnd (left self.new)) }
         ensures unchanged { OnErr result (left self.new ≡ left self.old) }
+        ensures uncounted { OnOk result (faults self.new ≡ faults self.old) }
         ensures later { faults self.old ≤ faults self.new }
         ensures failed { OnErr result (Rose (faults self.old) (faults self.new)) }
         ensures keeps { take_keeps self.old self.new };
@@ -87,6 +89,7 @@ impl Source for MemSource {
             (λ count. self.old.left ≡ take count room.new ++ self.new.left) }
         ensures beyond { IfOk result (λ count. drop count room.new ≡ drop count room.old) }
         ensures after { self.new ≡ after_take self.old (length room.old) }
+        ensures uncounted { OnOk result (self.new.calls.faults ≡ self.old.calls.faults) }
         ensures later { self.old.calls.faults ≤ self.new.calls.faults }
     {
         self.calls.make()?;
