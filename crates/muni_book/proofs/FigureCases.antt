@@ -5,7 +5,7 @@ use Rattle.std.specs.List.{AllZip, slice_get}
 use Rattle.std.proofs.Math.Nat.{mul-le-mul}
 use Rattle.std.proofs.lemmas.Int.{ints}
 use Rattle.muni_days.specs.declared.day.Day.{Day}
-use Rattle.muni_rule.specs.Accuracy.{TruncatesTo, IsAtMost}
+use Rattle.muni_rule.specs.Accuracy.{TruncatesTo, Reaches}
 use Rattle.muni_rule.specs.Discount.{discount_price, discounted}
 use Rattle.muni_rule.specs.Payments.{PaymentSeries}
 use Rattle.muni_rule.specs.WorthEnds.{WorthEnds}
@@ -87,7 +87,7 @@ return-same : (rate days : ℤ) (said other : SimpleYield) → IsDiscountRate ra
 return-same rate days said other given range is also =
     answer-same (negsuc 44_999) (discounted days) (discount_price rate days) said other (omega (arith, ints)) (price-above rate days given range.0 range.1) is also
 
-at_most-closed : (price : ℤ) → IsClosed (IsAtMost price)
+at_most-closed : (price : ℤ) → IsClosed (Reaches price)
 at_most-closed price = λ amount smaller less reached. omega (arith, ints, less, reached)
 
 -- the days of the first of two lists, and what is said of it
@@ -135,7 +135,7 @@ quote-like Same ends (AtRate rate) list others candidate other price p yld y bot
     let printed : simple.Print yld ≡ simple.Print y = same.same_said in
     record {
       redemption = same.like;
-      same_price = printed-one (IsAtMost (discount_price rate one.days)) price p (at_most-closed (discount_price rate one.days)) one.truncated (subst (λ n. TruncatesTo (IsAtMost (discount_price rate n)) p) (sym same.same_days) two.truncated);
+      same_price = printed-one (Reaches (discount_price rate one.days)) price p (at_most-closed (discount_price rate one.days)) one.truncated (subst (λ n. TruncatesTo (IsAtMost (discount_price rate n)) p) (sym same.same_days) two.truncated);
       same_yield = cc;
     }
 

@@ -4,7 +4,7 @@ use Rattle.std.specs.Prelude.{◌≡◌, ℕ, ◌+◌, ◌/◌, ◌==◌, Bool, 
 use Rattle.std.specs.List.{slice_get}
 use Rattle.std.specs.declared.cmp.Ordering.{Ordering}
 use Rattle.std.specs.declared.cmp.Ordering.TheVariants.{Less, Equal, Greater}
-use Rattle.muni_rule.specs.Accuracy.{TruncatesTo, IsAtMost, rounded_yield, accrued_cents, principal_cents}
+use Rattle.muni_rule.specs.Accuracy.{TruncatesTo, Reaches, rounded_yield, accrued_cents, principal_cents}
 use Rattle.muni_rule.specs.Discount.{discount_price, discounted}
 use Rattle.muni_rule.specs.Payments.{PaymentSeries}
 use Rattle.muni_rule.specs.WorthEnds.{WorthEnds}
@@ -94,7 +94,7 @@ IsReturn days price said = IsYieldAnswer (least_printed single.AtRedemption) (di
 pub record IsRateSaid (rate : ℤ) (note : Candidate) (price : ℕ) (said : SimpleYield) : Type 0 where
   pub days : ℤ
   pub shape : note.shape ≡ shape.Discount days
-  pub truncated : TruncatesTo (IsAtMost (discount_price rate days)) price
+  pub truncated : TruncatesTo (Reaches (discount_price rate days)) price
   pub return : IsReturn days (discount_price rate days) said
 
 -- The price and the yield that are said, of candidate c. At a yield the lowest price is computed, and the

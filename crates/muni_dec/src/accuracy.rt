@@ -9,7 +9,7 @@ use crate::{Cents, Coupon, Par, Price, Price3, Yield, Yield3};
 /// A given price as it is shown, truncated to thousandths of a dollar.
 pub fn trunc3(price: Price) -> Price3
     ensures value { result ≡ price / 1000 }
-    ensures truncated { rule.TruncatesTo (rule.IsAtMost (pos (360_000 * price))) result }
+    ensures truncated { rule.TruncatesTo (rule.Reaches (pos (360_000 * price))) result }
 {
     Price3::new(price.units() / 1000)
 }

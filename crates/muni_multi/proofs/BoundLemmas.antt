@@ -2,10 +2,10 @@
 use Rattle.std.proofs.Common.{◌≡◌, ℕ, ◌+◌, ◌-◌, ◌*◌, ◌/◌, ◌^◌, ◌<◌, ◌≤◌, ◌≢◌, length, sym, ap, ◌∙◌, subst, arith, lit<, ℤ}
 use Rattle.std.proofs.Math.Nat.{div-mul-le_self, mul-le-mul, mul-le-mul_left, mul-le-mul_right, le_of_mul-le-mul_right, pow-le-pow_left, one-le-pow}
 use Rattle.std.proofs.lemmas.Nat.{pow-add, mul-pow, div_below, le-div}
-use Rattle.muni_rule.specs.Payments.{PaymentSeries, IsSeries, payments_of}
+use Rattle.muni_rule.specs.Payments.{PaymentSeries, IsSeries, payments_of, payment_at}
 use Rattle.muni_rule.specs.ManyPeriods.{to_come, discount_divisor, sum_to, whole_sum, worth_power, asked_power}
 use Rattle.muni_rule.specs.Ranges.{IsManyPeriodsBoundary}
-use Rattle.muni_rule.specs.WorthEnds.{WorthEnds, HoldsWorth, IsNarrow, short_worth, ends_of, payment_at}
+use Rattle.muni_rule.specs.WorthEnds.{WorthEnds, HoldsWorth, IsNarrow, short_worth, ends_of}
 use Rattle.muni_rule.proofs.PowerLemmas.{not-zero, pow-split, power-order}
 use Rattle.muni_rule.proofs.ExactLemmas.{by-cases}
 use Rattle.muni_rule.proofs.EnclosedLemmas.{IsEnclosed, enclosed-holds, divisor-least}

@@ -1,7 +1,6 @@
 -- The sum from the last payment to the first, turn by turn.
 use Rattle.std.proofs.Common.{◌≡◌, ℕ, suc, ◌+◌, ◌-◌, ◌*◌, ◌/◌, ◌^◌, ◌<◌, ◌≤◌, refl, sym, ap, ◌∙◌, subst, arith, ℤ}
-use Rattle.muni_rule.specs.Payments.{PaymentSeries, IsSeries}
-use Rattle.muni_rule.specs.WorthEnds.{payment_at}
+use Rattle.muni_rule.specs.Payments.{PaymentSeries, IsSeries, payment_at}
 use Rattle.muni_rule.specs.ManyPeriods.{discount_divisor}
 use Rattle.muni_rule.specs.Ranges.{IsManyPeriodsBoundary}
 use Rattle.muni_span.specs.Powers.{power_low, power_high}

@@ -1,10 +1,10 @@
 -- The ends of a sum that goes from the last payment to the first.
 -- Sums are in 1/4096 of an amount, factors in units of 2^-60.
 use Rattle.std.specs.Prelude.{◌≡◌, ℕ, suc, zero, ◌+◌, ◌-◌, ◌*◌, ◌/◌, ◌^◌, ◌<◌, ◌≤◌, ℤ}
-use Rattle.muni_rule.specs.Payments.{PaymentSeries, IsSeries}
+use Rattle.muni_rule.specs.Payments.{PaymentSeries, IsSeries, payment_at}
 use Rattle.muni_rule.specs.ManyPeriods.{to_come}
 use Rattle.muni_rule.specs.Ranges.{IsManyPeriodsBoundary}
-use Rattle.muni_rule.specs.WorthEnds.{WorthEnds, enclosure_ends, payment_at}
+use Rattle.muni_rule.specs.WorthEnds.{WorthEnds, enclosure_ends}
 use Rattle.muni_multi.specs.LastStep.{discount_low, discount_high, settled_low, settled_high, HoldsSum}
 
 -- the m payments from place j on, on the day of the first of them, discounted by half a year at a time:

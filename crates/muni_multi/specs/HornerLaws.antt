@@ -3,10 +3,11 @@ use Rattle.std.proofs.Common.{◌≡◌, ℕ, suc, zero, ◌+◌, ◌-◌, ◌*�
 use Rattle.std.proofs.lemmas.Bool.{cases_lt}
 use Rattle.std.proofs.lemmas.Bool.Decides.{nat_tests}
 use Rattle.std.proofs.Math.Nat.{mul-le-mul, mul-le-mul_left, mul-le-mul_right, le_of_mul-le-mul_right, pow-le-pow_left, pow-suc, pow-zero}
-use Rattle.muni_rule.specs.Payments.{PaymentSeries, IsSeries, payments_of, interest_at_place}
+use Rattle.muni_rule.specs.Payments.{PaymentSeries, IsSeries, payments_of, payment_at}
+use Rattle.muni_rule.specs.PaymentLaws.{interest_at_place}
 use Rattle.muni_rule.specs.ManyPeriods.{to_come, discount_divisor, whole_sum}
 use Rattle.muni_rule.specs.Ranges.{IsManyPeriodsBoundary}
-use Rattle.muni_rule.specs.WorthEnds.{HoldsWorth, IsNarrow, payment_at}
+use Rattle.muni_rule.specs.WorthEnds.{HoldsWorth, IsNarrow}
 use Rattle.muni_rule.proofs.SumLemmas.{tail_sum, tail_sum-more, tail_sum-one, tail_sum-all}
 use Rattle.muni_rule.proofs.SeriesLemmas.{payment-early, payment-last, payments-count, whole_sum-series}
 use Rattle.muni_rule.proofs.EnclosedLemmas.{divisor-least, divisor-most}

@@ -3,6 +3,7 @@
 ghost use Rattle.std.specs.Prelude.{◌≡◌, ◌+◌, ◌*◌, ◌^◌, ◌≤◌, IfSome};
 ghost use Rattle.muni_rule.specs.ExactCases as cases;
 ghost use Rattle.muni_rule.specs.ManyPeriods.{discount_divisor, sum_to, discounted_sum};
+ghost use Rattle.muni_rule.specs.Payments as series;
 ghost use Rattle.muni_rule.specs.Ranges.{IsManyPeriodsBoundary};
 ghost use Rattle.muni_rule.specs.WorthEnds as rule;
 ghost use Rattle.muni_rule.specs.WorthEnds.{more_half_years, ends_of};
@@ -79,7 +80,7 @@ fn exactly(top: u128, unit: u128) -> Ends
 }
 
 fn total(flows: &Flows) -> u64
-    ensures { result ≡ sum_to (rule.payment_at flows.now) flows.now.n }
+    ensures { result ≡ sum_to (series.payment_at flows.now) flows.now.n }
 {
     let mut sum = 0;
     for k in 0..flows.n() {
@@ -133,7 +134,7 @@ fn short_sum(flows: &Flows, divisor: u64) -> u128
     requires few { flows.now.n ≤ 3 }
     requires divisor { divisor ≤ 3_000_005 }
     ensures value { result
-        ≡ discounted_sum (rule.payment_at flows.now) 2_000_000 divisor flows.now.n }
+        ≡ discounted_sum (series.payment_at flows.now) 2_000_000 divisor flows.now.n }
     ensures small { result ≤ 2 ^ 91 }
 {
     let divisor = divisor as u128;

@@ -1,7 +1,7 @@
 //! The sum from the last payment to the first.
 
 ghost use Rattle.std.specs.Prelude.{◌≡◌, ◌<◌, ◌^◌};
-ghost use Rattle.muni_rule.specs.WorthEnds as rule;
+ghost use Rattle.muni_rule.specs.Payments as rule;
 ghost use Rattle.muni_multi.specs.Horner.{sum_low, sum_high, horner_ends, AreDiscountEnds, SumsAreNarrow};
 ghost use Rattle.muni_multi.specs.HornerLaws.{horner-encloses, horner-narrow};
 ghost use Rattle.muni_multi.specs.LastStep.{LastStepEncloses};

@@ -1,8 +1,8 @@
 //! The payments one by one.
 
 ghost use Rattle.std.specs.Prelude.{◌≡◌, ◌+◌, ◌<◌, ◌≤◌};
-ghost use Rattle.muni_rule.specs.Payments.{interest_at_place};
-ghost use Rattle.muni_rule.specs.WorthEnds as rule;
+ghost use Rattle.muni_rule.specs.PaymentLaws.{interest_at_place};
+ghost use Rattle.muni_rule.specs.Payments as rule;
 
 use muni_terms::{Flows, flows_are_in_range};
 

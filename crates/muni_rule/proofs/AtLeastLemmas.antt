@@ -1,11 +1,11 @@
 -- A price that is at least an amount is at least each smaller one.
-use Rattle.std.proofs.Common.{◌≡◌, ℕ, suc, ◌+◌, ◌*◌, ◌<◌, ◌≤◌, ℤ, pos, negsuc, ◌+ℤ◌, ◌*ℤ◌, ◌≤ℤ◌, ◌<ℤ◌, arith, inl, inr}
-use Rattle.std.proofs.Math.Nat.{mul-le-mul_right}
-use Rattle.std.proofs.lemmas.Bool.{cases_lt}
+use Rattle.std.proofs.Common.{ℕ, suc, ◌+◌, ◌-◌, ◌*◌, ◌^◌, ◌≤◌, length, ℤ, pos, negsuc, ◌+ℤ◌, ◌*ℤ◌, ◌≤ℤ◌, ◌<ℤ◌, arith}
+use Rattle.std.proofs.Math.Nat.{mul-le-mul_right, pow-le-pow_left}
 use Rattle.std.proofs.lemmas.Int.{ints}
-use Rattle.muni_rule.specs.Accuracy.{thousandths}
-use Rattle.muni_rule.specs.Printed.{IsPrintedPrice, IsBelowZero}
+use Rattle.muni_rule.specs.Printed.{IsClosed}
 use Rattle.muni_rule.specs.SinglePayment.{SinglePayment, growth, AtLeast}
+use Rattle.muni_rule.specs.ManyPeriods as many
+use Rattle.muni_rule.specs.ManyPeriods.{PeriodicPayments, discount_divisor, DirtyAtLeast}
 
 -- a factor from 0 up keeps the order
 mul-le : (x y : ℤ) (factor : ℕ) → x ≤ℤ y → (x *ℤ pos factor) ≤ℤ (y *ℤ pos factor)
@@ -23,22 +23,20 @@ AtLeast-smaller payment y amount smaller above less reached =
     let p = mul-le-signed (smaller +ℤ payment.accrued) (amount +ℤ payment.accrued) (growth payment y) above (omega (arith, ints)) in
     omega (arith, ints)
 
--- a price that is printed is not below zero
-pub printed-not_below : (payment : SinglePayment) (y : ℤ) (t : ℕ) → pos 0 <ℤ growth payment y → IsPrintedPrice (AtLeast payment y) t → IsBelowZero (AtLeast payment y) → ⊥
-printed-not_below payment y t above printed below =
-    below.zero_not_reached (AtLeast-smaller payment y (thousandths t) (pos 0) above (omega (arith, ints)) printed.reached)
+pub AtLeast-closed : (payment : SinglePayment) (y : ℤ) → pos 0 <ℤ growth payment y → IsClosed (AtLeast payment y)
+AtLeast-closed payment y above = λ amount smaller less reached. AtLeast-smaller payment y amount smaller above less reached
 
--- a printed price is not above another one
-printed-not_lt : (payment : SinglePayment) (y : ℤ) (s t : ℕ) → pos 0 <ℤ growth payment y → IsPrintedPrice (AtLeast payment y) s → IsPrintedPrice (AtLeast payment y) t → s < t → ⊥
-printed-not_lt payment y s t above lower higher less =
-    lower.next_not_reached (AtLeast-smaller payment y (thousandths t) (thousandths (s + 1)) above (omega (arith, ints)) higher.reached)
+-- the same of many periods
+dirty-smaller : (bond : PeriodicPayments) (y amount smaller : ℤ) → smaller ≤ℤ amount → DirtyAtLeast bond y amount → DirtyAtLeast bond y smaller
+dirty-smaller bond y (pos x) (pos z) less reached =
+    let order : z ≤ x = omega (arith, ints) in
+    let raised : z ^ 180 ≤ x ^ 180 = pow-le-pow_left order 180 in
+    let scaled = mul-le-mul_right (discount_divisor y ^ ((length bond.payments - 1) * 180 + (180 - bond.a))) raised in
+    let at_least = reached.at_least in
+    record { at_least = omega (arith, scaled, at_least) }
+dirty-smaller bond y (negsuc x) (pos z) less reached = absurd (omega (arith, ints))
+dirty-smaller bond y amount (negsuc z) less reached = tt
 
-pub printed-same : (payment : SinglePayment) (y : ℤ) (s t : ℕ) → pos 0 <ℤ growth payment y → IsPrintedPrice (AtLeast payment y) s → IsPrintedPrice (AtLeast payment y) t → s ≡ t
-printed-same payment y s t above one other =
-    elim (cases_lt s t) [
-      | inl less ↦ absurd (printed-not_lt payment y s t above one other less)
-      | inr not_less ↦ elim (cases_lt t s) [
-        | inl more ↦ absurd (printed-not_lt payment y t s above other one more)
-        | inr not_more ↦ omega arith
-      ]
-    ]
+pub many-closed : (bond : PeriodicPayments) (y : ℤ) → IsClosed (many.AtLeast bond y)
+many-closed bond y = λ amount smaller less reached.
+    dirty-smaller bond y (amount +ℤ pos bond.accrued) (smaller +ℤ pos bond.accrued) (omega (arith, ints)) reached

@@ -1,5 +1,5 @@
 -- What verdicts tell where the worth is enclosed narrowly.
-use Rattle.std.proofs.Common.{◌≡◌, ℕ, ◌+◌, ◌*◌, ◌<◌, ◌≤◌, sym, ◌∙◌, arith, ℤ, pos, negsuc}
+use Rattle.std.proofs.Common.{◌≡◌, ℕ, ◌+◌, ◌<◌, ◌≤◌, sym, ◌∙◌, arith, ℤ, pos, negsuc}
 use Rattle.std.proofs.lemmas.Int.{ints}
 use Rattle.muni_rule.specs.Payments.{PaymentSeries, IsSeries}
 use Rattle.muni_rule.specs.ManyPeriods.{to_come, discount_divisor, IsWorthAtLeast, IsWorthMore}

@@ -5,10 +5,11 @@ use Rattle.std.proofs.Math.Nat.{le_of_mul-le-mul_left, one-le-pow, pow-suc}
 use Rattle.std.proofs.lemmas.Nat.{mul-pow}
 use Rattle.std.proofs.lemmas.Bool.{eqb-true, and_parts, or_cases, or_from, cond_both}
 use Rattle.std.proofs.lemmas.Bool.Decides.{nat_tests}
-use Rattle.muni_rule.specs.Payments.{PaymentSeries, payments_of, interest_at_place}
+use Rattle.muni_rule.specs.Payments.{PaymentSeries, payments_of, payment_at}
+use Rattle.muni_rule.specs.PaymentLaws.{interest_at_place}
 use Rattle.muni_rule.specs.ManyPeriods.{PeriodicPayments, to_come, discount_divisor, sum_to, discounted_sum, whole_sum, worth_power, asked_power}
 use Rattle.muni_rule.specs.ExactCases.{on_interest_date, is_accrued_whole, is_level, yields_par, is_par_bond, is_short, is_exact_case}
-use Rattle.muni_rule.specs.WorthEnds.{WorthEnds, HoldsWorth, exactly, payment_at, more_half_years, short_worth, ends_of}
+use Rattle.muni_rule.specs.WorthEnds.{WorthEnds, HoldsWorth, exactly, more_half_years, short_worth, ends_of}
 use Rattle.muni_rule.proofs.PowerLemmas.{pow-one, one-pow, pow-split, fraction-power}
 use Rattle.muni_rule.proofs.SumLemmas.{tail_sum, tail_sum-all, zero_sum, level_sum}
 use Rattle.muni_rule.proofs.SeriesLemmas.{payment-early, payment-last, payments-count, whole_sum-series, worth_power-series, asked_power-series}

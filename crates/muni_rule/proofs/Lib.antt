@@ -15,3 +15,4 @@ pub mod ManyPeriodLemmas
 pub mod EnclosedLemmas
 pub mod OutcomeLemmas
 pub mod ManyPeriodFallLemmas
+pub mod OnePriceLemmas

@@ -4,10 +4,9 @@ use Rattle.std.proofs.lemmas.Int.{ints}
 use Rattle.std.proofs.lemmas.Bool.{cases_lt}
 use Rattle.std.proofs.Math.Nat.{mul-le-mul_left, mul-le-mul_right, lt_of_mul-lt-mul_left, lt_of_mul-lt-mul_right, mul-lt-mul_of_pos_right, mul-lt-mul_of_pos_left, mul-pos, pow-le-pow_left, pow-lt-pow_left, one-le-pow, pow-suc}
 use Rattle.std.proofs.lemmas.Nat.{mul-pow}
-use Rattle.muni_rule.specs.Payments.{PaymentSeries, IsSeries}
+use Rattle.muni_rule.specs.Payments.{PaymentSeries, IsSeries, payment_at}
 use Rattle.muni_rule.specs.ManyPeriods.{PeriodicPayments, to_come, discount_divisor, discounted_sum, asked_power, worth_power, IsWorthAtLeast, IsWorthMore, DirtyAtLeast, DirtyMore, AtLeast, More}
 use Rattle.muni_rule.specs.PrintedYield.{Falls}
-use Rattle.muni_rule.specs.WorthEnds.{payment_at}
 use Rattle.muni_rule.proofs.PowerLemmas.{not-zero, pow-split}
 use Rattle.muni_rule.proofs.SumLemmas.{tail_sum, tail_sum-more, tail_sum-none, tail_sum-all, tail_sum-some}
 use Rattle.muni_rule.proofs.SeriesLemmas.{worth_power-series, asked_power-series}

@@ -6,11 +6,12 @@ use Rattle.std.proofs.lemmas.Bool.{cases_lt, eq-eqb, eqb-true, leb-true, le-leb,
 use Rattle.std.proofs.lemmas.Bool.Decides.{nat_tests}
 use Rattle.std.proofs.lemmas.List.{length-replicate, get_or-replicate}
 use Rattle.std.proofs.Math.Nat.{mul-le-mul_left, le_of_mul-le-mul_left, mul-pos, one-le-pow, pow-zero}
-use Rattle.muni_rule.specs.Payments.{PaymentSeries, IsSeries, payments_of, add_to_last, interest_at_place}
+use Rattle.muni_rule.specs.Payments.{PaymentSeries, IsSeries, payments_of, payment_at, add_to_last}
+use Rattle.muni_rule.specs.PaymentLaws.{interest_at_place}
 use Rattle.muni_rule.specs.ManyPeriods.{PeriodicPayments, to_come, discount_divisor, worth_power, asked_power, sum_to, whole_sum, IsWorthAtLeast, IsWorthMore, DirtyAtLeast, DirtyMore}
 use Rattle.muni_rule.specs.ExactCases.{IsAccruedWhole, IsParBond, IsShort, IsExactCase, on_interest_date, is_accrued_whole, is_level, yields_par, is_par_bond, is_short, is_exact_case}
-use Rattle.muni_rule.specs.WorthEnds.{HoldsWorth, exactly, payment_at}
-use Rattle.muni_rule.specs.ManyPeriodLaws.{ComparesAs, NothingIsPassed, FirstDayIsFraction, LastDayIsFraction, ZeroYieldIsSum, ParBondIsRedemption, ParYieldIsCoupon, NumbersTellExactCases, IsWorth, ExactCasesAreExact, OthersAreEnclosed}
+use Rattle.muni_rule.specs.WorthEnds.{HoldsWorth, exactly}
+use Rattle.muni_rule.specs.ManyPeriodLaws.{ComparesAs, BelowZeroIsReached, FirstDayIsFraction, LastDayIsFraction, ZeroYieldIsSum, ParBondIsRedemption, ParYieldIsCoupon, NumbersTellExactCases, IsWorth, ExactCasesAreExact, OthersAreEnclosed}
 use Rattle.muni_rule.proofs.PowerLemmas.{pow-one}
 use Rattle.muni_rule.proofs.SumLemmas.{tail_sum, tail_sum-all, tail_sum-some}
 use Rattle.muni_rule.proofs.SeriesLemmas.{payment-last, worth_power-series, interest-places, interest-count}
@@ -321,7 +322,7 @@ par_bond-redemption series y is bond =
     subst (λ payments. ComparesAs (record { payments = payments; accrued = series.accrued; a = series.a }) y (series.redemption + series.accrued) 1) level
     (compares (to_come (level-series series)) y (series.redemption + series.accrued) 1 divisor holds)
 
--- ---- nothing
+-- ---- an amount below zero
 pub payment-last_some : (series : PaymentSeries) → IsSeries series → 0 < payment_at series (series.n - 1)
 payment-last_some series is =
     let from = is.redemption_from in
@@ -353,5 +354,5 @@ dirty-passed series y (pos x) is below =
     (record { at_least = omega (arith, asked) }, record { more = omega (arith, asked, some) })
 dirty-passed series y (negsuc x) is below = (tt, tt)
 
-pub nothing-passed : NothingIsPassed
-nothing-passed series y amount is below = dirty-passed series y (amount +ℤ pos series.accrued) is below
+pub below_zero-reached : BelowZeroIsReached
+below_zero-reached series y amount is below = dirty-passed series y (amount +ℤ pos series.accrued) is below

@@ -16,11 +16,11 @@ reached-decided AtLeast More at more (pos (suc less)) = at (boundary (pos (suc l
 reached-decided AtLeast More at more (negsuc less) = more (boundary (negsuc less))
 
 -- what holds first and does not hold at last stops to hold somewhere
-record StopsAt (Holds : ℕ → Type 0) (k : ℕ) : Type 0 where
-  here : Holds k
-  not_next : ¬ (Holds (suc k))
+pub record StopsAt (Holds : ℕ → Type 0) (k : ℕ) : Type 0 where
+  pub here : Holds k
+  pub not_next : ¬ (Holds (suc k))
 
-stops : (Holds : ℕ → Type 0) → ((k : ℕ) → Decided (Holds k)) → (m : ℕ) → Holds 0 → ¬ (Holds m) → (k : ℕ) × StopsAt Holds k
+pub stops : (Holds : ℕ → Type 0) → ((k : ℕ) → Decided (Holds k)) → (m : ℕ) → Holds 0 → ¬ (Holds m) → (k : ℕ) × StopsAt Holds k
 stops Holds decided zero first last = absurd (last first)
 stops Holds decided (suc m) first last =
     ⊎_elim

@@ -1,11 +1,12 @@
 -- The payments that the numbers of a series stand for, place by place.
-use Rattle.std.proofs.Common.{◌≡◌, ℕ, suc, zero, ◌+◌, ◌-◌, ◌*◌, ◌^◌, ◌<◌, List, [], ◌∷◌, ◌++◌, length, replicate, slice_index_or, refl, sym, ap, ◌∙◌, arith}
+use Rattle.std.proofs.Common.{◌≡◌, ℕ, suc, zero, ◌+◌, ◌-◌, ◌*◌, ◌^◌, ◌<◌, List, [], ◌∷◌, ◌++◌, length, replicate, slice_index_or, false, true, eqb, inl, inr, refl, sym, ap, ◌∙◌, arith}
+use Rattle.std.proofs.lemmas.Bool.{cases_lt}
 use Rattle.std.proofs.lemmas.Bool.Decides.{nat_tests}
 use Rattle.std.proofs.lemmas.List.{length-append, length-replicate, get_or-replicate}
 use Rattle.std.specs.Prelude.{ℤ}
-use Rattle.muni_rule.specs.Payments.{PaymentSeries, payments_of, add_to_last, interest_at_place}
+use Rattle.muni_rule.specs.Payments.{PaymentSeries, payments_of, payment_at, add_to_last}
+use Rattle.muni_rule.specs.PaymentLaws.{interest_at_place, PaymentsAreByPlace}
 use Rattle.muni_rule.specs.ManyPeriods.{to_come, discount_divisor, discounted_sum, whole_sum, worth_power, asked_power}
-use Rattle.muni_rule.specs.WorthEnds.{payment_at}
 
 add_to_last-length : (amount : ℕ) (payments : List ℕ) → length (add_to_last amount payments) ≡ length payments
 add_to_last-length amount [] = refl
@@ -73,3 +74,15 @@ worth_power-series series y some = ap (λ t. t ^ 180 * 2000000 ^ (180 - series.a
 
 pub asked_power-series : (series : PaymentSeries) (y : ℤ) (x : ℕ) → series.skip < series.n → asked_power (to_come series) y x ≡ x ^ 180 * discount_divisor y ^ ((series.n - 1) * 180 + (180 - series.a))
 asked_power-series series y x some = ap (λ n. x ^ 180 * discount_divisor y ^ ((n - 1) * 180 + (180 - series.a))) (payments-count series some)
+
+-- each payment by its place
+pub payment-place : PaymentsAreByPlace
+payment-place series k some within =
+    elim (cases_lt (k + 1) series.n) [
+      | inl early ↦
+          let test : eqb (k + 1) series.n ≡ false = grind (arith, nat_tests) in
+          rw test (payment-early series k some early ∙ omega arith)
+      | inr last ↦
+          let test : eqb (k + 1) series.n ≡ true = grind (arith, nat_tests) in
+          rw test (payment-last series k some (omega arith))
+    ]

@@ -6,15 +6,15 @@ use Rattle.std.specs.Prelude.{ℕ, suc, ◌+◌, ◌*◌, ◌/◌, ℤ, pos, neg
 abbrev pub thousandths : ℕ → ℤ
 thousandths t = pos (360_000_000 * t)
 
--- An exact price need not be a whole amount: it is told by the amounts that it reaches.
--- Truncated to thousandths it is t: it reaches t thousandths, and not one more.
-pub record TruncatesTo (Reaches : ℤ → Type 0) (t : ℕ) : Type 0 where
-  pub reached : Reaches (thousandths t)
-  pub next_not_reached : ¬ (Reaches (thousandths (t + 1)))
+-- An exact price need not be a whole amount: it is told by the amounts that it is at least.
+-- Truncated to thousandths it is t: it is at least t thousandths, and not one more.
+pub record TruncatesTo (AtLeast : ℤ → Type 0) (t : ℕ) : Type 0 where
+  pub reached : AtLeast (thousandths t)
+  pub next_not_reached : ¬ (AtLeast (thousandths (t + 1)))
 
--- a whole amount, which is an exact price, reaches what is not above it
-abbrev pub IsAtMost : ℤ → ℤ → Type 0
-IsAtMost price amount = amount ≤ℤ price
+-- an exact price that is a whole amount reaches each amount that is not above it
+abbrev pub Reaches : ℤ → ℤ → Type 0
+Reaches price amount = amount ≤ℤ price
 
 -- A yield of so many 10^-6, which has four decimals of the percentage, is rounded to three: a last
 -- digit of five or above raises the digit before it. A negative yield goes by its magnitude.

@@ -1,4 +1,4 @@
--- Dates of the civil calendar as three numbers, their order, and steps of whole months.
+-- Dates of the civil calendar (Gregorian) as three numbers, their order, and steps of whole months.
 use Rattle.std.specs.Prelude.{ℕ, Bool, nat_le, nat_lt, ◌+◌, ◌-◌, ◌*◌, ◌/◌, ◌%◌, ◌≤◌, ℤ, pos, ◌+ℤ◌, unsigned_abs}
 
 -- a date: its year, its month from 1 and its day from 1

@@ -1,4 +1,4 @@
--- The 30/360 day count (MSRB Rule G-33(e)): a month counts 30 days and a year 360.
+-- The 30/360 day count (MSRB Rule G-33(e)): a month counts 30 days and a year, the rule's B, 360.
 use Rattle.std.specs.Prelude.{ℕ, ◌+◌, ◌*◌, ◌==◌, ◌&&◌, ◌||◌, if◌then◌else◌, ℤ, pos, ◌-ℤ◌}
 use Rattle.muni_rule.specs.Civil.{Civil}
 
@@ -14,8 +14,9 @@ last_counted first last = if (last == 31) && ((first == 30) || (first == 31)) th
 abbrev pub days_up_to : Civil → ℕ → ℕ
 days_up_to date day = date.year * 360 + date.month * 30 + day
 
--- the days from one date to another, (Y2 - Y1) * 360 + (M2 - M1) * 30 + (D2 - D1):
--- the first day is counted and the last is not
+-- the days from one date to another, (Y2 - Y1) * 360 + (M2 - M1) * 30 + (D2 - D1): the first day is
+-- counted and the last is not. The market calls it 30/360, 30/360 US or bond basis, with no rule for
+-- the end of February. It is not 30E/360, where every 31st counts as the 30th.
 abbrev pub days360 : Civil → Civil → ℤ
 days360 first last =
     pos (days_up_to last (last_counted first.day last.day))

@@ -1,4 +1,4 @@
--- Where a price of many periods may stay undecided.
+-- Where a price of many periods may stay undecided, which is this desk's own choice.
 -- Amounts are whole numbers of 1/(360 * 10^9) dollars per 100 of par.
 use Rattle.std.specs.Prelude.{ℤ, pos, ◌+ℤ◌, ◌-ℤ◌}
 use Rattle.muni_rule.specs.Payments.{PaymentSeries}

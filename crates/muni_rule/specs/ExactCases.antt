@@ -1,4 +1,4 @@
--- The cases in which the exact price of many periods is known without a root.
+-- The cases in which the exact price of many periods (MSRB Rule G-33(b)(i)) is known without a root.
 -- Amounts are whole numbers of 1/(360 * 10^9) dollars per 100 of par, yields of 10^-6.
 use Rattle.std.specs.Prelude.{◌≡◌, ℕ, ◌+◌, ◌*◌, ◌≤◌, ◌⊎◌, Bool, nat_eq, nat_le, ◌&&◌, ◌||◌, replicate, ℤ, pos, ◌*ℤ◌}
 use Rattle.muni_rule.specs.Payments.{PaymentSeries, payments_of, add_to_last}

@@ -5,10 +5,9 @@ use Rattle.std.specs.Prelude.{ℕ, ◌+◌, ◌==◌, Bool, pos, ◌-ℤ◌}
 use Rattle.muni_rule.specs.Civil.{Civil}
 use Rattle.muni_rule.specs.DayCount.{days360}
 use Rattle.muni_rule.specs.Accrued.{interest}
-use Rattle.muni_rule.specs.Payments.{PaymentSeries, redemption_amount}
+use Rattle.muni_rule.specs.Payments.{PaymentSeries, payment_at, redemption_amount}
 use Rattle.muni_rule.specs.Redemptions.{par_price}
 use Rattle.muni_rule.specs.SinglePayment.{SinglePayment}
-use Rattle.muni_rule.specs.WorthEnds.{payment_at}
 
 -- one payment of a series is to come
 abbrev pub is_last_period : PaymentSeries → Bool

@@ -21,6 +21,7 @@ pub mod WorthEnds
 pub mod Verdicts
 pub mod ManyPeriodLaws
 pub mod ManyPeriodYields
+pub mod PriceLaws
 pub mod Schedule
 pub mod Redemptions
 pub mod LastPayment

@@ -1,9 +1,9 @@
 -- The comparison of many periods in the rule's own words, where it needs no root, and the exact cases.
 use Rattle.std.specs.Prelude.{◌≡◌, ℕ, ◌+◌, ◌-◌, ◌*◌, ◌^◌, ◌<◌, ◌≤◌, ◌↔◌, true, length, ℤ, pos, ◌+ℤ◌, ◌*ℤ◌, ◌≤ℤ◌, ◌<ℤ◌}
-use Rattle.muni_rule.specs.Payments.{PaymentSeries, IsSeries}
+use Rattle.muni_rule.specs.Payments.{PaymentSeries, IsSeries, payment_at}
 use Rattle.muni_rule.specs.ManyPeriods.{PeriodicPayments, to_come, discount_divisor, sum_to, whole_sum, AtLeast, More}
 use Rattle.muni_rule.specs.ExactCases.{IsParBond, IsExactCase, is_exact_case}
-use Rattle.muni_rule.specs.WorthEnds.{WorthEnds, HoldsWorth, payment_at, ends_of}
+use Rattle.muni_rule.specs.WorthEnds.{WorthEnds, HoldsWorth, ends_of}
 
 -- the price with the accrued interest compares with every amount as the fraction top / unit does
 pub record ComparesAs (bond : PeriodicPayments) (y : ℤ) (top unit : ℕ) : Type 0 where
@@ -13,8 +13,8 @@ pub record ComparesAs (bond : PeriodicPayments) (y : ℤ) (top unit : ℕ) : Typ
       ↔ (((amount +ℤ pos bond.accrued) *ℤ pos unit) <ℤ pos top)
 
 -- what is at or below zero with the accrued interest is reached and passed at every yield
-abbrev pub NothingIsPassed : Type 0
-NothingIsPassed =
+abbrev pub BelowZeroIsReached : Type 0
+BelowZeroIsReached =
     (series : PaymentSeries) (y amount : ℤ)
     → IsSeries series → (amount +ℤ pos series.accrued) ≤ℤ pos 0
     → AtLeast (to_come series) y amount × More (to_come series) y amount

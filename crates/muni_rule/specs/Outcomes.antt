@@ -1,5 +1,5 @@
--- The exact outcome of a given price: a printed yield in a range, or the side on which it leaves the
--- range. `AtLeast` and `More` tell the price at each yield, as for the printed yield.
+-- The exact outcome of a given price (MSRB Rule G-33(b)(ii)): a printed yield in one of the desk's
+-- ranges, or the side on which it leaves the range. `AtLeast` and `More` tell the price at each yield, as for the printed yield.
 use Rattle.std.specs.Prelude.{◌≡◌, ◌⊎◌, ℤ, pos, ◌+ℤ◌}
 use Rattle.muni_rule.specs.PrintedYield.{Reached, IsPrintedYield}
 

@@ -1,8 +1,8 @@
 -- The numbers of a series stand for the list of its payments.
-use Rattle.std.specs.Prelude.{◌≡◌, ℕ, ◌<◌, ◌≤◌, true, Some}
+use Rattle.std.specs.Prelude.{◌≡◌, ℕ, ◌+◌, ◌<◌, ◌≤◌, nat_lt, nat_eq, if◌then◌else◌, true, Some}
 use Rattle.muni_rule.specs.Civil.{Civil, IsCivil, order_of}
 use Rattle.muni_rule.specs.QuasiDates.{is_quasi_date}
-use Rattle.muni_rule.specs.Payments.{PaymentSeries, coupon_payments, zero_payments, coupon_series, zero_series, payments_of}
+use Rattle.muni_rule.specs.Payments.{PaymentSeries, coupon_payments, zero_payments, coupon_series, zero_series, payments_of, payment_at}
 
 -- a date from 1901 to 2199, so that a quasi-coupon date of the desk stands before it
 pub record IsSettlementDate (date : Civil) : Type 0 where
@@ -46,3 +46,15 @@ ZeroSeriesIsPayments =
     → IsRedeemedAfter maturity settlement redemption
     → zero_series maturity settlement redemption price ≡ Some series
     → payments_of series ≡ zero_payments maturity settlement redemption price
+
+-- the interest in the payment at place k, where the first skip places have none
+abbrev pub interest_at_place : ℕ → ℕ → ℕ → ℕ → ℕ
+interest_at_place skip first regular k =
+    if nat_lt k skip then 0 else (if nat_eq k skip then first else regular)
+
+-- the numbers tell each payment: the interest at its place, and with the last one the redemption
+abbrev pub PaymentsAreByPlace : Type 0
+PaymentsAreByPlace =
+    (series : PaymentSeries) (k : ℕ) → series.skip < series.n → k < series.n
+    → payment_at series k ≡ interest_at_place series.skip series.first series.regular k
+    + (if nat_eq (k + 1) series.n then series.redemption else 0)

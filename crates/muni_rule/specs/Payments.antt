@@ -1,7 +1,8 @@
--- The payments that follow a settlement, up to a redemption.
+-- The payments that follow a settlement, up to a redemption (MSRB Rule G-33(b)(i), and for an odd
+-- first coupon SIA, Standard Securities Calculation Methods).
 -- Amounts are whole numbers of 1/(360 * 10^9) dollars per 100 of par, coupons of 10^-7 dollars and
 -- redemption prices of 10^-6 dollars.
-use Rattle.std.specs.Prelude.{ℕ, ◌+◌, ◌-◌, ◌*◌, ◌<◌, ◌≤◌, ◌==◌, nat_lt, nat_eq, if◌then◌else◌, List, [], ◌∷◌, ◌++◌, map, replicate, Option, option_map, option_and_then, ℤ, unsigned_abs}
+use Rattle.std.specs.Prelude.{ℕ, ◌+◌, ◌-◌, ◌*◌, ◌<◌, ◌≤◌, ◌==◌, if◌then◌else◌, List, [], ◌∷◌, ◌++◌, map, replicate, slice_index_or, Option, option_map, option_and_then, ℤ, unsigned_abs}
 use Rattle.muni_rule.specs.Civil.{Civil, order_of, is_before}
 use Rattle.muni_rule.specs.DayCount.{days360}
 use Rattle.muni_rule.specs.QuasiDates.{quasi_dates_between, quasi_count, days_into_period}
@@ -56,10 +57,9 @@ payments_of series =
     (replicate series.skip 0
     ++ series.first ∷ replicate (series.n - series.skip - 1) series.regular)
 
--- the interest in the payment at place k, where the first skip places have none
-abbrev pub interest_at_place : ℕ → ℕ → ℕ → ℕ → ℕ
-interest_at_place skip first regular k =
-    if nat_lt k skip then 0 else (if nat_eq k skip then first else regular)
+-- the payment at place k of those that the numbers stand for
+abbrev pub payment_at : PaymentSeries → ℕ → ℕ
+payment_at series k = slice_index_or (payments_of series) k 0
 
 -- the bounds of every series
 pub record IsSeries (series : PaymentSeries) : Type 0 where

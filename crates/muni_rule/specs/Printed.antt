@@ -1,7 +1,7 @@
--- Which price is printed at a yield, where `AtLeast` tells the amounts that the exact price reaches.
-use Rattle.std.specs.Prelude.{◌≡◌, ℕ, ℤ, pos, ◌<ℤ◌}
+-- Which price is printed at a yield (MSRB Rule G-33(b)(i), to the accuracy of this desk), where
+-- `AtLeast` tells the amounts that the exact price is at least.
+use Rattle.std.specs.Prelude.{◌≡◌, ◌⊎◌, ℕ, ℤ, pos, ◌≤ℤ◌}
 use Rattle.muni_rule.specs.Accuracy.{TruncatesTo}
-use Rattle.muni_rule.specs.SinglePayment.{SinglePayment, growth, AtLeast}
 
 -- so many thousandths are printed: the exact price, truncated
 abbrev pub IsPrintedPrice : (ℤ → Type 0) → ℕ → Type 0
@@ -11,14 +11,12 @@ IsPrintedPrice AtLeast t = TruncatesTo AtLeast t
 pub record IsBelowZero (AtLeast : ℤ → Type 0) : Type 0 where
   pub zero_not_reached : ¬ (AtLeast (pos 0))
 
--- at most one price is printed for a payment at a yield
-abbrev pub PrintsOnePrice : Type 0
-PrintsOnePrice =
-    (payment : SinglePayment) (y : ℤ) (s t : ℕ) → pos 0 <ℤ growth payment y
-    → IsPrintedPrice (AtLeast payment y) s → IsPrintedPrice (AtLeast payment y) t → s ≡ t
+-- the amounts that an exact price is at least are all those up to it
+abbrev pub IsClosed : (ℤ → Type 0) → Type 0
+IsClosed AtLeast = (amount smaller : ℤ) → smaller ≤ℤ amount → AtLeast amount → AtLeast smaller
 
--- and none where the exact price is below zero
-abbrev pub PrintsNoneBelowZero : Type 0
-PrintsNoneBelowZero =
-    (payment : SinglePayment) (y : ℤ) (t : ℕ) → pos 0 <ℤ growth payment y
-    → IsPrintedPrice (AtLeast payment y) t → ¬ (IsBelowZero (AtLeast payment y))
+-- one price is printed and no other, or the exact price is below zero, and not both
+pub record HasOnePrice (AtLeast : ℤ → Type 0) : Type 0 where
+  pub some : IsBelowZero AtLeast ⊎ ((t : ℕ) × IsPrintedPrice AtLeast t)
+  pub one_is_printed : (s t : ℕ) → IsPrintedPrice AtLeast s → IsPrintedPrice AtLeast t → s ≡ t
+  pub none_below_zero : (t : ℕ) → IsPrintedPrice AtLeast t → ¬ (IsBelowZero AtLeast)

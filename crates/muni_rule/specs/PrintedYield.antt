@@ -1,5 +1,6 @@
--- Which yield is printed at a traded price, where `AtLeast` tells the yields at which the exact price is
--- at least the traded one, and `More` those at which it is more.
+-- Which yield is printed at a traded price (MSRB Rule G-33(b)(ii), to the accuracy of this desk), where
+-- `AtLeast` tells the yields at which the exact price is at least the traded one, and `More` those at
+-- which it is more.
 -- Yields are in 10^-6, printed ones in 10^-5.
 use Rattle.std.specs.Prelude.{◌≡◌, ℕ, zero, suc, ◌+◌, ◌⊎◌, ℤ, pos, negsuc, neg_ℤ, ◌+ℤ◌, ◌-ℤ◌, ◌*ℤ◌, ◌<ℤ◌, ◌↔◌}
 use Rattle.muni_rule.specs.Accuracy.{rounded_yield}

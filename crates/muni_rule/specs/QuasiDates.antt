@@ -1,8 +1,9 @@
--- Quasi-coupon dates: all dates at whole multiples of six months before and after an anchor, which
--- is the first interest date, or the maturity of an issue that pays no interest.
-use Rattle.std.specs.Prelude.{◌≡◌, ℕ, ◌+◌, ◌*◌, ◌%◌, ◌<◌, ◌≤◌, ◌==◌, ◌&&◌, Bool, List, length, map, filter, Option, None, option_map, ℤ}
+-- Quasi-coupon dates (SIA, Standard Securities Calculation Methods): all dates at whole multiples of
+-- six months before and after an anchor, which is the first interest date, or the maturity of an
+-- issue that pays no interest.
+use Rattle.std.specs.Prelude.{ℕ, ◌%◌, ◌==◌, ◌&&◌, Bool, List, length, map, filter, Option, None, option_map, ℤ}
 use Rattle.std.specs.List.{range_with_len, last_or}
-use Rattle.muni_rule.specs.Civil.{Civil, month_index, day_in_month, order_of, is_before, is_not_after}
+use Rattle.muni_rule.specs.Civil.{Civil, month_index, day_in_month, is_before, is_not_after}
 use Rattle.muni_rule.specs.DayCount.{days360}
 
 -- the months of the desk, from January 1900 to December 2199
@@ -38,12 +39,3 @@ days_into_period anchor settlement =
 abbrev pub is_quasi_date : Civil → Civil → Bool
 is_quasi_date anchor date =
     (date.day == anchor.day) && (month_index date % 6 == month_index anchor % 6)
-
--- The month at a place is that of the last quasi-coupon date not after a date: that one is reached,
--- and the one six months later, 186 places on in the order of dates, is not.
-pub record IsLastMonth (anchor date : Civil) (index : ℕ) : Type 0 where
-  pub half_years : index % 6 ≡ month_index anchor % 6
-  pub reached : 31 * index + 31 + anchor.day ≤ order_of date
-  pub next_not_reached : order_of date < 31 * index + 217 + anchor.day
-  pub from : 22_800 ≤ index
-  pub below : index < 26_400

@@ -13,7 +13,10 @@ pub record SinglePayment : Type 0 where
 abbrev pub growth : SinglePayment → ℤ → ℤ
 growth payment y = pos 360_000_000 +ℤ (payment.left *ℤ y)
 
--- the price at a yield, due / growth - accrued, is at least an amount
+-- The price at a yield is due / growth - accrued. The comparisons below are of this fraction where
+-- the growth is above zero, as it is at every yield at which the desk asks for a price.
+
+-- the price at a yield is at least an amount
 abbrev pub AtLeast : SinglePayment → ℤ → ℤ → Type 0
 AtLeast payment y amount =
     ((amount +ℤ payment.accrued) *ℤ growth payment y) ≤ℤ (payment.due *ℤ pos 360_000_000)

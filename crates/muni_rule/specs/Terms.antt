@@ -1,4 +1,4 @@
--- Which terms an issue may have at the desk.
+-- Which terms an issue may have at the desk, which is this desk's own choice.
 use Rattle.std.specs.Prelude.{ℕ, ◌&&◌, Bool, nat_le, nat_lt, int_le, List, length, pos}
 use Rattle.std.specs.List.{list_all}
 use Rattle.muni_rule.specs.Civil.{Civil, is_before, is_not_after}

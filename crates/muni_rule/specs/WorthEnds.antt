@@ -1,7 +1,7 @@
--- Two ends between which the worth of the payments to come lies, at the settlement and with the accrued
--- interest. The worth itself, where it is known, is ends that are equal.
-use Rattle.std.specs.Prelude.{ℕ, ◌+◌, ◌-◌, ◌*◌, ◌^◌, ◌<◌, ◌≤◌, nat_eq, if◌then◌else◌, Option, Some, None, unwrap_or, ℤ, slice_index_or}
-use Rattle.muni_rule.specs.Payments.{PaymentSeries, payments_of}
+-- Two ends between which the worth of the payments to come (MSRB Rule G-33(b)(i)) lies, at the
+-- settlement and with the accrued interest. The worth itself, where it is known, is ends that are equal.
+use Rattle.std.specs.Prelude.{ℕ, ◌+◌, ◌-◌, ◌*◌, ◌^◌, ◌<◌, ◌≤◌, nat_eq, if◌then◌else◌, Option, Some, None, unwrap_or, ℤ}
+use Rattle.muni_rule.specs.Payments.{PaymentSeries, payment_at}
 use Rattle.muni_rule.specs.ManyPeriods.{PeriodicPayments, discount_divisor, sum_to, discounted_sum, asked_power, worth_power}
 use Rattle.muni_rule.specs.ExactCases.{is_par_bond, is_short}
 
@@ -28,10 +28,6 @@ enclosure_ends lo hi = record { lo = lo; hi = hi; unit = 4096 }
 -- both ends are one fraction
 abbrev pub exactly : ℕ → ℕ → WorthEnds
 exactly top unit = record { lo = top; hi = top; unit = unit }
-
--- the payment at place k
-abbrev pub payment_at : PaymentSeries → ℕ → ℕ
-payment_at series k = slice_index_or (payments_of series) k 0
 
 -- on an interest date the last payment is n - 1 half-years away and one more, where half a year begins
 abbrev pub more_half_years : PaymentSeries → ℕ

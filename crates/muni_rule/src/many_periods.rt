@@ -1,14 +1,14 @@
 //! Laws of the price with more than six months left.
 
 ghost use Rattle.muni_rule.specs.ManyPeriodYields.{ManyPeriodsPriceFalls, ManyPeriodsPrintOneYield, ManyPeriodsPrintRounded, ManyPeriodsHaveOneOutcome};
-ghost use Rattle.muni_rule.specs.ManyPeriodLaws.{NothingIsPassed, FirstDayIsFraction, LastDayIsFraction, ZeroYieldIsSum, ParBondIsRedemption, ParYieldIsCoupon, NumbersTellExactCases, ExactCasesAreExact, OthersAreEnclosed};
+ghost use Rattle.muni_rule.specs.ManyPeriodLaws.{BelowZeroIsReached, FirstDayIsFraction, LastDayIsFraction, ZeroYieldIsSum, ParBondIsRedemption, ParYieldIsCoupon, NumbersTellExactCases, ExactCasesAreExact, OthersAreEnclosed};
 
 /// On an interest date the comparison by whole powers is that of a fraction.
 ///
 /// At a yield of zero and for a par bond this fraction is a whole amount. An amount that is at or
 /// below zero with the accrued interest is always reached.
 pub fn the_price_is_the_rules_fraction()
-    ensures nothing { NothingIsPassed }
+    ensures below_zero_is_reached { BelowZeroIsReached }
     ensures first_day { FirstDayIsFraction }
     ensures last_day { LastDayIsFraction }
     ensures zero_yield { ZeroYieldIsSum }

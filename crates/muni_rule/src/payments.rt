@@ -1,9 +1,11 @@
 //! Laws of the payments that follow a settlement.
 
-ghost use Rattle.muni_rule.specs.PaymentLaws.{CouponSeriesIsPayments, ZeroSeriesIsPayments};
+ghost use Rattle.muni_rule.specs.PaymentLaws.{CouponSeriesIsPayments, ZeroSeriesIsPayments, PaymentsAreByPlace};
 
-/// The numbers of a series stand for the list of its payments, with coupons and without.
+/// The numbers of a series stand for the list of its payments, with coupons and without, and tell
+/// the payment at each place.
 pub fn series_stand_for_their_payments()
     ensures coupons { CouponSeriesIsPayments }
     ensures zeros { ZeroSeriesIsPayments }
+    ensures by_place { PaymentsAreByPlace }
 {}

@@ -1,10 +1,10 @@
 //! Laws of the printed price.
 
-ghost use Rattle.muni_rule.specs.Printed.{PrintsOnePrice, PrintsNoneBelowZero};
+ghost use Rattle.muni_rule.specs.PriceLaws.{OnePaymentHasOnePrice, ManyPeriodsHaveOnePrice};
 
-/// At most one price is printed for a payment at a yield, and none where the exact price is below
-/// zero, as long as one and the yield of the days left stay above zero.
-pub fn at_most_one_price_is_printed()
-    ensures one { PrintsOnePrice }
-    ensures none { PrintsNoneBelowZero }
+/// At a yield one price is printed and no other, or the exact price is below zero, as long as what
+/// discounts the payments is above zero.
+pub fn one_price_is_printed()
+    ensures one_payment { OnePaymentHasOnePrice }
+    ensures many_periods { ManyPeriodsHaveOnePrice }
 {}

@@ -4,7 +4,8 @@ use Rattle.std.specs.Prelude.{All, option_map, find}
 use Rattle.std.specs.declared.cmp.Ordering.{Ordering}
 use Rattle.std.proofs.lemmas.Int.{ints}
 use Rattle.std.proofs.lemmas.List.Elements.{All-nil, All-cons}
-use Rattle.muni_rule.specs.Ranges.{YieldRange, IsWithin}
+use Rattle.muni_rule.specs.Ranges.{IsWithin}
+use Rattle.muni_rule.specs.declared.ranges.YieldRange.{YieldRange}
 use Rattle.muni_sched.specs.Range.{IsGivenFor, is_outside, excludes, side_of, side_for, side_of_first, given_range}
 use Rattle.muni_sched.specs.declared.candidate.Candidate.{Candidate}
 

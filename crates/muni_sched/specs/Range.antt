@@ -3,7 +3,8 @@ use Rattle.std.specs.Prelude.{◌||◌, Bool, if◌then◌else◌, List, find, O
 use Rattle.std.specs.Int.Signed.{lt_z}
 use Rattle.std.specs.declared.cmp.Ordering.{Ordering}
 use Rattle.std.specs.declared.cmp.Ordering.TheVariants.{Less, Greater}
-use Rattle.muni_rule.specs.Ranges.{YieldRange, IsWithin, one_period_yields, at_redemption_yields, discount_rates, many_periods_yields}
+use Rattle.muni_rule.specs.Ranges.{IsWithin, one_period_yields, at_redemption_yields, discount_rates, many_periods_yields}
+use Rattle.muni_rule.specs.declared.ranges.YieldRange.{YieldRange}
 use Rattle.muni_sched.specs.declared.candidate.Candidate.{Candidate}
 use Rattle.muni_sched.specs.declared.candidate.Shape.{Shape}
 use Rattle.muni_sched.specs.declared.candidate.Shape.TheVariants.{Many, One, AtRedemption, Discount}

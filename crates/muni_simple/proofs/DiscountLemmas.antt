@@ -4,7 +4,7 @@ use Rattle.std.proofs.Math.Nat.{mul-le-mul, mul-le-mul_right}
 use Rattle.std.proofs.lemmas.Int.{ints}
 use Rattle.muni_rule.specs.SinglePayment.{AtLeast, More}
 use Rattle.muni_rule.specs.Discount.{discount_price, discounted}
-use Rattle.muni_rule.specs.Ranges.{IsDiscountRate}
+use Rattle.muni_rule.specs.Ranges.{IsDiscountRate, at_redemption_prints}
 use Rattle.muni_simple.specs.declared.yields.SimpleYield.{SimpleYield}
 use Rattle.muni_simple.specs.declared.yields.SimpleYield.TheVariants.{Print, Below, Above, NoTime}
 use Rattle.muni_simple.specs.Yields.{IsYieldAnswer}
@@ -25,7 +25,7 @@ not_at_most price rate days some most least price_is at =
     let discount : rate * days ≤ 300_000 * days = mul-le-mul_right days most in
     omega (arith, ints)
 
-pub return_inside : (rate days : ℤ) (price : ℕ) (answer : SimpleYield) → IsDiscountRate rate → pos 0 ≤ℤ days → 14_400_000_000_000 ≤ price → price ≤ 36_000_000_000_000 → pos price ≡ discount_price rate days → IsYieldAnswer (negsuc 44_999) (discounted days) (pos price) answer → (answer ≢ Below) × (answer ≢ Above)
+pub return_inside : (rate days : ℤ) (price : ℕ) (answer : SimpleYield) → IsDiscountRate rate → pos 0 ≤ℤ days → 14_400_000_000_000 ≤ price → price ≤ 36_000_000_000_000 → pos price ≡ discount_price rate days → IsYieldAnswer at_redemption_prints.least (discounted days) (pos price) answer → (answer ≢ Below) × (answer ≢ Above)
 return_inside (negsuc r) days price answer given from least most is right = absurd (omega (arith, ints))
 return_inside (pos rate) (negsuc d) price answer given from least most is right = absurd (omega (arith, ints))
 return_inside (pos rate) (pos days) price NoTime given from least most is right = (λ e. cc, λ e. cc)

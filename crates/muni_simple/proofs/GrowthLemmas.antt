@@ -1,10 +1,13 @@
 -- The days left times the yield, in their ranges.
-use Rattle.std.proofs.Common.{ℕ, suc, ◌*◌, ◌≤◌, ℤ, pos, negsuc, neg_ℤ, ◌+ℤ◌, ◌*ℤ◌, ◌≤ℤ◌, arith}
+use Rattle.std.proofs.Common.{ℕ, suc, ◌*◌, ◌<◌, ◌≤◌, lit<, ℤ, pos, negsuc, neg_ℤ, ◌+ℤ◌, ◌*ℤ◌, ◌≤ℤ◌, ◌<ℤ◌, arith}
 use Rattle.std.proofs.Math.Nat.{mul-le-mul}
 use Rattle.std.proofs.lemmas.Int.{ints}
+use Rattle.muni_rule.specs.PrintedYield.{boundary}
 use Rattle.muni_simple.specs.declared.single.Shape1.{Shape1}
 use Rattle.muni_simple.specs.declared.single.Shape1.TheVariants.{OnePeriod, AtRedemption}
 use Rattle.muni_simple.specs.Single.{IsGivenYield, most_left}
+use Rattle.muni_simple.specs.Yields.{least_printed}
+use Rattle.muni_simple.specs.GrowthLaw.{GrowthIsAboveZero}
 
 -- a product of magnitudes stays below that of their bounds
 change-within : (left most_left most_below most_above : ℕ) (y : ℤ) → left ≤ most_left → negsuc most_below ≤ℤ y → y ≤ℤ pos most_above → (neg_ℤ (pos (most_left * suc most_below)) ≤ℤ (pos left *ℤ y)) × ((pos left *ℤ y) ≤ℤ pos (most_left * most_above))
@@ -24,3 +27,18 @@ growth-within AtRedemption (pos left) y low high given =
     let c = change-within left 720 449_999 9_999_990 y (omega (arith, ints)) given.0 given.1 in
     (omega (arith, ints), omega (arith, ints))
 growth-within shape (negsuc left) y low high given = absurd (omega (arith, ints))
+
+-- from a least yield on, a growth is not below that of the most days
+growth-from : (left most_left below : ℕ) (y : ℤ) → left ≤ most_left → most_left * suc below < 360_000_000 → negsuc below ≤ℤ y → pos 0 <ℤ (pos 360_000_000 +ℤ (pos left *ℤ y))
+growth-from left most below (pos n) few small low = omega (arith, ints)
+growth-from left most below (negsuc n) few small low =
+    let product : left * suc n ≤ most * suc below = mul-le-mul few (omega (arith, ints)) in
+    omega (arith, ints)
+
+growth-left : (shape : Shape1) (left y : ℤ) → pos 0 ≤ℤ left → left ≤ℤ pos (most_left shape) → boundary (least_printed shape) ≤ℤ y → pos 0 <ℤ (pos 360_000_000 +ℤ (left *ℤ y))
+growth-left OnePeriod (pos left) y from few least = growth-from left 180 900_004 y (omega (arith, ints)) (lit< tt) least
+growth-left AtRedemption (pos left) y from few least = growth-from left 720 450_004 y (omega (arith, ints)) (lit< tt) least
+growth-left shape (negsuc left) y from few least = absurd (omega (arith, ints))
+
+pub growth-above : GrowthIsAboveZero
+growth-above shape payment y from few least = growth-left shape payment.left y from few least

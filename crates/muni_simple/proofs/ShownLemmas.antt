@@ -8,14 +8,15 @@ use Rattle.muni_rule.specs.SinglePayment.{AtLeast, More}
 use Rattle.muni_rule.specs.PrintedYield.{IsFromAbove, IsFromBelow, Falls}
 use Rattle.muni_rule.proofs.FallLemmas.{price_falls}
 use Rattle.muni_rule.proofs.YieldLemmas.{printed-above, printed-below, print-in_range, below-range, above-range}
-use Rattle.muni_simple.specs.Yields.{IsYieldAnswer, payment_at, shown_above, shown_below, greatest_printed}
+use Rattle.muni_simple.specs.Yields.{IsYieldAnswer, greatest_printed}
+use Rattle.muni_simple.specs.Shown.{natural_payment, shown_above, shown_below}
 
 -- the price of a payment falls
-falls_at : (due accrued left amount : ℕ) → 0 < left → 0 < amount → Falls (λ y. AtLeast (payment_at due accrued left) y (pos amount)) (λ y. More (payment_at due accrued left) y (pos amount))
-falls_at due accrued left amount days above = price_falls (payment_at due accrued left) (pos amount) (omega (arith, ints)) (omega (arith, ints))
+falls_at : (due accrued left amount : ℕ) → 0 < left → 0 < amount → Falls (λ y. AtLeast (natural_payment due accrued left) y (pos amount)) (λ y. More (natural_payment due accrued left) y (pos amount))
+falls_at due accrued left amount days above = price_falls (natural_payment due accrued left) (pos amount) (omega (arith, ints)) (omega (arith, ints))
 
 -- a gain
-from_above : (due accrued left amount y : ℕ) → amount + accrued ≤ due → y * ((amount + accrued) * left) ≤ (due - (amount + accrued)) * 360_000_000 → (due - (amount + accrued)) * 360_000_000 < (y + 1) * ((amount + accrued) * left) → IsFromAbove (λ z. AtLeast (payment_at due accrued left) z (pos amount)) y
+from_above : (due accrued left amount y : ℕ) → amount + accrued ≤ due → y * ((amount + accrued) * left) ≤ (due - (amount + accrued)) * 360_000_000 → (due - (amount + accrued)) * 360_000_000 < (y + 1) * ((amount + accrued) * left) → IsFromAbove (λ z. AtLeast (natural_payment due accrued left) z (pos amount)) y
 from_above due accrued left amount y worth reached next = record {
   reached = omega (arith, ints);
   next_not_reached = λ at. omega (arith, ints);
@@ -44,7 +45,7 @@ pub worth_below : (x left y : ℕ) → (pos x *ℤ (pos 360_000_000 +ℤ (pos le
 worth_below x left y = rw (mul-neg left y) (mul-sub x 360_000_000 (left * y))
 
 -- a loss
-from_below : (due accrued left amount y : ℕ) → due < amount + accrued → y * ((amount + accrued) * left) ≤ (amount + accrued - due) * 360_000_000 → (amount + accrued - due) * 360_000_000 < (y + 1) * ((amount + accrued) * left) → IsFromBelow (λ z. More (payment_at due accrued left) z (pos amount)) y
+from_below : (due accrued left amount y : ℕ) → due < amount + accrued → y * ((amount + accrued) * left) ≤ (amount + accrued - due) * 360_000_000 → (amount + accrued - due) * 360_000_000 < (y + 1) * ((amount + accrued) * left) → IsFromBelow (λ z. More (natural_payment due accrued left) z (pos amount)) y
 from_below due accrued left amount y worth reached next =
     let at = worth_below (amount + accrued) left y in
     let past = worth_below (amount + accrued) left (y + 1) in
@@ -53,7 +54,7 @@ from_below due accrued left amount y worth reached next =
       past_next = rw past (omega (arith, ints));
     }
 
-pub answer-above : (due accrued left amount least y : ℕ) → 0 < left → 0 < amount → amount + accrued ≤ due → y * ((amount + accrued) * left) ≤ (due - (amount + accrued)) * 360_000_000 → (due - (amount + accrued)) * 360_000_000 < (y + 1) * ((amount + accrued) * left) → IsYieldAnswer (neg_ℤ (pos least)) (payment_at due accrued left) (pos amount) (shown_above y)
+pub answer-above : (due accrued left amount least y : ℕ) → 0 < left → 0 < amount → amount + accrued ≤ due → y * ((amount + accrued) * left) ≤ (due - (amount + accrued)) * 360_000_000 → (due - (amount + accrued)) * 360_000_000 < (y + 1) * ((amount + accrued) * left) → IsYieldAnswer (neg_ℤ (pos least)) (natural_payment due accrued left) (pos amount) (shown_above y)
 answer-above due accrued left amount least y days above worth reached next =
     let falls = falls_at due accrued left amount days above in
     let printed = printed-above falls y ((y + 5) / 10) refl (from_above due accrued left amount y worth reached next) in
@@ -66,7 +67,7 @@ answer-above due accrued left amount least y days above worth reached next =
           rw test (omega (arith, ints), print-in_range falls (neg_ℤ (pos least)) greatest_printed (pos ((y + 5) / 10)) (omega (arith, ints)) (omega (arith, ints)) printed)
     ]
 
-pub answer-below : (due accrued left amount least y : ℕ) → 0 < left → 0 < amount → due < amount + accrued → y * ((amount + accrued) * left) ≤ (amount + accrued - due) * 360_000_000 → (amount + accrued - due) * 360_000_000 < (y + 1) * ((amount + accrued) * left) → IsYieldAnswer (neg_ℤ (pos least)) (payment_at due accrued left) (pos amount) (shown_below least y)
+pub answer-below : (due accrued left amount least y : ℕ) → 0 < left → 0 < amount → due < amount + accrued → y * ((amount + accrued) * left) ≤ (amount + accrued - due) * 360_000_000 → (amount + accrued - due) * 360_000_000 < (y + 1) * ((amount + accrued) * left) → IsYieldAnswer (neg_ℤ (pos least)) (natural_payment due accrued left) (pos amount) (shown_below least y)
 answer-below due accrued left amount least y days above worth reached next =
     let falls = falls_at due accrued left amount days above in
     let printed = printed-below falls y ((y + 5) / 10) refl (from_below due accrued left amount y worth reached next) in

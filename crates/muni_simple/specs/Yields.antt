@@ -1,20 +1,26 @@
 -- The yields that are answered for one payment to come.
-use Rattle.std.specs.Prelude.{◌≡◌, ℕ, ◌+◌, ◌/◌, nat_le, if◌then◌else◌, ℤ, pos, negsuc, neg_ℤ, ◌+ℤ◌, ◌≤ℤ◌, ◌<ℤ◌}
+use Rattle.std.specs.Prelude.{◌≡◌, ⊤, ℤ, pos, ◌+ℤ◌, ◌≤ℤ◌, ◌<ℤ◌}
 use Rattle.muni_rule.specs.SinglePayment.{SinglePayment, AtLeast, More}
 use Rattle.muni_rule.specs.Outcomes.{IsBelow, IsAbove, IsPrint}
+use Rattle.muni_rule.specs.Ranges.{IsWithin, one_period_prints, at_redemption_prints}
+use Rattle.muni_rule.specs.declared.ranges.YieldRange.{YieldRange}
 use Rattle.muni_simple.specs.declared.single.Shape1.{Shape1}
 use Rattle.muni_simple.specs.declared.single.Shape1.TheVariants.{OnePeriod, AtRedemption}
 use Rattle.muni_simple.specs.declared.yields.SimpleYield.{SimpleYield}
 use Rattle.muni_simple.specs.declared.yields.SimpleYield.TheVariants.{Print, Below, Above, NoTime}
 
--- the least yield that is printed, in 10^-5: -90 percent, or -45 with interest at redemption
-abbrev pub least_printed : Shape1 → ℤ
-least_printed OnePeriod = negsuc 89_999
-least_printed AtRedemption = negsuc 44_999
+-- the yields that are printed for a payment of a shape
+abbrev pub printed_range : Shape1 → YieldRange
+printed_range OnePeriod = one_period_prints
+printed_range AtRedemption = at_redemption_prints
 
--- the greatest, 999.999 percent
+-- the least of them
+abbrev pub least_printed : Shape1 → ℤ
+least_printed shape = (printed_range shape).least
+
+-- the greatest, which is that of both shapes
 abbrev pub greatest_printed : ℤ
-greatest_printed = pos 999_999
+greatest_printed = one_period_prints.greatest
 
 -- The answer for a price, by the exact outcome. With no day left there is no yield.
 abbrev pub IsYieldAnswer : ℤ → SinglePayment → ℤ → SimpleYield → Type 0
@@ -29,17 +35,10 @@ IsYieldAnswer least payment price Above =
     (pos 0 <ℤ payment.left)
     × IsAbove greatest_printed (λ y. AtLeast payment y price) (λ y. More payment y price)
 
--- a payment of amounts from 0 up
-abbrev pub payment_at : ℕ → ℕ → ℕ → SinglePayment
-payment_at due accrued left = record { due = pos due; accrued = pos accrued; left = pos left }
-
--- what is answered for a truncated yield from 0 up, and from 0 down by its magnitude
-abbrev pub shown_above : ℕ → SimpleYield
-shown_above y = if nat_le ((y + 5) / 10) 999_999 then Print (pos ((y + 5) / 10)) else Above
-
-abbrev pub shown_below : ℕ → ℕ → SimpleYield
-shown_below least y =
-    if nat_le ((y + 5) / 10) least then Print (neg_ℤ (pos ((y + 5) / 10))) else Below
+-- a printed yield is in its range
+abbrev pub PrintsWithin : YieldRange → SimpleYield → Type 0
+PrintsWithin range (Print t) = IsWithin range t
+PrintsWithin range _ = ⊤
 
 -- One answer is right and no other, so each comes exactly where its case applies.
 abbrev pub AnswersOneYield : Type 0

@@ -1,10 +1,10 @@
-//! Discounted securities (MSRB Rule G-33(c)). Days are those of 30/360 from settlement to maturity.
+//! Discounted securities (MSRB Rule G-33(c)).
 
-ghost use Rattle.std.specs.Prelude.{◌≡◌, ◌≢◌, ◌*◌, ◌<◌, ◌≤◌, ◌≤ℤ◌, pos, negsuc};
-ghost use Rattle.muni_rule.specs.Accuracy.{TruncatesTo, IsAtMost};
+ghost use Rattle.std.specs.Prelude.{◌≡◌, ◌≢◌, ◌*◌, ◌<◌, ◌≤◌, ◌≤ℤ◌, pos};
+ghost use Rattle.muni_rule.specs.Accuracy.{TruncatesTo, Reaches};
 ghost use Rattle.muni_rule.specs.Discount as rule;
-ghost use Rattle.muni_rule.specs.Ranges.{IsDiscountRate};
-ghost use Rattle.muni_simple.specs.Yields.{IsYieldAnswer};
+ghost use Rattle.muni_rule.specs.Ranges.{IsDiscountRate, at_redemption_prints};
+ghost use Rattle.muni_simple.specs.Yields.{IsYieldAnswer, PrintsWithin};
 ghost use Rattle.muni_simple.specs.declared.yields.SimpleYield.TheVariants.{Below, Above};
 
 use crate::SimpleYield;
@@ -17,35 +17,41 @@ const PAR: u64 = 36_000_000_000_000;
 // The magnitude of the least printed return, -45 percent.
 const LEAST_RETURN: u64 = 45_000;
 
-/// The dollar price at a discount rate from 0 to 30 percent, truncated.
+/// The dollar price at a discount rate from 0 to 30 percent (MSRB Rule G-33(c)(i)): par less the rate
+/// for so many days of 360, truncated. Days are 0 to 720, of 30/360 from settlement to maturity.
 pub fn rate_price(rate: Yield, days: i32) -> Price3
     requires rate { IsDiscountRate rate }
     requires days { (pos 0 ≤ℤ days) × (days ≤ℤ pos 720) }
-    ensures value { TruncatesTo (IsAtMost (rule.discount_price rate days)) result }
+    ensures value { TruncatesTo (Reaches (rule.discount_price rate days)) result }
     ensures range { result ≤ 100_000 }
 {
     Price3::new(price_at(rate, days) / 360_000_000)
 }
 
-/// The return on the price at a discount rate, which is taken before it is truncated.
+/// The return on the price at a discount rate (MSRB Rule G-33(c)(ii)), which is taken before it is
+/// truncated: a simple return over so many days of 360, from 0 to 720.
 ///
-/// It lies in the printed range of -45 to 999.999 percent.
+/// Where a day is left, it lies in the printed range of -45 to 999.999 percent.
 pub fn rate_return(rate: Yield, days: i32) -> SimpleYield
     requires rate { IsDiscountRate rate }
     requires days { (pos 0 ≤ℤ days) × (days ≤ℤ pos 720) }
-    ensures exact { IsYieldAnswer (negsuc 44_999) (rule.discounted days)
+    ensures exact { IsYieldAnswer at_redemption_prints.least (rule.discounted days)
         (rule.discount_price rate days) result }
     ensures inside { (result ≢ Below) × (result ≢ Above) }
+    ensures range { PrintsWithin at_redemption_prints result }
 {
     yield_at(PAR, 0, days as u64, price_at(rate, days), LEAST_RETURN)
 }
 
-/// The return on a given price. A printed return is from -45 to 999.999 percent.
+/// The return on a given price (MSRB Rule G-33(c)(ii)), a simple return over 0 to 720 days of 360.
+///
+/// A printed return is from -45 to 999.999 percent.
 pub fn discount_return(price: Price, days: i32) -> SimpleYield
     requires price { 0 < price }
     requires days { (pos 0 ≤ℤ days) × (days ≤ℤ pos 720) }
-    ensures exact { IsYieldAnswer (negsuc 44_999) (rule.discounted days)
+    ensures exact { IsYieldAnswer at_redemption_prints.least (rule.discounted days)
         (pos (360_000 * price)) result }
+    ensures range { PrintsWithin at_redemption_prints result }
 {
     let amount = 360_000 * price.units();
     yield_at(PAR, 0, days as u64, amount, LEAST_RETURN)

@@ -20,7 +20,8 @@ pub enum SimplePrice {
 // One year, in units of 10^-6 and days of 30/360.
 const YEAR: u128 = 360_000_000;
 
-/// The dollar price at a yield of one payment to come (MSRB Rule G-33(b)(i)).
+/// The dollar price at a yield of one payment to come (MSRB Rule G-33(b)(i)), without accrued
+/// interest. The yield is simple interest over 30/360.
 ///
 /// A yield is from -90 to 999.999 percent, and from -45 with interest at redemption.
 pub fn single_price(single: &Single, shape: Shape1, y: Yield) -> SimplePrice

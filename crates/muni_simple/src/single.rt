@@ -1,3 +1,7 @@
+//! One payment to come.
+
+ghost use Rattle.muni_simple.specs.GrowthLaw.{GrowthIsAboveZero};
+
 /// One payment to come, which ends a security.
 ///
 /// Amounts are from 0 to 10^15, in 1/(360 * 10^9) dollars per 100 of par.
@@ -7,7 +11,9 @@ pub struct Single {
     pub due: i64,
     /// The accrued interest.
     pub accrued: i64,
-    /// The days of 30/360 until the payment: up to 180, or 720 with interest at redemption.
+    /// The days left of the interest that the payment has: up to 180, those of its half-year that
+    /// have not passed, or up to 720 with interest at redemption, those from the dated date to
+    /// maturity that have not passed.
     pub left: i32,
 }
 
@@ -19,3 +25,9 @@ pub enum Shape1 {
     /// Not at all: it is paid at redemption.
     AtRedemption,
 }
+
+/// A law of the definitions: one and the yield of the days left stay above zero at every yield at
+/// which a price is asked for, so that the comparisons of the rule are those of its fraction.
+pub fn growth_is_above_zero()
+    ensures { GrowthIsAboveZero }
+{}

@@ -2,7 +2,8 @@
 
 ghost use Rattle.std.specs.Prelude.{◌≡◌, ◌+◌, ◌*◌, ◌<◌, ◌≤◌, pos, neg_ℤ};
 ghost use Rattle.muni_simple.specs.Single.{IsSingle, payment_of};
-ghost use Rattle.muni_simple.specs.Yields.{IsYieldAnswer, least_printed, payment_at, shown_above, shown_below, AnswersOneYield};
+ghost use Rattle.muni_simple.specs.Shown.{natural_payment, printed_from, shown_above, shown_below};
+ghost use Rattle.muni_simple.specs.Yields.{IsYieldAnswer, least_printed, printed_range, PrintsWithin, AnswersOneYield};
 
 use crate::{Shape1, Single};
 use muni_dec::{Price, Yield3};
@@ -12,15 +13,16 @@ use muni_dec::{Price, Yield3};
 pub enum SimpleYield {
     /// The exact yield, truncated to four decimals of the percentage and rounded to three.
     Print(Yield3),
-    /// The yield is printed below the range.
+    /// The yield would be printed below the range.
     Below,
-    /// The yield is printed above the range.
+    /// The yield would be printed above the range.
     Above,
     /// No day is left, and there is no yield.
     NoTime,
 }
 
-/// The yield at a dollar price of one payment to come (MSRB Rule G-33(b)(ii)).
+/// The yield at a dollar price of one payment to come (MSRB Rule G-33(b)(ii)), as simple interest
+/// over 30/360. The price is without accrued interest.
 ///
 /// A printed yield is from -90 to 999.999 percent, and from -45 with interest at redemption.
 pub fn single_yield(single: &Single, shape: Shape1, price: Price) -> SimpleYield
@@ -28,6 +30,7 @@ pub fn single_yield(single: &Single, shape: Shape1, price: Price) -> SimpleYield
     requires price { 0 < price }
     ensures exact { IsYieldAnswer (least_printed shape) (payment_of single.now)
         (pos (360_000 * price)) result }
+    ensures range { PrintsWithin (printed_range shape) result }
 {
     yield_at(
         single.due as u64,
@@ -55,7 +58,9 @@ pub(crate) fn yield_at(due: u64, accrued: u64, left: u64, amount: u64, least: u6
     requires left { left ≤ 720 }
     requires amount { (360_000 ≤ amount) × (amount ≤ 1_000_000_000_000_000) }
     requires least { least ≤ 90_000 }
-    ensures { IsYieldAnswer (neg_ℤ (pos least)) (payment_at due accrued left) (pos amount) result }
+    ensures exact { IsYieldAnswer (neg_ℤ (pos least)) (natural_payment due accrued left)
+        (pos amount) result }
+    ensures range { PrintsWithin (printed_from least) result }
 {
     if left == 0 {
         return SimpleYield::NoTime;

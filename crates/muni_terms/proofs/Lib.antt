@@ -1,2 +1,3 @@
 pub mod IssueLemmas
+pub mod LastMonthLemmas
 pub mod RowLemmas

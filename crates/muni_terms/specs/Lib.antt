@@ -2,3 +2,4 @@ pub mod Fault
 pub mod Check
 pub mod Flows
 pub mod Issue
+pub mod LastMonth

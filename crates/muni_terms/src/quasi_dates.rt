@@ -4,8 +4,8 @@ ghost use Rattle.std.specs.Prelude.{◌≡◌, ◌<◌, ◌≤◌, Some, pos};
 ghost use Rattle.muni_rule.specs.Civil as rule;
 ghost use Rattle.muni_rule.specs.Civil.{order_of};
 ghost use Rattle.muni_rule.specs.QuasiDates as dates;
-ghost use Rattle.muni_rule.specs.QuasiDates.{IsLastMonth};
 ghost use Rattle.muni_days.specs.Day.{civil};
+ghost use Rattle.muni_terms.specs.LastMonth.{IsLastMonth};
 
 use muni_days::Day;
 

@@ -1,5 +1,5 @@
 use Rattle.std.proofs.Common.{refl, arith}
-use Rattle.muni_rule.specs.WorthEnds as rule
+use Rattle.muni_rule.specs.Payments as rule
 use Rattle.muni_rule.proofs.SumLemmas.{two_payments, three_payments}
 use Rattle.muni_multi.proofs.ExactSums.{three-small}
 use Rattle.muni_multi.proofs.exact.short_sum.Goals as goal

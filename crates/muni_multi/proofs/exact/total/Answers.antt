@@ -1,6 +1,6 @@
 use Rattle.std.proofs.Common.{◌≡◌, suc, ◌+◌, sym, ap, ◌∙◌, arith}
 use Rattle.muni_rule.specs.ManyPeriods.{sum_to}
-use Rattle.muni_rule.specs.WorthEnds as rule
+use Rattle.muni_rule.specs.Payments as rule
 use Rattle.muni_rule.proofs.SumLemmas.{sum_to-more, sum_to-none}
 use Rattle.muni_multi.proofs.exact.total.Goals as goal
 

@@ -1,6 +1,6 @@
 use Rattle.std.proofs.Common.{◌≡◌, ◌*◌, ◌≤◌}
 use Rattle.muni_rule.specs.ManyPeriods.{sum_to}
-use Rattle.muni_rule.specs.WorthEnds as rule
+use Rattle.muni_rule.specs.Payments as rule
 use Rattle.muni_multi.proofs.exact.total.Given as goal
 
 abbrev pub invariant-loop-k : goal.invariant-loop-k

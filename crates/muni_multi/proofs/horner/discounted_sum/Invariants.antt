@@ -1,5 +1,5 @@
 use Rattle.std.proofs.Common.{◌≡◌, ◌-◌}
-use Rattle.muni_rule.specs.WorthEnds as rule
+use Rattle.muni_rule.specs.Payments as rule
 use Rattle.muni_multi.specs.Horner.{sum_low, sum_high}
 use Rattle.muni_multi.proofs.horner.discounted_sum.Given as goal
 

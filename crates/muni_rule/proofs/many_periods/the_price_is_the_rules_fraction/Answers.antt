@@ -1,8 +1,8 @@
-use Rattle.muni_rule.proofs.ManyPeriodLemmas.{nothing-passed, first_day-fraction, last_day-fraction, zero_yield-sum, par_bond-redemption}
+use Rattle.muni_rule.proofs.ManyPeriodLemmas.{below_zero-reached, first_day-fraction, last_day-fraction, zero_yield-sum, par_bond-redemption}
 use Rattle.muni_rule.proofs.many_periods.the_price_is_the_rules_fraction.Goals as goal
 
-pub returns-clause-nothing : goal.returns-clause-nothing
-returns-clause-nothing c = nothing-passed
+pub returns-clause-below_zero_is_reached : goal.returns-clause-below_zero_is_reached
+returns-clause-below_zero_is_reached c = below_zero-reached
 
 pub returns-clause-first_day : goal.returns-clause-first_day
 returns-clause-first_day c = first_day-fraction

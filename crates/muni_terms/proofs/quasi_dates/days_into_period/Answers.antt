@@ -2,7 +2,7 @@ use Rattle.std.proofs.Common.{◌-◌, ◌+◌, ◌*◌, arith}
 use Rattle.muni_days.specs.Day.{civil}
 use Rattle.muni_days.proofs.CivilLemmas.{is_civil}
 use Rattle.muni_rule.specs.Civil.{month_index}
-use Rattle.muni_rule.proofs.QuasiDateLemmas.{IsIntoPeriod, days_into_period-month}
+use Rattle.muni_terms.proofs.LastMonthLemmas.{IsIntoPeriod, days_into_period-month}
 use Rattle.muni_terms.proofs.quasi_dates.days_into_period.Goals as goal
 
 into : (c : goal.After-day_of_month-2) → IsIntoPeriod (civil c.args.anchor) (civil c.args.settlement) ((month_index (civil c.args.settlement) - c.last_month.result) * 30 + c.args.settlement.day - c.args.anchor.day)

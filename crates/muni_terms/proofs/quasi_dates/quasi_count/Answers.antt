@@ -1,6 +1,6 @@
 use Rattle.std.proofs.Common.{sym}
 use Rattle.muni_days.specs.Day.{civil}
-use Rattle.muni_rule.proofs.QuasiDateLemmas.{quasi_count-months}
+use Rattle.muni_terms.proofs.LastMonthLemmas.{quasi_count-months}
 use Rattle.muni_terms.proofs.quasi_dates.quasi_count.Goals as goal
 
 pub returns : goal.returns

@@ -1,7 +1,7 @@
 use Rattle.std.proofs.Common.{◌≡◌, ◌-◌, rules, refl, ap, ◌∙◌, arith, ℤ, w32, to_z, of_z}
 use Rattle.std.proofs.lemmas.Int.{to_z-of_z}
 use mir.Val.{SFits}
-use Rattle.muni_rule.specs.WorthEnds as rule
+use Rattle.muni_rule.specs.Payments as rule
 use Rattle.muni_span.specs.Powers.{power_low, power_high}
 use Rattle.muni_multi.specs.LastStep.{discount_low, discount_high, settled_low, settled_high}
 use Rattle.muni_multi.specs.Horner.{sum_low, sum_high, horner_ends}
