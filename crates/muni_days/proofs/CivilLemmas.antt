@@ -10,14 +10,14 @@ use Rattle.muni_days.specs.declared.day.Day.{Day}
 days_in_month-most : (year : ℤ) (month : ℕ) → days_in_month year month ≤ 31
 days_in_month-most year month = grind (arith, nat_tests)
 
--- a day of the desk: its month and its day are those of a date, and its year is in range
+-- a date of the desk: its month and its day are those of a date, and its year is in range
 pub record IsOfDesk (date : Civil) : Type 0 where
   pub civil : IsCivil date
   pub year_from : 1900 ≤ date.year
   pub year_to : date.year ≤ 2199
 
-pub is_of_desk : (date : Civil) → is_day date ≡ true → IsOfDesk date
-is_of_desk date real =
+of_desk : (date : Civil) → is_day date ≡ true → IsOfDesk date
+of_desk date real =
     let most = days_in_month-most (pos date.year) date.month in
     record {
       civil = record { month_from = grind (arith, nat_tests); month_to = grind (arith, nat_tests); day_from = grind (arith, nat_tests); day_to = grind (arith, nat_tests) };
@@ -25,5 +25,9 @@ is_of_desk date real =
       year_to = grind (arith, nat_tests);
     }
 
+-- every day's date
+pub is_of_desk : (day : Day) → IsOfDesk (civil day)
+is_of_desk day = of_desk (civil day) day.real
+
 pub is_civil : (day : Day) → IsCivil (civil day)
-is_civil day = (is_of_desk (civil day) day.real).civil
+is_civil day = (is_of_desk day).civil

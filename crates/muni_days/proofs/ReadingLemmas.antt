@@ -35,7 +35,7 @@ if_day-date date day found = found-date date (is_day date) refl day found
 -- the text of a day
 pub text-read : (text : List ℕ) (day : Day) → text ≡ day_text (civil day) → day_reading text ≡ Ok day
 text-read text day is =
-    let desk = is_of_desk (civil day) day.real in
+    let desk = is_of_desk day in
     let year = desk.year_to in
     let month = desk.civil.month_to in
     let number = desk.civil.day_to in

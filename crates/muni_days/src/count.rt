@@ -8,7 +8,10 @@ use crate::Day;
 
 /// The days from one day to another, with months of 30 days and years of 360 (MSRB Rule G-33(e)).
 ///
-/// The first day is counted and the last is not. The count is negative where the last is earlier.
+/// This is 30/360 US, also called bond basis: a 31st begins a count as a 30th, and ends it as a 30th
+/// where it began on a 30th or a 31st. The end of February has no rule of its own, and it is not
+/// 30E/360. The first day is counted and the last is not. The count is negative where the last is
+/// earlier.
 pub fn days360(first: Day, last: Day) -> i32
     ensures { result ≡ rule.days360 (civil first) (civil last) }
 {

@@ -13,7 +13,7 @@ use Rattle.muni_rule.proofs.DayCountLemmas.{days360-not_negative, days360-rise}
 use Rattle.muni_rule.proofs.PaymentLemmas.{quasi_count-within, first-own}
 use Rattle.muni_days.specs.Day.{civil}
 use Rattle.muni_days.specs.declared.day.Day.{Day}
-use Rattle.muni_days.proofs.CivilLemmas.{is_civil}
+use Rattle.muni_days.proofs.CivilLemmas.{is_civil, is_of_desk}
 use Rattle.muni_terms.specs.Check as Check
 use Rattle.muni_terms.specs.Issue.{IsRedemption, settles, anchor_by, anchor_of}
 use Rattle.muni_terms.specs.declared.row.Call.{Call}
@@ -183,11 +183,12 @@ pub record HasPayments (anchor : Civil) (settlement redemption : Day) (price : �
   pub price_from : 1_000_000 ≤ price
   pub price_to : price ≤ 200_000_000
 
-pub has_payments : (row : IssueRow) (anchor : Civil) (settlement redemption : Day) (price : ℕ) → IsIssue row → anchor_of row ≡ Some anchor → IsSettled row settlement → IsRedemption row redemption price → order_of (civil settlement) < order_of (civil redemption) → (civil row.maturity).year ≤ 2199 →
+pub has_payments : (row : IssueRow) (anchor : Civil) (settlement redemption : Day) (price : ℕ) → IsIssue row → anchor_of row ≡ Some anchor → IsSettled row settlement → IsRedemption row redemption price → order_of (civil settlement) < order_of (civil redemption) →
     HasPayments anchor settlement redemption price
-has_payments row anchor settlement redemption price issue there settled redeemed later last_year =
+has_payments row anchor settlement redemption price issue there settled redeemed later =
     let dates = is_anchor row anchor issue there in
     let end = is_redeemed row anchor redemption price issue there redeemed in
+    let last_year = (is_of_desk row.maturity).year_to in
     let from = settled.dated_year in
     let settlement_from = year-settled row settlement settled in
     let settlement_to = year-order (civil settlement) (civil redemption) (is_civil settlement) (is_civil redemption) (omega arith) in
@@ -268,14 +269,14 @@ coupon_settled row given first settlement same none is_periodic settles_given =
     }
 
 -- the redemption of an issue after a settlement
-pub issue_payments : (row given : IssueRow) (anchor : Civil) (settlement redemption : Day) (price : ℕ) → row ≡ given → Check.fault_of row ≡ None → anchor_of row ≡ Some anchor → settles given settlement ≡ true → IsRedemption given redemption price → order_of (civil settlement) < order_of (civil redemption) → (civil row.maturity).year ≤ 2199 →
+pub issue_payments : (row given : IssueRow) (anchor : Civil) (settlement redemption : Day) (price : ℕ) → row ≡ given → Check.fault_of row ≡ None → anchor_of row ≡ Some anchor → settles given settlement ≡ true → IsRedemption given redemption price → order_of (civil settlement) < order_of (civil redemption) →
     HasPayments anchor settlement redemption price
-issue_payments row given anchor settlement redemption price same none there settles_given redeemed_given later last_year =
+issue_payments row given anchor settlement redemption price same none there settles_given redeemed_given later =
     let Settles : IssueRow → Type 0 = λ it. settles it settlement ≡ true in
     let Redeems : IssueRow → Type 0 = λ it. IsRedemption it redemption price in
     let issue = is_issue row none in
     let settled = is_settled row settlement issue (subst Settles (sym same) settles_given) in
-    has_payments row anchor settlement redemption price issue there settled (subst Redeems (sym same) redeemed_given) later last_year
+    has_payments row anchor settlement redemption price issue there settled (subst Redeems (sym same) redeemed_given) later
 
 pub coupon_redemption : (row given : IssueRow) (first settlement redemption : Day) (price : ℕ) → row ≡ given → Check.fault_of row ≡ None → row.kind ≡ Periodic first → settles given settlement ≡ true → IsRedemption given redemption price → HasPayments (civil first) settlement redemption price →
     IsCouponRedemption (civil first) (civil settlement) (civil redemption)

@@ -20,7 +20,7 @@ pub fn days_to(first: Day, last: Day) -> u32
 
 /// The days for which a coupon has accrued at a settlement.
 pub fn coupon_accrued_days(dated: Day, first: Day, settlement: Day) -> u32
-    requires day { first.day ≤ 28 }
+    requires day { (civil first).day ≤ 28 }
     requires year { 1901 ≤ (civil settlement).year }
     requires settled { order_of (civil dated) ≤ order_of (civil settlement) }
     requires start { count.days360 (civil dated) (civil first) ≤ℤ pos 360 }

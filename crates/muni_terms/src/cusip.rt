@@ -53,7 +53,7 @@ fn check_sum(characters: &[u8]) -> u32
     sum
 }
 
-/// Whether nine bytes are eight digits and letters with their check digit.
+/// Whether nine bytes are a CUSIP number: eight digits and capital letters, and their check digit.
 pub fn is_cusip(text: &[u8; 9]) -> bool
     ensures { result ≡ rule.is_cusip text.now }
 {

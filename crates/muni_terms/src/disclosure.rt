@@ -18,6 +18,7 @@ pub enum Label {
 pub enum Boundary {
     /// The least exact price that is printed as the higher of two.
     Price(Price3),
-    /// The least exact yield that is printed as the higher of two.
+    /// The exact yield half way between two printed ones. Above zero it is printed as the higher of
+    /// them, and below zero as the lower.
     Yield(Yield),
 }

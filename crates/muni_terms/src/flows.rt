@@ -16,7 +16,7 @@ use muni_dec::{Coupon, Price};
 use std::marker::Model;
 
 /// The payments after a settlement in order of date, one for each quasi-coupon date up to the
-/// redemption, and the accrued interest.
+/// redemption, and the accrued interest (MSRB Rule G-33(a) and (b)).
 ///
 /// Amounts are in 1/(360 * 10^9) dollars per 100 of par.
 #[derive(Clone, Copy, Debug, PartialEq, Eq)]
@@ -54,9 +54,12 @@ impl Model for Flows {
 }
 
 impl Default for Flows {
-    /// Two payments, of which the last is a redemption at 100.
+    ghost use Rattle.muni_terms.specs.Flows.{series};
+
+    /// An empty slot of a list: two payments without interest, of which the last is a redemption
+    /// at 100.
     fn default() -> Flows
-        ensures { result.n ≡ 2 }
+        ensures { result ≡ series 2 0 0 0 36_000_000_000_000 0 0 }
     {
         Flows {
             n: 2,
@@ -75,6 +78,7 @@ impl Flows {
     pub fn n(&self) -> u32
         ensures value { result ≡ self.now.n }
         ensures range { (1 ≤ result) × (result ≤ 100) }
+        ensures bounds { IsSeries self.now }
     {
         self.n
     }
@@ -83,6 +87,7 @@ impl Flows {
     pub fn skip(&self) -> u32
         ensures value { result ≡ self.now.skip }
         ensures range { result < self.now.n }
+        ensures bounds { IsSeries self.now }
     {
         self.skip
     }
@@ -91,6 +96,7 @@ impl Flows {
     pub fn first(&self) -> u64
         ensures value { result ≡ self.now.first }
         ensures range { result ≤ 10_800_000_000_000 }
+        ensures bounds { IsSeries self.now }
     {
         self.first
     }
@@ -99,6 +105,7 @@ impl Flows {
     pub fn regular(&self) -> u64
         ensures value { result ≡ self.now.regular }
         ensures range { result ≤ 5_400_000_000_000 }
+        ensures bounds { IsSeries self.now }
     {
         self.regular
     }
@@ -107,6 +114,7 @@ impl Flows {
     pub fn redemption(&self) -> u64
         ensures value { result ≡ self.now.redemption }
         ensures range { (360_000_000_000 ≤ result) × (result ≤ 72_000_000_000_000) }
+        ensures bounds { IsSeries self.now }
     {
         self.redemption
     }
@@ -115,6 +123,7 @@ impl Flows {
     pub fn accrued(&self) -> u64
         ensures value { result ≡ self.now.accrued }
         ensures range { result ≤ 10_800_000_000_000 }
+        ensures bounds { IsSeries self.now }
     {
         self.accrued
     }
@@ -123,6 +132,7 @@ impl Flows {
     pub fn a(&self) -> u32
         ensures value { result ≡ self.now.a }
         ensures range { result ≤ 180 }
+        ensures bounds { IsSeries self.now }
     {
         self.a
     }
@@ -136,11 +146,22 @@ pub fn flows_are_in_range(flows: &Flows)
     let _in_range = flows.n;
 }
 
-fn unpaid_count(first: Day, settlement: Day) -> u32
-    requires day { first.day ≤ 28 }
-    requires year { (civil first).year ≤ 2199 }
-    requires settled { IsSettlementDate (civil settlement) }
-    ensures { result ≡ rule.unpaid_count (civil first) (civil settlement) }
+fn payment_count(anchor: Day, settlement: Day, redemption: Day) -> u32
+    requires redeemed { IsRedeemedAfter (civil anchor) (civil settlement) (civil redemption) }
+    requires few { dates.quasi_count (civil anchor) (civil settlement) (civil redemption) ≤ 100 }
+    ensures value { result
+        ≡ dates.quasi_count (civil anchor) (civil settlement) (civil redemption) }
+    ensures range { (1 ≤ result) × (result ≤ 100) }
+{
+    quasi_count(anchor, settlement, redemption)
+}
+
+// How many payments there are before interest is first paid.
+fn unpaid_count(first: Day, settlement: Day, redemption: Day) -> u32
+    requires { IsCouponRedemption (civil first) (civil settlement) (civil redemption) }
+    ensures value { result ≡ rule.unpaid_count (civil first) (civil settlement) }
+    ensures fewer { result
+        < dates.quasi_count (civil first) (civil settlement) (civil redemption) }
 {
     if settlement < first {
         quasi_count(first, settlement, first) - 1
@@ -171,7 +192,8 @@ fn redemption_amount(price: Price) -> u64
     360_000 * price.units()
 }
 
-/// The payments of an issue with coupons.
+/// The payments of an issue with coupons, of which the first pays the interest of all days of
+/// 30/360 since the dated date (SIA, Standard Securities Calculation Methods).
 pub fn coupon_flows(
     dated: Day,
     first: Day,
@@ -184,21 +206,18 @@ pub fn coupon_flows(
     requires order { order_of (civil dated) ≤ order_of (civil first) }
     requires settled { order_of (civil dated) ≤ order_of (civil settlement) }
     requires start { count.days360 (civil dated) (civil first) ≤ℤ pos 360 }
-    requires count { dates.quasi_count (civil first) (civil settlement) (civil redemption) ≤ 100 }
+    requires few { dates.quasi_count (civil first) (civil settlement) (civil redemption) ≤ 100 }
     requires price { (1_000_000 ≤ price) × (price ≤ 200_000_000) }
     ensures numbers { Some result ≡ coupon_series (civil dated) (civil first) coupon
         (civil settlement) (civil redemption) price }
     ensures payments { payments_of result ≡ coupon_payments (civil dated) (civil first) coupon
         (civil settlement) (civil redemption) price }
 {
-    let n = quasi_count(first, settlement, redemption);
-    let skip = unpaid_count(first, settlement);
-    let paid = first_interest(dated, first, coupon, settlement);
     let days = coupon_accrued_days(dated, first, settlement);
     Flows {
-        n,
-        skip,
-        first: paid,
+        n: payment_count(first, settlement, redemption),
+        skip: unpaid_count(first, settlement, redemption),
+        first: first_interest(dated, first, coupon, settlement),
         regular: half_year_interest(coupon),
         redemption: redemption_amount(price),
         accrued: interest(coupon, days),
@@ -209,8 +228,7 @@ pub fn coupon_flows(
 /// The payments of an issue without coupons.
 pub fn zero_flows(maturity: Day, settlement: Day, redemption: Day, price: Price) -> Flows
     requires redeemed { IsRedeemedAfter (civil maturity) (civil settlement) (civil redemption) }
-    requires count { dates.quasi_count (civil maturity) (civil settlement) (civil redemption)
-        ≤ 100 }
+    requires few { dates.quasi_count (civil maturity) (civil settlement) (civil redemption) ≤ 100 }
     requires price { (1_000_000 ≤ price) × (price ≤ 200_000_000) }
     ensures numbers { Some result
         ≡ zero_series (civil maturity) (civil settlement) (civil redemption) price }
@@ -218,7 +236,7 @@ pub fn zero_flows(maturity: Day, settlement: Day, redemption: Day, price: Price)
         ≡ zero_payments (civil maturity) (civil settlement) (civil redemption) price }
 {
     Flows {
-        n: quasi_count(maturity, settlement, redemption),
+        n: payment_count(maturity, settlement, redemption),
         skip: 0,
         first: 0,
         regular: 0,

@@ -9,9 +9,9 @@ ghost use Rattle.muni_terms.specs.Issue as spec;
 ghost use Rattle.muni_terms.specs.Issue.{anchor_of, series_of, payments, IsRedemption};
 
 use crate::accrued::coupon_accrued_days;
+use crate::checks::fault_of;
 use crate::flows::{Flows, coupon_flows, zero_flows};
 use crate::row::{IssueRow, Kind, TermsFault};
-use crate::terms::fault_of;
 use muni_days::{Day, days360};
 use muni_dec::Price;
 use std::marker::Model;
@@ -95,7 +95,8 @@ impl Issue {
         }
     }
 
-    /// The payments after a settlement, up to a later redemption at maturity at 100 or at a call.
+    /// The payments after a settlement, up to a later redemption at maturity at 100 or at a call
+    /// (MSRB Rule G-33(b); an odd first coupon by SIA, Standard Securities Calculation Methods).
     ///
     /// The issue is of a kind with quasi-coupon dates, and not a note.
     pub fn flows(&self, settlement: Day, redemption: Day, price: Price) -> Flows
@@ -107,8 +108,6 @@ impl Issue {
         ensures payments { payments_of result
             ≡ payments self.now settlement redemption price }
     {
-        // Every date of the payments is in this year or before it.
-        let _last_year = self.row.maturity.year();
         match self.row.kind {
             Kind::Periodic { first } => coupon_flows(
                 self.row.dated,
@@ -122,11 +121,4 @@ impl Issue {
             Kind::AtRedemption | Kind::Discount => unreachable!(),
         }
     }
-}
-
-fn is_shared<T: Send + Sync>(_shared: &T) {}
-
-/// Threads can be handed an issue, and share it.
-pub fn issues_are_shared(issue: &Issue) {
-    is_shared(issue);
 }

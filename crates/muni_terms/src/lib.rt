@@ -2,20 +2,19 @@
 #![tactic(auto)]
 
 mod accrued;
+mod checks;
 mod cusip;
 mod disclosure;
 mod flows;
 mod issue;
-#[cfg(test)]
-mod payments_table;
 mod quasi_dates;
 mod row;
-mod terms;
 #[cfg(test)]
 mod tests;
 
 pub use accrued::{days_to, half_year_interest, interest};
+pub use cusip::is_cusip;
 pub use disclosure::{Boundary, Label};
 pub use flows::{Flows, flows_are_in_range};
-pub use issue::{Issue, check, issues_are_shared};
+pub use issue::{Issue, check};
 pub use row::{Call, IssueRow, Kind, TermsFault};

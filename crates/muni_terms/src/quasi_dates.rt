@@ -17,7 +17,7 @@ fn month_index(date: Day) -> u32
 }
 
 fn day_of_month(date: Day) -> u32
-    ensures value { result ≡ date.day }
+    ensures value { result ≡ (civil date).day }
     ensures range { (1 ≤ result) × (result ≤ 31) }
 {
     date.day() as u32
@@ -25,7 +25,7 @@ fn day_of_month(date: Day) -> u32
 
 // The month of the last quasi-coupon date not after a settlement.
 fn last_month(anchor: Day, settlement: Day) -> u32
-    requires day { anchor.day ≤ 28 }
+    requires day { (civil anchor).day ≤ 28 }
     requires year { 1901 ≤ (civil settlement).year }
     ensures { IsLastMonth (civil anchor) (civil settlement) result }
 {
@@ -43,7 +43,7 @@ pub fn is_quasi_date(anchor: Day, date: Day) -> bool
 
 /// The number of quasi-coupon dates after one day and not after another.
 pub fn quasi_count(anchor: Day, start: Day, end: Day) -> u32
-    requires day { anchor.day ≤ 28 }
+    requires day { (civil anchor).day ≤ 28 }
     requires year { 1901 ≤ (civil start).year }
     requires order { order_of (civil start) ≤ order_of (civil end) }
     ensures { result ≡ dates.quasi_count (civil anchor) (civil start) (civil end) }
@@ -55,7 +55,7 @@ pub fn quasi_count(anchor: Day, start: Day, end: Day) -> u32
 ///
 /// They are 180, and not 0, on a 31st that stands before interest on a 1st.
 pub fn days_into_period(anchor: Day, settlement: Day) -> u32
-    requires day { anchor.day ≤ 28 }
+    requires day { (civil anchor).day ≤ 28 }
     requires year { 1901 ≤ (civil settlement).year }
     ensures days { dates.days_into_period (civil anchor) (civil settlement) ≡ Some (pos result) }
     ensures range { result ≤ 180 }

@@ -15,6 +15,7 @@ pub struct Call {
 }
 
 impl Default for Call {
+    /// An empty slot of a list. No contract reads it.
     fn default() -> Self {
         Call {
             date: Day::FIRST,

@@ -1,8 +1,10 @@
-use crate::payments_table::{WITH_COUPONS, WITHOUT_COUPONS};
-use crate::{Call, IssueRow, Kind, TermsFault, check};
+mod payment_cases;
+
+use crate::{Call, Flows, IssueRow, Kind, TermsFault, check};
 use arrayvec::ArrayVec;
 use muni_days::Day;
 use muni_dec::{Coupon, Price};
+use payment_cases::{WITH_COUPONS, WITHOUT_COUPONS};
 use std::test::Fail;
 
 fn day(text: &str) -> Result<Day, Fail> {
@@ -195,72 +197,93 @@ fn an_issue_is_called_from_its_first_interest_date_up_to_its_maturity(
     Ok(())
 }
 
-#[test]
-fn payments_with_coupons_are_those_computed_outside(rt: HostRuntime) -> Result<(), Fail> {
-    for case in WITH_COUPONS {
-        let mut words = case.split(' ');
-        let dated = words.next().ok_or("a dated date")?;
-        let first = words.next().ok_or("a first interest date")?;
-        let maturity = words.next().ok_or("a maturity")?;
-        let rate = words.next().ok_or("a coupon")?;
-        let settlement = day(words.next().ok_or("a settlement")?)?;
-        let row = with_coupons(dated, first, maturity, rate)?;
-        let issue = check(row).ok().ok_or("an issue")?;
-        let Kind::Periodic { .. } = issue.row().kind else {
-            return Err(Fail::from("coupons"));
-        };
-        let redemption = issue.row().maturity;
-        assert!(rt; issue.settles(settlement), "{case}");
-        assert!(rt; settlement < redemption, "{case}");
-        let at = Price::of(100_000_000).ok_or("a price")?;
-        let flows = issue.flows(settlement, redemption, at);
-        assert_eq!(rt; flows.redemption(), 36_000_000_000_000, "{case}");
-        for number in [
-            u64::from(flows.n()),
-            u64::from(flows.skip()),
-            flows.first(),
-            flows.regular(),
-            flows.accrued(),
-            u64::from(flows.a()),
-        ] {
-            let expected = words.next().ok_or("a number")?;
-            assert_eq!(rt; Some(number), expected.parse::<u64>().ok(), "{case}");
+// The value of a word `name=value` of a line.
+fn value<'a>(line: &'a str, name: &str) -> Result<&'a str, Fail> {
+    for word in line.split(' ') {
+        if let Some(value) = word.strip_prefix(name) {
+            return Ok(value);
         }
     }
+    Err(Fail::from("a word of the line"))
+}
+
+fn number(line: &str, name: &str) -> Result<u64, Fail> {
+    Ok(value(line, name)?.parse::<u64>().ok().ok_or("a number")?)
+}
+
+// The payments of an issue up to its maturity.
+fn payments(row: IssueRow, settlement: &str) -> Result<Flows, Fail> {
+    let issue = check(row).ok().ok_or("an issue")?;
+    let settlement = day(settlement)?;
+    let (Kind::Periodic { .. } | Kind::Zero) = issue.row().kind else {
+        return Err(Fail::from("no note"));
+    };
+    let redemption = issue.row().maturity;
+    if !issue.settles(settlement) || settlement >= redemption {
+        return Err(Fail::from("a settlement"));
+    }
+    Ok(issue.flows(settlement, redemption, Price::PAR))
+}
+
+#[test]
+fn payments_with_coupons_are_those_computed_outside(rt: HostRuntime) -> Result<(), Fail> {
+    let mut row = usual()?;
+    let mut cases = 0_u32;
+    for line in WITH_COUPONS.lines() {
+        if line.starts_with("base ") {
+            let (dated, first) = (value(line, "dated=")?, value(line, "first=")?);
+            let (maturity, rate) = (value(line, "maturity=")?, value(line, "coupon=")?);
+            row = with_coupons(dated, first, maturity, rate)?;
+            continue;
+        }
+        let flows = payments(row.copy(), value(line, "settle=")?)?;
+        assert_eq!(rt; flows.redemption(), 36_000_000_000_000, "{line}");
+        assert_eq!(rt; u64::from(flows.n()), number(line, "n=")?, "{line}");
+        assert_eq!(rt; u64::from(flows.skip()), number(line, "skip=")?, "{line}");
+        assert_eq!(rt; flows.first(), number(line, "paid=")?, "{line}");
+        assert_eq!(rt; flows.regular(), number(line, "regular=")?, "{line}");
+        assert_eq!(rt; flows.accrued(), number(line, "accrued=")?, "{line}");
+        assert_eq!(rt; u64::from(flows.a()), number(line, "a=")?, "{line}");
+        cases = cases.wrapping_add(1);
+    }
+    assert_eq!(rt; cases, 39);
     Ok(())
 }
 
 #[test]
 fn payments_without_coupons_are_those_computed_outside(rt: HostRuntime) -> Result<(), Fail> {
-    for case in WITHOUT_COUPONS {
-        let mut words = case.split(' ');
-        let dated = words.next().ok_or("a dated date")?;
-        let maturity = words.next().ok_or("a maturity")?;
-        let settlement = day(words.next().ok_or("a settlement")?)?;
-        let issue = check(without_coupons(Kind::Zero, dated, maturity)?)
-            .ok()
-            .ok_or("an issue")?;
-        let Kind::Zero = issue.row().kind else {
-            return Err(Fail::from("no coupons"));
-        };
-        let redemption = issue.row().maturity;
-        assert!(rt; issue.settles(settlement), "{case}");
-        assert!(rt; settlement < redemption, "{case}");
-        let at = Price::of(100_000_000).ok_or("a price")?;
-        let flows = issue.flows(settlement, redemption, at);
-        assert_eq!(rt; flows.redemption(), 36_000_000_000_000, "{case}");
-        for number in [u64::from(flows.n()), u64::from(flows.a())] {
-            let expected = words.next().ok_or("a number")?;
-            assert_eq!(rt; Some(number), expected.parse::<u64>().ok(), "{case}");
+    let mut row = usual()?;
+    let mut cases = 0_u32;
+    for line in WITHOUT_COUPONS.lines() {
+        if line.starts_with("base ") {
+            let (dated, maturity) = (value(line, "dated=")?, value(line, "maturity=")?);
+            row = without_coupons(Kind::Zero, dated, maturity)?;
+            continue;
         }
-        let paid = [
-            u64::from(flows.skip()),
+        let flows = payments(row.copy(), value(line, "settle=")?)?;
+        assert_eq!(rt; flows.redemption(), 36_000_000_000_000, "{line}");
+        assert_eq!(rt; u64::from(flows.n()), number(line, "n=")?, "{line}");
+        assert_eq!(rt; u64::from(flows.a()), number(line, "a=")?, "{line}");
+        let paid = (
+            flows.skip(),
             flows.first(),
             flows.regular(),
             flows.accrued(),
-        ];
-        assert_eq!(rt; paid, [0; 4], "{case}");
+        );
+        assert_eq!(rt; paid, (0, 0, 0, 0), "{line}");
+        cases = cases.wrapping_add(1);
     }
+    assert_eq!(rt; cases, 8);
+    Ok(())
+}
+
+fn is_shared<T: Send + Sync>(_shared: &T) {}
+
+#[test]
+fn threads_can_share_an_issue(rt: HostRuntime) -> Result<(), Fail> {
+    let issue = check(usual()?).ok().ok_or("an issue")?;
+    is_shared(&issue);
+    assert!(rt; issue.same(&issue.copy()));
     Ok(())
 }
 
