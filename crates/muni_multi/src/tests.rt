@@ -3,22 +3,17 @@ ghost use Rattle.muni_rule.specs.Ranges.{IsManyPeriodsBoundary};
 ghost use Rattle.muni_multi.specs.Horner.{horner_ends};
 ghost use Rattle.muni_multi.specs.HornerLaws.{horner-encloses, horner-narrow};
 
-mod cases;
+mod price_cases;
 
 use crate::{Encloser, Horner, PriceAnswer, Verdict, at_least, more, printed_price};
 use arrayvec::ArrayVec;
-use cases::CASES;
-use muni_days::Day;
-use muni_dec::{Coupon, Price, Yield};
+use muni_dec::{Price, Yield};
+use muni_samples::{Sample, Table};
 use muni_span::worth::Worth;
-use muni_terms::{Call, Flows, Issue, IssueRow, Kind, check};
+use muni_terms::Flows;
+use price_cases::CASES;
 use std::cell::Cell;
-use std::str::Split;
 use std::test::Fail;
-
-fn day(text: &str) -> Result<Day, Fail> {
-    Ok(Day::read(text.as_bytes()).ok().ok_or("a day")?)
-}
 
 fn price(text: &str) -> Result<Price, Fail> {
     Ok(Price::read(text.as_bytes()).ok().ok_or("a price")?)
@@ -33,87 +28,10 @@ fn yield_of(units: i64) -> Result<Yield, Fail>
     Ok(Yield::of(units).ok_or("a yield")?)
 }
 
-fn yield_read(text: &str) -> Result<Yield, Fail>
-    ensures { IfOk result IsManyPeriodsBoundary }
-{
-    let y = Yield::read(text.as_bytes()).ok().ok_or("a yield")?;
-    yield_of(y.units())
-}
-
-fn row(words: &mut Split<'_, char>) -> Result<IssueRow, Fail> {
-    let dated = words.next().ok_or("a dated date")?;
-    let first = words.next().ok_or("a first interest date")?;
-    let maturity = words.next().ok_or("a maturity")?;
-    let rate = words.next().ok_or("a coupon")?;
-    let mut name = ArrayVec::new();
-    let _ = name.try_push(b'R');
-    let kind = if first == "-" {
-        Kind::Zero
-    } else {
-        Kind::Periodic { first: day(first)? }
-    };
-    Ok(IssueRow {
-        cusip: *b"123456AA3",
-        name,
-        kind,
-        dated: day(dated)?,
-        maturity: day(maturity)?,
-        coupon: Coupon::read(rate.as_bytes()).ok().ok_or("a coupon")?,
-        calls: ArrayVec::new(),
-    })
-}
-
-fn issue(row: IssueRow, call: Option<&str>, at: Option<&str>) -> Result<Issue, Fail> {
-    let mut row = row;
-    if let Some(date) = call {
-        let _ = row.calls.try_push(Call {
-            date: day(date)?,
-            price: price(at.ok_or("a call price")?)?,
-        });
-    }
-    Ok(check(row).ok().ok_or("an issue")?)
-}
-
-// The payments of an issue up to its call, or to its maturity where it has none.
-fn flows(issue: &Issue, settlement: Day) -> Result<Flows, Fail>
-    ensures { IfOk result (λ flows. 2 ≤ flows.n) }
-{
-    let row = issue.row();
-    match row.kind {
-        Kind::Periodic { .. } | Kind::Zero => {}
-        _ => return Err(Fail::from("coupons or none")),
-    }
-    if !issue.settles(settlement) {
-        return Err(Fail::from("a settlement"));
-    }
-    let calls = row.calls.as_slice();
-    let flows = if calls.is_empty() {
-        let par = Price::of(100_000_000).ok_or("100")?;
-        issue.flows(settlement, row.maturity, par)
-    } else {
-        let call = calls[0];
-        if settlement >= call.date {
-            return Err(Fail::from("a later call"));
-        }
-        issue.flows(settlement, call.date, call.price)
-    };
-    if flows.n() < 2 {
-        return Err(Fail::from("more than six months"));
-    }
-    Ok(flows)
-}
-
-// The payments of a line up to its settlement, and after its yield and price.
 fn flows_of(case: &str) -> Result<Flows, Fail>
     ensures { IfOk result (λ flows. 2 ≤ flows.n) }
 {
-    let mut words = case.split(' ');
-    let row = row(&mut words)?;
-    let settlement = day(words.next().ok_or("a settlement")?)?;
-    let _ = words.next();
-    let _ = words.next();
-    let issue = issue(row, words.next(), words.next())?;
-    flows(&issue, settlement)
+    Ok(Sample::of(case).flows().ok_or("payments")?)
 }
 
 // The figure of an answer, after `?` where it is a boundary.
@@ -132,23 +50,36 @@ fn said(answer: &PriceAnswer) -> ArrayVec<u8, 32> {
     text
 }
 
-fn priced(case: &str) -> Result<ArrayVec<u8, 32>, Fail> {
-    let flows = flows_of(case)?;
-    let y = yield_read(case.split(' ').nth(5).ok_or("a yield")?)?;
+fn priced(case: &Sample<'_>) -> Result<ArrayVec<u8, 32>, Fail> {
+    let flows = case.flows().ok_or("payments")?;
+    let y = yield_of(case.yld("yield=").ok_or("a yield")?.units())?;
     Ok(said(&printed_price(&Horner, &flows, y)))
 }
 
 #[test]
 fn prices_are_those_computed_outside(rt: HostRuntime) -> Result<(), Fail> {
-    assert_eq!(rt; CASES.lines().count(), 158);
-    for case in CASES.lines() {
-        let wanted = case.split(' ').nth(6).ok_or("a price")?;
-        assert_eq!(rt; priced(case)?.as_slice(), wanted.as_bytes(), "{case}");
+    let mut table = Table::new();
+    let mut cases = 0_u32;
+    for line in CASES.lines() {
+        if let Some(case) = table.sample(line) {
+            let wanted = case.text("price=").ok_or("a price")?;
+            assert_eq!(rt; priced(&case)?.as_slice(), wanted, "{line}");
+            cases = cases.wrapping_add(1);
+        }
     }
+    assert_eq!(rt; cases, 158);
     Ok(())
 }
 
-const TWO_PERIODS: &str = "2020-01-01 2020-07-01 2025-01-01 5 2024-04-01 4 100.725";
+const TWO_PERIODS: &str =
+    "periodic dated=2020-01-01 first=2020-07-01 maturity=2025-01-01 coupon=5 settle=2024-04-01";
+
+const PAR_BOND: &str =
+    "periodic dated=2020-01-01 first=2020-07-01 maturity=2034-01-01 coupon=4.125 settle=2024-01-01";
+
+const ZERO: &str = "zero dated=2020-01-01 maturity=2026-07-01 settle=2024-01-01";
+
+const ZERO_OF_FIFTY_YEARS: &str = "zero dated=1990-01-01 maturity=2040-01-01 settle=1990-04-01";
 
 // From -5.0000 to 99.9499 percent.
 #[test]
@@ -183,11 +114,11 @@ fn verdicts_are_yes_up_to_the_exact_price(rt: HostRuntime) -> Result<(), Fail> {
 // A par bond is worth 100 exactly; 100 * 0.8^5 is 32.768, in no exact case.
 #[test]
 fn a_tie_is_told_in_an_exact_case_alone(rt: HostRuntime) -> Result<(), Fail> {
-    let par = flows_of("2020-01-01 2020-07-01 2034-01-01 4.125 2024-01-01 4.125 100.000")?;
+    let par = flows_of(PAR_BOND)?;
     let hundred = price("100")?;
     assert_eq!(rt; at_least(&Horner, &par, 41_250, hundred), Verdict::Yes);
     assert_eq!(rt; more(&Horner, &par, 41_250, hundred), Verdict::No);
-    let zero = flows_of("2020-01-01 - 2026-07-01 0 2024-01-01 50 ?32.768")?;
+    let zero = flows_of(ZERO)?;
     let tie = price("32.768")?;
     assert_eq!(rt; at_least(&Horner, &zero, 500_000, tie), Verdict::Unsure);
     assert_eq!(rt; more(&Horner, &zero, 500_000, tie), Verdict::Unsure);
@@ -232,9 +163,17 @@ fn a_price_takes_one_call_of_the_encloser_and_none_in_an_exact_case(
 
 #[test]
 fn a_worth_is_less_than_a_billionth_of_a_dollar_wide(rt: HostRuntime) -> Result<(), Fail> {
-    let flows = flows_of("1990-01-01 - 2040-01-01 0 1990-04-01 -5 1298.000")?;
+    let flows = flows_of(ZERO_OF_FIFTY_YEARS)?;
     let worth = Horner.pv(&flows, -50_000);
     assert!(rt; worth.lo() < worth.hi());
     assert!(rt; worth.hi() - worth.lo() < 360 * 4096);
+    Ok(())
+}
+
+fn is_shared<T: Send + Sync>(_shared: &T) {}
+
+#[test]
+fn threads_can_share_an_encloser(rt: HostRuntime) -> Result<(), Fail> {
+    is_shared(&Horner);
     Ok(())
 }
