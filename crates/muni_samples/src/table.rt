@@ -67,6 +67,11 @@ impl<'a> Sample<'a> {
         [self.base, self.line]
     }
 
+    /// A whole number, with a minus sign where it is below zero.
+    pub fn number(&self, name: &str) -> Option<i64> {
+        str::from_utf8(self.text(name)?).ok()?.parse::<i64>().ok()
+    }
+
     pub fn day(&self, name: &str) -> Option<Day> {
         Day::read(self.text(name)?).ok()
     }

@@ -5,110 +5,50 @@ ghost use Rattle.muni_multi.specs.HornerLaws.{horner-encloses, horner-narrow};
 mod yield_cases;
 
 use crate::{Bracket, Outcome, printed_yield};
-use arrayvec::ArrayVec;
-use muni_days::Day;
 use muni_dec::Price;
 use muni_edge::Steps;
 use muni_multi::{Encloser, Horner};
+use muni_samples::{Sample, Table};
 use muni_span::worth::Worth;
-use muni_terms::{Call, Flows, Issue, IssueRow, Kind, check};
+use muni_terms::Flows;
 use std::cell::Cell;
 use std::marker::Brand;
 use std::process::Abort;
 use std::sync::ledger::{Blank, Ledger};
 use std::test::Fail;
-use yield_cases::{CASES, Expected, NEAR_CASES, YieldCase};
+use yield_cases::{CASES, NEAR_CASES};
 
-const TWO_PERIODS: &str =
-    "2020-01-01 2020-07-01 2025-01-01 5 2024-04-01 2025-01-01 100 100.725 4001";
+const TWO_PERIODS: &str = "periodic dated=2020-01-01 first=2020-07-01 maturity=2025-01-01 \
+     coupon=5 settle=2024-04-01 price=100.725 prints=4001";
 
-const ON_AN_INTEREST_DATE: &str =
-    "2020-01-01 2020-07-01 2025-01-01 5 2024-01-01 2025-01-01 100 100 5000";
+const ON_AN_INTEREST_DATE: &str = "periodic dated=2020-01-01 first=2020-07-01 \
+     maturity=2025-01-01 coupon=5 settle=2024-01-01 price=100 prints=5000";
 
-fn some_price(case: &YieldCase) -> Result<Price, Fail>
+fn flows_of(case: &Sample<'_>) -> Result<Flows, Fail>
+    ensures { IfOk result (λ flows. 2 ≤ flows.n) }
+{
+    Ok(case.flows().ok_or("payments")?)
+}
+
+fn price_of(case: &Sample<'_>) -> Result<Price, Fail>
     ensures { IfOk result (λ price. 0 < price) }
 {
-    if case.price.units() == 0 {
+    let price = case.price("price=").ok_or("a price")?;
+    if price.units() == 0 {
         return Err(Fail::from("a price above zero"));
     }
-    Ok(case.price)
+    Ok(price)
 }
 
-// The issue with a call, where it is redeemed before maturity.
-fn issue(case: &YieldCase) -> Result<Issue, Fail> {
-    let mut name = ArrayVec::new();
-    let _ = name.try_push(b'R');
-    let mut calls = ArrayVec::new();
-    if case.redemption < case.maturity {
-        let _ = calls.try_push(Call {
-            date: case.redemption,
-            price: case.redemption_price,
-        });
-    }
-    let row = IssueRow {
-        cusip: *b"123456AA3",
-        name,
-        kind: case.kind,
-        dated: case.dated,
-        maturity: case.maturity,
-        coupon: case.coupon,
-        calls,
-    };
-    Ok(check(row).ok().ok_or("an issue")?)
-}
-
-// The payments of an issue up to its call, or to its maturity where it has none.
-fn flows(issue: &Issue, settlement: Day) -> Result<Flows, Fail>
-    ensures { IfOk result (λ flows. 2 ≤ flows.n) }
-{
-    let row = issue.row();
-    match row.kind {
-        Kind::Periodic { .. } | Kind::Zero => {}
-        _ => return Err(Fail::from("coupons or none")),
-    }
-    if !issue.settles(settlement) {
-        return Err(Fail::from("a settlement"));
-    }
-    let calls = row.calls.as_slice();
-    let flows = if calls.is_empty() {
-        let par = Price::of(100_000_000).ok_or("100")?;
-        issue.flows(settlement, row.maturity, par)
-    } else {
-        let call = calls[0];
-        if settlement >= call.date {
-            return Err(Fail::from("a later call"));
-        }
-        issue.flows(settlement, call.date, call.price)
-    };
-    if flows.n() < 2 {
-        return Err(Fail::from("more than six months"));
-    }
-    Ok(flows)
-}
-
-fn flows_of(case: &YieldCase) -> Result<Flows, Fail>
-    ensures { IfOk result (λ flows. 2 ≤ flows.n) }
-{
-    let issue = issue(case)?;
-    flows(&issue, case.settlement)
-}
-
-fn search_of(line: &str) -> Result<Bracket, Fail> {
-    match YieldCase::read(line) {
-        Ok(case) => search_for(&case),
-        Err(fail) => Err(fail),
-    }
-}
-
-fn search_for(case: &YieldCase) -> Result<Bracket, Fail> {
+fn search_of(case: &Sample<'_>) -> Result<Bracket, Fail> {
     let flows = flows_of(case)?;
-    let price = some_price(case)?;
+    let price = price_of(case)?;
     Ok(Bracket::start(flows, price))
 }
 
-fn outcome_of<E: Encloser>(encloser: &E, case: &YieldCase) -> Result<Outcome, Fail> {
+fn outcome_of<E: Encloser>(encloser: &E, case: &Sample<'_>) -> Result<Outcome, Fail> {
     let flows = flows_of(case)?;
-    let price = some_price(case)?;
+    let price = price_of(case)?;
     Ok(counted::<_, Brand>(encloser, &flows, price, Blank::new(1)))
 }
 
@@ -129,12 +69,12 @@ fn counted<E: Encloser, L: Ledger>(
     printed_yield(encloser, flows, price, &mut steps)
 }
 
-fn as_expected(outcome: Outcome) -> Expected {
+fn is_expected(outcome: Outcome, case: &Sample<'_>) -> bool {
     match outcome {
-        Outcome::Print(yld) => Expected::Print(yld.units() as i32),
-        Outcome::Below => Expected::Below,
-        Outcome::Above => Expected::Above,
-        Outcome::Unsure { lower } => Expected::Unsure { lower },
+        Outcome::Print(yld) => case.number("prints=") == Some(yld.units()),
+        Outcome::Below => case.has("below"),
+        Outcome::Above => case.has("above"),
+        Outcome::Unsure { lower } => case.number("unsure=") == Some(i64::from(lower)),
     }
 }
 
@@ -157,45 +97,48 @@ impl Encloser for Counting {
     ghost narrow = { λ _ series y is many within. horner-narrow series y is many within };
 }
 
-// Whether a line is answered as it says, after so many calls of the encloser at most.
-fn is_right(line: &str, most: u32) -> Result<bool, Fail> {
-    let case = YieldCase::read(line)?;
+// Whether a case is answered as it says, after so many calls of the encloser at most.
+fn is_right(case: &Sample<'_>, most: u32) -> Result<bool, Fail> {
     let counting = Counting {
         calls: Cell::new(0),
     };
-    let outcome = outcome_of(&counting, &case)?;
-    Ok(as_expected(outcome) == case.expected && counting.calls.get() <= most)
+    let outcome = outcome_of(&counting, case)?;
+    Ok(is_expected(outcome, case) && counting.calls.get() <= most)
 }
 
-fn are_right(rt: &impl Abort, cases: &str) -> Result<(), Fail> {
+fn are_right(rt: &impl Abort, cases: &str, wanted: u32) -> Result<(), Fail> {
+    let mut table = Table::new();
+    let mut count = 0_u32;
     for line in cases.lines() {
-        if !line.starts_with('#') {
-            assert!(rt; is_right(line, 19)?, "{line}");
+        if let Some(case) = table.sample(line) {
+            assert!(rt; is_right(&case, 19)?, "{line}");
+            count = count.wrapping_add(1);
         }
     }
+    assert_eq!(rt; count, wanted);
     Ok(())
 }
 
 #[test]
 fn yields_are_the_exact_ones_after_nineteen_calls_at_most(rt: HostRuntime) -> Result<(), Fail> {
-    are_right(&rt, CASES)
+    are_right(&rt, CASES, 244)
 }
 
 #[test]
 fn yields_too_near_a_boundary_are_told_by_the_ends(rt: HostRuntime) -> Result<(), Fail> {
-    are_right(&rt, NEAR_CASES)
+    are_right(&rt, NEAR_CASES, 28)
 }
 
 #[test]
 fn an_exact_case_takes_no_call(rt: HostRuntime) -> Result<(), Fail> {
-    assert!(rt; is_right(ON_AN_INTEREST_DATE, 0)?);
-    assert!(rt; !is_right(TWO_PERIODS, 16)?);
+    assert!(rt; is_right(&Sample::of(ON_AN_INTEREST_DATE), 0)?);
+    assert!(rt; !is_right(&Sample::of(TWO_PERIODS), 16)?);
     Ok(())
 }
 
 #[test]
 fn a_search_narrows_one_question_at_a_time(rt: HostRuntime) -> Result<(), Fail> {
-    let mut bracket = search_of(TWO_PERIODS)?;
+    let mut bracket = search_of(&Sample::of(TWO_PERIODS))?;
     is_shared(&bracket);
     assert_eq!(rt; (bracket.low(), bracket.high()), (-5_001, 100_002));
     for asked in 0u32..20 {
