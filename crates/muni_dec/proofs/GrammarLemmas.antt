@@ -18,11 +18,11 @@ both true b h = (refl, h)
 both false b h = absurd (cc)
 
 -- what was read tells which case it was
-chosen : {A E : Type 0} (test : Bool) (r : Result A E) (fault : E) (x : A) → cond test r (Err fault) ≡ Ok x → (test ≡ true) × (r ≡ Ok x)
+pub chosen : {A E : Type 0} (test : Bool) (r : Result A E) (fault : E) (x : A) → cond test r (Err fault) ≡ Ok x → (test ≡ true) × (r ≡ Ok x)
 chosen true r fault x h = (refl, h)
 chosen false r fault x h = absurd (cc)
 
-passed : {A E : Type 0} (test : Bool) (r : Result A E) (fault : E) (x : A) → cond test (Err fault) r ≡ Ok x → (test ≡ false) × (r ≡ Ok x)
+pub passed : {A E : Type 0} (test : Bool) (r : Result A E) (fault : E) (x : A) → cond test (Err fault) r ≡ Ok x → (test ≡ false) × (r ≡ Ok x)
 passed true r fault x h = absurd (cc)
 passed false r fault x h = (refl, h)
 
@@ -30,14 +30,14 @@ passed false r fault x h = (refl, h)
 digit_is : (c : ℕ) → is_ascii_digit c ≡ true → digit_value c < 10
 digit_is c h = grind (arith, nat_tests)
 
-is_digit : (c : ℕ) → digit_value c < 10 → is_ascii_digit c ≡ true
+pub is_digit : (c : ℕ) → digit_value c < 10 → is_ascii_digit c ≡ true
 is_digit c h = grind (arith, nat_tests)
 
-all_digits : (text : List ℕ) → list_all is_ascii_digit text ≡ true → AllDigits 10 text
+pub all_digits : (text : List ℕ) → list_all is_ascii_digit text ≡ true → AllDigits 10 text
 all_digits [] h = tt
 all_digits (c ∷ text) h = let p = both _ _ h in (digit_is c p.0, all_digits text p.1)
 
-digits_all : (text : List ℕ) → AllDigits 10 text → list_all is_ascii_digit text ≡ true
+pub digits_all : (text : List ℕ) → AllDigits 10 text → list_all is_ascii_digit text ≡ true
 digits_all [] h = refl
 digits_all (c ∷ text) h = rw (is_digit c h.0, digits_all text h.1) refl
 
@@ -52,7 +52,7 @@ numeral_is text h =
     rw (some, digits_all text h.1) refl
 
 -- digits reach to their end
-digits_end-all : (text : List ℕ) → list_all is_ascii_digit text ≡ true → digits_end text ≡ length text
+pub digits_end-all : (text : List ℕ) → list_all is_ascii_digit text ≡ true → digits_end text ≡ length text
 digits_end-all [] h = refl
 digits_end-all (c ∷ text) h =
     let p = both (is_ascii_digit c) (list_all is_ascii_digit text) h in
@@ -60,15 +60,15 @@ digits_end-all (c ∷ text) h =
     rw p.0 (omega arith)
 
 -- a point is no digit
-digit_no_point : (c : ℕ) → is_ascii_digit c ≡ true → eqb c 46 ≡ false
+pub digit_no_point : (c : ℕ) → is_ascii_digit c ≡ true → eqb c 46 ≡ false
 digit_no_point c h = grind (arith, nat_tests)
 
 -- the place of the first point in a text, or the length
-abbrev point_in : List ℕ → ℕ
+abbrev pub point_in : List ℕ → ℕ
 point_in text = position_or_len (λ b. eqb b 46) text
 
 -- digits have no point
-point_in-digits : (digits rest : List ℕ) → list_all is_ascii_digit digits ≡ true → point_in (digits ++ rest) ≡ length digits + point_in rest
+pub point_in-digits : (digits rest : List ℕ) → list_all is_ascii_digit digits ≡ true → point_in (digits ++ rest) ≡ length digits + point_in rest
 point_in-digits [] rest h = omega arith
 point_in-digits (c ∷ digits) rest h =
     let p = both (is_ascii_digit c) (list_all is_ascii_digit digits) h in
@@ -76,14 +76,14 @@ point_in-digits (c ∷ digits) rest h =
     rw (digit_no_point c p.0) (omega arith)
 
 -- the two ways to read a text that is not empty
-reading-with_point : (places : ℕ) (text : List ℕ) → point_in text < length text → reading places text ≡ reading_at places text (Some (point_in text))
+pub reading-with_point : (places : ℕ) (text : List ℕ) → point_in text < length text → reading places text ≡ reading_at places text (Some (point_in text))
 unfolding reading
 reading-with_point places text h =
     let some : eqb (length text) 0 ≡ false = grind (arith, nat_tests) in
     let found : ltb (point_in text) (length text) ≡ true = grind (arith, nat_tests) in
     rw (some, found) refl
 
-reading-without_point : (places : ℕ) (text : List ℕ) → 0 < length text → length text ≤ point_in text → reading places text ≡ reading_at places text None
+pub reading-without_point : (places : ℕ) (text : List ℕ) → 0 < length text → length text ≤ point_in text → reading places text ≡ reading_at places text None
 unfolding reading
 reading-without_point places text s h =
     let some : eqb (length text) 0 ≡ false = grind (arith, nat_tests) in
@@ -96,7 +96,7 @@ reading-empty places [] units h = absurd (cc)
 reading-empty places (c ∷ text) units h = omega arith
 
 -- a text round its first point
-around_point : (text : List ℕ) → point_in text < length text → text ≡ take (point_in text) text ++ 46 ∷ drop (point_in text + 1) text
+pub around_point : (text : List ℕ) → point_in text < length text → text ≡ take (point_in text) text ++ 46 ∷ drop (point_in text + 1) text
 around_point text h =
     let test = passes_at_first (λ b. eqb b 46) text 0 h in
     let point : get_or text (point_in text) 0 ≡ 46 = grind (arith, nat_tests) in
@@ -104,7 +104,7 @@ around_point text h =
     subst P point (split_at_first (λ b. eqb b 46) text 0 h)
 
 -- what is read behind a point
-fraction_read : (places : ℕ) (whole fraction : List ℕ) (at units : ℕ) → fraction_reading places whole fraction at ≡ Ok units → IsNumeral 10 fraction × (length fraction ≤ places) × (units ≡ units_of places whole fraction)
+pub fraction_read : (places : ℕ) (whole fraction : List ℕ) (at units : ℕ) → fraction_reading places whole fraction at ≡ Ok units → IsNumeral 10 fraction × (length fraction ≤ places) × (units ≡ units_of places whole fraction)
 fraction_read places whole fraction at units h =
     let few = passed (ltb places (digits_end fraction)) _ _ _ h in
     let digits = chosen (are_digits fraction) _ _ _ few.1 in
@@ -141,7 +141,7 @@ reading-written places text units h =
     ]
 
 -- the text behind a whole part and a point
-drop-behind_point : (whole fraction : List ℕ) → drop (length whole + 1) (whole ++ 46 ∷ fraction) ≡ fraction
+pub drop-behind_point : (whole fraction : List ℕ) → drop (length whole + 1) (whole ++ 46 ∷ fraction) ≡ fraction
 drop-behind_point whole fraction =
     let n : length (whole ++ 46 ∷ []) ≡ length whole + 1 = simp length-append (omega arith) in
     ap (drop (length whole + 1)) (sym (append_assoc whole (46 ∷ []) fraction)) ∙ drop_at (whole ++ 46 ∷ []) fraction (length whole + 1) n
@@ -201,11 +201,11 @@ negative-written places text units h =
     record { negative = true; magnitude = w.magnitude; valid = w.valid; bytes = ap (λ t. 45 ∷ t) w.bytes; value = r.2 ∙ ap (λ n. neg_ℤ (pos n)) w.value }
 
 -- a text that begins with a minus sign, and one that does not
-signed_reading-minus : (places c : ℕ) (text : List ℕ) → c ≡ 45 → signed_reading places (c ∷ text) ≡ behind_sign (reading places text)
+pub signed_reading-minus : (places c : ℕ) (text : List ℕ) → c ≡ 45 → signed_reading places (c ∷ text) ≡ behind_sign (reading places text)
 unfolding signed_reading
 signed_reading-minus places c text minus = rw minus refl
 
-signed_reading-other : (places c : ℕ) (text : List ℕ) → eqb c 45 ≡ false → signed_reading places (c ∷ text) ≡ without_sign (reading places (c ∷ text))
+pub signed_reading-other : (places c : ℕ) (text : List ℕ) → eqb c 45 ≡ false → signed_reading places (c ∷ text) ≡ without_sign (reading places (c ∷ text))
 unfolding signed_reading
 signed_reading-other places c text other = rw other refl
 

@@ -1,3 +1,5 @@
 pub mod DigitsLemmas
 pub mod GrammarLemmas
 pub mod NumberLemmas
+pub mod FaultLemmas
+pub mod SignedFaultLemmas

@@ -5,4 +5,6 @@ pub mod Capped
 pub mod Values
 pub mod Grammar
 pub mod Numbers
+pub mod FaultPlaces
+pub mod Fault
 pub mod Line

@@ -15,6 +15,8 @@ pub fn trunc3(price: Price) -> Price3
 }
 
 /// A given yield as it is shown, rounded to thousandths of a percent.
+///
+/// Yields up to -90.0005 percent and from 999.9995 percent on have no printed form.
 pub fn round_yield(y: Yield) -> Yield3
     requires { IsYield3 (rule.rounded_yield y) }
     ensures { result ≡ rule.rounded_yield y }
@@ -28,7 +30,8 @@ pub fn round_yield(y: Yield) -> Yield3
     Yield3::new(rounded)
 }
 
-/// The accrued interest of a trade: truncated to thousandths of a dollar and rounded to cents.
+/// The accrued interest of a trade for 0 to 720 days of 30/360: truncated to thousandths of a dollar
+/// and rounded to cents.
 pub fn accrued_cents(coupon: Coupon, par: Par, days: i32) -> Cents
     requires { (pos 0 ≤ℤ days) × (days ≤ℤ pos 720) }
     ensures value { result ≡ rule.accrued_cents coupon par (unsigned_abs days) }

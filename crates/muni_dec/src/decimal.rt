@@ -6,7 +6,7 @@ ghost use Rattle.muni_dec.specs.Decimal.{reading_at, reading, behind_sign, signe
 ghost use Rattle.muni_dec.specs.Capped.{capped, capped_signed};
 
 use crate::DecFault;
-use crate::digits::{LIMIT, push_last_digits, push_number, read_digits};
+use crate::digits::{LIMIT, push_digits, push_last_digits, read_digits};
 use arrayvec::ArrayVec;
 
 fn power_of_ten(places: usize) -> u64
@@ -134,7 +134,7 @@ pub fn push_decimal(text: &mut ArrayVec<u8, 32>, units: u64, places: usize)
     ensures items { text.new.items ≡ text.old.items ++ decimal_text places units }
     ensures len { array_vec_len text.new ≤ 29 }
 {
-    push_number(text, units / power_of_ten(places));
+    push_digits(text, units / power_of_ten(places));
     text.push(b'.');
     push_last_digits(text, units, places);
 }

@@ -1,4 +1,4 @@
-//! Digits, as decimals and dates read and write them.
+//! Digits, as numbers, decimals and dates read and write them.
 
 ghost use Rattle.std.specs.Prelude.{◌≡◌, ◌+◌, ◌^◌, ◌≤◌, ◌++◌, min, decimal, true, false, length, IfSome, MatchResult};
 ghost use Rattle.arrayvec.specs.ArrayVec.{array_vec_len};
@@ -8,7 +8,7 @@ use arrayvec::ArrayVec;
 use itoa::Buffer;
 
 /// The greatest number of a decimal that is told apart. It lies past every range of a decimal.
-pub const LIMIT: u64 = 100_000_000_000;
+pub(crate) const LIMIT: u64 = 100_000_000_000;
 
 /// The number that a text writes in at most so many digits, where it lies in a range.
 pub fn read_number(text: &[u8], most_digits: usize, least: u64, greatest: u64) -> Option<u64>
@@ -29,7 +29,7 @@ pub fn read_number(text: &[u8], most_digits: usize, least: u64, greatest: u64) -
 /// The number that a run of digits writes, or [`LIMIT`] where it is greater.
 ///
 /// Another text is refused with the place of the first byte that is no digit, or with its length.
-pub fn read_digits(text: &[u8]) -> Result<u64, usize>
+pub(crate) fn read_digits(text: &[u8]) -> Result<u64, usize>
     ensures { MatchResult result
         (λ n. (are_digits text.now ≡ true) × (n ≡ min LIMIT (number text.now))
         × (digits_end text.now ≡ length text.now))
@@ -65,7 +65,7 @@ fn read_up_to(text: &[u8], limit: u128) -> Result<u128, usize>
 }
 
 /// Appends a number in decimal digits.
-pub fn push_number(text: &mut ArrayVec<u8, 32>, number: u64)
+pub(crate) fn push_digits(text: &mut ArrayVec<u8, 32>, number: u64)
     requires { array_vec_len text.old ≤ 12 }
     ensures items { text.new.items ≡ text.old.items ++ decimal number }
     ensures len { array_vec_len text.new ≤ array_vec_len text.old + 20 }

@@ -1,3 +1,5 @@
+ghost use Rattle.std.specs.Prelude.{◌≡◌};
+
 /// Why a text is no decimal of the kind that was asked for. Places count bytes from 0.
 #[derive(Clone, Copy, Debug, PartialEq, Eq)]
 pub enum DecFault {
@@ -9,4 +11,20 @@ pub enum DecFault {
     TooManyDecimals { at: usize },
     /// The text is a decimal whose value is outside the range.
     OutOfRange,
+}
+
+impl DecFault {
+    ghost use Rattle.muni_dec.specs.Fault.{fault_number};
+
+    /// The number of the fault, from 1 to 4.
+    pub fn number(&self) -> u32
+        ensures { result ≡ fault_number self.now }
+    {
+        match self {
+            DecFault::Empty => 1,
+            DecFault::NotADigit { .. } => 2,
+            DecFault::TooManyDecimals { .. } => 3,
+            DecFault::OutOfRange => 4,
+        }
+    }
 }

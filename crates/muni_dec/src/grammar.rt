@@ -1,12 +1,22 @@
-//! What the reading of decimals and of whole numbers means, in the words of their format.
+//! What the reading of decimals and of whole numbers means, in the words of their formats.
 
+ghost use Rattle.muni_dec.specs.FaultPlaces.{TellsDecimalFaults, TellsSignedFaults, ReadsDigits, TellsDigitFaults};
 ghost use Rattle.muni_dec.specs.Grammar.{ReadsDecimals, ReadsSigned};
 ghost use Rattle.muni_dec.specs.Numbers.{ReadsNumbers};
 
-/// A law of the definitions that the readers' contracts cite: exactly the format's texts are read,
-/// each as the number that it writes.
+/// Laws of the definitions that the readers' contracts cite: exactly the texts of each format are
+/// read, each as the number that it writes.
 pub fn reads_the_format()
     ensures unsigned { ReadsDecimals }
     ensures signed { ReadsSigned }
+    ensures digits { ReadsDigits }
     ensures numbers { ReadsNumbers }
+{}
+
+/// Each fault comes exactly where it says: at the first place whose byte continues no text of the
+/// format.
+pub fn faults_are_where_the_format_is_left()
+    ensures unsigned { TellsDecimalFaults }
+    ensures signed { TellsSignedFaults }
+    ensures digits { TellsDigitFaults }
 {}

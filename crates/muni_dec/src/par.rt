@@ -5,7 +5,7 @@ ghost use Rattle.muni_dec.specs.Values.{if_par, par_reading};
 
 use crate::DecFault;
 use crate::decimal::read_whole;
-use crate::digits::push_number;
+use crate::digits::push_digits;
 use arrayvec::ArrayVec;
 use std::marker::Model;
 
@@ -69,6 +69,6 @@ impl Par {
         ensures len { array_vec_len text.new ≤ 20 }
     {
         text.clear();
-        push_number(text, self.units);
+        push_digits(text, self.units);
     }
 }

@@ -1,3 +1,5 @@
+use crate::digits::read_number;
+use crate::text::{push, push_line, push_number, push_number_line, push_part};
 use crate::{
     Cents, Coupon, DecFault, Par, Price, Price3, Yield, Yield3, accrued_cents, principal_cents,
     round_yield, trunc3,
@@ -72,6 +74,55 @@ fn faults_tell_their_kind_and_place(rt: HostRuntime) -> Result<(), Fail> {
 }
 
 #[test]
+fn faults_have_their_numbers(rt: HostRuntime) -> Result<(), Fail> {
+    for (text, number) in [("", 1), ("x", 2), ("1.12345", 3), ("1000", 4)] {
+        let fault = Yield::read(text.as_bytes()).err();
+        assert_eq!(rt; fault.map(|fault| fault.number()), Some(number), "{text}");
+    }
+    Ok(())
+}
+
+#[test]
+fn numbers_are_read_in_their_range(rt: HostRuntime) -> Result<(), Fail> {
+    for (text, number) in [
+        ("0", Some(0)),
+        ("00000000000000000007", Some(7)),
+        ("18446744073709551615", Some(18_446_744_073_709_551_615)),
+        ("18446744073709551616", None),
+        ("99999999999999999999", None),
+        ("000000000000000000007", None),
+        ("", None),
+        ("1x", None),
+        ("-1", None),
+    ] {
+        assert_eq!(rt;
+            read_number(text.as_bytes(), 20, 0, 18_446_744_073_709_551_615),
+            number,
+            "{text}"
+        );
+    }
+    for (text, number) in [("0", None), ("1", Some(1)), ("16", Some(16)), ("17", None)] {
+        assert_eq!(rt; read_number(text.as_bytes(), 20, 1, 16), number, "{text}");
+    }
+    Ok(())
+}
+
+#[test]
+fn lines_are_appended_to_a_text(rt: HostRuntime) -> Result<(), Fail> {
+    let mut text = ArrayVec::<u8, 64>::new();
+    push_line(&mut text, b"PRICE", b"100.235");
+    push_number_line(&mut text, b"DAYS", -5_i64);
+    push(&mut text, b"END");
+    push_part(&mut text, b"OF");
+    push_number(&mut text, 3_u32);
+    assert_eq!(rt;
+        text.as_slice(),
+        b"PRICE 100.235\nDAYS -5\nEND OF 3".as_slice()
+    );
+    Ok(())
+}
+
+#[test]
 fn units_outside_a_range_are_no_value(rt: HostRuntime) -> Result<(), Fail> {
     assert!(rt; Coupon::of(300_000_001).is_none());
     assert!(rt; Price::of(1_000_000_000).is_none());
@@ -83,6 +134,8 @@ fn units_outside_a_range_are_no_value(rt: HostRuntime) -> Result<(), Fail> {
     assert_eq!(rt; Price::of(0).map(|p| p.units()), Some(0));
     assert_eq!(rt; Yield::of(-999_999).map(|y| y.units()), Some(-999_999));
     assert_eq!(rt; Price3::of(100_235).map(|p| p.units()), Some(100_235));
+    assert_eq!(rt; Price::PAR.units(), 100_000_000);
+    assert_eq!(rt; Cents::ZERO.plus(Cents::new(5)).units(), 5);
     Ok(())
 }
 

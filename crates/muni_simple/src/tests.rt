@@ -96,6 +96,36 @@ fn a_discount_has_a_price_and_a_return(rt: HostRuntime) -> Result<(), Fail> {
     Ok(())
 }
 
+// With 180 days left, a payment of due dollars yields (due / price - 1) * 200 percent.
+#[test]
+fn yields_are_printed_up_to_the_ends_of_their_ranges(rt: HostRuntime) -> Result<(), Fail> {
+    for (shape, due, price, expected) in [
+        // -90.0004.., -90.0005 and -90.001 percent
+        (Shape1::OnePeriod, 5_499_976, 100, shown(-90_000)?),
+        (Shape1::OnePeriod, 5_499_975, 100, SimpleYield::Below),
+        (Shape1::OnePeriod, 5_499_950, 100, SimpleYield::Below),
+        // -45.0004.., -45.0005 and -45.001 percent
+        (Shape1::AtRedemption, 7_749_976, 100, shown(-45_000)?),
+        (Shape1::AtRedemption, 7_749_975, 100, SimpleYield::Below),
+        (Shape1::AtRedemption, 7_749_950, 100, SimpleYield::Below),
+        (Shape1::OnePeriod, 7_749_950, 100, shown(-45_001)?),
+        // 999.9994 and 999.9996 percent
+        (Shape1::OnePeriod, 59_999_970, 100, shown(999_999)?),
+        (Shape1::OnePeriod, 59_999_980, 100, SimpleYield::Above),
+        (Shape1::AtRedemption, 59_999_970, 100, shown(999_999)?),
+        (Shape1::AtRedemption, 59_999_980, 100, SimpleYield::Above),
+    ] {
+        let single = Single {
+            due: due * (DOLLAR / 100_000),
+            accrued: 0,
+            left: 180,
+        };
+        let y = single_yield(&single, shape, price_of(price * 1_000_000)?);
+        assert_eq!(rt; y, expected, "{due}");
+    }
+    Ok(())
+}
+
 #[test]
 fn a_yield_outside_the_range_is_named(rt: HostRuntime) -> Result<(), Fail> {
     let cheap = single_yield(&LAST_PERIOD, Shape1::OnePeriod, price_of(1)?);

@@ -1,7 +1,7 @@
--- The ends of a power of fractions in units of 2^-60. What they enclose is said elsewhere: these
--- say which ends a power has.
-use Rattle.std.specs.Prelude.{ℕ, suc, zero, ◌+◌, ◌-◌, ◌*◌, ◌/◌, ◌%◌, ◌^◌}
-use Rattle.std.specs.Prelude.{min, nat_le, nat_eq, if◌then◌else◌}
+-- The ends of a power of fractions in units of 2^-60, by the way of squaring. They fix which ends a
+-- power has, so that one enclosure belongs to a series and a yield. No rule of the trade hangs on
+-- them: that the ends enclose the power is said apart, and any ends that do would serve.
+use Rattle.std.specs.Prelude.{ℕ, suc, zero, ◌+◌, ◌-◌, ◌*◌, ◌/◌, ◌%◌, ◌^◌, min, nat_le, nat_eq, if◌then◌else◌}
 
 -- a product, rounded down after a carry is added, and at most the greatest end there is
 abbrev pub product_end : ℕ → ℕ → ℕ → ℕ

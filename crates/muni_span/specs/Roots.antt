@@ -1,4 +1,5 @@
--- The ends of the 180th root of a fraction, in units of 2^-60.
+-- The ends of the 180th root of a fraction, in units of 2^-60, by the powers of the crate. As with a
+-- power, they fix which ends a root has, and no rule of the trade hangs on them.
 use Rattle.std.specs.Prelude.{ℕ, Bool, suc, zero, ◌+◌, ◌-◌, ◌^◌, ◌<◌, ◌≤◌, nat_le, if◌then◌else◌}
 use Rattle.muni_span.specs.Powers.{power_end}
 

@@ -1,7 +1,6 @@
 //! The 180th root. No end is kept but where a power certifies it.
 
-ghost use Rattle.std.specs.Prelude.{◌≡◌, ℕ, ◌+◌, ◌-◌, ◌*◌, ◌^◌, ◌<◌, ◌≤◌};
-ghost use Rattle.std.specs.Prelude.{pos, negsuc, ◌≤ℤ◌};
+ghost use Rattle.std.specs.Prelude.{◌≡◌, ℕ, ◌+◌, ◌-◌, ◌*◌, ◌^◌, ◌<◌, ◌≤◌, pos, negsuc, ◌≤ℤ◌};
 ghost use Rattle.muni_span.specs.Fractions.{IsAtMost};
 ghost use Rattle.muni_span.specs.Holding.{HoldsPower};
 ghost use Rattle.muni_span.specs.Roots.{root_end, root_low, root_high, IsBracket};
@@ -39,19 +38,6 @@ pub fn root180(v: Span) -> Span
     let guess = guess(v.lo());
     let lo = end_near(Rounding::Up, v.lo(), guess);
     let below_hi = end_near(Rounding::Down, v.hi() - 1, guess);
-    Span::new(lo, below_hi + 1)
-}
-
-/// What `root180` answers, by halving from the widest bracket alone.
-pub fn root180_by_halving(v: Span) -> Span
-    requires least { 6 * 2 ^ 60 ≤ 10 * v.lo }
-    requires greatest { 100 * v.hi ≤ 103 * 2 ^ 60 }
-    requires narrow { v.hi ≤ v.lo + 1 }
-    ensures lo { result.lo ≡ root_low v.lo }
-    ensures hi { result.hi ≡ root_high v.hi }
-{
-    let lo = end_between(Rounding::Up, v.lo(), LEAST_ROOT, GREATEST_ROOT);
-    let below_hi = end_between(Rounding::Down, v.hi() - 1, LEAST_ROOT, GREATEST_ROOT);
     Span::new(lo, below_hi + 1)
 }
 

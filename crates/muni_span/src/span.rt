@@ -1,8 +1,8 @@
 //! Fractions between two whole ends, in units of 2^-60.
 
 ghost use Rattle.std.specs.Prelude.{◌≡◌, ℕ, ◌+◌, ◌-◌, ◌*◌, ◌/◌, ◌^◌, ◌<◌, ◌≤◌};
-ghost use Rattle.std.specs.Prelude.{pos, negsuc, ◌≤ℤ◌};
 ghost use Rattle.muni_rule.specs.ManyPeriods.{discount_divisor};
+ghost use Rattle.muni_rule.specs.Ranges.{IsManyPeriodsBoundary};
 ghost use Rattle.muni_span.specs.Fractions.{IsAtMost};
 ghost use Rattle.muni_span.specs.Holding.{HoldsPower};
 ghost use Rattle.muni_span.specs.Powers.{power_low, power_high};
@@ -89,34 +89,34 @@ impl Span {
     }
 }
 
-/// The discount factor of one half-year at a yield in millionths: two million divided by two
-/// million and the yield. The yield lies between -50,005 and 1,000,005.
+/// The discount factor of one half-year at a yield in millionths (MSRB Rule G-33(b)(i)), the
+/// reciprocal of one and half the yield: two million divided by two million and the yield. The
+/// yield lies between -50,005 and 1,000,005.
 pub fn recip(y: i32) -> Span
-    requires least { negsuc 50004 ≤ℤ y }
-    requires greatest { y ≤ℤ pos 1000005 }
-    ensures lo { result.lo ≡ 2000000 * 2 ^ 60 / discount_divisor y }
-    ensures hi { result.hi ≡ (2000000 * 2 ^ 60 + (discount_divisor y - 1)) / discount_divisor y }
+    requires { IsManyPeriodsBoundary y }
+    ensures lo { result.lo ≡ 2_000_000 * 2 ^ 60 / discount_divisor y }
+    ensures hi { result.hi
+        ≡ (2_000_000 * 2 ^ 60 + (discount_divisor y - 1)) / discount_divisor y }
 
     ensures encloses { (j : ℕ) →
-        HoldsPower (2 ^ 60) result.lo result.hi j (2000000 ^ j) (discount_divisor y ^ j) }
+        HoldsPower (2 ^ 60) result.lo result.hi j (2_000_000 ^ j) (discount_divisor y ^ j) }
     ensures width { result.hi ≤ result.lo + 1 }
     ensures at_least { 6 * 2 ^ 60 ≤ 10 * result.lo }
-    ensures at_most { 10000 * result.hi ≤ 10257 * 2 ^ 60 }
+    ensures at_most { 10_000 * result.hi ≤ 10_257 * 2 ^ 60 }
 {
     let whole = 2_000_000_u128 << 60;
-    let divisor = discount_divisor(y) as u128;
+    let divisor = divisor_of(y) as u128;
     let lo = whole / divisor;
     let hi = ceiling(whole, divisor, lo);
     Span::new(lo as u64, hi as u64)
 }
 
 /// Two million and the yield.
-fn discount_divisor(y: i32) -> u64
-    requires least { negsuc 50004 ≤ℤ y }
-    requires greatest { y ≤ℤ pos 1000005 }
+fn divisor_of(y: i32) -> u64
+    requires { IsManyPeriodsBoundary y }
     ensures value { result ≡ discount_divisor y }
-    ensures at_least { 1949995 ≤ result }
-    ensures at_most { result ≤ 3000005 }
+    ensures at_least { 1_949_995 ≤ result }
+    ensures at_most { result ≤ 3_000_005 }
 {
     (2_000_000 + y) as u64
 }

@@ -2,7 +2,7 @@ ghost use Rattle.std.specs.Prelude.{◌≡◌, ℕ, ◌+◌, ◌*◌, ◌^◌, �
 
 mod cases;
 
-use crate::root::{root180, root180_by_halving};
+use crate::root::root180;
 use crate::span::{Span, recip};
 use crate::worth::{Worth, of};
 use cases::CASES;
@@ -136,11 +136,7 @@ fn root_given(words: &mut SplitWhitespace<'_>) -> Result<Span, Fail> {
     if 10 * lo < 6 << 60 || 100 * hi > 103 << 60 || hi - lo > 1 {
         return Err(Fail::from("a narrow span from 0.6 to 1.03"));
     }
-    let root = root180(v);
-    if root != root180_by_halving(v) {
-        return Err(Fail::from("the root that halving gives"));
-    }
-    Ok(root)
+    Ok(root180(v))
 }
 
 fn of_given(words: &mut SplitWhitespace<'_>) -> Result<Worth, Fail> {

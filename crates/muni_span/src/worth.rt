@@ -1,4 +1,5 @@
-//! Amounts between two whole ends, in 1/4096 of a unit.
+//! Amounts between two whole ends, in 1/4096 of a unit, which is 1/(360 * 10^9) dollars per 100 of
+//! par.
 
 ghost use Rattle.std.specs.Prelude.{◌≡◌, ℕ, ◌+◌, ◌-◌, ◌*◌, ◌/◌, ◌^◌, ◌<◌, ◌≤◌};
 ghost use Rattle.muni_span.specs.Holding.{HoldsPower};

@@ -1,4 +1,5 @@
 use Rattle.muni_dec.proofs.GrammarLemmas.{reading-written, written-reading, signed_reading-written, written-signed_reading}
+use Rattle.muni_dec.proofs.FaultLemmas.{reads_digits}
 use Rattle.muni_dec.proofs.NumberLemmas.{reading-number, number-reading}
 use Rattle.muni_dec.proofs.grammar.reads_the_format.Goals as goal
 
@@ -10,3 +11,6 @@ returns-clause-signed c = λ places text units. (signed_reading-written places t
 
 pub returns-clause-numbers : goal.returns-clause-numbers
 returns-clause-numbers c = λ most least greatest small text number. (reading-number most least greatest small text number, number-reading most least greatest small text number)
+
+pub returns-clause-digits : goal.returns-clause-digits
+returns-clause-digits c = reads_digits
