@@ -2,8 +2,8 @@
 
 /// Is told by the workers of a search when they begin.
 pub trait Gate {
-    /// A worker begins the candidate at this place of the list, in this round. Of the call no more is known than
-    /// that it returns.
+    /// A worker begins the candidate at this place of the list, in this round. Of the call no more
+    /// is known than that it returns.
     fn start(&self, round: u32, place: usize);
 }
 

@@ -118,6 +118,24 @@ fn a_door_is_served_to_its_end_past_its_faults(rt: HostRuntime) -> Result<(), Fa
     Ok(())
 }
 
+#[test]
+fn objects_with_no_bytes_no_room_and_no_links_are_made_and_serve(
+    rt: HostRuntime,
+) -> Result<(), Fail> {
+    let alloc = rt.alloc();
+    let mut source = MemSource::new(alloc, b"", &[])?;
+    assert_eq!(rt; source.take(&mut [0]), Ok(0));
+    let mut sink = MemSink::new(alloc, 0, &[])?;
+    assert_eq!(rt; sink.put(b""), Ok(()));
+    assert_eq!(rt; sink.put(b"a"), Err(Failed));
+    let mut link = MemLink::new(alloc, b"", 0, &[], &[])?;
+    assert_eq!(rt; echo(&mut link), Ok(0));
+    let mut door = MemDoor::new(alloc, vec![in alloc;]?, &[])?;
+    assert_eq!(rt; serve_first(&mut door, 80), Ok(false));
+    assert!(rt; door.served().is_empty());
+    Ok(())
+}
+
 fn crosses<T: Send + Sync>(_value: &T) {}
 
 #[test]
