@@ -1,4 +1,4 @@
-//! What a gate and an encloser see of a quote at a price.
+//! What a gate and an encloser see of a command.
 
 ghost use Rattle.muni_multi.specs.Horner.{horner_ends};
 ghost use Rattle.muni_multi.specs.HornerLaws.{horner-encloses, horner-narrow};
@@ -10,67 +10,57 @@ use muni_multi::{Encloser, Horner};
 use muni_span::worth::Worth;
 use muni_terms::Flows;
 use std::alloc::Global;
+use std::process::Abort;
 use std::sync::atomic::{AtomicBool, AtomicU32, AtomicUsize, Ordering};
 use std::test::Fail;
+use std::thread::Threads;
 
-const CALLABLE: &str = "quote --kind=periodic --dated=2022-01-01 --first=2022-07-01 \
+const TWO_CANDIDATES: &str = "quote --kind=periodic --dated=2022-01-01 --first=2022-07-01 \
     --maturity=2044-01-01 --coupon=4 --call=2034-01-01:100 --settle=2024-01-01";
+
+const THREE_CANDIDATES: &str = "quote --kind=periodic --dated=2022-01-01 --first=2022-07-01 \
+    --maturity=2044-01-01 --coupon=4 --call=2034-01-01:100 --call=2036-01-01:100 \
+    --settle=2024-01-01";
+
+const FOUR_CANDIDATES: &str = "quote --kind=periodic --dated=2022-01-01 --first=2022-07-01 \
+    --maturity=2044-01-01 --coupon=4 --call=2034-01-01:100 --call=2036-01-01:100 \
+    --call=2038-01-01:100 --settle=2024-01-01";
 
 const ANSWER: &str = "PRICE 108.584 GIVEN/YIELD 3.000 COMPUTED/\
     REDEMPTION 2034-01-01 100.000000 PAR OPTION/ACCRUED DAYS 0/PRINCIPAL 108.58/ACCRUED 0.00/\
     TOTAL 108.58";
 
-/// Two candidates, of which each waits at its first start until the other has started.
+/// Holds each candidate at its first start until so many are held at once, or for its turns.
 #[derive(Drop)]
 struct Meeting {
-    call_started: AtomicBool,
-    maturity_started: AtomicBool,
-    call_met: AtomicBool,
-    maturity_met: AtomicBool,
-    /// How often it looks for the other.
+    held: AtomicU32,
+    /// The most that were held at once.
+    most: AtomicU32,
+    wanted: u32,
     turns: u32,
 }
 
 impl Gate for Meeting {
-    fn start(&self, round: u32, place: usize) {
+    fn start(&self, round: u32, _place: usize) {
         if round > 0 {
             return;
         }
-        if place == 0 {
-            meet(
-                &self.call_started,
-                &self.maturity_started,
-                &self.call_met,
-                self.turns,
-            );
-        } else {
-            meet(
-                &self.maturity_started,
-                &self.call_started,
-                &self.maturity_met,
-                self.turns,
-            );
+        let held = self.held.fetch_add(1, Ordering::SeqCst).wrapping_add(1);
+        let _ = self.most.fetch_max(held, Ordering::SeqCst);
+        for _turn in 0u32..self.turns {
+            if self.most.load(Ordering::SeqCst) >= self.wanted {
+                break;
+            }
         }
+        let _ = self.held.fetch_sub(1, Ordering::SeqCst);
     }
 }
 
-// Raises one flag, and waits for the other for a number of turns.
-fn meet(own: &AtomicBool, other: &AtomicBool, met: &AtomicBool, turns: u32) {
-    own.store(true, Ordering::SeqCst);
-    for _turn in 0u32..turns {
-        if other.load(Ordering::SeqCst) {
-            met.store(true, Ordering::SeqCst);
-            return;
-        }
-    }
-}
-
-fn none_started(turns: u32) -> Meeting {
+fn meeting_of(wanted: u32, turns: u32) -> Meeting {
     Meeting {
-        call_started: AtomicBool::new(false),
-        maturity_started: AtomicBool::new(false),
-        call_met: AtomicBool::new(false),
-        maturity_met: AtomicBool::new(false),
+        held: AtomicU32::new(0),
+        most: AtomicU32::new(0),
+        wanted,
         turns,
     }
 }
@@ -127,35 +117,60 @@ fn nothing_seen() -> Watching {
     }
 }
 
-fn words_with(alloc: Global, price: &str, workers: &str) -> Result<Vec<String>, Fail> {
-    let mut words = words_of(alloc, CALLABLE)?;
-    words.push(String::from_str(alloc, price)?)?;
-    words.push(String::from_str(alloc, workers)?)?;
+fn words_with(alloc: Global, line: &str, more: &[&str]) -> Result<Vec<String>, Fail> {
+    let mut words = words_of(alloc, line)?;
+    for word in more {
+        words.push(String::from_str(alloc, word)?)?;
+    }
     Ok(words)
 }
 
-#[test]
-fn two_workers_halve_two_candidates_side_by_side(rt: HostRuntime) -> Result<(), Fail> {
-    let gate = none_started(100_000_000);
-    let mut output = sink(rt.alloc(), 512, &[])?;
-    let words = words_with(rt.alloc(), "--price=108.584", "--workers=2")?;
-    let status = desk(&rt, words.as_slice(), &mut output, &Horner, &gate);
+// The most candidates that are started side by side, where it waits for so many to be.
+fn side_by_side<R: Threads + Sync + Abort>(
+    rt: &R,
+    alloc: Global,
+    words: &[String],
+    gate: Meeting,
+) -> Result<u32, Fail> {
+    let mut output = sink(alloc, 512, &[])?;
+    let status = desk(rt, words, &mut output, &Horner, &gate);
     assert_eq!(rt; status, Status::Done);
-    assert_eq!(rt; written(rt.alloc(), &output)?.as_str(), ANSWER);
-    assert!(rt; gate.call_met.load(Ordering::SeqCst));
-    assert!(rt; gate.maturity_met.load(Ordering::SeqCst));
+    assert_eq!(rt; written(alloc, &output)?.as_str(), ANSWER);
+    Ok(gate.most.load(Ordering::SeqCst))
+}
+
+#[test]
+fn as_many_candidates_are_searched_side_by_side_as_there_are_workers(
+    rt: HostRuntime,
+) -> Result<(), Fail> {
+    for (line, workers, wanted) in [
+        (TWO_CANDIDATES, "--workers=2", 2),
+        (FOUR_CANDIDATES, "--workers=4", 4),
+    ] {
+        let words = words_with(rt.alloc(), line, &["--price=108.584", workers])?;
+        let most = side_by_side(
+            &rt,
+            rt.alloc(),
+            words.as_slice(),
+            meeting_of(wanted, 100_000_000),
+        )?;
+        assert_eq!(rt; most, wanted, "{workers}");
+    }
     Ok(())
 }
 
 #[test]
-fn one_worker_halves_one_candidate_after_the_other(rt: HostRuntime) -> Result<(), Fail> {
-    let gate = none_started(10_000_000);
-    let mut output = sink(rt.alloc(), 512, &[])?;
-    let words = words_with(rt.alloc(), "--price=108.584", "--workers=1")?;
-    let status = desk(&rt, words.as_slice(), &mut output, &Horner, &gate);
-    assert_eq!(rt; status, Status::Done);
-    assert!(rt; !gate.call_met.load(Ordering::SeqCst));
-    assert!(rt; gate.maturity_met.load(Ordering::SeqCst));
+fn no_more_candidates_are_searched_side_by_side_than_there_are_workers(
+    rt: HostRuntime,
+) -> Result<(), Fail> {
+    for (line, workers, most) in [
+        (TWO_CANDIDATES, "--workers=1", 1),
+        (THREE_CANDIDATES, "--workers=2", 2),
+    ] {
+        let words = words_with(rt.alloc(), line, &["--price=108.584", workers])?;
+        let found = side_by_side(&rt, rt.alloc(), words.as_slice(), meeting_of(3, 10_000_000))?;
+        assert!(rt; found <= most, "{workers}");
+    }
     Ok(())
 }
 
@@ -163,7 +178,11 @@ fn one_worker_halves_one_candidate_after_the_other(rt: HostRuntime) -> Result<()
 fn a_candidate_that_cannot_be_the_lowest_is_dropped(rt: HostRuntime) -> Result<(), Fail> {
     let watching = nothing_seen();
     let mut output = sink(rt.alloc(), 512, &[])?;
-    let words = words_with(rt.alloc(), "--price=108.584", "--workers=1")?;
+    let words = words_with(
+        rt.alloc(),
+        TWO_CANDIDATES,
+        &["--price=108.584", "--workers=1"],
+    )?;
     let status = desk(&rt, words.as_slice(), &mut output, &watching, &watching);
     assert_eq!(rt; status, Status::Done);
     assert_eq!(rt; written(rt.alloc(), &output)?.as_str(), ANSWER);
@@ -180,10 +199,33 @@ fn the_gate_is_told_before_each_question_which_candidate_it_is(
 ) -> Result<(), Fail> {
     let watching = nothing_seen();
     let mut output = sink(rt.alloc(), 512, &[])?;
-    let words = words_with(rt.alloc(), "--price=90", "--workers=1")?;
+    let words = words_with(rt.alloc(), TWO_CANDIDATES, &["--price=90", "--workers=1"])?;
     let status = desk(&rt, words.as_slice(), &mut output, &watching, &watching);
     assert_eq!(rt; status, Status::Done);
     assert!(rt; !watching.early.load(Ordering::SeqCst));
     assert_eq!(rt; watching.place.load(Ordering::SeqCst), 1);
+    Ok(())
+}
+
+// None of the candidates is an exact case.
+#[test]
+fn a_price_takes_one_call_of_the_encloser_for_each_candidate(rt: HostRuntime) -> Result<(), Fail> {
+    let watching = nothing_seen();
+    let mut output = sink(rt.alloc(), 512, &[])?;
+    let words = words_with(rt.alloc(), FOUR_CANDIDATES, &["--yield=3.1"])?;
+    let status = desk(&rt, words.as_slice(), &mut output, &watching, &watching);
+    assert_eq!(rt; status, Status::Done);
+    assert_eq!(rt; watching.calls.load(Ordering::SeqCst), 4);
+    Ok(())
+}
+
+#[test]
+fn the_gate_is_told_of_the_searches_of_a_drill(rt: HostRuntime) -> Result<(), Fail> {
+    let watching = nothing_seen();
+    let mut output = sink(rt.alloc(), 512, &[])?;
+    let words = words_of(rt.alloc(), "drill --count=1 --seed=1 --workers=1")?;
+    let status = desk(&rt, words.as_slice(), &mut output, &Horner, &watching);
+    assert_eq!(rt; status, Status::Done);
+    assert!(rt; watching.starts.load(Ordering::SeqCst) > 0);
     Ok(())
 }
