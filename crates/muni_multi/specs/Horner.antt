@@ -7,8 +7,8 @@ use Rattle.muni_rule.specs.Ranges.{IsManyPeriodsBoundary}
 use Rattle.muni_rule.specs.WorthEnds.{WorthEnds, enclosure_ends}
 use Rattle.muni_multi.specs.LastStep.{discount_low, discount_high, settled_low, settled_high, HoldsSum}
 
--- the m payments from place j on, on the day of the first of them, discounted by half a year at a time:
--- the lower end is rounded down
+-- the m payments from place j on, on the day of the first of them, discounted by half a year at a
+-- time: the lower end is rounded down
 unfoldable pub sum_low : (ℕ → ℕ) → ℕ → ℕ → ℕ → ℕ
 sum_low payment factor zero j = 0
 sum_low payment factor (suc m) j =

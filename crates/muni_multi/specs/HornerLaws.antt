@@ -94,9 +94,9 @@ pub sum_high-one : (a : ℕ → ℕ) (r j : ℕ) → sum_high a r 1 j ≡ 4096 *
 unfolding sum_high
 sum_high-one a r j = omega arith
 
--- What is known of the ends of a sum t / v^m. Each step multiplies them by at most 1.0257: an upper end
--- with a reserve for regular payments is at most z times these factors, and a width with a reserve
--- for roundings at most 701 times.
+-- What is known of the ends of a sum t / v^m. Each step multiplies them by at most 1.0257: an upper
+-- end with a reserve for regular payments is at most z times these factors, and a width with a
+-- reserve for roundings at most 701 times.
 record IsSum (z t v m lo hi : ℕ) : Type 0 where
   below : lo * v ^ m ≤ 4096 * t
   above : 4096 * t ≤ hi * v ^ m

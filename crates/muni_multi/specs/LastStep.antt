@@ -34,8 +34,8 @@ pub record IsSettled (series : PaymentSeries) (y : ℤ) (lo hi : ℕ) : Type 0 w
   pub holds : HoldsWorth (to_come series) y (enclosure_ends lo hi)
   pub narrow : IsNarrow (enclosure_ends lo hi)
 
--- So do the ends of every sum whose upper end is below 2^64 and whose width is at most 2^19, after the
--- last step.
+-- So do the ends of every sum whose upper end is below 2^64 and whose width is at most 2^19, after
+-- the last step.
 abbrev pub LastStepEncloses : Type 0
 LastStepEncloses =
     (series : PaymentSeries) (y : ℤ) (lo hi : ℕ)

@@ -16,7 +16,8 @@ IsPriceAnswer AtLeast (Price t) = IsPrintedPrice AtLeast t
 IsPriceAnswer AtLeast BelowZero = IsBelowZero AtLeast
 IsPriceAnswer AtLeast (Undecided _) = ⊤
 
--- undecided is only a boundary in doubt: the exact price is within 10^-9 dollars of it, in no exact case
+-- undecided is only a boundary in doubt: the exact price is within 10^-9 dollars of it, in no exact
+-- case
 abbrev pub IsDoubtfulAnswer : PaymentSeries → ℤ → PriceAnswer → Type 0
 IsDoubtfulAnswer series y (Undecided boundary) = IsDoubtful series y (thousandths boundary)
 IsDoubtfulAnswer series y (Price _) = ⊤

@@ -7,12 +7,11 @@ ghost use Rattle.muni_rule.specs.Payments as series;
 ghost use Rattle.muni_rule.specs.Ranges.{IsManyPeriodsBoundary};
 ghost use Rattle.muni_rule.specs.WorthEnds as rule;
 ghost use Rattle.muni_rule.specs.WorthEnds.{more_half_years, ends_of};
-ghost use Rattle.muni_multi.specs.Bounds.{AreBounded};
 
 use crate::Encloser;
 use crate::ends::Ends;
 use crate::payments::payment_at;
-use muni_terms::{Flows, flows_are_in_range};
+use muni_terms::Flows;
 
 /// The ends that verdicts are read off: the worth itself in an exact case, and else an enclosure.
 pub(crate) fn ends<E: Encloser>(encloser: &E, flows: &Flows, y: i32) -> Ends
@@ -30,17 +29,6 @@ pub(crate) fn ends<E: Encloser>(encloser: &E, flows: &Flows, y: i32) -> Ends
         hi: worth.hi(),
         unit: 4096,
     }
-}
-
-/// The same ends, with how large they are and how far apart.
-pub(crate) fn bounded_ends<E: Encloser>(encloser: &E, flows: &Flows, y: i32) -> Ends
-    requires many { 2 ≤ flows.now.n }
-    requires y { IsManyPeriodsBoundary y }
-    ensures value { result ≡ ends_of flows.now y (E.ends encloser.now flows.now y) }
-    ensures bounded { AreBounded result }
-{
-    flows_are_in_range(flows);
-    ends(encloser, flows, y)
 }
 
 // Two million and the yield.

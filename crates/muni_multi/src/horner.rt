@@ -11,7 +11,7 @@ use crate::payments::payment_at;
 use muni_span::root::root180;
 use muni_span::span::{Span, recip};
 use muni_span::worth::{Worth, of};
-use muni_terms::{Flows, flows_are_in_range};
+use muni_terms::Flows;
 
 /// Encloses a worth by one sum from the last payment to the first.
 ///
@@ -41,7 +41,6 @@ fn discounted_sum(flows: &Flows, discount: Span) -> Worth
     ensures hi { result.hi ≡ sum_high (rule.payment_at flows.now) discount.hi flows.now.n 0 }
     ensures small { result.hi < 2 ^ 64 }
 {
-    flows_are_in_range(flows);
     let last = flows.n() - 1;
     let mut sum = of(payment_at(flows, last));
     for k in (0..last).rev() {
@@ -50,9 +49,9 @@ fn discounted_sum(flows: &Flows, discount: Span) -> Worth
     sum
 }
 
-/// Every such sum is below 2^64 and so narrow that the last step, back to the settlement, leaves ends
-/// that are less than 10^-9 dollars apart. That step does so for any sum below 2^64 of a width of at
-/// most 2^19.
+/// Every such sum is below 2^64 and so narrow that the last step, back to the settlement, leaves
+/// ends that are less than 10^-9 dollars apart. That step does so for any sum below 2^64 of a width
+/// of at most 2^19.
 pub fn sums_are_narrow()
     ensures sums { SumsAreNarrow }
     ensures last_step { LastStepEncloses }

@@ -4,7 +4,7 @@ ghost use Rattle.std.specs.Prelude.{◌≡◌, ◌+◌, ◌<◌, ◌≤◌};
 ghost use Rattle.muni_rule.specs.PaymentLaws.{interest_at_place};
 ghost use Rattle.muni_rule.specs.Payments as rule;
 
-use muni_terms::{Flows, flows_are_in_range};
+use muni_terms::Flows;
 
 /// The payment at place k, counted from 0, with the redemption where it is the last.
 pub(crate) fn payment_at(flows: &Flows, k: u32) -> u64
@@ -12,7 +12,6 @@ pub(crate) fn payment_at(flows: &Flows, k: u32) -> u64
     ensures value { result ≡ rule.payment_at flows.now k }
     ensures bound { result ≤ 82_800_000_000_000 }
 {
-    flows_are_in_range(flows);
     let interest = interest_at(flows, k);
     if k == flows.n() - 1 {
         interest + flows.redemption()

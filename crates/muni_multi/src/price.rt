@@ -8,9 +8,9 @@ ghost use Rattle.muni_rule.specs.WorthEnds.{ends_of};
 ghost use Rattle.muni_multi.specs.Prices.{figure, whole_verdict, IsPriceOutcome, IsPriceAnswer, IsDoubtfulAnswer};
 
 use crate::Encloser;
-use crate::exact::bounded_ends;
+use crate::exact::ends;
 use muni_dec::{Price3, Yield};
-use muni_terms::{Flows, flows_are_in_range};
+use muni_terms::Flows;
 
 /// The price at a yield.
 #[derive(Clone, Copy, Debug, PartialEq, Eq)]
@@ -19,15 +19,14 @@ pub enum PriceAnswer {
     Price(Price3),
     /// The exact price is below zero.
     BelowZero,
-    /// The exact price is too near the boundary to tell whether it reaches it. At the boundary 0.000
-    /// this is whether a price is printed at all.
+    /// The exact price is too near the boundary to tell whether it reaches it. At the boundary
+    /// 0.000 this is whether a price is printed at all.
     Undecided { boundary: Price3 },
 }
 
-/// The dollar price at a yield, from -5.0005 to 100.0005 percent (MSRB Rule G-33(b)(i)). Two payments
-/// or more are to come.
-///
-/// The encloser is called once at most, and not at all in an exact case.
+/// The dollar price at a yield, from -5.0005 to 100.0005 percent (MSRB Rule G-33(b)(i)). Two
+/// payments or more are to come.
+// The encloser is called once at most, and not at all in an exact case (tested).
 pub fn printed_price<E: Encloser>(encloser: &E, flows: &Flows, y: Yield) -> PriceAnswer
     requires many { 2 ≤ flows.now.n }
     requires y { IsManyPeriodsBoundary y }
@@ -38,21 +37,9 @@ pub fn printed_price<E: Encloser>(encloser: &E, flows: &Flows, y: Yield) -> Pric
         (dirty_thousandths flows.now.accrued t)) result }
     ensures small { figure result ≤ 100_000_000 }
 {
-    flows_are_in_range(flows);
-    price_by_ends(encloser, flows, y)
-}
-
-// The verdicts on all thousandths are read off one pair of ends.
-fn price_by_ends<E: Encloser>(encloser: &E, flows: &Flows, y: Yield) -> PriceAnswer
-    requires many { 2 ≤ flows.now.n }
-    requires y { IsManyPeriodsBoundary y }
-    ensures outcome { IsPriceOutcome (λ t. at_least_verdict
-        (ends_of flows.now y (E.ends encloser.now flows.now y))
-        (dirty_thousandths flows.now.accrued t)) result }
-    ensures small { figure result ≤ 100_000_000 }
-{
-    let ends = bounded_ends(encloser, flows, y.units() as i32);
-    price_between(ends.whole_low(), ends.whole_high(), flows.accrued())
+    let accrued = flows.accrued();
+    let worth = ends(encloser, flows, y.units() as i32);
+    price_between(worth.whole_low(), worth.whole_high(), accrued)
 }
 
 // The price of a worth between two whole amounts.
@@ -68,22 +55,15 @@ fn price_between(low: u64, high: u64, accrued: u64) -> PriceAnswer
     }
     if low < accrued {
         return PriceAnswer::Undecided {
-            boundary: price_of(0),
+            boundary: Price3::new(0),
         };
     }
     let reached = (low - accrued) / 360_000_000;
     if reached == (high - accrued) / 360_000_000 {
-        PriceAnswer::Price(price_of(reached))
+        PriceAnswer::Price(Price3::new(reached))
     } else {
         PriceAnswer::Undecided {
-            boundary: price_of(reached + 1),
+            boundary: Price3::new(reached + 1),
         }
     }
-}
-
-fn price_of(thousandths: u64) -> Price3
-    requires { thousandths ≤ 100_000_000 }
-    ensures { result ≡ thousandths }
-{
-    Price3::new(thousandths)
 }

@@ -12,7 +12,7 @@ use crate::ends::Ends;
 use crate::exact::ends;
 use muni_dec::Price;
 use muni_rule::Verdict;
-use muni_terms::{Flows, flows_are_in_range};
+use muni_terms::Flows;
 
 /// Whether the exact price at a yield in 10^-6, from -50,005 to 1,000,005, is at least a price
 /// (MSRB Rule G-33(b)(i)). Two payments or more are to come.
@@ -31,8 +31,8 @@ pub fn at_least<E: Encloser>(encloser: &E, flows: &Flows, y: i32, price: Price) 
     ensures unsure { result ≡ Verdict.Unsure →
         IsDoubtful flows.now y (pos (360_000 * price)) }
 {
-    flows_are_in_range(flows);
-    at_least_at(&ends(encloser, flows, y), dirty_amount(flows, price))
+    let dirty = 360_000 * price.units() + flows.accrued();
+    at_least_at(&ends(encloser, flows, y), dirty)
 }
 
 /// Whether the exact price at a yield is more than a price, and else as `at_least`.
@@ -47,16 +47,8 @@ pub fn more<E: Encloser>(encloser: &E, flows: &Flows, y: i32, price: Price) -> V
     ensures unsure { result ≡ Verdict.Unsure →
         IsDoubtful flows.now y (pos (360_000 * price)) }
 {
-    flows_are_in_range(flows);
-    more_at(&ends(encloser, flows, y), dirty_amount(flows, price))
-}
-
-// A price with the accrued interest.
-fn dirty_amount(flows: &Flows, price: Price) -> u64
-    ensures value { result ≡ 360_000 * price + flows.now.accrued }
-    ensures small { result < 2 ^ 50 }
-{
-    360_000 * price.units() + flows.accrued()
+    let dirty = 360_000 * price.units() + flows.accrued();
+    more_at(&ends(encloser, flows, y), dirty)
 }
 
 fn at_least_at(ends: &Ends, amount: u64) -> Verdict

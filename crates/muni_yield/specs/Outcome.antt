@@ -25,8 +25,8 @@ IsYieldOutcome AtLeast More Below = IsBelow least_printed AtLeast More
 IsYieldOutcome AtLeast More Above = IsAbove greatest_printed AtLeast More
 IsYieldOutcome AtLeast More (Unsure lower) = ⊤
 
--- At the boundary above a yield the exact price is within 10^-9 dollars of the given one, in no exact
--- case, and the yield itself is reached, unless it is the one below the range.
+-- At the boundary above a yield the exact price is within 10^-9 dollars of the given one, in no
+-- exact case, and the yield itself is reached, unless it is the one below the range.
 pub record IsDoubtfulAbove (series : PaymentSeries) (price : ℕ) (lower : ℤ) : Type 0 where
   pub doubtful : IsDoubtful series (boundary (lower +ℤ pos 1)) (pos (360_000 * price))
   pub reached : (lower ≡ negsuc 5_000)

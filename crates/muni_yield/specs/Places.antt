@@ -11,8 +11,8 @@ use Rattle.muni_rule.specs.declared.verdict.Verdict.{Verdict}
 abbrev pub yield_at : ℕ → ℤ
 yield_at place = pos place -ℤ pos 5_001
 
--- Whether the yield is printed as t or more, by the ends of the worth at its boundary: there the price
--- is at least the given one for t above zero, and more than it for the others.
+-- Whether the yield is printed as t or more, by the ends of the worth at its boundary: there the
+-- price is at least the given one for t above zero, and more than it for the others.
 abbrev pub reached_verdict : (ℤ → WorthEnds) → ℕ → ℤ → Verdict
 reached_verdict ends amount (pos zero) = more_verdict (ends (boundary (pos zero))) amount
 reached_verdict ends amount (pos (suc less)) =

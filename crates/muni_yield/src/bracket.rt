@@ -14,12 +14,12 @@ use muni_multi::{Encloser, Verdict};
 use muni_terms::Flows;
 use std::marker::Model;
 
-/// The search for the yield at a price: two printed yields, of which the lower is reached, as far as it
-/// was asked for, and the higher is not.
+/// The search for the yield at a price: two printed yields, of which the lower is reached, as far
+/// as it was asked for, and the higher is not.
 ///
-/// Each halving asks one question, in this order: whether -5.000 is reached, whether 100.001 is, and
-/// then whether the middle is. After at most 19 of them the two are neighbours and the search is
-/// settled.
+/// Each halving asks one question, in this order: whether -5.000 is reached, whether 100.001 is,
+/// and then whether the middle is. After at most 19 of them the two are neighbours and the search
+/// is settled.
 #[derive(Clone, Copy, Debug, PartialEq, Eq)]
 pub struct Bracket {
     flows: Flows,
@@ -112,8 +112,8 @@ impl Bracket {
 
     /// Asks the next question of a search that is not settled.
     ///
-    /// Where it is answered by yes the lower yield is raised to the place that was asked, and else the
-    /// higher one is lowered to it.
+    /// Where it is answered by yes the lower yield is raised to the place that was asked, and else
+    /// the higher one is lowered to it.
     pub fn halve<E: Encloser>(&mut self, encloser: &E)
         requires open { spec.is_settled self.old ≡ false }
         ensures halved { self.new

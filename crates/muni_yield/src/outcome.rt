@@ -18,8 +18,8 @@ pub enum Outcome {
     Unsure { lower: i32 },
 }
 
-/// A law of the definitions: of the outcomes that the contracts allow at most one is not `Unsure`, so
-/// that each of the others comes nowhere but where its case applies.
+/// A law of the definitions: of the outcomes that the contracts allow at most one is not `Unsure`,
+/// so that each of the others comes nowhere but where its case applies.
 pub fn at_most_one_yield_is_right()
     ensures { OneYieldIsRight }
 {}

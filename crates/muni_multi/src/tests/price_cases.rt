@@ -1,7 +1,7 @@
 //! Prices computed with exact rational arithmetic outside the program.
 //!
-//! A line `base` gives an issue to the lines behind it. These give the coupon, where there is one, a
-//! settlement, a yield, and the printed price, after `?` where it is the boundary that stays
+//! A line `base` gives an issue to the lines behind it. These give the coupon, where there is one,
+//! a settlement, a yield, and the printed price, after `?` where it is the boundary that stays
 //! undecided; and a call, where the payments end with it.
 
 pub const CASES: &str = "\

@@ -9,15 +9,15 @@ pub loop-k-init : goal.loop-k-init
 loop-k-init c = record {
   low =
       last-low (rule.payment_at c.args.flows.now) c.args.discount.lo c.args.flows.now.n (c.n-last.result - 1) c.payment_at.result c.of-sum.result.lo
-      c.flows_are_in_range.ensures.n_from (omega arith) c.payment_at.ensures.value c.of-sum.ensures.lo;
+      c.n-last.ensures.bounds.n_from (omega arith) c.payment_at.ensures.value c.of-sum.ensures.lo;
   high =
       last-high (rule.payment_at c.args.flows.now) c.args.discount.hi c.args.flows.now.n (c.n-last.result - 1) c.payment_at.result c.of-sum.result.hi
-      c.flows_are_in_range.ensures.n_from (omega arith) c.payment_at.ensures.value c.of-sum.ensures.hi;
+      c.n-last.ensures.bounds.n_from (omega arith) c.payment_at.ensures.value c.of-sum.ensures.hi;
 }
 
 pub scale-requires : goal.scale-requires
 scale-requires c =
-    let small = turn-fits c.args.flows.now c.args.discount.lo c.args.discount.hi c.loop-k.k c.loop-k.sum.hi c.flows_are_in_range.ensures c.requires (omega arith) c.loop-k.invariant.high in
+    let small = turn-fits c.args.flows.now c.args.discount.lo c.args.discount.hi c.loop-k.k c.loop-k.sum.hi c.n-last.ensures.bounds c.requires (omega arith) c.loop-k.invariant.high in
     let factor = factor-small c.args.discount.lo c.args.discount.hi c.requires in
     let under : c.loop-k.sum.hi ≤ 2 ^ 64 = omega (arith, small) in
     let over : c.args.discount.hi ≤ 2 ^ 61 = omega (arith, factor) in
@@ -29,7 +29,7 @@ add-sum-requires c =
     let next : c.scale.result.hi + c.of.result.hi ≡ sum_high (rule.payment_at c.args.flows.now) c.args.discount.hi (c.args.flows.now.n - (c.loop-k.k - 1)) (c.loop-k.k - 1)
     = turn-high (rule.payment_at c.args.flows.now) c.args.discount.hi c.args.flows.now.n c.loop-k.k c.payment_at-in-loop-k.result c.loop-k.sum.hi (c.scale.result.hi + c.of.result.hi)
     (omega arith) (omega arith) c.payment_at-in-loop-k.ensures.value c.loop-k.invariant.high (omega (arith, c.scale.ensures.hi, c.of.ensures.hi)) in
-    let small = turn-fits c.args.flows.now c.args.discount.lo c.args.discount.hi (c.loop-k.k - 1) (c.scale.result.hi + c.of.result.hi) c.flows_are_in_range.ensures c.requires (omega arith) next in
+    let small = turn-fits c.args.flows.now c.args.discount.lo c.args.discount.hi (c.loop-k.k - 1) (c.scale.result.hi + c.of.result.hi) c.n-last.ensures.bounds c.requires (omega arith) next in
     omega (arith, small)
 
 pub loop-k-preserved : goal.loop-k-preserved
@@ -43,4 +43,4 @@ loop-k-preserved c = record {
 }
 
 pub returns-clause-small : goal.returns-clause-small
-returns-clause-small c = turn-fits c.args.flows.now c.args.discount.lo c.args.discount.hi c.loop-k.k c.loop-k.sum.hi c.flows_are_in_range.ensures c.requires (omega arith) c.loop-k.invariant.high
+returns-clause-small c = turn-fits c.args.flows.now c.args.discount.lo c.args.discount.hi c.loop-k.k c.loop-k.sum.hi c.n-last.ensures.bounds c.requires (omega arith) c.loop-k.invariant.high

@@ -1,23 +1,60 @@
-use Rattle.muni_rule.proofs.EnclosedLemmas.{enclosed}
-use Rattle.muni_multi.proofs.PriceLemmas.{outcome-exact, outcome-doubtful}
+use Rattle.std.proofs.Common.{◌≡◌, subst, arith, ℤ, w32, w64, to_z, of_z}
+use Rattle.std.proofs.lemmas.Int.{ints}
+use Rattle.muni_rule.specs.WorthEnds.{ends_of}
+use Rattle.muni_rule.proofs.EnclosedLemmas.{IsEnclosed, enclosed}
+use Rattle.muni_multi.specs.Bounds.{AreBounded}
+use Rattle.muni_multi.proofs.BoundLemmas.{are-bounded, low-fits, high-small, quotients-ordered}
+use Rattle.muni_multi.proofs.PriceLemmas.{ends-outcome, outcome-exact, outcome-doubtful}
+use Rattle.muni_multi.proofs.price.printed_price.Given as given
+use Rattle.muni_multi.proofs.price.printed_price.Goals.{After-ends-worth}
 use Rattle.muni_multi.proofs.price.printed_price.Goals as goal
+
+law : (g : given.Over) (c : After-ends-worth g) → IsEnclosed c.args.flows.now c.args.y (g.E.Encloser.ends c.args.encloser.now c.args.flows.now c.args.y)
+law g c =
+    let series = c.accrued-accrued.ensures.bounds in
+    enclosed c.args.flows.now c.args.y (g.E.Encloser.ends c.args.encloser.now c.args.flows.now c.args.y) series c.requires.y
+    (g.met.E.Encloser.encloses c.args.encloser.now c.args.flows.now c.args.y series c.requires.many c.requires.y)
+    (g.met.E.Encloser.narrow c.args.encloser.now c.args.flows.now c.args.y series c.requires.many c.requires.y)
+
+value : (g : given.Over) (c : After-ends-worth g) → c.ends-worth.result ≡ ends_of c.args.flows.now c.args.y (g.E.Encloser.ends c.args.encloser.now c.args.flows.now c.args.y)
+value g c =
+    let same : to_z w32 (of_z w32 (to_z w64 (of_z w64 c.units.result))) ≡ c.args.y = omega (arith, ints, c.units.ensures.value, c.requires.y) in
+    subst (λ (y : ℤ). c.ends-worth.result ≡ ends_of c.args.flows.now y (g.E.Encloser.ends c.args.encloser.now c.args.flows.now y)) same c.ends-worth.ensures.value
+
+bounded : (g : given.Over) (c : After-ends-worth g) → AreBounded c.ends-worth.result
+bounded g c = are-bounded c.args.flows.now c.args.y (g.E.Encloser.ends c.args.encloser.now c.args.flows.now c.args.y) c.ends-worth.result (value g c) c.requires.y (law g c)
+
+pub whole_low-requires : goal.whole_low-requires
+whole_low-requires g c =
+    let bounds = bounded g (goal.at.whole_low-requires g c).After-ends-worth in
+    record { some = bounds.some; fits = low-fits c.ends-worth.result bounds }
+
+pub whole_high-requires : goal.whole_high-requires
+whole_high-requires g c =
+    let bounds = bounded g (goal.at.whole_high-requires g c).After-ends-worth in
+    let small = high-small c.ends-worth.result bounds in
+    record { some = bounds.some; fits = omega (arith, small) }
+
+pub price_between-requires : goal.price_between-requires
+price_between-requires g c =
+    let bounds = bounded g (goal.at.price_between-requires g c).After-ends-worth in
+    let order = quotients-ordered c.ends-worth.result bounds in
+    let small = high-small c.ends-worth.result bounds in
+    record {
+      ordered = omega (arith, order, c.whole_low.ensures, c.whole_high.ensures);
+      small = omega (arith, small, c.whole_high.ensures);
+    }
+
+pub returns-clause-outcome : goal.returns-clause-outcome
+returns-clause-outcome g c =
+    let place = (goal.at.returns-clause-outcome g c).After-ends-worth in
+    ends-outcome c.args.flows.now c.args.y (g.E.Encloser.ends c.args.encloser.now c.args.flows.now c.args.y) c.ends-worth.result c.whole_low.result c.whole_high.result c.accrued-accrued.result c.price_between.result
+    (value g place) (bounded g place).some c.whole_low.ensures c.whole_high.ensures c.accrued-accrued.ensures.value c.price_between.ensures.outcome
 
 pub returns-clause-exact : goal.returns-clause-exact
 returns-clause-exact g c =
-    let enclosure = g.E.Encloser.ends c.args.encloser.now c.args.flows.now c.args.y in
-    let series = c.flows_are_in_range.ensures in
-    let holds = g.met.E.Encloser.encloses c.args.encloser.now c.args.flows.now c.args.y series c.requires.many c.requires.y in
-    let narrow = g.met.E.Encloser.narrow c.args.encloser.now c.args.flows.now c.args.y series c.requires.many c.requires.y in
-    outcome-exact c.args.flows.now c.args.y enclosure c.price_by_ends.result
-    (enclosed c.args.flows.now c.args.y enclosure series c.requires.y holds narrow)
-    c.price_by_ends.ensures.outcome
+    outcome-exact c.args.flows.now c.args.y _ c.price_between.result (law g (goal.at.returns-clause-exact g c).After-ends-worth) (returns-clause-outcome g c)
 
 pub returns-clause-undecided : goal.returns-clause-undecided
 returns-clause-undecided g c =
-    let enclosure = g.E.Encloser.ends c.args.encloser.now c.args.flows.now c.args.y in
-    let series = c.flows_are_in_range.ensures in
-    let holds = g.met.E.Encloser.encloses c.args.encloser.now c.args.flows.now c.args.y series c.requires.many c.requires.y in
-    let narrow = g.met.E.Encloser.narrow c.args.encloser.now c.args.flows.now c.args.y series c.requires.many c.requires.y in
-    outcome-doubtful c.args.flows.now c.args.y enclosure c.price_by_ends.result
-    (enclosed c.args.flows.now c.args.y enclosure series c.requires.y holds narrow)
-    c.price_by_ends.ensures.outcome
+    outcome-doubtful c.args.flows.now c.args.y _ c.price_between.result (law g (goal.at.returns-clause-undecided g c).After-ends-worth) (returns-clause-outcome g c)
