@@ -1,6 +1,5 @@
 -- Of one list of candidates the rule allows one answer.
-use Rattle.std.proofs.Common.{◌≡◌, ◌<◌, ◌≤◌, ◌+◌, ◌*◌, ℕ, List, refl, ap, sym, subst, arith, ◌∙◌, ⊎_elim, ℤ, pos, ◌+ℤ◌, ◌≤ℤ◌, ◌<ℤ◌, rules}
-use Rattle.std.specs.List.{AllZip}
+use Rattle.std.proofs.Common.{◌≡◌, ◌<◌, ◌≤◌, ◌+◌, ◌*◌, ℕ, refl, ap, sym, subst, arith, ◌∙◌, ⊎_elim, ℤ, pos, ◌+ℤ◌, ◌≤ℤ◌, ◌<ℤ◌}
 use Rattle.std.proofs.Math.Nat.{mul-le-mul_right}
 use Rattle.std.proofs.lemmas.Bool.{cases_lt}
 use Rattle.std.proofs.lemmas.Int.{ints}
@@ -20,53 +19,30 @@ use Rattle.muni_simple.specs.Yields.{greatest_printed}
 use Rattle.muni_simple.specs.declared.price.SimplePrice.{SimplePrice}
 use Rattle.muni_simple.specs.declared.price.SimplePrice.TheVariants as exact
 use Rattle.muni_simple.proofs.OneAnswer.{answer-same}
-use Rattle.muni_sched.specs.declared.answer.LowAnswer.{LowAnswer}
+use Rattle.muni_yield.specs.Places.{place_verdict}
 use Rattle.muni_sched.specs.declared.candidate.Candidate.{Candidate}
 use Rattle.muni_sched.specs.declared.lowest.Outcome.{Outcome}
-use Rattle.muni_sched.specs.declared.scale.Scale.{Scale}
-use Rattle.muni_sched.specs.declared.scale.Scale.TheVariants.{Prices, Yields}
-use Rattle.muni_sched.specs.Answered.{IsLowestAnswer}
-use Rattle.muni_sched.specs.AnswerLaws.{AllowsOneYield, AllowsOnePrice}
-use Rattle.muni_sched.specs.Candidates.{IsCandidate}
+use Rattle.muni_sched.specs.Answer.{dated}
+use Rattle.muni_sched.specs.AnswerLaws.{AllowsOneAnswer}
+use Rattle.muni_sched.specs.Basis.{Basis, at_yield, at_price, kind_of, IsOutcome}
+use Rattle.muni_sched.specs.Figures.{least_unsure}
 use Rattle.muni_sched.specs.Lowest.{IsLowest}
-use Rattle.muni_sched.specs.LowestLaws.{AllowsOneAnswer}
-use Rattle.muni_sched.specs.PriceAnswer as prices
-use Rattle.muni_sched.specs.PriceAnswer.{IsPriceOutcomeFor, IsPriceOutcome}
-use Rattle.muni_sched.specs.Scale.{least_unsure}
+use Rattle.muni_sched.specs.PriceOutcome.{many_price, one_price, IsPriceOutcomeFor}
 use Rattle.muni_sched.specs.ToCome.{ToCome, many, one, to_come_of}
-use Rattle.muni_sched.specs.Told.{told}
-use Rattle.muni_sched.specs.YieldOutcome as yields
-use Rattle.muni_sched.specs.YieldOutcome.{IsOutcomeFor, final, IsYieldOutcome}
-use Rattle.muni_sched.proofs.PriceSoundLemmas.{IsPriced, IsClosed, printed-one, all-priced}
-use Rattle.muni_sched.proofs.ToldLemmas.{taken}
-use Rattle.muni_sched.proofs.YieldSoundLemmas.{IsInRange, in_range}
+use Rattle.muni_sched.specs.YieldOutcome.{one_yield, IsYieldOutcomeFor}
+use Rattle.muni_sched.proofs.AllSoundLemmas.{IsAskable, all-askable, some-same}
+use Rattle.muni_sched.proofs.PriceSoundLemmas.{IsPriced, IsClosed, printed-one}
+use Rattle.muni_sched.proofs.SameLemmas.{lowest-same}
+use Rattle.muni_sched.proofs.YieldSoundLemmas.{IsBounded, bounds}
 use Rattle.muni_sched.proofs.ZipLemmas.{zip-same}
 
--- ---- an answer, where each candidate has one outcome
-lowest-same : AllowsOneAnswer
-lowest-same = search rules
-
-answer-one : (scale : Scale) (IsOutcome : Candidate → Outcome → Type 0) (list : List Candidate) (said other : LowAnswer) → ((xs zs : List Outcome) → AllZip IsOutcome list xs → AllZip IsOutcome list zs → xs ≡ zs) → IsLowestAnswer scale IsOutcome list said → IsLowestAnswer scale IsOutcome list other → said ≡ other
-answer-one scale IsOutcome list said other outcomes is also =
-    let same = outcomes is.over.outcomes also.over.outcomes is.over.each also.over.each in
-    let rule : IsLowest (least_unsure scale) also.over.outcomes is.lowest = subst (λ xs. IsLowest (least_unsure scale) xs is.lowest) same is.over.rule in
-    let found : is.lowest ≡ also.lowest = lowest-same (least_unsure scale) also.over.outcomes is.lowest also.lowest rule also.over.rule in
-    taken said other (is.told ∙ ap (told scale list) found ∙ sym also.told)
-
 -- ---- yields
-yield-same : (verdicts : PaymentSeries → ℕ → ℕ → Verdict) (price : ℕ) (to_be : ToCome) (x z : Outcome) → IsInRange to_be → 0 < price → IsOutcomeFor (final verdicts price) price to_be x → IsOutcomeFor (final verdicts price) price to_be z → x ≡ z
+yield-same : (verdicts : PaymentSeries → ℕ → ℕ → Verdict) (price : ℕ) (to_be : ToCome) (x z : Outcome) → IsBounded to_be → 0 < price → IsYieldOutcomeFor verdicts price to_be x → IsYieldOutcomeFor verdicts price to_be z → x ≡ z
 yield-same verdicts price (many series) x z range some is also = is ∙ sym also
 yield-same verdicts price (one least payment) x z range some is also =
     let above : pos 0 <ℤ (pos (360000 * price) +ℤ payment.accrued) = let accrued = range.2 in omega (arith, ints, accrued, some) in
     let order : least ≤ℤ greatest_printed = let most = range.1 in omega (arith, ints, most) in
-    is.2 ∙ ap yields.placed_simple (answer-same least payment (pos (360000 * price)) is.0 also.0 order above is.1 also.1) ∙ sym also.2
-
-pub yields-one : AllowsOneYield
-yields-one verdicts price list said other some all is also =
-    answer-one Yields (IsYieldOutcome verdicts price) list said other
-    (λ xs zs each too. zip-same IsCandidate (IsYieldOutcome verdicts price) list xs zs
-    (λ candidate x z range. yield-same verdicts price (to_come_of candidate.shape) x z (in_range candidate.shape range) some) all each too)
-    is also
+    is.2 ∙ ap one_yield (answer-same least payment (pos (360000 * price)) is.0 also.0 order above is.1 also.1) ∙ sym also.2
 
 -- ---- prices
 simple-same : (Reaches : ℤ → Type 0) (said other : SimplePrice) → IsClosed Reaches → simple.IsPriceAnswer Reaches said → simple.IsPriceAnswer Reaches other → said ≡ other
@@ -121,16 +97,23 @@ verdict-same said (found.Undecided a) (found.Undecided b) falls is also = ap fou
 price-same : (ends : PaymentSeries → ℤ → WorthEnds) (y : ℤ) (to_be : ToCome) (x z : Outcome) → IsPriced y to_be → IsPriceOutcomeFor ends y to_be x → IsPriceOutcomeFor ends y to_be z → x ≡ z
 price-same ends y (many series) x z range is also =
     is.2
-    ∙ ap prices.placed (verdict-same (λ t. at_least_verdict (ends_of series y (ends series y)) (dirty_thousandths series.accrued t)) is.0 also.0 (falling series y (ends series y)) is.1 also.1)
+    ∙ ap many_price (verdict-same (λ t. at_least_verdict (ends_of series y (ends series y)) (dirty_thousandths series.accrued t)) is.0 also.0 (falling series y (ends series y)) is.1 also.1)
     ∙ sym also.2
 price-same ends y (one least payment) x z range is also =
     is.2
-    ∙ ap prices.placed_simple (simple-same (AtLeast payment y) is.0 also.0 (λ amount smaller less reached. AtLeast-smaller payment y amount smaller range less reached) is.1 also.1)
+    ∙ ap one_price (simple-same (AtLeast payment y) is.0 also.0 (λ amount smaller less reached. AtLeast-smaller payment y amount smaller range less reached) is.1 also.1)
     ∙ sym also.2
 
-pub prices-one : AllowsOnePrice
-prices-one ends y list said other all is also =
-    answer-one Prices (IsPriceOutcome ends y) list said other
-    (λ xs zs each too. zip-same (λ (candidate : Candidate). IsPriced y (to_come_of candidate.shape)) (IsPriceOutcome ends y) list xs zs
-    (λ candidate x z range. price-same ends y (to_come_of candidate.shape) x z range) (all-priced y list all) each too)
-    is also
+-- ---- each candidate, and the answer over all
+outcome-same : (ends : PaymentSeries → ℤ → WorthEnds) (basis : Basis) (candidate : Candidate) (x z : Outcome) → IsAskable basis (to_come_of candidate.shape) → IsOutcome ends basis candidate x → IsOutcome ends basis candidate z → x ≡ z
+outcome-same ends (at_yield y) candidate x z range is also = price-same ends y (to_come_of candidate.shape) x z range is also
+outcome-same ends (at_price price) candidate x z range is also = yield-same (place_verdict ends) price (to_come_of candidate.shape) x z (bounds (to_come_of candidate.shape) range.1) range.0 is also
+
+pub one-answer : AllowsOneAnswer
+one-answer ends basis list said other all is also =
+    let kind = kind_of basis in
+    let same : is.outcomes ≡ also.outcomes =
+    zip-same (λ (candidate : Candidate). IsAskable basis (to_come_of candidate.shape)) (IsOutcome ends basis) list is.outcomes also.outcomes (outcome-same ends basis) (all-askable basis list all) is.each also.each in
+    let rule : IsLowest (least_unsure kind) also.outcomes is.lowest = subst (λ xs. IsLowest (least_unsure kind) xs is.lowest) same is.rule in
+    let found : is.lowest ≡ also.lowest = lowest-same (least_unsure kind) also.outcomes is.lowest also.lowest rule also.rule in
+    some-same said other (is.answered ∙ ap (dated kind list) found ∙ sym also.answered)

@@ -1,8 +1,9 @@
 -- A candidate has one exact outcome.
-use Rattle.std.proofs.Common.{◌≡◌, ◌<◌, ◌≤◌, ◌+◌, ◌-◌, ◌*◌, ◌^◌, ℕ, zero, suc, length, refl, ap, arith, ◌∙◌, ◌⊎◌, ⊎_elim, inl, inr, subst, ℤ, pos, negsuc, ◌+ℤ◌, ◌*ℤ◌, ◌≤ℤ◌, ◌<ℤ◌}
+use Rattle.std.proofs.Common.{◌≡◌, ◌<◌, ◌≤◌, ◌+◌, ◌-◌, ◌*◌, ◌^◌, ℕ, zero, suc, [], ◌∷◌, length, refl, arith, ◌⊎◌, ⊎_elim, inl, inr, subst, ℤ, pos, negsuc, ◌+ℤ◌, ◌*ℤ◌, ◌≤ℤ◌, ◌<ℤ◌}
 use Rattle.std.specs.Prelude.{unsigned_abs}
 use Rattle.std.proofs.Math.Nat.{mul-le-mul_left, mul-le-mul_right, one-le-pow, pow-suc}
 use Rattle.std.proofs.lemmas.Int.{ints}
+use Rattle.std.proofs.lemmas.List.Elements.{All-head}
 use Rattle.muni_rule.specs.Accuracy.{thousandths}
 use Rattle.muni_rule.specs.ManyPeriods as periods
 use Rattle.muni_rule.specs.ManyPeriods.{to_come, discount_divisor, asked_power, worth_power}
@@ -20,16 +21,14 @@ use Rattle.muni_rule.proofs.OutcomeLemmas.{Decided, one_outcome}
 use Rattle.muni_simple.specs.Yields.{greatest_printed}
 use Rattle.muni_yield.specs.Outcome as search
 use Rattle.muni_sched.specs.declared.candidate.Candidate.{Candidate}
-use Rattle.muni_sched.specs.declared.candidate.Shape.{Shape}
-use Rattle.muni_sched.specs.declared.candidate.Shape.TheVariants.{Many, One, AtRedemption, Discount}
-use Rattle.muni_sched.specs.AnswerLaws.{HasOne, HasOneExactYield, HaveOneExactYields, HasOneExactPrice, HaveOneExactPrices}
-use Rattle.muni_sched.specs.Candidates.{IsCandidate}
-use Rattle.muni_sched.specs.Exact.{IsExactIn, IsExactSingle, IsExactYieldOf, IsExactYield, IsExactPriceBy, IsExactPriceOf, IsExactPrice}
-use Rattle.muni_sched.specs.Shape.{IsPriceable}
-use Rattle.muni_sched.specs.Sound.{figure}
+use Rattle.muni_sched.specs.AnswerLaws.{HasOne, HasOneExactOutcome, HaveOneExactOutcomes}
+use Rattle.muni_sched.specs.Basis.{Basis, at_yield, at_price, IsExact}
+use Rattle.muni_sched.specs.Exact.{IsExactIn, IsExactSingle, IsExactYieldOf, IsExactPriceBy, IsExactPriceOf}
 use Rattle.muni_sched.specs.ToCome.{ToCome, many, one, to_come_of}
-use Rattle.muni_sched.proofs.PriceSoundLemmas.{IsPriced, IsClosed, priced, all-priced, many-closed, printed-same, below-same}
-use Rattle.muni_sched.proofs.YieldSoundLemmas.{IsInRange, in_range, either_order, AtPrice, MoreThan, many-outcome, in-print, in-below, in-above}
+use Rattle.muni_sched.proofs.AllSoundLemmas.{IsAskable, all-askable}
+use Rattle.muni_sched.proofs.IntLemmas.{less_or_not}
+use Rattle.muni_sched.proofs.PriceSoundLemmas.{IsPriced, IsClosed, many-closed, printed-same, below-same}
+use Rattle.muni_sched.proofs.YieldSoundLemmas.{IsTimed, AtPrice, MoreThan, many-outcome, in-print, in-below, in-above}
 use Rattle.muni_sched.proofs.ZipLemmas.{zip-has_one}
 
 -- ---- yields
@@ -47,16 +46,16 @@ in-one least greatest AtLeast More has =
 le-decided : (x y : ℤ) → Decided (x ≤ℤ y)
 le-decided x y =
     ⊎_elim
+    (λ (less : y <ℤ x). inr (λ order. omega (arith, ints, less, order)))
     (λ (order : x ≤ℤ y). inl order)
-    (λ (past : (y +ℤ pos 1) ≤ℤ x). inr (λ order. omega (arith, ints, past, order)))
-    (either_order x y)
+    (less_or_not y x)
 
 lt-decided : (x y : ℤ) → Decided (x <ℤ y)
 lt-decided x y =
     ⊎_elim
+    (λ (less : x <ℤ y). inl less)
     (λ (order : y ≤ℤ x). inr (λ less. omega (arith, ints, order, less)))
-    (λ (past : (x +ℤ pos 1) ≤ℤ y). inl (omega (arith, ints, past)))
-    (either_order y x)
+    (less_or_not x y)
 
 single-outcome : (least : ℤ) (payment : SinglePayment) (amount : ℤ) → least ≤ℤ greatest_printed → pos 0 <ℤ payment.left → pos 0 <ℤ (amount +ℤ payment.accrued) → HasOneOutcome least greatest_printed (λ y. AtLeast payment y amount) (λ y. More payment y amount)
 single-outcome least payment amount order left above =
@@ -89,35 +88,17 @@ some-left least payment amount left has = record {
 single-one : (least : ℤ) (payment : SinglePayment) (amount : ℤ) → least ≤ℤ greatest_printed → pos 0 ≤ℤ payment.left → pos 0 <ℤ (amount +ℤ payment.accrued) → HasOne (IsExactSingle least payment amount)
 single-one least payment amount order from above =
     ⊎_elim
-    (λ (to : payment.left ≤ℤ pos 0). none-left least payment amount (omega (arith, ints, from, to)))
-    (λ (some : (pos 0 +ℤ pos 1) ≤ℤ payment.left).
-    let left : pos 0 <ℤ payment.left = omega (arith, ints, some) in
+    (λ (left : pos 0 <ℤ payment.left).
     some-left least payment amount left (in-one least greatest_printed (λ y. AtLeast payment y amount) (λ y. More payment y amount) (single-outcome least payment amount order left above)))
-    (either_order payment.left (pos 0))
+    (λ (to : payment.left ≤ℤ pos 0). none-left least payment amount (omega (arith, ints, from, to)))
+    (less_or_not (pos 0) payment.left)
 
--- the days left are counted from 0 up
-abbrev IsToCome : ToCome → Type 0
-IsToCome (many series) = IsInRange (many series)
-IsToCome (one least payment) = IsInRange (one least payment) × (pos 0 ≤ℤ payment.left)
-
-shape-to_come : (shape : Shape) → IsPriceable shape → IsToCome (to_come_of shape)
-shape-to_come (Many series) is = in_range (Many series) is
-shape-to_come (One payment) is = (in_range (One payment) is, is.left.0)
-shape-to_come (AtRedemption payment) is = (in_range (AtRedemption payment) is, is.left.0)
-shape-to_come (Discount days) is = (in_range (Discount days) is, is.0)
-
-yield-one : (price : ℕ) (to_be : ToCome) → 0 < price → IsToCome to_be → HasOne (IsExactYieldOf price to_be)
+yield-one : (price : ℕ) (to_be : ToCome) → 0 < price → IsTimed to_be → HasOne (IsExactYieldOf price to_be)
 yield-one price (many series) some is = in-one search.least_printed search.greatest_printed (AtPrice series price) (MoreThan series price) (many-outcome series price is.0 is.1)
 yield-one price (one least payment) some is =
     let above : pos 0 <ℤ (pos (360000 * price) +ℤ payment.accrued) = let accrued = is.0.2 in omega (arith, ints, accrued, some) in
     let order : least ≤ℤ greatest_printed = let most = is.0.1 in omega (arith, ints, most) in
     single-one least payment (pos (360000 * price)) order is.1 above
-
-pub candidate-yield : HasOneExactYield
-candidate-yield price candidate some is = yield-one price (to_come_of candidate.shape) some (shape-to_come candidate.shape is)
-
-pub list-yields : HaveOneExactYields
-list-yields price list some all = zip-has_one IsCandidate (IsExactYield price) list (λ candidate. candidate-yield price candidate some) all
 
 -- ---- prices
 -- what holds first and does not hold at last stops to hold somewhere
@@ -132,8 +113,7 @@ last-held Holds (suc m) decided first last =
 printed-has_one : (Reaches : ℤ → Type 0) (t : ℕ) → IsClosed Reaches → Reaches (thousandths t) → ¬ (Reaches (thousandths (t + 1))) → HasOne (IsExactPriceBy Reaches)
 printed-has_one Reaches t closed reached not_next =
     let print : IsPrintedPrice Reaches t = record { reached = reached; next_not_reached = not_next } in
-    let place : figure 1 (t + 1) ≡ pos t = omega (arith, ints) in
-    record { value = prints (pos t); such = print; only = λ exact is. printed-same Reaches t exact closed print is ∙ ap prints place }
+    record { value = prints (pos t); such = print; only = λ exact is. printed-same Reaches t exact closed print is }
 
 -- where some amount is not reached, there is one price
 price-has_one : (Reaches : ℤ → Type 0) (m : ℕ) → IsClosed Reaches → ((amount : ℤ) → Decided (Reaches amount)) → ¬ (Reaches (thousandths m)) → HasOne (IsExactPriceBy Reaches)
@@ -185,9 +165,13 @@ price-one y (one least payment) range =
     (λ amount. le-decided ((amount +ℤ payment.accrued) *ℤ growth payment y) (payment.due *ℤ pos 360000000))
     (single-missed payment y range)
 
-pub candidate-price : HasOneExactPrice
-candidate-price y candidate is at_yield given = price-one y (to_come_of candidate.shape) (priced y candidate is at_yield given)
+-- ---- either
+exact-one : (basis : Basis) (candidate : Candidate) → IsAskable basis (to_come_of candidate.shape) → HasOne (IsExact basis candidate)
+exact-one (at_yield y) candidate range = price-one y (to_come_of candidate.shape) range
+exact-one (at_price price) candidate range = yield-one price (to_come_of candidate.shape) range.0 range.1
 
-pub list-prices : HaveOneExactPrices
-list-prices y list all =
-    zip-has_one (λ (candidate : Candidate). IsPriced y (to_come_of candidate.shape)) (IsExactPrice y) list (λ candidate. price-one y (to_come_of candidate.shape)) (all-priced y list all)
+pub candidate-one : HasOneExactOutcome
+candidate-one basis candidate all = exact-one basis candidate (All-head (λ (it : Candidate). IsAskable basis (to_come_of it.shape)) candidate [] (all-askable basis (candidate ∷ []) all))
+
+pub list-one : HaveOneExactOutcomes
+list-one basis list all = zip-has_one (λ (it : Candidate). IsAskable basis (to_come_of it.shape)) (IsExact basis) list (exact-one basis) (all-askable basis list all)

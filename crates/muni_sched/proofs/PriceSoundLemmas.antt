@@ -1,11 +1,9 @@
 -- The outcome of a candidate is true of its exact price, and unsure only in doubt.
-use Rattle.std.proofs.Common.{◌≡◌, ◌<◌, ◌≤◌, ◌+◌, ◌-◌, ◌*◌, ◌^◌, ℕ, zero, suc, List, [], ◌∷◌, All, length, refl, ap, sym, subst, inl, ⊎_elim, arith, ◌∙◌, ℤ, pos, negsuc, ◌+ℤ◌, ◌*ℤ◌, ◌≤ℤ◌, ◌<ℤ◌}
-use Rattle.std.specs.Prelude.{slice_index_or}
+use Rattle.std.proofs.Common.{◌≡◌, ◌<◌, ◌≤◌, ◌+◌, ◌-◌, ◌*◌, ◌^◌, ℕ, zero, suc, List, [], ◌∷◌, length, refl, ap, sym, subst, inl, ⊎_elim, arith, ◌∙◌, ℤ, pos, negsuc, ◌+ℤ◌, ◌-ℤ◌, ◌≤ℤ◌, ◌<ℤ◌, ◌≢◌}
 use Rattle.std.specs.List.{AllZip}
 use Rattle.std.proofs.Math.Nat.{mul-le-mul_right, pow-le-pow_left}
 use Rattle.std.proofs.lemmas.Bool.{cases_lt}
 use Rattle.std.proofs.lemmas.Int.{ints}
-use Rattle.std.proofs.lemmas.List.Elements.{All-head, All-tail}
 use Rattle.muni_rule.specs.Accuracy.{thousandths}
 use Rattle.muni_rule.specs.Doubt.{IsDoubtful}
 use Rattle.muni_rule.specs.ManyPeriods as periods
@@ -35,15 +33,14 @@ use Rattle.muni_sched.specs.declared.candidate.Shape.{Shape}
 use Rattle.muni_sched.specs.declared.candidate.Shape.TheVariants.{Many, One, AtRedemption, Discount}
 use Rattle.muni_sched.specs.declared.lowest.Outcome.{Outcome}
 use Rattle.muni_sched.specs.declared.lowest.Outcome.TheVariants.{Print, Unsure, Below, Above, NoTime}
-use Rattle.muni_sched.specs.Answered.{exact_at, IsInDoubt, IsCandidateInDoubt}
-use Rattle.muni_sched.specs.AnswerLaws.{ArePriced}
+use Rattle.muni_sched.specs.Basis.{at_yield, IsFigureInDoubt}
 use Rattle.muni_sched.specs.Candidates.{IsCandidate}
-use Rattle.muni_sched.specs.Exact.{IsExactPriceBy, IsExactPriceOf, IsExactPrice}
+use Rattle.muni_sched.specs.Exact.{IsExactPriceBy, IsExactPriceOf}
 use Rattle.muni_sched.specs.Lowest.{outcome_at, AllAreAbove}
-use Rattle.muni_sched.specs.PriceAnswer.{IsShapeAtYield, IsAtYield, placed, placed_simple, IsPriceOutcomeFor, IsPriceOutcome}
+use Rattle.muni_sched.specs.PriceOutcome.{IsShapeAtYield, IsAtYield, many_price, one_price, IsPriceOutcomeFor, IsPriceOutcome}
 use Rattle.muni_sched.specs.Range.{IsGivenFor, given_range}
 use Rattle.muni_sched.specs.Shape.{IsPriceable}
-use Rattle.muni_sched.specs.Sound.{figure, IsSoundUnsure, IsSound, AreSound}
+use Rattle.muni_sched.specs.Sound.{IsSoundUnsure, IsSound}
 use Rattle.muni_sched.specs.ToCome.{ToCome, many, one, to_come_of}
 
 -- ---- what is to come is in range
@@ -52,13 +49,13 @@ IsPriced y (many series) = IsSeries series × (2 ≤ series.n) × IsManyPeriodsB
 IsPriced y (one least payment) = pos 0 <ℤ growth payment y
 
 shape-priced : (y : ℤ) (shape : Shape) → IsPriceable shape → IsShapeAtYield shape → IsWithin (given_range shape) y → IsPriced y (to_come_of shape)
-shape-priced y (Many series) is at_yield given = (is.0, is.1, (let least = given.0 in omega (arith, ints, least), let most = given.1 in omega (arith, ints, most)))
-shape-priced y (One payment) is at_yield given = let within = (growth-within single.OnePeriod payment.left y is.left.0 is.left.1 given).0 in omega (arith, ints, within)
-shape-priced y (AtRedemption payment) is at_yield given = let within = (growth-within single.AtRedemption payment.left y is.left.0 is.left.1 given).0 in omega (arith, ints, within)
-shape-priced y (Discount days) is at_yield given = absurd at_yield
+shape-priced y (Many series) is basis given = (is.0, is.1, (let least = given.0 in omega (arith, ints, least), let most = given.1 in omega (arith, ints, most)))
+shape-priced y (One payment) is basis given = let within = (growth-within single.OnePeriod payment.left y is.left.0 is.left.1 given).0 in omega (arith, ints, within)
+shape-priced y (AtRedemption payment) is basis given = let within = (growth-within single.AtRedemption payment.left y is.left.0 is.left.1 given).0 in omega (arith, ints, within)
+shape-priced y (Discount days) is basis given = absurd basis
 
 pub priced : (y : ℤ) (candidate : Candidate) → IsCandidate candidate → IsAtYield candidate → IsGivenFor y candidate → IsPriced y (to_come_of candidate.shape)
-priced y candidate is at_yield given = shape-priced y candidate.shape is at_yield given
+priced y candidate is basis given = shape-priced y candidate.shape is basis given
 
 -- ---- a price that is at least an amount is at least each smaller one
 dirty-smaller : (bond : PeriodicPayments) (y amount smaller : ℤ) → smaller ≤ℤ amount → DirtyAtLeast bond y amount → DirtyAtLeast bond y smaller
@@ -90,8 +87,8 @@ printed-one Reaches s t closed is also =
     (cases_lt s t)
 
 -- ---- an answer as an exact outcome
-pub printed-same : (Reaches : ℤ → Type 0) (t : ℕ) (exactly : ExactOutcome) → IsClosed Reaches → IsPrintedPrice Reaches t → IsExactPriceBy Reaches exactly → exactly ≡ prints (figure 1 (t + 1))
-printed-same Reaches t (prints (pos u)) closed print is = let same = printed-one Reaches t u closed print is in ap prints (omega (arith, ints))
+pub printed-same : (Reaches : ℤ → Type 0) (t : ℕ) (exactly : ExactOutcome) → IsClosed Reaches → IsPrintedPrice Reaches t → IsExactPriceBy Reaches exactly → exactly ≡ prints (pos t)
+printed-same Reaches t (prints (pos u)) closed print is = let same = printed-one Reaches t u closed print is in ap (λ v. prints (pos v)) (sym same)
 printed-same Reaches t (prints (negsuc u)) closed print is = absurd is
 printed-same Reaches t is_below closed print is = absurd (is.zero_not_reached (closed (thousandths t) (pos 0) (omega (arith, ints)) print.reached))
 printed-same Reaches t is_above closed print is = absurd is
@@ -135,24 +132,25 @@ reached-below said b (suc t) is less =
 pub many-closed : (series : PaymentSeries) (y : ℤ) → IsClosed (periods.AtLeast (to_come series) y)
 many-closed series y = λ amount smaller less reached. many-smaller (to_come series) y amount smaller less reached
 
-amount-of : (b : ℕ) → thousandths b ≡ (figure 1 (b + 1) *ℤ pos 360000000)
-amount-of b = let place : figure 1 (b + 1) ≡ pos b = omega (arith, ints) in ap pos (omega arith) ∙ ap (λ t. t *ℤ pos 360000000) (sym place)
+not-least : (b : ℕ) → (pos b -ℤ pos 1) ≢ negsuc 0 → 0 < b
+not-least zero other = absurd (other (omega (arith, ints)))
+not-least (suc b) other = omega arith
 
 many-unsure : (series : PaymentSeries) (y : ℤ) (enclosure : WorthEnds) (b : ℕ) (exactly : ExactOutcome) → IsEnclosed series y enclosure → IsUndecidedAt (λ t. at_least_verdict (ends_of series y enclosure) (dirty_thousandths series.accrued t)) b → IsDoubtful series y (thousandths b) → IsExactPriceOf y (many series) exactly
-    → IsSoundUnsure 1 0 (λ t. IsInDoubt (many series) y (t *ℤ pos 360000000)) b exactly
+    → IsSoundUnsure (negsuc 0) (IsFigureInDoubt (at_yield y) (many series)) (pos b -ℤ pos 1) exactly
 many-unsure series y enclosure b exactly given is doubt exact_is = record {
-  doubtful = let amount : thousandths b ≡ (figure 1 (b + 1) *ℤ pos 360000000) = amount-of b in subst (IsDoubtful series y) amount doubt;
+  doubtful = let next : ((pos b -ℤ pos 1) +ℤ pos 1) ≡ pos b = omega (arith, ints) in subst (IsFigureInDoubt (at_yield y) (many series)) (sym next) doubt;
   timed = price-timed (periods.AtLeast (to_come series) y) exactly exact_is;
   reached = λ other.
-      let before : b - 1 < b = omega (arith, other) in
-      let said = reached-below (λ t. at_least_verdict (ends_of series y enclosure) (dirty_thousandths series.accrued t)) b (b - 1) is before in
+      let some : 0 < b = not-least b other in
+      let said = reached-below (λ t. at_least_verdict (ends_of series y enclosure) (dirty_thousandths series.accrued t)) b (b - 1) is (omega (arith, some)) in
       let reached : periods.AtLeast (to_come series) y (thousandths (b - 1)) = at_least-true series y enclosure (360000000 * (b - 1)) _ given refl said in
-      let place : pos (b - 1) ≡ figure 1 b = omega (arith, ints, other) in
-      subst (λ t. IsFrom t exactly) place (price-from (periods.AtLeast (to_come series) y) (b - 1) exactly (many-closed series y) reached exact_is);
+      let before : pos (b - 1) ≡ (pos b -ℤ pos 1) = omega (arith, ints, some) in
+      subst (λ t. IsFrom t exactly) before (price-from (periods.AtLeast (to_come series) y) (b - 1) exactly (many-closed series y) reached exact_is);
 }
 
 many-sound : (series : PaymentSeries) (y : ℤ) (enclosure : WorthEnds) (answer : PriceAnswer) (exactly : ExactOutcome) → IsEnclosed series y enclosure → multi.IsPriceOutcome (λ t. at_least_verdict (ends_of series y enclosure) (dirty_thousandths series.accrued t)) answer → IsExactPriceOf y (many series) exactly
-    → IsSound 1 0 (λ t. IsInDoubt (many series) y (t *ℤ pos 360000000)) (placed answer) exactly
+    → IsSound (negsuc 0) (IsFigureInDoubt (at_yield y) (many series)) (many_price answer) exactly
 many-sound series y enclosure (found.Price t) exactly given is exact_is =
     printed-same (periods.AtLeast (to_come series) y) t exactly (many-closed series y) (outcome-exact series y enclosure (found.Price t) given is) exact_is
 many-sound series y enclosure found.BelowZero exactly given is exact_is =
@@ -161,7 +159,7 @@ many-sound series y enclosure (found.Undecided b) exactly given is exact_is =
     many-unsure series y enclosure b exactly given is (outcome-doubtful series y enclosure (found.Undecided b) given is) exact_is
 
 -- ---- one payment
-single-sound : (payment : SinglePayment) (y : ℤ) (answer : SimplePrice) (IsDoubtfulAt : ℤ → Type 0) (exactly : ExactOutcome) → pos 0 <ℤ growth payment y → simple.IsPriceAnswer (AtLeast payment y) answer → IsExactPriceBy (AtLeast payment y) exactly → IsSound 1 0 IsDoubtfulAt (placed_simple answer) exactly
+single-sound : (payment : SinglePayment) (y : ℤ) (answer : SimplePrice) (IsDoubtfulAt : ℤ → Type 0) (exactly : ExactOutcome) → pos 0 <ℤ growth payment y → simple.IsPriceAnswer (AtLeast payment y) answer → IsExactPriceBy (AtLeast payment y) exactly → IsSound (negsuc 0) IsDoubtfulAt (one_price answer) exactly
 single-sound payment y (exact.Price t) D exactly above is exact_is =
     printed-same (AtLeast payment y) t exactly (λ amount smaller less reached. AtLeast-smaller payment y amount smaller above less reached) is exact_is
 single-sound payment y exact.BelowZero D exactly above is exact_is =
@@ -172,78 +170,48 @@ single-sound payment y exact.BelowZero D exactly above is exact_is =
 abbrev pub AreEnclosedAt : (ends : PaymentSeries → ℤ → WorthEnds) → ℤ → Type 0
 AreEnclosedAt ends y = (series : PaymentSeries) → IsSeries series → 2 ≤ series.n → IsManyPeriodsBoundary y → IsEnclosed series y (ends series y)
 
-one-sound : (ends : PaymentSeries → ℤ → WorthEnds) (y : ℤ) (to_be : ToCome) (outcome : Outcome) (exactly : ExactOutcome) → IsPriced y to_be → AreEnclosedAt ends y → IsPriceOutcomeFor ends y to_be outcome → IsExactPriceOf y to_be exactly
-    → IsSound 1 0 (λ t. IsInDoubt to_be y (t *ℤ pos 360000000)) outcome exactly
-one-sound ends y (many series) outcome exactly range law is exact_is =
-    subst (λ x. IsSound 1 0 (λ t. IsInDoubt (many series) y (t *ℤ pos 360000000)) x exactly) (sym is.2)
+pub price-sound : (ends : PaymentSeries → ℤ → WorthEnds) (y : ℤ) (to_be : ToCome) (outcome : Outcome) (exactly : ExactOutcome) → IsPriced y to_be → AreEnclosedAt ends y → IsPriceOutcomeFor ends y to_be outcome → IsExactPriceOf y to_be exactly
+    → IsSound (negsuc 0) (IsFigureInDoubt (at_yield y) to_be) outcome exactly
+price-sound ends y (many series) outcome exactly range law is exact_is =
+    subst (λ x. IsSound (negsuc 0) (IsFigureInDoubt (at_yield y) (many series)) x exactly) (sym is.2)
     (many-sound series y (ends series y) is.0 exactly (law series range.0 range.1 range.2) is.1 exact_is)
-one-sound ends y (one least payment) outcome exactly range law is exact_is =
-    subst (λ x. IsSound 1 0 (λ t. ⊥) x exactly) (sym is.2) (single-sound payment y is.0 (λ t. ⊥) exactly range is.1 exact_is)
-
--- all candidates may be priced at a yield
-first-priced : (y : ℤ) (candidate : Candidate) (list : List Candidate) → ArePriced y (candidate ∷ list) → IsPriced y (to_come_of candidate.shape)
-first-priced y candidate list all = priced y candidate (All-head IsCandidate candidate list all.candidates) (All-head IsAtYield candidate list all.at_yield) (All-head (IsGivenFor y) candidate list all.given)
-
-rest-priced : (y : ℤ) (candidate : Candidate) (list : List Candidate) → ArePriced y (candidate ∷ list) → ArePriced y list
-rest-priced y candidate list all = record {
-  candidates = All-tail IsCandidate candidate list all.candidates;
-  at_yield = All-tail IsAtYield candidate list all.at_yield;
-  given = All-tail (IsGivenFor y) candidate list all.given;
-}
-
-pub all-priced : (y : ℤ) (list : List Candidate) → ArePriced y list → All (λ (candidate : Candidate). IsPriced y (to_come_of candidate.shape)) list
-all-priced y list all = λ i candidate inside. priced y (slice_index_or list i candidate) (all.candidates i candidate inside) (all.at_yield i candidate inside) (all.given i candidate inside)
-
-pub prices-sound : (ends : PaymentSeries → ℤ → WorthEnds) (y : ℤ) (list : List Candidate) (outcomes : List Outcome) (exactly : List ExactOutcome) → ArePriced y list → AreEnclosedAt ends y → AllZip (IsPriceOutcome ends y) list outcomes → AllZip (IsExactPrice y) list exactly
-    → AreSound 1 0 (λ k t. IsCandidateInDoubt list k y (t *ℤ pos 360000000)) outcomes (exact_at exactly)
-prices-sound ends y [] [] [] all law is exact_is k = refl
-prices-sound ends y [] [] (e ∷ exactly) all law is exact_is k = absurd exact_is
-prices-sound ends y [] (x ∷ outcomes) exactly all law is exact_is k = absurd is
-prices-sound ends y (candidate ∷ list) [] exactly all law is exact_is k = absurd is
-prices-sound ends y (candidate ∷ list) (x ∷ outcomes) [] all law is exact_is k = absurd exact_is
-prices-sound ends y (candidate ∷ list) (x ∷ outcomes) (e ∷ exactly) all law is exact_is zero =
-    one-sound ends y (to_come_of candidate.shape) x e (first-priced y candidate list all) law is.0 exact_is.0
-prices-sound ends y (candidate ∷ list) (x ∷ outcomes) (e ∷ exactly) all law is exact_is (suc k) =
-    prices-sound ends y list outcomes exactly (rest-priced y candidate list all) law is.1 exact_is.1 k
+price-sound ends y (one least payment) outcome exactly range law is exact_is =
+    subst (λ x. IsSound (negsuc 0) (IsFigureInDoubt (at_yield y) (one least payment)) x exactly) (sym is.2) (single-sound payment y is.0 (IsFigureInDoubt (at_yield y) (one least payment)) exactly range is.1 exact_is)
 
 -- ---- doubt
-simple-sure : (answer : SimplePrice) (s : ℕ) → ¬ (placed_simple answer ≡ Unsure s)
+simple-sure : (answer : SimplePrice) (s : ℤ) → ¬ (one_price answer ≡ Unsure s)
 simple-sure (exact.Price t) s same = cc
 simple-sure exact.BelowZero s same = cc
 
-found-doubt : (series : PaymentSeries) (y : ℤ) (s : ℕ) (answer : PriceAnswer) → multi.IsDoubtfulAnswer series y answer → placed answer ≡ Unsure s → IsDoubtful series y (thousandths s)
-found-doubt series y s (found.Price t) doubt same = absurd (let never : Print (t + 1) ≡ Unsure s = same in cc)
+found-doubt : (series : PaymentSeries) (y : ℤ) (s : ℤ) (answer : PriceAnswer) → multi.IsDoubtfulAnswer series y answer → many_price answer ≡ Unsure s → IsFigureInDoubt (at_yield y) (many series) (s +ℤ pos 1)
+found-doubt series y s (found.Price t) doubt same = absurd (let never : Print (pos t) ≡ Unsure s = same in cc)
 found-doubt series y s found.BelowZero doubt same = absurd (let never : Below ≡ Unsure s = same in cc)
-found-doubt series y s (found.Undecided b) doubt same = let place : b ≡ s = cc in subst (λ t. IsDoubtful series y (thousandths t)) place doubt
+found-doubt series y s (found.Undecided b) doubt same =
+    let figure : (pos b -ℤ pos 1) ≡ s = cc in
+    let next : (s +ℤ pos 1) ≡ pos b = omega (arith, ints, figure) in
+    subst (IsFigureInDoubt (at_yield y) (many series)) (sym next) doubt
 
-one-doubt : (ends : PaymentSeries → ℤ → WorthEnds) (y : ℤ) (s : ℕ) (to_be : ToCome) (outcome : Outcome) → IsPriced y to_be → AreEnclosedAt ends y → IsPriceOutcomeFor ends y to_be outcome → outcome ≡ Unsure s → IsInDoubt to_be y (thousandths s)
-one-doubt ends y s (many series) outcome range law is same =
+pub price-doubt : (ends : PaymentSeries → ℤ → WorthEnds) (y s : ℤ) (to_be : ToCome) (outcome : Outcome) → IsPriced y to_be → AreEnclosedAt ends y → IsPriceOutcomeFor ends y to_be outcome → outcome ≡ Unsure s → IsFigureInDoubt (at_yield y) to_be (s +ℤ pos 1)
+price-doubt ends y s (many series) outcome range law is same =
     found-doubt series y s is.0 (outcome-doubtful series y (ends series y) is.0 (law series range.0 range.1 range.2) is.1) (sym is.2 ∙ same)
-one-doubt ends y s (one least payment) outcome range law is same = simple-sure is.0 s (sym is.2 ∙ same)
-
-pub prices-doubt : (ends : PaymentSeries → ℤ → WorthEnds) (y : ℤ) (s c : ℕ) (list : List Candidate) (outcomes : List Outcome) → ArePriced y list → AreEnclosedAt ends y → AllZip (IsPriceOutcome ends y) list outcomes → outcome_at outcomes c ≡ Unsure s → IsCandidateInDoubt list c y (thousandths s)
-prices-doubt ends y s c [] [] all law is same = absurd (let never : Above ≡ Unsure s = same in cc)
-prices-doubt ends y s c [] (x ∷ outcomes) all law is same = absurd is
-prices-doubt ends y s c (candidate ∷ list) [] all law is same = absurd is
-prices-doubt ends y s zero (candidate ∷ list) (x ∷ outcomes) all law is same = one-doubt ends y s (to_come_of candidate.shape) x (first-priced y candidate list all) law is.0 same
-prices-doubt ends y s (suc c) (candidate ∷ list) (x ∷ outcomes) all law is same = prices-doubt ends y s c list outcomes (rest-priced y candidate list all) law is.1 same
+price-doubt ends y s (one least payment) outcome range law is same = absurd (simple-sure is.0 s (sym is.2 ∙ same))
 
 -- ---- a price is neither above all figures nor without time
-many-timed : (answer : PriceAnswer) → ¬ (placed answer ≡ NoTime)
+many-timed : (answer : PriceAnswer) → ¬ (many_price answer ≡ NoTime)
 many-timed (found.Price t) never = cc
 many-timed found.BelowZero never = cc
 many-timed (found.Undecided b) never = cc
 
-one-timed : (answer : SimplePrice) → ¬ (placed_simple answer ≡ NoTime)
+one-timed : (answer : SimplePrice) → ¬ (one_price answer ≡ NoTime)
 one-timed (exact.Price t) never = cc
 one-timed exact.BelowZero never = cc
 
-many-not_above : (answer : PriceAnswer) → ¬ (placed answer ≡ Above)
+many-not_above : (answer : PriceAnswer) → ¬ (many_price answer ≡ Above)
 many-not_above (found.Price t) never = cc
 many-not_above found.BelowZero never = cc
 many-not_above (found.Undecided b) never = cc
 
-one-not_above : (answer : SimplePrice) → ¬ (placed_simple answer ≡ Above)
+one-not_above : (answer : SimplePrice) → ¬ (one_price answer ≡ Above)
 one-not_above (exact.Price t) never = cc
 one-not_above exact.BelowZero never = cc
 
@@ -259,7 +227,7 @@ all-timed ends y (candidate ∷ list) (x ∷ outcomes) is zero never = timed end
 all-timed ends y (candidate ∷ list) (x ∷ outcomes) is (suc c) never = all-timed ends y list outcomes is.1 c never
 
 -- where all are above, the first is none of these
-not-above : (outcomes : List Outcome) (outcome : Outcome) → outcome_at outcomes 0 ≡ outcome → ¬ (outcome ≡ Above) → ¬ (outcome ≡ NoTime) → ¬ (AllAreAbove 0 outcomes)
+not-above : (outcomes : List Outcome) (outcome : Outcome) → outcome_at outcomes 0 ≡ outcome → ¬ (outcome ≡ Above) → ¬ (outcome ≡ NoTime) → ¬ (AllAreAbove (negsuc 0) outcomes)
 not-above outcomes (Print t) same other time all = all.none_printed t 0 same
 not-above outcomes (Unsure s) same other time all = all.none_material s 0 (record { unsure = same; matters = λ m h print. absurd (all.none_printed m h print.first.such) })
 not-above outcomes Below same other time all = all.reach.none_below 0 (inl same)
@@ -270,7 +238,7 @@ first-below_all : (ends : PaymentSeries → ℤ → WorthEnds) (y : ℤ) (to_be 
 first-below_all ends y (many series) outcome is never = many-not_above is.0 (sym is.2 ∙ never)
 first-below_all ends y (one least payment) outcome is never = one-not_above is.0 (sym is.2 ∙ never)
 
-pub never-above : (ends : PaymentSeries → ℤ → WorthEnds) (y : ℤ) (list : List Candidate) (outcomes : List Outcome) → 0 < length list → AllZip (IsPriceOutcome ends y) list outcomes → ¬ (AllAreAbove 0 outcomes)
+pub never-above : (ends : PaymentSeries → ℤ → WorthEnds) (y : ℤ) (list : List Candidate) (outcomes : List Outcome) → 0 < length list → AllZip (IsPriceOutcome ends y) list outcomes → ¬ (AllAreAbove (negsuc 0) outcomes)
 never-above ends y [] outcomes some is all = absurd (omega arith)
 never-above ends y (candidate ∷ list) [] some is all = absurd is
 never-above ends y (candidate ∷ list) (x ∷ outcomes) some is all =

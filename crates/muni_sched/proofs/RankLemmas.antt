@@ -1,44 +1,73 @@
 -- The first outcome of the least rank is the one that the rule names.
-use Rattle.std.proofs.Common.{◌≡◌, ◌≢◌, ◌<◌, ◌≤◌, ◌+◌, ℕ, List, All, length, refl, ap, sym, subst, inl, inr, ⊎_elim, arith, ◌∙◌, ◌⊎◌}
+use Rattle.std.proofs.Common.{◌≡◌, ◌≢◌, ◌<◌, ◌≤◌, ◌+◌, ℕ, List, All, length, refl, ap, sym, subst, inl, inr, ⊎_elim, arith, ◌∙◌, ◌⊎◌, ℤ, pos, negsuc, ◌<ℤ◌, ◌≤ℤ◌}
+use Rattle.std.specs.Prelude.{⊤}
+use Rattle.std.proofs.lemmas.Int.{ints}
+use Rattle.std.proofs.lemmas.Bool.{cases_lt}
 use Rattle.std.proofs.lemmas.List.{get_or_past}
-use Rattle.std.proofs.lemmas.Bool.{cases_lt, eq-eqb, ne_eqb}
-use Rattle.std.proofs.lemmas.Bool.Decides.{eqb_tells}
+use Rattle.std.proofs.lemmas.List.Elements.{All-weaker}
+use Rattle.muni_sched.specs.declared.figure.FigureKind.{FigureKind}
+use Rattle.muni_sched.specs.declared.figure.FigureKind.TheVariants.{Price, Yield}
 use Rattle.muni_sched.specs.declared.lowest.Outcome.{Outcome}
 use Rattle.muni_sched.specs.declared.lowest.Outcome.TheVariants.{Print, Unsure, Below, Above, NoTime}
 use Rattle.muni_sched.specs.declared.lowest.Lowest.{Lowest}
+use Rattle.muni_sched.specs.Figures.{least_unsure, IsOf, IsLowestOf}
 use Rattle.muni_sched.specs.Lowest.{outcome_at, MayBeBelow, IsLowestPrint, IsFirstBelow, AllReachFigures, IsUndecided, IsLowestFigure, AllAreAbove, IsLowest}
-use Rattle.muni_sched.specs.Ranks.{IsInRange, rank, IsFirstOfLeastRank, decided_by, IsRanked, IsWithin}
+use Rattle.muni_sched.specs.Ranks.{rank, IsFirstOfLeastRank, decided_by, IsRanked}
+use Rattle.muni_sched.proofs.IntLemmas.{int_eq-same, int_eq-other, equal_or_not, less_or_not}
+
+-- a figure that is not the rank of an outcome without one
+abbrev IsFigure : ℤ → Type 0
+IsFigure t = (negsuc 999_999_999 ≤ℤ t) × (t ≤ℤ pos 1_000_000_000)
+
+abbrev IsInRange : ℤ → Outcome → Type 0
+IsInRange least (Print t) = IsFigure t
+IsInRange least (Unsure s) = (least ≤ℤ s) × IsFigure s
+IsInRange least Below = ⊤
+IsInRange least Above = ⊤
+IsInRange least NoTime = ⊤
+
+in_range : (kind : FigureKind) (outcome : Outcome) → IsOf kind outcome → IsInRange (least_unsure kind) outcome
+in_range Price (Print t) is = (omega (arith, ints, is.0), omega (arith, ints, is.1))
+in_range Yield (Print t) is = (omega (arith, ints, is.0), omega (arith, ints, is.1))
+in_range Price (Unsure s) is = (is.0, (omega (arith, ints, is.0), omega (arith, ints, is.1)))
+in_range Yield (Unsure s) is = (is.0, (omega (arith, ints, is.0), omega (arith, ints, is.1)))
+in_range kind Below is = tt
+in_range kind Above is = tt
+in_range kind NoTime is = tt
 
 -- Of the first i outcomes the best has the least rank. Candidate c is the first that has it, or it is Above
 -- and no candidate is better.
-pub record IsBest (least : ℕ) (outcomes : List Outcome) (i c : ℕ) (best : Outcome) : Type 0 where
-  pub none_lower : (k : ℕ) → k < i → rank least best ≤ rank least (outcome_at outcomes k)
-  pub higher_before : (k : ℕ) → k < c → rank least best < rank least (outcome_at outcomes k)
+pub record IsBest (kind : FigureKind) (outcomes : List Outcome) (i c : ℕ) (best : Outcome) : Type 0 where
+  pub none_lower : (k : ℕ) → k < i → rank (least_unsure kind) best ≤ℤ rank (least_unsure kind) (outcome_at outcomes k)
+  pub higher_before : (k : ℕ) → k < c → rank (least_unsure kind) best <ℤ rank (least_unsure kind) (outcome_at outcomes k)
   pub there : ((best ≡ Above) × (c ≡ 0)) ⊎ ((c < i) × (outcome_at outcomes c ≡ best))
-  pub in_range : IsInRange least best
+  pub of : IsOf kind best
 
-in_range_at : (least : ℕ) (outcomes : List Outcome) → All (IsInRange least) outcomes → (k : ℕ) → IsInRange least (outcome_at outcomes k)
+in_range_at : (least : ℤ) (outcomes : List Outcome) → All (IsInRange least) outcomes → (k : ℕ) → IsInRange least (outcome_at outcomes k)
 in_range_at least outcomes all k =
     ⊎_elim
     (λ (inside : k < length outcomes). all k Above inside)
     (λ (past : length outcomes ≤ k). subst (IsInRange least) (sym (get_or_past outcomes k Above past)) tt)
     (cases_lt k (length outcomes))
 
+unsure-from : (least : ℤ) (outcomes : List Outcome) → ((k : ℕ) → IsInRange least (outcome_at outcomes k)) → (k : ℕ) (s : ℤ) → outcome_at outcomes k ≡ Unsure s → negsuc 999_999_999 ≤ℤ s
+unsure-from least outcomes ranges k s e = (let r : IsInRange least (Unsure s) = subst (IsInRange least) e (ranges k) in r.1.0)
+
 -- The ranks of unsure outcomes.
-rank-unsure_least : (least s : ℕ) → s ≡ least → rank least (Unsure s) ≡ 1
-rank-unsure_least least s same = rw (eq-eqb s least same) refl
+rank-unsure_least : (least s : ℤ) → s ≡ least → rank least (Unsure s) ≡ negsuc 2_147_483_646
+rank-unsure_least least s same = rw (int_eq-same s least same) refl
 
-rank-unsure_figure : (least s : ℕ) → s ≢ least → rank least (Unsure s) ≡ s + 1
-rank-unsure_figure least s other = rw (ne_eqb s least other) refl
+rank-unsure_figure : (least s : ℤ) → s ≢ least → rank least (Unsure s) ≡ s
+rank-unsure_figure least s other = rw (int_eq-other s least other) refl
 
-rank-unsure_most : (least s : ℕ) → rank least (Unsure s) ≤ s + 1
-rank-unsure_most least s =
-    elim (eqb_tells s least) [
-      | inl same ↦ omega (arith, rank-unsure_least least s same.1)
-      | inr other ↦ omega (arith, rank-unsure_figure least s other.1)
+rank-unsure_most : (least s : ℤ) → negsuc 999_999_999 ≤ℤ s → rank least (Unsure s) ≤ℤ s
+rank-unsure_most least s from =
+    elim (equal_or_not s least) [
+      | inl same ↦ omega (arith, ints, rank-unsure_least least s same)
+      | inr other ↦ omega (arith, ints, rank-unsure_figure least s other)
     ]
 
-rank-below : (least : ℕ) (x : Outcome) → MayBeBelow least x → rank least x ≡ 1
+rank-below : (least : ℤ) (x : Outcome) → MayBeBelow least x → rank least x ≡ negsuc 2_147_483_646
 rank-below least x below =
     ⊎_elim
     (λ (e : x ≡ Below). ap (rank least) e)
@@ -46,149 +75,175 @@ rank-below least x below =
     below
 
 -- Above is the last in the order.
-above_last : (least : ℕ) (x : Outcome) → IsInRange least x → rank least x ≤ 4_294_967_295
-above_last least (Print t) range = omega (arith, range.1)
-above_last least (Unsure s) range = omega (arith, range.1, rank-unsure_most least s)
-above_last least Below range = omega arith
-above_last least Above range = omega arith
-above_last least NoTime range = omega arith
+above_last : (least : ℤ) (x : Outcome) → IsInRange least x → rank least x ≤ℤ pos 2_147_483_647
+above_last least (Print t) range = omega (arith, ints, range.1)
+above_last least (Unsure s) range = omega (arith, ints, range.1.1, rank-unsure_most least s range.1.0)
+above_last least Below range = omega (arith, ints)
+above_last least Above range = omega (arith, ints)
+above_last least NoTime range = omega (arith, ints)
 
-only_above : (least : ℕ) (x : Outcome) → IsInRange least x → 4_294_967_295 ≤ rank least x → x ≡ Above
-only_above least (Print t) range last = absurd (omega (arith, range.1))
-only_above least (Unsure s) range last = absurd (omega (arith, range.1, rank-unsure_most least s))
-only_above least Below range last = absurd (omega arith)
+only_above : (least : ℤ) (x : Outcome) → IsInRange least x → pos 2_147_483_647 ≤ℤ rank least x → x ≡ Above
+only_above least (Print t) range last = absurd (omega (arith, ints, range.1))
+only_above least (Unsure s) range last = absurd (omega (arith, ints, range.1.1, rank-unsure_most least s range.1.0))
+only_above least Below range last = absurd (omega (arith, ints))
 only_above least Above range last = refl
-only_above least NoTime range last = absurd (omega arith)
+only_above least NoTime range last = absurd (omega (arith, ints))
+
+-- with one outcome more
+pub best_taken : (kind : FigureKind) (outcomes : List Outcome) (i c : ℕ) (best : Outcome) → IsBest kind outcomes i c best → IsOf kind (outcome_at outcomes i) → rank (least_unsure kind) (outcome_at outcomes i) <ℤ rank (least_unsure kind) best → IsBest kind outcomes (i + 1) i (outcome_at outcomes i)
+best_taken kind outcomes i c best is of less = record {
+  none_lower = λ k h. ⊎_elim
+      (λ (before : k < i). omega (arith, ints, is.none_lower k before, less))
+      (λ (after : i ≤ k). let same : k ≡ i = omega arith in omega (arith, ints, ap (λ n. rank (least_unsure kind) (outcome_at outcomes n)) same))
+      (cases_lt k i);
+  higher_before = λ k before. omega (arith, ints, is.none_lower k before, less);
+  there = inr (omega arith, refl);
+  of = of;
+}
+
+pub best_kept : (kind : FigureKind) (outcomes : List Outcome) (i c : ℕ) (best : Outcome) → IsBest kind outcomes i c best → rank (least_unsure kind) best ≤ℤ rank (least_unsure kind) (outcome_at outcomes i) → IsBest kind outcomes (i + 1) c best
+best_kept kind outcomes i c best is not_less = record {
+  none_lower = λ k h. ⊎_elim
+      (λ (before : k < i). is.none_lower k before)
+      (λ (after : i ≤ k). let same : k ≡ i = omega arith in omega (arith, ints, not_less, ap (λ n. rank (least_unsure kind) (outcome_at outcomes n)) same))
+      (cases_lt k i);
+  higher_before = is.higher_before;
+  there = ⊎_elim (λ (none : (best ≡ Above) × (c ≡ 0)). inl none) (λ (some : (c < i) × (outcome_at outcomes c ≡ best)). inr (let inside = some.0 in omega arith, some.1)) is.there;
+  of = is.of;
+}
 
 -- The best of all outcomes is that of the first candidate of the least rank.
-best_there : (least : ℕ) (outcomes : List Outcome) (c : ℕ) (best : Outcome) → All (IsInRange least) outcomes → IsBest least outcomes (length outcomes) c best → outcome_at outcomes c ≡ best
-best_there least outcomes c best all is =
+ranges_of : (kind : FigureKind) (outcomes : List Outcome) → All (IsOf kind) outcomes → (k : ℕ) → IsInRange (least_unsure kind) (outcome_at outcomes k)
+ranges_of kind outcomes all = in_range_at (least_unsure kind) outcomes (All-weaker (IsOf kind) (IsInRange (least_unsure kind)) (in_range kind) outcomes all)
+
+best_there : (kind : FigureKind) (outcomes : List Outcome) (c : ℕ) (best : Outcome) → All (IsOf kind) outcomes → IsBest kind outcomes (length outcomes) c best → outcome_at outcomes c ≡ best
+best_there kind outcomes c best all is =
     ⊎_elim
     (λ (none : (best ≡ Above) × (c ≡ 0)). ⊎_elim
-    (λ (inside : c < length outcomes). only_above least (outcome_at outcomes c) (in_range_at least outcomes all c) (omega (arith, is.none_lower c inside, ap (rank least) none.0)) ∙ sym none.0)
+    (λ (inside : c < length outcomes). only_above (least_unsure kind) (outcome_at outcomes c) (ranges_of kind outcomes all c) (omega (arith, ints, is.none_lower c inside, ap (rank (least_unsure kind)) none.0)) ∙ sym none.0)
     (λ (past : length outcomes ≤ c). get_or_past outcomes c Above past ∙ sym none.0)
     (cases_lt c (length outcomes)))
     (λ (some : (c < length outcomes) × (outcome_at outcomes c ≡ best)). some.1)
     is.there
 
-best_first : (least : ℕ) (outcomes : List Outcome) (c : ℕ) (best : Outcome) → All (IsInRange least) outcomes → IsBest least outcomes (length outcomes) c best → IsFirstOfLeastRank least outcomes c
-best_first least outcomes c best all is =
-    let there = ap (rank least) (best_there least outcomes c best all is) in record {
+best_first : (kind : FigureKind) (outcomes : List Outcome) (c : ℕ) (best : Outcome) → All (IsOf kind) outcomes → IsBest kind outcomes (length outcomes) c best → IsFirstOfLeastRank (least_unsure kind) outcomes c
+best_first kind outcomes c best all is =
+    let there = ap (rank (least_unsure kind)) (best_there kind outcomes c best all is) in record {
       none_lower = λ k. ⊎_elim
-          (λ (inside : k < length outcomes). omega (arith, there, is.none_lower k inside))
-          (λ (past : length outcomes ≤ k). omega (arith, there, ap (rank least) (get_or_past outcomes k Above past), above_last least best is.in_range))
+          (λ (inside : k < length outcomes). omega (arith, ints, there, is.none_lower k inside))
+          (λ (past : length outcomes ≤ k). omega (arith, ints, there, ap (rank (least_unsure kind)) (get_or_past outcomes k Above past), above_last (least_unsure kind) best (in_range kind best is.of)))
           (cases_lt k (length outcomes));
-      higher_before = λ k before. omega (arith, there, is.higher_before k before);
+      higher_before = λ k before. omega (arith, ints, there, is.higher_before k before);
     }
 
-pub best_ranked : (least : ℕ) (outcomes : List Outcome) (c : ℕ) (best : Outcome) (answer : Lowest) → All (IsInRange least) outcomes → IsBest least outcomes (length outcomes) c best → answer ≡ decided_by best c → IsRanked least outcomes answer
-best_ranked least outcomes c best answer all is decides = record {
+pub best_ranked : (kind : FigureKind) (outcomes : List Outcome) (c : ℕ) (best : Outcome) (answer : Lowest) → All (IsOf kind) outcomes → IsBest kind outcomes (length outcomes) c best → answer ≡ decided_by best c → IsRanked (least_unsure kind) outcomes answer
+best_ranked kind outcomes c best answer all is decides = record {
   candidate = c;
-  first = best_first least outcomes c best all is;
-  decides = decides ∙ ap (λ x. decided_by x c) (sym (best_there least outcomes c best all is));
+  first = best_first kind outcomes c best all is;
+  decides = decides ∙ ap (λ x. decided_by x c) (sym (best_there kind outcomes c best all is));
 }
 
--- Where all ranks are 2 or more, all candidates have figures or are above them.
-all_reach : (least : ℕ) (outcomes : List Outcome) → ((k : ℕ) → 2 ≤ rank least (outcome_at outcomes k)) → AllReachFigures least outcomes
+-- Where all ranks are past that of Below, all candidates have figures or are above them.
+all_reach : (least : ℤ) (outcomes : List Outcome) → ((k : ℕ) → negsuc 2_147_483_645 ≤ℤ rank least (outcome_at outcomes k)) → AllReachFigures least outcomes
 all_reach least outcomes from = record {
-  timed = λ k e. omega (arith, from k, ap (rank least) e);
-  none_below = λ k below. omega (arith, from k, rank-below least (outcome_at outcomes k) below);
+  timed = λ k e. omega (arith, ints, from k, ap (rank least) e);
+  none_below = λ k below. omega (arith, ints, from k, rank-below least (outcome_at outcomes k) below);
 }
 
-first_below : (least : ℕ) (outcomes : List Outcome) (c : ℕ) (x : Outcome) → IsFirstOfLeastRank least outcomes c → outcome_at outcomes c ≡ x → MayBeBelow least x → IsFirstBelow least outcomes x c
+first_below : (least : ℤ) (outcomes : List Outcome) (c : ℕ) (x : Outcome) → IsFirstOfLeastRank least outcomes c → outcome_at outcomes c ≡ x → MayBeBelow least x → IsFirstBelow least outcomes x c
 first_below least outcomes c x is e below =
     let one = ap (rank least) e ∙ rank-below least x below in record {
-      timed = λ k no_time. omega (arith, one, is.none_lower k, ap (rank least) no_time);
+      timed = λ k no_time. omega (arith, ints, one, is.none_lower k, ap (rank least) no_time);
       first = record {
         such = subst (MayBeBelow least) (sym e) below;
-        none_before = λ k before other. omega (arith, one, is.higher_before k before, rank-below least (outcome_at outcomes k) other);
+        none_before = λ k before other. omega (arith, ints, one, is.higher_before k before, rank-below least (outcome_at outcomes k) other);
       };
       there = e;
     }
 
-rank-at_unsure : (least : ℕ) (outcomes : List Outcome) (k s : ℕ) → outcome_at outcomes k ≡ Unsure s → rank least (outcome_at outcomes k) ≤ s + 1
-rank-at_unsure least outcomes k s e = omega (arith, ap (rank least) e, rank-unsure_most least s)
+rank-at_unsure : (least : ℤ) (outcomes : List Outcome) (k : ℕ) (s : ℤ) → negsuc 999_999_999 ≤ℤ s → outcome_at outcomes k ≡ Unsure s → rank least (outcome_at outcomes k) ≤ℤ s
+rank-at_unsure least outcomes k s from e = omega (arith, ints, ap (rank least) e, rank-unsure_most least s from)
 
-undecided : (least : ℕ) (outcomes : List Outcome) (c s : ℕ) → IsFirstOfLeastRank least outcomes c → outcome_at outcomes c ≡ Unsure s → IsInRange least (Unsure s) → s ≢ least → IsUndecided least outcomes s c
-undecided least outcomes c s is e range other =
+undecided : (least : ℤ) (outcomes : List Outcome) (c : ℕ) (s : ℤ) → ((k : ℕ) → IsInRange least (outcome_at outcomes k)) → IsFirstOfLeastRank least outcomes c → outcome_at outcomes c ≡ Unsure s → IsInRange least (Unsure s) → s ≢ least → IsUndecided least outcomes s c
+undecided least outcomes c s ranges is e range other =
     let own = ap (rank least) e ∙ rank-unsure_figure least s other in record {
-      reach = all_reach least outcomes (λ k. omega (arith, own, is.none_lower k, range.0, other));
+      reach = all_reach least outcomes (λ k. omega (arith, ints, own, is.none_lower k, range.0, other));
       lowest = record {
         material = record {
           unsure = e;
           matters = λ m h print.
-              let at : rank least (outcome_at outcomes h) ≡ m + 1 = ap (rank least) print.first.such in
+              let at : rank least (outcome_at outcomes h) ≡ m = ap (rank least) print.first.such in
               ⊎_elim
-              (λ (less : s < m). inl less)
-              (λ (from : m ≤ s). inr (
-                omega (arith, own, is.none_lower h, at),
+              (λ (less : s <ℤ m). inl less)
+              (λ (from : m ≤ℤ s). inr (
+                omega (arith, ints, own, is.none_lower h, at),
                 ⊎_elim
                     (λ (before : c < h). before)
                     (λ (after : h ≤ c). absurd (⊎_elim
-                    (λ (less : h < c). omega (arith, own, is.higher_before h less, at))
-                    (λ (same : c ≤ h). let both : Print m ≡ Unsure s = sym print.first.such ∙ ap (outcome_at outcomes) (omega arith) ∙ e in cc)
+                    (λ (less : h < c). omega (arith, ints, own, is.higher_before h less, at))
+                    (λ (same : c ≤ h). let both : Print m ≡ Unsure s = sym print.first.such ∙ ap (outcome_at outcomes) (omega (arith, ints)) ∙ e in cc)
                     (cases_lt h c)))
                     (cases_lt c h),
               ))
-              (cases_lt s m);
+              (less_or_not s m);
         };
         none_lower = λ r k material.
-            let at = rank-at_unsure least outcomes k r material.unsure in
+            let at = rank-at_unsure least outcomes k r (unsure-from least outcomes ranges k r material.unsure) material.unsure in
             ⊎_elim
-            (λ (less : s < r). inl less)
-            (λ (from : r ≤ s). inr (
-              omega (arith, own, is.none_lower k, at),
+            (λ (less : s <ℤ r). inl less)
+            (λ (from : r ≤ℤ s). inr (
+              omega (arith, ints, own, is.none_lower k, at),
               ⊎_elim
-                  (λ (before : k < c). absurd (omega (arith, own, is.higher_before k before, at)))
+                  (λ (before : k < c). absurd (omega (arith, ints, own, is.higher_before k before, at)))
                   (λ (after : c ≤ k). after)
                   (cases_lt k c),
             ))
-            (cases_lt s r);
+            (less_or_not s r);
       };
     }
 
-lowest_figure : (least : ℕ) (outcomes : List Outcome) (c t : ℕ) → IsFirstOfLeastRank least outcomes c → outcome_at outcomes c ≡ Print t → IsInRange least (Print t) → IsLowestFigure least outcomes t c
-lowest_figure least outcomes c t is e range =
-    let own : rank least (outcome_at outcomes c) ≡ t + 1 = ap (rank least) e in
+lowest_figure : (least : ℤ) (outcomes : List Outcome) (c : ℕ) (t : ℤ) → ((k : ℕ) → IsInRange least (outcome_at outcomes k)) → IsFirstOfLeastRank least outcomes c → outcome_at outcomes c ≡ Print t → IsInRange least (Print t) → IsLowestFigure least outcomes t c
+lowest_figure least outcomes c t ranges is e range =
+    let own : rank least (outcome_at outcomes c) ≡ t = ap (rank least) e in
     let print : IsLowestPrint outcomes t c = record {
-      none_lower = λ k u at. omega (arith, own, is.none_lower k, ap (rank least) at);
-      first = record { such = e; none_before = λ k before at. omega (arith, own, is.higher_before k before, ap (rank least) at) };
+      none_lower = λ k u at. omega (arith, ints, own, is.none_lower k, ap (rank least) at);
+      first = record { such = e; none_before = λ k before at. omega (arith, ints, own, is.higher_before k before, ap (rank least) at) };
     } in record {
-      reach = all_reach least outcomes (λ k. omega (arith, own, is.none_lower k, range.0));
+      reach = all_reach least outcomes (λ k. omega (arith, ints, own, is.none_lower k, range.0));
       none_material = λ s k material.
-          let at = rank-at_unsure least outcomes k s material.unsure in
+          let at = rank-at_unsure least outcomes k s (unsure-from least outcomes ranges k s material.unsure) material.unsure in
           ⊎_elim
-          (λ (less : s < t). omega (arith, own, is.none_lower k, at))
-          (λ (same : (s ≡ t) × (k < c)). omega (arith, own, same.0, is.higher_before k same.1, at))
+          (λ (less : s <ℤ t). omega (arith, ints, own, is.none_lower k, at))
+          (λ (same : (s ≡ t) × (k < c)). omega (arith, ints, own, same.0, is.higher_before k same.1, at))
           (material.matters t c print);
       lowest = print;
     }
 
-all_above : (least : ℕ) (outcomes : List Outcome) (c : ℕ) → ((k : ℕ) → IsInRange least (outcome_at outcomes k)) → IsFirstOfLeastRank least outcomes c → outcome_at outcomes c ≡ Above → AllAreAbove least outcomes
+all_above : (least : ℤ) (outcomes : List Outcome) (c : ℕ) → ((k : ℕ) → IsInRange least (outcome_at outcomes k)) → IsFirstOfLeastRank least outcomes c → outcome_at outcomes c ≡ Above → AllAreAbove least outcomes
 all_above least outcomes c ranges is e =
-    let own : rank least (outcome_at outcomes c) ≡ 4_294_967_295 = ap (rank least) e in
-    let above : (k : ℕ) → outcome_at outcomes k ≡ Above = λ k. only_above least (outcome_at outcomes k) (ranges k) (omega (arith, own, is.none_lower k)) in record {
-      reach = all_reach least outcomes (λ k. omega (arith, own, is.none_lower k));
+    let own : rank least (outcome_at outcomes c) ≡ pos 2_147_483_647 = ap (rank least) e in
+    let above : (k : ℕ) → outcome_at outcomes k ≡ Above = λ k. only_above least (outcome_at outcomes k) (ranges k) (omega (arith, ints, own, is.none_lower k)) in record {
+      reach = all_reach least outcomes (λ k. omega (arith, ints, own, is.none_lower k));
       none_material = λ s k material. let both : Above ≡ Unsure s = sym (above k) ∙ material.unsure in cc;
       none_printed = λ t k print. let both : Above ≡ Print t = sym (above k) ∙ print in cc;
     }
 
-decides : (least : ℕ) (outcomes : List Outcome) (c : ℕ) (x : Outcome) → ((k : ℕ) → IsInRange least (outcome_at outcomes k)) → IsFirstOfLeastRank least outcomes c → outcome_at outcomes c ≡ x → IsLowest least outcomes (decided_by x c)
-decides least outcomes c NoTime ranges is e = record { such = e; none_before = λ k before no_time. omega (arith, ap (rank least) e, is.higher_before k before, ap (rank least) no_time) }
+decides : (least : ℤ) (outcomes : List Outcome) (c : ℕ) (x : Outcome) → ((k : ℕ) → IsInRange least (outcome_at outcomes k)) → IsFirstOfLeastRank least outcomes c → outcome_at outcomes c ≡ x → IsLowest least outcomes (decided_by x c)
+decides least outcomes c NoTime ranges is e = record { such = e; none_before = λ k before no_time. omega (arith, ints, ap (rank least) e, is.higher_before k before, ap (rank least) no_time) }
 decides least outcomes c Below ranges is e = first_below least outcomes c Below is e (inl refl)
 decides least outcomes c (Unsure s) ranges is e =
-    elim (eqb_tells s least) [
-      | inl same ↦ inl (first_below least outcomes c (Unsure s) is e (inr (ap Unsure same.1)))
-      | inr other ↦ inr (undecided least outcomes c s is e (subst (IsInRange least) e (ranges c)) other.1)
+    elim (equal_or_not s least) [
+      | inl same ↦ inl (first_below least outcomes c (Unsure s) is e (inr (ap Unsure same)))
+      | inr other ↦ inr (undecided least outcomes c s ranges is e (subst (IsInRange least) e (ranges c)) other)
     ]
-decides least outcomes c (Print t) ranges is e = lowest_figure least outcomes c t is e (subst (IsInRange least) e (ranges c))
+decides least outcomes c (Print t) ranges is e = lowest_figure least outcomes c t ranges is e (subst (IsInRange least) e (ranges c))
 decides least outcomes c Above ranges is e = all_above least outcomes c ranges is e
 
 -- The ranked answer is the rule's.
-pub ranked_lowest : (least : ℕ) (outcomes : List Outcome) (answer : Lowest) → All (IsInRange least) outcomes → IsRanked least outcomes answer → IsLowest least outcomes answer
-ranked_lowest least outcomes answer all ranked =
-    subst (IsLowest least outcomes) (sym ranked.decides)
-    (decides least outcomes ranked.candidate (outcome_at outcomes ranked.candidate) (in_range_at least outcomes all) ranked.first refl)
+pub ranked_lowest : (kind : FigureKind) (outcomes : List Outcome) (answer : Lowest) → All (IsOf kind) outcomes → IsRanked (least_unsure kind) outcomes answer → IsLowest (least_unsure kind) outcomes answer
+ranked_lowest kind outcomes answer all ranked =
+    subst (IsLowest (least_unsure kind) outcomes) (sym ranked.decides)
+    (decides (least_unsure kind) outcomes ranked.candidate (outcome_at outcomes ranked.candidate) (ranges_of kind outcomes all) ranked.first refl)
 
 -- It names one of the candidates.
 inside : (outcomes : List Outcome) (c : ℕ) (x : Outcome) → outcome_at outcomes c ≡ x → ¬ (x ≡ Above) → c < length outcomes
@@ -198,14 +253,21 @@ inside outcomes c x e other =
     (λ (past : length outcomes ≤ c). absurd (other (sym e ∙ get_or_past outcomes c Above past)))
     (cases_lt c (length outcomes))
 
-within : (least : ℕ) (outcomes : List Outcome) (c : ℕ) (x : Outcome) → IsInRange least x → outcome_at outcomes c ≡ x → IsWithin least (length outcomes) (decided_by x c)
-within least outcomes c NoTime range e = inside outcomes c NoTime e (λ above. cc)
-within least outcomes c Below range e = inside outcomes c Below e (λ above. cc)
-within least outcomes c (Unsure s) range e = (inside outcomes c (Unsure s) e (λ above. cc), range)
-within least outcomes c (Print t) range e = (inside outcomes c (Print t) e (λ above. cc), range)
-within least outcomes c Above range e = tt
+of-at : (kind : FigureKind) (outcomes : List Outcome) → All (IsOf kind) outcomes → (k : ℕ) → IsOf kind (outcome_at outcomes k)
+of-at kind outcomes all k =
+    ⊎_elim
+    (λ (within : k < length outcomes). all k Above within)
+    (λ (past : length outcomes ≤ k). subst (IsOf kind) (sym (get_or_past outcomes k Above past)) tt)
+    (cases_lt k (length outcomes))
 
-pub ranked_within : (least : ℕ) (outcomes : List Outcome) (answer : Lowest) → All (IsInRange least) outcomes → IsRanked least outcomes answer → IsWithin least (length outcomes) answer
-ranked_within least outcomes answer all ranked =
-    subst (IsWithin least (length outcomes)) (sym ranked.decides)
-    (within least outcomes ranked.candidate (outcome_at outcomes ranked.candidate) (in_range_at least outcomes all ranked.candidate) refl)
+decided-of : (kind : FigureKind) (outcomes : List Outcome) (c : ℕ) (x : Outcome) → IsOf kind x → outcome_at outcomes c ≡ x → IsLowestOf kind (length outcomes) (decided_by x c)
+decided-of kind outcomes c NoTime of e = inside outcomes c NoTime e (λ above. cc)
+decided-of kind outcomes c Below of e = inside outcomes c Below e (λ above. cc)
+decided-of kind outcomes c (Unsure s) of e = (inside outcomes c (Unsure s) e (λ above. cc), of)
+decided-of kind outcomes c (Print t) of e = (inside outcomes c (Print t) e (λ above. cc), of)
+decided-of kind outcomes c Above of e = tt
+
+pub ranked_of : (kind : FigureKind) (outcomes : List Outcome) (answer : Lowest) → All (IsOf kind) outcomes → IsRanked (least_unsure kind) outcomes answer → IsLowestOf kind (length outcomes) answer
+ranked_of kind outcomes answer all ranked =
+    subst (IsLowestOf kind (length outcomes)) (sym ranked.decides)
+    (decided-of kind outcomes ranked.candidate (outcome_at outcomes ranked.candidate) (of-at kind outcomes all ranked.candidate) refl)

@@ -1,5 +1,5 @@
 -- The redemptions of an issue rise in date, as the tests of its terms have it.
-use Rattle.std.proofs.Common.{◌≡◌, ℕ, ◌<◌, ◌≤◌, ◌&&◌, true, List, [], ◌∷◌, length, map, Option, Some, None, sym, subst, arith}
+use Rattle.std.proofs.Common.{◌≡◌, ℕ, ◌<◌, ◌≤◌, ◌&&◌, true, List, [], ◌∷◌, map, Option, Some, None, sym, subst, arith}
 use Rattle.std.specs.Prelude.{All, AllPairs}
 use Rattle.std.proofs.lemmas.Bool.{and_parts, ltb-true}
 use Rattle.std.proofs.lemmas.List.{get_or-map, length-map}
@@ -18,7 +18,7 @@ use Rattle.muni_terms.specs.declared.row.Kind.TheVariants.{Periodic, Zero, AtRed
 use Rattle.muni_terms.specs.declared.row.IssueRow.{IssueRow}
 use Rattle.muni_terms.specs.declared.row.TermsFault.TheVariants.{CallOffCalendar, CallsNotRising}
 use Rattle.muni_terms.proofs.IssueLemmas.{passed, neither, is_issue}
-use Rattle.muni_sched.specs.Candidates.{Disclosure, call_redemption, disclosure, disclosures_of, disclosed, IsEarlier}
+use Rattle.muni_sched.specs.Candidates.{call_redemption, redemption_of, redemptions_of, IsEarlier}
 use Rattle.muni_sched.specs.declared.candidate.Candidate.{Candidate}
 
 -- one redemption is before another
@@ -81,15 +81,6 @@ calls-below row before (call ∷ calls) none =
     All-cons (λ it. order_of it.date < order_of (civil row.maturity)) (call_redemption call) (map call_redemption calls) this.below (calls-below row (Some call.date) calls this.rest)
 
 -- pairs of a list that is seen through a function
-all_pairs_map : {X Y : Type 0} (R : Y → Y → Type 0) (f : X → Y) (xs : List X) → AllPairs (λ x y. R (f x) (f y)) xs → AllPairs R (map f xs)
-all_pairs_map R f [] all i j e less inside = absurd (omega arith)
-all_pairs_map R f (x ∷ xs) all i j e less inside =
-    let long = length-map (x ∷ xs) f in
-    let within : j < length (x ∷ xs) = omega arith in
-    let first = get_or-map f (x ∷ xs) i x e (omega arith) in
-    let second = get_or-map f (x ∷ xs) j x e within in
-    rw (first, second) (all i j x less within)
-
 all_pairs_from_map : {X Y : Type 0} (R : Y → Y → Type 0) (f : X → Y) (xs : List X) → AllPairs R (map f xs) → AllPairs (λ x y. R (f x) (f y)) xs
 all_pairs_from_map R f xs all i j d less inside =
     let long = length-map xs f in
@@ -97,14 +88,9 @@ all_pairs_from_map R f xs all i j d less inside =
     let second = get_or-map f xs j d (f d) inside in
     rw (first, second) at (all i j (f d) less (omega arith))
 
--- one is disclosed to be redeemed before another
-abbrev IsSooner : Disclosure → Disclosure → Type 0
-IsSooner disclosure other = order_of disclosure.date < order_of other.date
-
-pub candidates-rise : (row : IssueRow) (settlement : Day) (list : List Candidate) → Check.fault_of row ≡ None → map disclosed list ≡ disclosures_of row settlement → AllPairs IsEarlier list
-candidates-rise row settlement list none discloses =
+pub candidates-rise : (row : IssueRow) (settlement : Day) (list : List Candidate) → Check.fault_of row ≡ None → map redemption_of list ≡ redemptions_of row settlement → AllPairs IsEarlier list
+candidates-rise row settlement list none same =
     let calls = map call_redemption row.calls.items in
     let passes = (is_issue row none).calls in
-    let rise : AllPairs IsBefore (redemptions_after (civil settlement) calls (civil row.maturity)) = redemptions-rise calls (civil row.maturity) (civil settlement) (calls-rise row None row.calls.items passes) (calls-below row None row.calls.items passes) in
-    let sooner : AllPairs IsSooner (disclosures_of row settlement) = all_pairs_map IsSooner (disclosure (civil row.maturity)) (redemptions_after (civil settlement) calls (civil row.maturity)) rise in
-    all_pairs_from_map IsSooner disclosed list (subst (AllPairs IsSooner) (sym discloses) sooner)
+    let rise : AllPairs IsBefore (redemptions_of row settlement) = redemptions-rise calls (civil row.maturity) (civil settlement) (calls-rise row None row.calls.items passes) (calls-below row None row.calls.items passes) in
+    all_pairs_from_map IsBefore redemption_of list (subst (AllPairs IsBefore) (sym same) rise)

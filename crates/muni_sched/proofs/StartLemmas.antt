@@ -1,6 +1,8 @@
--- What the searches keep holds before the first round.
-use Rattle.std.proofs.Common.{◌≡◌, ◌<◌, ◌≤◌, ◌+◌, ℕ, zero, suc, List, [], ◌∷◌, All, length, min, true, refl, ap, sym, subst, inl, inr, ⊎_elim, arith, ◌∙◌, ◌⊎◌}
+-- What the searches keep holds before the first round, and the rounds are counted.
+use Rattle.std.proofs.Common.{◌≡◌, ◌<◌, ◌≤◌, ◌+◌, ◌-◌, ℕ, zero, suc, List, [], ◌∷◌, All, true, false, length, Option, Some, None, refl, ap, sym, subst, inl, inr, ⊎_elim, arith, ◌∙◌, ◌⊎◌, ℤ}
+use Rattle.std.specs.Prelude.{unwrap_or, if◌then◌else◌}
 use Rattle.std.specs.List.{AllZip}
+use Rattle.std.proofs.lemmas.Int.{ints}
 use Rattle.std.proofs.lemmas.List.{get_or_default}
 use Rattle.std.proofs.lemmas.List.Elements.{All-head, All-tail, All-cons, All-nil}
 use Rattle.muni_rule.specs.Payments.{PaymentSeries}
@@ -11,21 +13,20 @@ use Rattle.muni_yield.proofs.BracketLemmas.{start-is}
 use Rattle.muni_sched.specs.declared.candidate.Candidate.{Candidate}
 use Rattle.muni_sched.specs.declared.candidate.Shape.{Shape}
 use Rattle.muni_sched.specs.declared.candidate.Shape.TheVariants.{Many, One, AtRedemption, Discount}
+use Rattle.muni_sched.specs.declared.figure.FigureKind.TheVariants.{Yield}
 use Rattle.muni_sched.specs.declared.lowest.Outcome.{Outcome}
 use Rattle.muni_sched.specs.declared.lowest.Outcome.TheVariants.{Print, Unsure, Below, Above, NoTime}
-use Rattle.muni_sched.specs.declared.scale.Scale.TheVariants.{Yields}
-use Rattle.muni_sched.specs.declared.search.Held.{Held}
+use Rattle.muni_sched.specs.declared.search.OpenSearch.{OpenSearch}
 use Rattle.muni_sched.specs.declared.search.Search.{Search}
 use Rattle.muni_sched.specs.Candidates.{IsCandidate}
+use Rattle.muni_sched.specs.Figures.{IsOf}
 use Rattle.muni_sched.specs.Lowest as lowest
-use Rattle.muni_sched.specs.Ranks.{rank}
-use Rattle.muni_sched.specs.Rounds.{missed_first, no_ceiling, ceiling_first, held_for, held_from, IsStarted, is_over, refined}
-use Rattle.muni_sched.specs.Scale.{IsOn}
+use Rattle.muni_sched.specs.Rounds.{IsKnownYield, missed_first, lower_of, ceiling_first, searches_for, searches_from, IsStarted, is_over, refined, rounds, outcomes_of}
+use Rattle.muni_sched.specs.SearchedOut.{AreSearchedOut}
 use Rattle.muni_sched.specs.Shape.{IsPriceable}
 use Rattle.muni_sched.specs.ToCome.{ToCome, many, one, to_come_of}
-use Rattle.muni_sched.specs.YieldAnswer.{IsSearchedOut}
-use Rattle.muni_sched.specs.YieldOutcome.{final, IsOutcomeFor, IsYieldOutcome, IsKnownFirst}
-use Rattle.muni_sched.proofs.SearchLemmas.{IsHeld, HasPlace, IsCeiling, IsRefined, between, rank-most, lower-ceiling, refined-keeps, ranked-of_all, over-none, known-on}
+use Rattle.muni_sched.specs.YieldOutcome.{final, IsYieldOutcomeFor, IsYieldOutcome, IsKnownFor, IsKnownFirst}
+use Rattle.muni_sched.proofs.SearchLemmas.{rank_of, known_at, IsRunning, IsSearchedFor, IsCeiling, IsRefined, between, lower-ceiling, refined-keeps, ranked-of_all, over-none, told-of}
 
 abbrev at : List Outcome → ℕ → Outcome
 at outcomes k = lowest.outcome_at outcomes k
@@ -42,54 +43,59 @@ may_be (AtRedemption payment) is = tt
 may_be (Discount days) is = tt
 
 -- The outcome that a candidate comes to: that of its search, or the one that is known.
-abbrev final-for : (verdicts : PaymentSeries → ℕ → ℕ → Verdict) (price : ℕ) → ToCome → Outcome → Outcome
+abbrev final-for : (verdicts : PaymentSeries → ℕ → ℕ → Verdict) (price : ℕ) → ToCome → Option Outcome → Outcome
 final-for verdicts price (many series) known = final verdicts price series
-final-for verdicts price (one least payment) known = known
+final-for verdicts price (one least payment) known = unwrap_or known Above
 
-abbrev finals-of : (verdicts : PaymentSeries → ℕ → ℕ → Verdict) (price : ℕ) → List Candidate → List Outcome → List Outcome
+abbrev finals-of : (verdicts : PaymentSeries → ℕ → ℕ → Verdict) (price : ℕ) → List Candidate → List (Option Outcome) → List Outcome
 finals-of verdicts price [] known = []
 finals-of verdicts price (candidate ∷ list) [] = []
-finals-of verdicts price (candidate ∷ list) (outcome ∷ known) = final-for verdicts price (to_come_of candidate.shape) outcome ∷ finals-of verdicts price list known
+finals-of verdicts price (candidate ∷ list) (it ∷ known) = final-for verdicts price (to_come_of candidate.shape) it ∷ finals-of verdicts price list known
 
-final-is : (verdicts : PaymentSeries → ℕ → ℕ → Verdict) (price : ℕ) (to_come : ToCome) (known : Outcome) → IsOutcomeFor (λ series. Above) price to_come known → IsOutcomeFor (final verdicts price) price to_come (final-for verdicts price to_come known)
+final-is : (verdicts : PaymentSeries → ℕ → ℕ → Verdict) (price : ℕ) (to_come : ToCome) (known : Option Outcome) → IsKnownFor price to_come known → IsYieldOutcomeFor verdicts price to_come (final-for verdicts price to_come known)
 final-is verdicts price (many series) known is = refl
-final-is verdicts price (one least payment) known is = is
+final-is verdicts price (one least payment) known is =
+    subst (λ it. IsYieldOutcomeFor verdicts price (one least payment) (unwrap_or it Above)) (sym is.2) is.1
 
-finals-are : (verdicts : PaymentSeries → ℕ → ℕ → Verdict) (price : ℕ) (list : List Candidate) (known : List Outcome) → AllZip (IsKnownFirst price) list known → AllZip (IsYieldOutcome verdicts price) list (finals-of verdicts price list known)
+finals-are : (verdicts : PaymentSeries → ℕ → ℕ → Verdict) (price : ℕ) (list : List Candidate) (known : List (Option Outcome)) → AllZip (IsKnownFirst price) list known → AllZip (IsYieldOutcome verdicts price) list (finals-of verdicts price list known)
 finals-are verdicts price [] [] all = tt
-finals-are verdicts price [] (outcome ∷ known) all = absurd all
+finals-are verdicts price [] (it ∷ known) all = absurd all
 finals-are verdicts price (candidate ∷ list) [] all = absurd all
-finals-are verdicts price (candidate ∷ list) (outcome ∷ known) all =
-    (final-is verdicts price (to_come_of candidate.shape) outcome all.0, finals-are verdicts price list known all.1)
+finals-are verdicts price (candidate ∷ list) (it ∷ known) all =
+    (final-is verdicts price (to_come_of candidate.shape) it all.0, finals-are verdicts price list known all.1)
 
-length-finals : (verdicts : PaymentSeries → ℕ → ℕ → Verdict) (price : ℕ) (list : List Candidate) (known : List Outcome) → AllZip (IsKnownFirst price) list known → (length known ≡ length list) × (length (finals-of verdicts price list known) ≡ length list)
+length-finals : (verdicts : PaymentSeries → ℕ → ℕ → Verdict) (price : ℕ) (list : List Candidate) (known : List (Option Outcome)) → AllZip (IsKnownFirst price) list known → (length known ≡ length list) × (length (finals-of verdicts price list known) ≡ length list)
 length-finals verdicts price [] [] all = (refl, refl)
-length-finals verdicts price [] (outcome ∷ known) all = absurd all
+length-finals verdicts price [] (it ∷ known) all = absurd all
 length-finals verdicts price (candidate ∷ list) [] all = absurd all
-length-finals verdicts price (candidate ∷ list) (outcome ∷ known) all =
+length-finals verdicts price (candidate ∷ list) (it ∷ known) all =
     let rest = length-finals verdicts price list known all.1 in (ap suc rest.0, ap suc rest.1)
 
--- all are in range
-final-on : (verdicts : PaymentSeries → ℕ → ℕ → Verdict) (price : ℕ) (series : PaymentSeries) → 2 ≤ series.n → 0 < price → IsOn Yields (final verdicts price series)
+-- all are of yields
+final-of_yield : (verdicts : PaymentSeries → ℕ → ℕ → Verdict) (price : ℕ) (series : PaymentSeries) → 2 ≤ series.n → 0 < price → IsOf Yield (final verdicts price series)
 unfolding final_of
-final-on verdicts price series more some = (between 19 verdicts (start_of series price) (start-is series price more some) (omega arith)).on
+final-of_yield verdicts price series more some = (between 19 verdicts (start_of series price) (start-is series price more some) (omega arith)).of
 
-for-on : (verdicts : PaymentSeries → ℕ → ℕ → Verdict) (price : ℕ) (to_come : ToCome) (known : Outcome) → MayBeSearched to_come → 0 < price → IsOn Yields known → IsOn Yields (final-for verdicts price to_come known)
-for-on verdicts price (many series) known more some on = final-on verdicts price series more some
-for-on verdicts price (one least payment) known more some on = on
+known-of : (known : Option Outcome) → IsKnownYield known → IsOf Yield (unwrap_or known Above)
+known-of None of = tt
+known-of (Some outcome) of = of
 
-finals-on : (verdicts : PaymentSeries → ℕ → ℕ → Verdict) (price : ℕ) (list : List Candidate) (known : List Outcome) → 0 < price → All IsCandidate list → All (IsOn Yields) known → (k : ℕ) → IsOn Yields (at (finals-of verdicts price list known) k)
-finals-on verdicts price [] known some all on k = tt
-finals-on verdicts price (candidate ∷ list) [] some all on k = tt
-finals-on verdicts price (candidate ∷ list) (outcome ∷ known) some all on zero =
-    for-on verdicts price (to_come_of candidate.shape) outcome (may_be candidate.shape (All-head IsCandidate candidate list all)) some (All-head (IsOn Yields) outcome known on)
-finals-on verdicts price (candidate ∷ list) (outcome ∷ known) some all on (suc k) =
-    finals-on verdicts price list known some (All-tail IsCandidate candidate list all) (All-tail (IsOn Yields) outcome known on) k
+for-of : (verdicts : PaymentSeries → ℕ → ℕ → Verdict) (price : ℕ) (to_come : ToCome) (known : Option Outcome) → MayBeSearched to_come → 0 < price → IsKnownYield known → IsOf Yield (final-for verdicts price to_come known)
+for-of verdicts price (many series) known more some of = final-of_yield verdicts price series more some
+for-of verdicts price (one least payment) known more some of = known-of known of
+
+finals-of_yield : (verdicts : PaymentSeries → ℕ → ℕ → Verdict) (price : ℕ) (list : List Candidate) (known : List (Option Outcome)) → 0 < price → All IsCandidate list → All IsKnownYield known → (k : ℕ) → IsOf Yield (at (finals-of verdicts price list known) k)
+finals-of_yield verdicts price [] known some all of k = tt
+finals-of_yield verdicts price (candidate ∷ list) [] some all of k = tt
+finals-of_yield verdicts price (candidate ∷ list) (it ∷ known) some all of zero =
+    for-of verdicts price (to_come_of candidate.shape) it (may_be candidate.shape (All-head IsCandidate candidate list all)) some (All-head IsKnownYield it known of)
+finals-of_yield verdicts price (candidate ∷ list) (it ∷ known) some all of (suc k) =
+    finals-of_yield verdicts price list known some (All-tail IsCandidate candidate list all) (All-tail IsKnownYield it known of) k
 
 -- each search comes to the outcome of its candidate
-started-held : (verdicts : PaymentSeries → ℕ → ℕ → Verdict) (price : ℕ) (finals : List Outcome) (place : ℕ) (series : PaymentSeries) → 2 ≤ series.n → 0 < price → place < length finals → at finals place ≡ final verdicts price series → IsHeld verdicts finals 0 (record { place = place; bracket = start_of series price })
+started-running : (verdicts : PaymentSeries → ℕ → ℕ → Verdict) (price : ℕ) (finals : List Outcome) (c : ℕ) (series : PaymentSeries) → 2 ≤ series.n → 0 < price → c < length finals → at finals c ≡ final verdicts price series → IsRunning verdicts finals 0 (record { candidate = c; bracket = start_of series price })
 unfolding final_of
-started-held verdicts price finals place series more some inside is = record {
+started-running verdicts price finals c series more some inside is = record {
   is = start-is series price more some;
   pending = refl;
   halvings = refl;
@@ -97,75 +103,79 @@ started-held verdicts price finals place series more some inside is = record {
   same = sym is;
 }
 
-held-for : (verdicts : PaymentSeries → ℕ → ℕ → Verdict) (price : ℕ) (finals : List Outcome) (place : ℕ) (to_come : ToCome) (known : Outcome) (rest : List Held) → MayBeSearched to_come → 0 < price → place < length finals → at finals place ≡ final-for verdicts price to_come known → All (IsHeld verdicts finals 0) rest → All (IsHeld verdicts finals 0) (held_for price place to_come rest)
-held-for verdicts price finals place (many series) known rest more some inside is all =
-    All-cons (IsHeld verdicts finals 0) (record { place = place; bracket = start_of series price }) rest (started-held verdicts price finals place series more some inside is) all
-held-for verdicts price finals place (one least payment) known rest more some inside is all = all
+running-for : (verdicts : PaymentSeries → ℕ → ℕ → Verdict) (price : ℕ) (finals : List Outcome) (c : ℕ) (to_come : ToCome) (known : Option Outcome) (rest : List OpenSearch) → MayBeSearched to_come → 0 < price → c < length finals → at finals c ≡ final-for verdicts price to_come known → All (IsRunning verdicts finals 0) rest → All (IsRunning verdicts finals 0) (searches_for price c to_come rest)
+running-for verdicts price finals c (many series) known rest more some inside is all =
+    All-cons (IsRunning verdicts finals 0) (record { candidate = c; bracket = start_of series price }) rest (started-running verdicts price finals c series more some inside is) all
+running-for verdicts price finals c (one least payment) known rest more some inside is all = all
 
-next-place : (finals rest : List Outcome) (place : ℕ) (first : Outcome) → ((j : ℕ) → at finals (place + j) ≡ at (first ∷ rest) j) → (j : ℕ) → at finals (place + 1 + j) ≡ at rest j
-next-place finals rest place first same j = let next : place + 1 + j ≡ place + suc j = omega arith in ap (at finals) next ∙ same (suc j)
+next-candidate : (finals rest : List Outcome) (c : ℕ) (first : Outcome) → ((j : ℕ) → at finals (c + j) ≡ at (first ∷ rest) j) → (j : ℕ) → at finals (c + 1 + j) ≡ at rest j
+next-candidate finals rest c first same j = let next : c + 1 + j ≡ c + suc j = omega arith in ap (at finals) next ∙ same (suc j)
 
-held-from : (verdicts : PaymentSeries → ℕ → ℕ → Verdict) (price : ℕ) (finals : List Outcome) (place : ℕ) (list : List Candidate) (known : List Outcome) → 0 < price → All IsCandidate list → AllZip (IsKnownFirst price) list known → place + length list ≤ length finals
-    → ((j : ℕ) → at finals (place + j) ≡ at (finals-of verdicts price list known) j) → All (IsHeld verdicts finals 0) (held_from price place list)
-held-from verdicts price finals place [] known some all zip room same = All-nil (IsHeld verdicts finals 0)
-held-from verdicts price finals place (candidate ∷ list) [] some all zip room same = absurd zip
-held-from verdicts price finals place (candidate ∷ list) (outcome ∷ known) some all zip room same =
-    let here : place + 0 ≡ place = omega arith in
-    held-for verdicts price finals place (to_come_of candidate.shape) outcome (held_from price (place + 1) list)
+running-from : (verdicts : PaymentSeries → ℕ → ℕ → Verdict) (price : ℕ) (finals : List Outcome) (c : ℕ) (list : List Candidate) (known : List (Option Outcome)) → 0 < price → All IsCandidate list → AllZip (IsKnownFirst price) list known → c + length list ≤ length finals
+    → ((j : ℕ) → at finals (c + j) ≡ at (finals-of verdicts price list known) j) → All (IsRunning verdicts finals 0) (searches_from price c list)
+running-from verdicts price finals c [] known some all zip room same = All-nil (IsRunning verdicts finals 0)
+running-from verdicts price finals c (candidate ∷ list) [] some all zip room same = absurd zip
+running-from verdicts price finals c (candidate ∷ list) (it ∷ known) some all zip room same =
+    let here : c + 0 ≡ c = omega arith in
+    running-for verdicts price finals c (to_come_of candidate.shape) it (searches_from price (c + 1) list)
     (may_be candidate.shape (All-head IsCandidate candidate list all)) some (omega arith) (sym (ap (at finals) here) ∙ same 0)
-    (held-from verdicts price finals (place + 1) list known some (All-tail IsCandidate candidate list all) zip.1 (omega arith)
-    (next-place finals (finals-of verdicts price list known) place (final-for verdicts price (to_come_of candidate.shape) outcome) same))
+    (running-from verdicts price finals (c + 1) list known some (All-tail IsCandidate candidate list all) zip.1 (omega arith)
+    (next-candidate finals (finals-of verdicts price list known) c (final-for verdicts price (to_come_of candidate.shape) it) same))
 
-few-for : (price place : ℕ) (to_come : ToCome) (rest : List Held) (n : ℕ) → length rest ≤ n → length (held_for price place to_come rest) ≤ suc n
-few-for price place (many series) rest n few = omega (arith, few)
-few-for price place (one least payment) rest n few = omega (arith, few)
+few-for : (price c : ℕ) (to_come : ToCome) (rest : List OpenSearch) (n : ℕ) → length rest ≤ n → length (searches_for price c to_come rest) ≤ suc n
+few-for price c (many series) rest n few = omega (arith, few)
+few-for price c (one least payment) rest n few = omega (arith, few)
 
-few-from : (price place : ℕ) (list : List Candidate) → length (held_from price place list) ≤ length list
-few-from price place [] = omega arith
-few-from price place (candidate ∷ list) = few-for price place (to_come_of candidate.shape) (held_from price (place + 1) list) (length list) (few-from price (place + 1) list)
+few-from : (price c : ℕ) (list : List Candidate) → length (searches_from price c list) ≤ length list
+few-from price c [] = omega arith
+few-from price c (candidate ∷ list) = few-for price c (to_come_of candidate.shape) (searches_from price (c + 1) list) (length list) (few-from price (c + 1) list)
 
 -- each outcome is known, or searched
-abbrev IsFound : (finals known : List Outcome) (held : List Held) (place j : ℕ) → Type 0
-IsFound finals known held place j = (at known j ≡ at finals j) ⊎ ((at known j ≡ Above) × HasPlace held (place + j))
+abbrev IsFound : (finals : List Outcome) (known : List (Option Outcome)) (searches : List OpenSearch) (c j : ℕ) → Type 0
+IsFound finals known searches c j = (known_at known j ≡ Some (at finals j)) ⊎ ((known_at known j ≡ None) × IsSearchedFor searches (c + j))
 
-found-here : (verdicts : PaymentSeries → ℕ → ℕ → Verdict) (price place : ℕ) (to_come : ToCome) (known : Outcome) (rest : List Held) → IsOutcomeFor (λ series. Above) price to_come known → (known ≡ final-for verdicts price to_come known) ⊎ ((known ≡ Above) × HasPlace (held_for price place to_come rest) (place + 0))
-found-here verdicts price place (many series) known rest is = inr (is, inl (omega arith))
-found-here verdicts price place (one least payment) known rest is = inl refl
+found-here : (verdicts : PaymentSeries → ℕ → ℕ → Verdict) (price c : ℕ) (to_come : ToCome) (known : Option Outcome) (rest : List OpenSearch) → IsKnownFor price to_come known → (known ≡ Some (final-for verdicts price to_come known)) ⊎ ((known ≡ None) × IsSearchedFor (searches_for price c to_come rest) (c + 0))
+found-here verdicts price c (many series) known rest is = inr (is, inl (omega arith))
+found-here verdicts price c (one least payment) known rest is = inl (is.2 ∙ ap (λ it. Some (unwrap_or it Above)) (sym is.2))
 
-found-later : (price place : ℕ) (to_come : ToCome) (rest : List Held) (k : ℕ) → HasPlace rest k → HasPlace (held_for price place to_come rest) k
-found-later price place (many series) rest k has = inr has
-found-later price place (one least payment) rest k has = has
+found-later : (price c : ℕ) (to_come : ToCome) (rest : List OpenSearch) (k : ℕ) → IsSearchedFor rest k → IsSearchedFor (searches_for price c to_come rest) k
+found-later price c (many series) rest k has = inr has
+found-later price c (one least payment) rest k has = has
 
-found : (verdicts : PaymentSeries → ℕ → ℕ → Verdict) (price place : ℕ) (list : List Candidate) (known : List Outcome) → AllZip (IsKnownFirst price) list known → (j : ℕ) → IsFound (finals-of verdicts price list known) known (held_from price place list) place j
-found verdicts price place [] [] zip j = inl refl
-found verdicts price place [] (outcome ∷ known) zip j = absurd zip
-found verdicts price place (candidate ∷ list) [] zip j = absurd zip
-found verdicts price place (candidate ∷ list) (outcome ∷ known) zip zero = found-here verdicts price place (to_come_of candidate.shape) outcome (held_from price (place + 1) list) zip.0
-found verdicts price place (candidate ∷ list) (outcome ∷ known) zip (suc j) =
+found : (verdicts : PaymentSeries → ℕ → ℕ → Verdict) (price c : ℕ) (list : List Candidate) (known : List (Option Outcome)) → AllZip (IsKnownFirst price) list known → (j : ℕ) → IsFound (finals-of verdicts price list known) known (searches_from price c list) c j
+found verdicts price c [] [] zip j = inl refl
+found verdicts price c [] (it ∷ known) zip j = absurd zip
+found verdicts price c (candidate ∷ list) [] zip j = absurd zip
+found verdicts price c (candidate ∷ list) (it ∷ known) zip zero = found-here verdicts price c (to_come_of candidate.shape) it (searches_from price (c + 1) list) zip.0
+found verdicts price c (candidate ∷ list) (it ∷ known) zip (suc j) =
     ⊎_elim
-    (λ (right : at known j ≡ at (finals-of verdicts price list known) j). inl right)
-    (λ (left : (at known j ≡ Above) × HasPlace (held_from price (place + 1) list) (place + 1 + j)).
-    let next : place + 1 + j ≡ place + suc j = omega arith in
-    inr (left.0, found-later price place (to_come_of candidate.shape) (held_from price (place + 1) list) (place + suc j) (subst (HasPlace (held_from price (place + 1) list)) next left.1)))
-    (found verdicts price (place + 1) list known zip.1 j)
+    (λ (right : known_at known j ≡ Some (at (finals-of verdicts price list known) j)). inl right)
+    (λ (left : (known_at known j ≡ None) × IsSearchedFor (searches_from price (c + 1) list) (c + 1 + j)).
+    let next : c + 1 + j ≡ c + suc j = omega arith in
+    inr (left.0, found-later price c (to_come_of candidate.shape) (searches_from price (c + 1) list) (c + suc j) (subst (IsSearchedFor (searches_from price (c + 1) list)) next left.1)))
+    (found verdicts price (c + 1) list known zip.1 j)
 
 -- the ceiling of the outcomes that are known
-printed-ceiling : (finals : List Outcome) (k : ℕ) (known : Outcome) → ((j : ℕ) → IsOn Yields (at finals j)) → (at finals k ≡ known) ⊎ (known ≡ Above) → rank 85000 (at finals k) ≤ missed_first known
-printed-ceiling finals k (Print place) on from = ⊎_elim
-    (λ (right : at finals k ≡ Print place). omega (arith, ap (rank 85000) right))
-    (λ (never : Print place ≡ Above). cc)
-    from
-printed-ceiling finals k (Unsure place) on from = rank-most (at finals k) (on k)
-printed-ceiling finals k Below on from = rank-most (at finals k) (on k)
-printed-ceiling finals k Above on from = rank-most (at finals k) (on k)
-printed-ceiling finals k NoTime on from = rank-most (at finals k) (on k)
+printed-ceiling : (finals : List Outcome) (k : ℕ) (known : Option Outcome) → (known ≡ Some (at finals k)) ⊎ (known ≡ None) → IsCeiling finals (missed_first known)
+printed-ceiling finals k None from = tt
+printed-ceiling finals k (Some (Print t)) from = (
+  k,
+  ⊎_elim
+      (λ (right : Some (Print t) ≡ Some (at finals k)). let same : Print t ≡ at finals k = cc in omega (arith, ints, ap rank_of same))
+      (λ (never : Some (Print t) ≡ None). cc)
+      from,
+)
+printed-ceiling finals k (Some (Unsure s)) from = tt
+printed-ceiling finals k (Some Below) from = tt
+printed-ceiling finals k (Some Above) from = tt
+printed-ceiling finals k (Some NoTime) from = tt
 
-ceiling-from : (finals : List Outcome) (place ceiling : ℕ) (known : List Outcome) → ((j : ℕ) → IsOn Yields (at finals j)) → ((j : ℕ) → (at finals (place + j) ≡ at known j) ⊎ (at known j ≡ Above)) → IsCeiling finals ceiling → IsCeiling finals (ceiling_first ceiling known)
-ceiling-from finals place ceiling [] on from is = is
-ceiling-from finals place ceiling (outcome ∷ known) on from is =
-    ceiling-from finals (place + 1) (min ceiling (missed_first outcome)) known on
-    (λ j. let next : place + 1 + j ≡ place + suc j = omega arith in subst (λ n. (at finals n ≡ at known j) ⊎ (at known j ≡ Above)) (sym next) (from (suc j)))
-    (lower-ceiling finals ceiling (missed_first outcome) (place + 0) (printed-ceiling finals (place + 0) outcome on (from 0)) is)
+ceiling-from : (finals : List Outcome) (c : ℕ) (ceiling : Option ℤ) (known : List (Option Outcome)) → ((j : ℕ) → (known_at known j ≡ Some (at finals (c + j))) ⊎ (known_at known j ≡ None)) → IsCeiling finals ceiling → IsCeiling finals (ceiling_first ceiling known)
+ceiling-from finals c ceiling [] from is = is
+ceiling-from finals c ceiling (it ∷ known) from is =
+    ceiling-from finals (c + 1) (lower_of ceiling (missed_first it)) known
+    (λ j. let next : c + 1 + j ≡ c + suc j = omega arith in subst (λ n. (known_at known j ≡ Some (at finals n)) ⊎ (known_at known j ≡ None)) (sym next) (from (suc j)))
+    (lower-ceiling finals ceiling (missed_first it) is (printed-ceiling finals (c + 0) it (from 0)))
 
 -- so they are refined no times
 pub record IsFinal (verdicts : PaymentSeries → ℕ → ℕ → Verdict) (price : ℕ) (list : List Candidate) (r : ℕ) (search : Search) : Type 0 where
@@ -179,28 +189,28 @@ started-final verdicts price list search some all few is =
     let finals = finals-of verdicts price list known in
     let lengths = length-finals verdicts price list known is.known in
     let zero_more : (j : ℕ) → at finals (0 + j) ≡ at finals j = λ j. let same : 0 + j ≡ j = omega arith in ap (at finals) same in
-    let on = finals-on verdicts price list known some all is.range in
-    let start : (j : ℕ) → IsFound finals known (held_from price 0 list) 0 j = found verdicts price 0 list known is.known in
+    let of = finals-of_yield verdicts price list known some all is.range in
+    let start : (j : ℕ) → IsFound finals known (searches_from price 0 list) 0 j = found verdicts price 0 list known is.known in
     record {
       finals = finals;
       outcomes = finals-are verdicts price list known is.known;
       refined = record {
         lengths = lengths.0 ∙ sym lengths.1;
-        on = on;
+        of = of;
         ceiling = subst (IsCeiling finals) (sym is.ceiling)
-            (ceiling-from finals 0 no_ceiling known on
+            (ceiling-from finals 0 None known
             (λ j. ⊎_elim
-            (λ (right : at known j ≡ at finals j). inl (zero_more j ∙ sym right))
-            (λ (left : (at known j ≡ Above) × HasPlace (held_from price 0 list) (0 + j)). inr left.0)
+            (λ (right : known_at known j ≡ Some (at finals j)). inl (right ∙ ap Some (sym (zero_more j))))
+            (λ (left : (known_at known j ≡ None) × IsSearchedFor (searches_from price 0 list) (0 + j)). inr left.0)
             (start j))
-            (0, rank-most (at finals 0) (on 0)));
-        each = subst (All (IsHeld verdicts finals 0)) (sym is.held) (held-from verdicts price finals 0 list known some all is.known (omega (arith, lengths.1)) zero_more);
-        few = let count = few-from price 0 list in omega (arith, count, few, ap (λ (held : List Held). length held) is.held);
+            tt);
+        each = subst (All (IsRunning verdicts finals 0)) (sym is.searches) (running-from verdicts price finals 0 list known some all is.known (omega (arith, lengths.1)) zero_more);
+        few = let count = few-from price 0 list in omega (arith, count, few, ap (λ (searches : List OpenSearch). length searches) is.searches);
         covered = λ k. ⊎_elim
-            (λ (right : at known k ≡ at finals k). inl right)
-            (λ (left : (at known k ≡ Above) × HasPlace (held_from price 0 list) (0 + k)).
+            (λ (right : known_at known k ≡ Some (at finals k)). inl right)
+            (λ (left : (known_at known k ≡ None) × IsSearchedFor (searches_from price 0 list) (0 + k)).
             let same : 0 + k ≡ k = omega arith in
-            inr (left.0, inr (subst (λ held. HasPlace held k) (sym is.held) (subst (HasPlace (held_from price 0 list)) same left.1))))
+            inr (left.0, inr (subst (λ searches. IsSearchedFor searches k) (sym is.searches) (subst (IsSearchedFor (searches_from price 0 list)) same left.1))))
             (start k);
       };
     }
@@ -214,13 +224,34 @@ next-final verdicts price list r search next few is before = record {
 }
 
 -- and when nothing is left to ask
-pub searched-out : (verdicts : PaymentSeries → ℕ → ℕ → Verdict) (price : ℕ) (list : List Candidate) (r : ℕ) (search : Search) → is_over search ≡ true → IsFinal verdicts price list r search → IsSearchedOut verdicts price list search
+pub searched-out : (verdicts : PaymentSeries → ℕ → ℕ → Verdict) (price : ℕ) (list : List Candidate) (r : ℕ) (search : Search) → is_over search ≡ true → IsFinal verdicts price list r search → AreSearchedOut verdicts price list (outcomes_of search.known.items)
 searched-out verdicts price list r search over is =
-    let none = over-none search.held.items over in
+    let none = over-none search.searches.items over in
     record {
       outcomes = is.finals;
       each = is.outcomes;
       ranked = λ lowest ranked. ranked-of_all verdicts is.finals r search lowest is.refined none ranked;
-      range = λ k d inside. subst (IsOn Yields) (get_or_default is.finals k Above d inside) (is.refined.on k);
-      known = known-on verdicts is.finals r search is.refined;
+      range = λ k d inside. subst (IsOf Yield) (get_or_default is.finals k Above d inside) (is.refined.of k);
+      found_range = told-of verdicts is.finals r search is.refined;
     }
+
+-- ---- the count of the rounds
+rounds-by : (verdicts : PaymentSeries → ℕ → ℕ → Verdict) (most : ℕ) (search : Search) → rounds (suc most) verdicts search ≡ (if is_over search then 0 else rounds most verdicts (refined verdicts search) + 1)
+unfolding rounds
+rounds-by verdicts most search = refl
+
+rounds-none : (verdicts : PaymentSeries → ℕ → ℕ → Verdict) (search : Search) → rounds zero verdicts search ≡ 0
+unfolding rounds
+rounds-none verdicts search = refl
+
+pub rounds-over : (verdicts : PaymentSeries → ℕ → ℕ → Verdict) (most : ℕ) (search : Search) → is_over search ≡ true → rounds most verdicts search ≡ 0
+rounds-over verdicts zero search over = rounds-none verdicts search
+rounds-over verdicts (suc most) search over = rounds-by verdicts most search ∙ ap (λ test. if test then 0 else rounds most verdicts (refined verdicts search) + 1) over
+
+pub rounds-next : (verdicts : PaymentSeries → ℕ → ℕ → Verdict) (r : ℕ) (search next : Search) → r < 19 → is_over search ≡ false → next ≡ refined verdicts search → r + rounds (19 - r) verdicts search ≡ r + 1 + rounds (19 - (r + 1)) verdicts next
+rounds-next verdicts r search next few pending is =
+    let left : 19 - r ≡ suc (19 - (r + 1)) = omega arith in
+    let one : rounds (19 - r) verdicts search ≡ rounds (19 - (r + 1)) verdicts (refined verdicts search) + 1 =
+    ap (λ most. rounds most verdicts search) left ∙ rounds-by verdicts (19 - (r + 1)) search ∙ ap (λ test. if test then 0 else rounds (19 - (r + 1)) verdicts (refined verdicts search) + 1) pending in
+    let same : rounds (19 - (r + 1)) verdicts next ≡ rounds (19 - (r + 1)) verdicts (refined verdicts search) = ap (λ it. rounds (19 - (r + 1)) verdicts it) is in
+    omega (arith, one, same)

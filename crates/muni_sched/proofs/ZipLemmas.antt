@@ -1,6 +1,8 @@
 -- Lists that stand for lists, item by item.
-use Rattle.std.proofs.Common.{◌≡◌, List, [], ◌∷◌, All, refl}
+use Rattle.std.proofs.Common.{◌≡◌, ℕ, ◌+◌, ◌<◌, List, [], ◌∷◌, ◌++◌, All, length, take, get_or, refl, ap, sym, subst, ◌∙◌}
 use Rattle.std.specs.List.{AllZip}
+use Rattle.std.proofs.lemmas.List.{take_more}
+use Rattle.std.proofs.lemmas.Slice.Zip.{AllZip-long}
 use Rattle.std.proofs.lemmas.List.Elements.{All-head, All-tail}
 use Rattle.muni_sched.specs.AnswerLaws.{HasOne}
 
@@ -34,3 +36,19 @@ zip-has_one Good Is (x ∷ xs) each all =
     let first : HasOne (Is x) = each x (All-head Good x xs all) in
     let rest : HasOne (AllZip Is xs) = zip-has_one Good Is xs each (All-tail Good x xs all) in
     record { value = first.value ∷ rest.value; such = (first.such, rest.such); only = λ ys is. more-only Is x xs ys first rest is }
+
+-- one more item of two lists that agree place by place
+zip-more : {X Y : Type 0} (R : X → Y → Type 0) (xs : List X) (ys : List Y) (x : X) (y : Y) → AllZip R xs ys → R x y → AllZip R (xs ++ x ∷ []) (ys ++ y ∷ [])
+zip-more R [] [] x y all one = (one, tt)
+zip-more R [] (v ∷ ys) x y all one = absurd all
+zip-more R (u ∷ xs) [] x y all one = absurd all
+zip-more R (u ∷ xs) (v ∷ ys) x y all one = (all.0, zip-more R xs ys x y all.1 one)
+
+pub zip-next : {X Y : Type 0} (R : X → Y → Type 0) (xs : List X) (i : ℕ) (x : X) (ys new : List Y) (y : Y) → i < length xs → x ≡ get_or xs i x → AllZip R (take i xs) ys → R x y → new ≡ ys ++ y ∷ [] → AllZip R (take (i + 1) xs) new
+zip-next R xs i x ys new y inside is all one pushed =
+    let next : take (i + 1) xs ≡ take i xs ++ x ∷ [] = take_more xs i x inside ∙ ap (λ z. take i xs ++ z ∷ []) (sym is) in
+    rw (next, pushed) (zip-more R (take i xs) ys x y all one)
+
+-- what holds of the length of one holds of that of the other
+pub zip-long : {X Y : Type 0} (Is : X → Y → Type 0) (xs : List X) (ys : List Y) (Long : ℕ → Type 0) → AllZip Is xs ys → Long (length ys) → Long (length xs)
+zip-long Is xs ys Long all long = subst Long (AllZip-long Is xs ys all) long

@@ -1,6 +1,6 @@
--- Redemption candidates: what is disclosed of each redemption, and how it is priced.
-use Rattle.std.specs.Prelude.{◌≡◌, ℕ, ◌<◌, ◌==◌, if◌then◌else◌, List, [], ◌∷◌, ◌++◌, map, filter, Some}
-use Rattle.muni_rule.specs.Civil.{Civil, order_of, is_before}
+-- Redemption candidates: the date, the price and the label of each redemption, and how it is
+-- priced.
+use Rattle.std.specs.Prelude.{◌≡◌, ℕ, ◌<◌, ◌==◌, if◌then◌else◌, List, [], ◌∷◌, ◌++◌, map, All, Some}
 use Rattle.muni_rule.specs.Redemptions.{Redemption, par_price, calls_after, redemptions_after}
 use Rattle.muni_days.specs.Day.{civil, place_of}
 use Rattle.muni_days.specs.declared.day.Day.{Day}
@@ -11,66 +11,36 @@ use Rattle.muni_terms.specs.declared.row.IssueRow.{IssueRow}
 use Rattle.muni_sched.specs.declared.candidate.Candidate.{Candidate}
 use Rattle.muni_sched.specs.Shape.{shape_at, IsPriceable}
 
--- the date of a redemption, its price and its label, which are disclosed with a figure
-pub record Disclosure : Type 0 where
-  pub date : Civil
-  pub price : ℕ
-  pub label : Label
-
--- the label of a redemption of an issue with this maturity, on which no call is; a call at exactly
--- 100 is a par option
-abbrev pub label_of : Civil → Redemption → Label
-label_of maturity redemption =
-    if order_of redemption.date == order_of maturity then label.Maturity
-    else (if redemption.price == par_price then label.ParOption else label.Call)
-
--- what is disclosed of a redemption of an issue with this maturity
-abbrev pub disclosure : Civil → Redemption → Disclosure
-disclosure maturity redemption = record {
-  date = redemption.date;
-  price = redemption.price;
-  label = label_of maturity redemption;
-}
-
--- a day and a price as a redemption
-abbrev pub redemption : Day → ℕ → Redemption
-redemption date price = record { date = civil date; price = price }
-
--- a call as a redemption
+-- a call and a candidate as redemptions
 abbrev pub call_redemption : Call → Redemption
-call_redemption call = redemption call.date call.price
+call_redemption call = record { date = civil call.date; price = call.price }
 
--- what is disclosed of the calls after a settlement, of an issue with this maturity
-abbrev pub call_disclosures : Civil → Day → List Call → List Disclosure
-call_disclosures maturity settlement calls =
-    map (disclosure maturity) (calls_after (civil settlement) (map call_redemption calls))
+abbrev pub redemption_of : Candidate → Redemption
+redemption_of candidate = record { date = civil candidate.date; price = candidate.price }
 
--- what is disclosed of all redemptions of an issue after a settlement
-abbrev pub disclosures_of : IssueRow → Day → List Disclosure
-disclosures_of row settlement =
-    map (disclosure (civil row.maturity)) (redemptions_after (civil settlement)
-    (map call_redemption row.calls.items) (civil row.maturity))
+abbrev pub label_of : Candidate → Label
+label_of candidate = candidate.label
 
--- the days of the calls after a settlement
-abbrev pub call_dates : Day → List Call → List Day
-call_dates settlement calls =
-    map (λ call. call.date) (filter (λ call. is_before (civil settlement) (civil call.date)) calls)
+-- the calls that are to come at a settlement
+abbrev pub calls_to_come : Day → List Call → List Redemption
+calls_to_come settlement calls = calls_after (civil settlement) (map call_redemption calls)
 
--- the days of all redemptions of an issue after a settlement: those of its calls, and then its maturity
-abbrev pub dates_of : IssueRow → Day → List Day
-dates_of row settlement = call_dates settlement row.calls.items ++ row.maturity ∷ []
+-- a call at exactly 100 is a par option
+abbrev pub label_at : ℕ → Label
+label_at price = if price == par_price then label.ParOption else label.Call
 
--- the day on which a candidate is redeemed
-abbrev pub redeemed_on : Candidate → Day
-redeemed_on candidate = candidate.date
+abbrev pub call_label : Redemption → Label
+call_label call = label_at call.price
 
--- what is disclosed of a candidate
-abbrev pub disclosed : Candidate → Disclosure
-disclosed candidate = record {
-  date = civil candidate.date;
-  price = candidate.price;
-  label = candidate.label;
-}
+-- the redemptions of an issue after a settlement, and their labels: those of the calls, and behind
+-- them that of the maturity
+abbrev pub redemptions_of : IssueRow → Day → List Redemption
+redemptions_of row settlement =
+    redemptions_after (civil settlement) (map call_redemption row.calls.items) (civil row.maturity)
+
+abbrev pub labels_of : IssueRow → Day → List Label
+labels_of row settlement =
+    map call_label (calls_to_come settlement row.calls.items) ++ label.Maturity ∷ []
 
 -- its shape is that of its redemption
 abbrev pub HasShape : IssueRow → Day → Candidate → Type 0
@@ -80,6 +50,13 @@ HasShape row settlement candidate =
 -- its numbers are in the ranges that the calculators take
 abbrev pub IsCandidate : Candidate → Type 0
 IsCandidate candidate = IsPriceable candidate.shape
+
+-- the redemption candidates of an issue at a settlement, in order of date
+pub record AreCandidates (row : IssueRow) (settlement : Day) (list : List Candidate) : Type 0 where
+  pub redemptions : map redemption_of list ≡ redemptions_of row settlement
+  pub labels : map label_of list ≡ labels_of row settlement
+  pub shapes : All (HasShape row settlement) list
+  pub ranges : All IsCandidate list
 
 -- one candidate is redeemed before another
 abbrev pub IsEarlier : Candidate → Candidate → Type 0

@@ -9,36 +9,34 @@ use Rattle.muni_sched.specs.Lowest.{outcome_at, IsLowest}
 use Rattle.muni_sched.specs.Sound.{AreSound, IsRight}
 
 -- the rule allows at most one answer
-abbrev pub AllowsOneAnswer : Type 0
-AllowsOneAnswer =
-    (least : ℕ) (outcomes : List Outcome) (one other : Lowest)
+abbrev pub AllowsOneLowest : Type 0
+AllowsOneLowest =
+    (least : ℤ) (outcomes : List Outcome) (one other : Lowest)
     → IsLowest least outcomes one → IsLowest least outcomes other → one ≡ other
 
--- The answer over sound outcomes is right. `is_doubtful` tells of a candidate and a figure whether it is
--- in doubt that the candidate reaches it.
+-- The answer over sound outcomes is right. `is_doubtful` tells of a candidate and a figure whether
+-- it is in doubt that the candidate reaches it.
 abbrev pub SoundIsRight : Type 0
 SoundIsRight =
-    (base least : ℕ) (is_doubtful : ℕ → ℤ → Bool) (exact : ℕ → ExactOutcome) (outcomes : List Outcome)
+    (least : ℤ) (is_doubtful : ℕ → ℤ → Bool) (exact : ℕ → ExactOutcome) (outcomes : List Outcome)
     (answer : Lowest)
-    → AreSound base least (λ c t. is_doubtful c t ≡ true) outcomes exact
-    → IsLowest least outcomes answer
-    → IsRight base (λ c t. is_doubtful c t ≡ true) exact answer
+    → AreSound least (λ c t. is_doubtful c t ≡ true) outcomes exact → IsLowest least outcomes answer
+    → IsRight (λ c t. is_doubtful c t ≡ true) exact answer
 
 -- of the answers that are not undecided, at most one is right
-abbrev pub OneIsRight : Type 0
-OneIsRight =
-    (base : ℕ) (exact : ℕ → ExactOutcome) (one other : Lowest)
-    → IsRight base (λ c t. ⊥) exact one → IsRight base (λ c t. ⊥) exact other → one ≡ other
+abbrev pub OneLowestIsRight : Type 0
+OneLowestIsRight =
+    (exact : ℕ → ExactOutcome) (one other : Lowest)
+    → IsRight (λ c t. ⊥) exact one → IsRight (λ c t. ⊥) exact other → one ≡ other
 
--- an answer that is undecided names a candidate that is unsure, at its place
+-- an answer that is undecided names a candidate that is unsure, at its figure
 abbrev pub UndecidedIsUnsure : Type 0
 UndecidedIsUnsure =
-    (least s c : ℕ) (outcomes : List Outcome)
+    (least s : ℤ) (c : ℕ) (outcomes : List Outcome)
     → IsLowest least outcomes (Undecided s c) → outcome_at outcomes c ≡ Unsure s
 
 -- where no candidate is in doubt at any figure, the answer over sound outcomes is not undecided
 abbrev pub NoDoubtIsDecided : Type 0
 NoDoubtIsDecided =
-    (base least : ℕ) (exact : ℕ → ExactOutcome) (outcomes : List Outcome) (s c : ℕ)
-    → AreSound base least (λ k t. ⊥) outcomes exact
-    → ¬ (IsLowest least outcomes (Undecided s c))
+    (least : ℤ) (exact : ℕ → ExactOutcome) (outcomes : List Outcome) (s : ℤ) (c : ℕ)
+    → AreSound least (λ k t. ⊥) outcomes exact → ¬ (IsLowest least outcomes (Undecided s c))

@@ -1,112 +1,139 @@
 -- One round of the search for the lowest yield, over lists.
--- The places of a bracket count from the least place that may be unsure.
-use Rattle.std.specs.Prelude.{◌≡◌, ℕ, ◌+◌, ◌<◌, ◌≤◌, List, [], ◌∷◌, Bool, false, not, ◌&&◌, ◌==◌, if◌then◌else◌, nat_le, min, map, length, All, slice_set}
+use Rattle.std.specs.Prelude.{◌≡◌, ℕ, zero, suc, ◌+◌, ◌<◌, ◌≤◌, List, [], ◌∷◌, Bool, false, not, ◌&&◌, ◌==◌, if◌then◌else◌, nat_le, map, length, All, slice_set, Option, Some, None, unwrap_or, IfSome, ℤ, pos, ◌+ℤ◌, int_le}
+use Rattle.std.specs.Int.{int_min}
 use Rattle.std.specs.List.{filter, AllZip}
 use Rattle.muni_rule.specs.Payments.{PaymentSeries}
 use Rattle.muni_rule.specs.declared.verdict.Verdict.{Verdict}
 use Rattle.muni_yield.specs.Bracket.{YieldBracket, IsBracket, start_of, is_settled, halved}
+use Rattle.muni_yield.specs.Places.{yield_at}
 use Rattle.muni_yield.specs.Settled.{outcome_of}
 use Rattle.muni_sched.specs.declared.candidate.Candidate.{Candidate}
+use Rattle.muni_sched.specs.declared.figure.FigureKind.TheVariants.{Yield}
 use Rattle.muni_sched.specs.declared.lowest.Outcome.{Outcome}
 use Rattle.muni_sched.specs.declared.lowest.Outcome.TheVariants.{Print, Unsure, Below, Above, NoTime}
-use Rattle.muni_sched.specs.declared.scale.Scale.TheVariants.{Yields}
-use Rattle.muni_sched.specs.declared.search.Held.{Held}
+use Rattle.muni_sched.specs.declared.search.OpenSearch.{OpenSearch}
 use Rattle.muni_sched.specs.declared.search.Search.{Search}
-use Rattle.muni_sched.specs.Scale.{least_unsure, IsOn}
+use Rattle.muni_sched.specs.Figures.{IsOf}
 use Rattle.muni_sched.specs.ToCome.{ToCome, many, one, to_come_of}
-use Rattle.muni_sched.specs.YieldOutcome.{placed, IsKnownFirst}
+use Rattle.muni_sched.specs.YieldOutcome.{many_yield, IsKnownFirst}
 
--- a bracket as every number of questions leaves it, and one that is not settled
-abbrev pub IsHeldBracket : Held → Type 0
-IsHeldBracket held = IsBracket held.bracket
+-- a search as every number of questions leaves it, and one that is not settled
+abbrev pub IsSearch : OpenSearch → Type 0
+IsSearch search = IsBracket search.bracket
 
-abbrev pub IsOpen : Held → Type 0
-IsOpen held = IsHeldBracket held × (is_settled held.bracket ≡ false)
+abbrev pub IsOpen : OpenSearch → Type 0
+IsOpen search = IsSearch search × (is_settled search.bracket ≡ false)
 
--- one question of a bracket
-abbrev pub asked : (PaymentSeries → ℕ → ℕ → Verdict) → Held → Held
-asked verdicts held = record { place = held.place; bracket = halved verdicts held.bracket }
+-- one question of a search
+abbrev pub asked : (PaymentSeries → ℕ → ℕ → Verdict) → OpenSearch → OpenSearch
+asked verdicts search = record {
+  candidate = search.candidate;
+  bracket = halved verdicts search.bracket;
+}
 
--- the outcome of a settled bracket is written at its candidate's place
-abbrev pub noted : Held → List Outcome → List Outcome
-noted held known =
-    if is_settled held.bracket then slice_set known held.place (placed (outcome_of held.bracket))
+-- the outcome of a settled search is known of its candidate
+abbrev pub noted : OpenSearch → List (Option Outcome) → List (Option Outcome)
+noted search known =
+    if is_settled search.bracket
+    then slice_set known search.candidate (Some (many_yield (outcome_of search.bracket)))
     else known
 
 -- and so for each
-abbrev pub recorded : List Held → List Outcome → List Outcome
+abbrev pub recorded : List OpenSearch → List (Option Outcome) → List (Option Outcome)
 recorded [] known = known
-recorded (held ∷ rest) known = recorded rest (noted held known)
+recorded (search ∷ rest) known = recorded rest (noted search known)
 
--- a place past all figures
-abbrev pub no_ceiling : ℕ
-no_ceiling = 4_294_967_295
+-- the figure that a candidate is known not to reach, if there is one; past the range none was asked
+abbrev pub missed : OpenSearch → Option ℤ
+missed search =
+    if nat_le search.bracket.high 105_002 then Some (yield_at search.bracket.high) else None
 
--- the place that a candidate is known not to reach, if there is one
-abbrev pub missed : Held → ℕ
-missed held =
-    if nat_le held.bracket.high 105_002 then held.bracket.high + least_unsure Yields else no_ceiling
+abbrev pub missed_first : Option Outcome → Option ℤ
+missed_first (Some (Print t)) = Some (t +ℤ pos 1)
+missed_first (Some (Unsure s)) = None
+missed_first (Some Below) = None
+missed_first (Some Above) = None
+missed_first (Some NoTime) = None
+missed_first None = None
 
-abbrev pub missed_first : Outcome → ℕ
-missed_first (Print place) = place + 1
-missed_first (Unsure place) = no_ceiling
-missed_first Below = no_ceiling
-missed_first Above = no_ceiling
-missed_first NoTime = no_ceiling
+-- the least of those figures is the ceiling
+abbrev pub lower_of : Option ℤ → Option ℤ → Option ℤ
+lower_of None other = other
+lower_of (Some t) None = Some t
+lower_of (Some t) (Some other) = Some (int_min t other)
 
--- the least of those places is the ceiling
-abbrev pub ceiling_after : ℕ → List Held → ℕ
+abbrev pub ceiling_after : Option ℤ → List OpenSearch → Option ℤ
 ceiling_after ceiling [] = ceiling
-ceiling_after ceiling (held ∷ rest) = ceiling_after (min ceiling (missed held)) rest
+ceiling_after ceiling (search ∷ rest) = ceiling_after (lower_of ceiling (missed search)) rest
 
-abbrev pub ceiling_first : ℕ → List Outcome → ℕ
+abbrev pub ceiling_first : Option ℤ → List (Option Outcome) → Option ℤ
 ceiling_first ceiling [] = ceiling
-ceiling_first ceiling (outcome ∷ rest) = ceiling_first (min ceiling (missed_first outcome)) rest
+ceiling_first ceiling (known ∷ rest) = ceiling_first (lower_of ceiling (missed_first known)) rest
 
--- the lower place was answered by yes, and is at the ceiling or above
-abbrev pub is_passed : ℕ → YieldBracket → Bool
-is_passed ceiling bracket = nat_le 1 bracket.low && nat_le ceiling (bracket.low + least_unsure Yields)
+-- a figure is at the ceiling or above, if there is one
+abbrev pub is_at_ceiling : Option ℤ → ℤ → Bool
+is_at_ceiling None t = false
+is_at_ceiling (Some ceiling) t = int_le ceiling t
+
+-- the lower yield was answered by yes, and is at the ceiling or above
+abbrev pub is_passed : Option ℤ → YieldBracket → Bool
+is_passed ceiling bracket = nat_le 1 bracket.low && is_at_ceiling ceiling (yield_at bracket.low)
 
 -- the outcome is not known yet, and may be the lowest
-abbrev pub is_needed : ℕ → Held → Bool
-is_needed ceiling held = not (is_settled held.bracket) && not (is_passed ceiling held.bracket)
+abbrev pub is_needed : Option ℤ → OpenSearch → Bool
+is_needed ceiling search = not (is_settled search.bracket) && not (is_passed ceiling search.bracket)
 
--- a search before its first question for each candidate of many payments
-abbrev pub held_for : ℕ → ℕ → ToCome → List Held → List Held
-held_for price place (many series) rest =
-    record { place = place; bracket = start_of series price } ∷ rest
-held_for price place (one least payment) rest = rest
+-- a search before its first question for each candidate of many payments, which are counted from c
+abbrev pub searches_for : ℕ → ℕ → ToCome → List OpenSearch → List OpenSearch
+searches_for price c (many series) rest =
+    record { candidate = c; bracket = start_of series price } ∷ rest
+searches_for price c (one least payment) rest = rest
 
-abbrev pub held_from : ℕ → ℕ → List Candidate → List Held
-held_from price place [] = []
-held_from price place (candidate ∷ rest) =
-    held_for price place (to_come_of candidate.shape) (held_from price (place + 1) rest)
+abbrev pub searches_from : ℕ → ℕ → List Candidate → List OpenSearch
+searches_from price c [] = []
+searches_from price c (candidate ∷ rest) =
+    searches_for price c (to_come_of candidate.shape) (searches_from price (c + 1) rest)
+
+-- an outcome that is known is one of a yield
+abbrev pub IsKnownYield : Option Outcome → Type 0
+IsKnownYield known = IfSome known (IsOf Yield)
 
 -- all that is known before the first round
 pub record IsStarted (price : ℕ) (list : List Candidate) (search : Search) : Type 0 where
   pub known : AllZip (IsKnownFirst price) list search.known.items
-  pub range : All (IsOn Yields) search.known.items
-  pub held : search.held.items ≡ held_from price 0 list
-  pub ceiling : search.ceiling ≡ ceiling_first no_ceiling search.known.items
+  pub range : All IsKnownYield search.known.items
+  pub searches : search.searches.items ≡ searches_from price 0 list
+  pub ceiling : search.ceiling ≡ ceiling_first None search.known.items
 
 -- what is known after one more
-abbrev pub refined_by : List Held → List Outcome → ℕ → Search
-refined_by held known ceiling = record {
-  known = record { items = recorded held known };
-  held = record { items = filter (is_needed (ceiling_after ceiling held)) held };
-  ceiling = ceiling_after ceiling held;
+abbrev pub refined_by : List OpenSearch → List (Option Outcome) → Option ℤ → Search
+refined_by searches known ceiling = record {
+  known = record { items = recorded searches known };
+  searches = record { items = filter (is_needed (ceiling_after ceiling searches)) searches };
+  ceiling = ceiling_after ceiling searches;
 }
 
 unfoldable pub refined : (PaymentSeries → ℕ → ℕ → Verdict) → Search → Search
 refined verdicts search =
-    refined_by (map (asked verdicts) search.held.items) search.known.items search.ceiling
+    refined_by (map (asked verdicts) search.searches.items) search.known.items search.ceiling
 
 -- nothing is left to ask
 abbrev pub is_over : Search → Bool
-is_over search = length search.held.items == 0
+is_over search = length search.searches.items == 0
 
--- each search that is held is open, and belongs to a candidate
+-- how many rounds there are, up to the one that leaves nothing to ask, and at most so many
+unfoldable pub rounds : ℕ → (PaymentSeries → ℕ → ℕ → Verdict) → Search → ℕ
+rounds zero verdicts search = 0
+rounds (suc most) verdicts search =
+    if is_over search then 0 else rounds most verdicts (refined verdicts search) + 1
+
+-- each open search belongs to a candidate
 pub record CanRefine (search : Search) : Type 0 where
-  pub each : All IsOpen search.held.items
-  pub places : All (λ (held : Held). held.place < length search.known.items) search.held.items
-  pub few : length search.held.items ≤ 41
+  pub each : All IsOpen search.searches.items
+  pub candidates : All (λ (it : OpenSearch). it.candidate < length search.known.items)
+      search.searches.items
+  pub few : length search.searches.items ≤ 41
+
+-- a candidate whose outcome is not known is above the figure that is the lowest
+abbrev pub outcomes_of : List (Option Outcome) → List Outcome
+outcomes_of known = map (λ outcome. unwrap_or outcome Above) known

@@ -1,6 +1,7 @@
 -- What is known of the yield of a candidate at a price.
-use Rattle.std.specs.Prelude.{◌≡◌, ℕ, ◌*◌, ⊤, ℤ, pos, negsuc, ◌+ℤ◌, ◌≤ℤ◌, unsigned_abs}
+use Rattle.std.specs.Prelude.{◌≡◌, ℕ, ◌*◌, ⊤, Option, Some, None, ℤ, pos, negsuc, ◌≤ℤ◌}
 use Rattle.muni_rule.specs.Payments.{PaymentSeries}
+use Rattle.muni_rule.specs.SinglePayment.{SinglePayment}
 use Rattle.muni_rule.specs.declared.verdict.Verdict.{Verdict}
 use Rattle.muni_simple.specs.Yields.{IsYieldAnswer}
 use Rattle.muni_simple.specs.declared.yields.SimpleYield.{SimpleYield}
@@ -11,51 +12,53 @@ use Rattle.muni_yield.specs.declared.outcome.Outcome.TheVariants as found
 use Rattle.muni_sched.specs.declared.candidate.Candidate.{Candidate}
 use Rattle.muni_sched.specs.declared.lowest.Outcome.{Outcome}
 use Rattle.muni_sched.specs.declared.lowest.Outcome.TheVariants.{Print, Unsure, Below, Above, NoTime}
-use Rattle.muni_sched.specs.declared.scale.Scale.TheVariants.{Yields}
-use Rattle.muni_sched.specs.Scale.{base}
 use Rattle.muni_sched.specs.ToCome.{ToCome, many, one, to_come_of}
 
--- the place of a yield
-abbrev pub place_of : ℤ → ℕ
-place_of t = unsigned_abs (t +ℤ pos (base Yields))
+-- the outcome of a search
+abbrev pub many_yield : search.Outcome → Outcome
+many_yield (found.Print t) = Print t
+many_yield (found.Unsure lower) = Unsure lower
+many_yield found.Below = Below
+many_yield found.Above = Above
 
--- an outcome of a search, by places
-abbrev pub placed : search.Outcome → Outcome
-placed (found.Print t) = Print (place_of t)
-placed (found.Unsure lower) = Unsure (place_of lower)
-placed found.Below = Below
-placed found.Above = Above
-
--- an answer for one payment to come, by places
-abbrev pub placed_simple : SimpleYield → Outcome
-placed_simple (simple.Print t) = Print (place_of t)
-placed_simple simple.Below = Below
-placed_simple simple.Above = Above
-placed_simple simple.NoTime = NoTime
-
--- where an outcome of a search is unsure, it is from -5.001 to 100.001 percent
+-- where it is unsure, it is from -5.001 to 100.001 percent
 abbrev pub IsSearched : search.Outcome → Type 0
 IsSearched (found.Unsure lower) = (negsuc 5_000 ≤ℤ lower) × (lower ≤ℤ pos 100_001)
 IsSearched (found.Print t) = ⊤
 IsSearched found.Below = ⊤
 IsSearched found.Above = ⊤
 
--- One payment to come has its exact outcome, and many have an outcome of their own.
-abbrev pub IsOutcomeFor : (PaymentSeries → Outcome) → ℕ → ToCome → Outcome → Type 0
-IsOutcomeFor of_many price (many series) outcome = outcome ≡ of_many series
-IsOutcomeFor of_many price (one least payment) outcome =
-    (answer : SimpleYield) × IsYieldAnswer least payment (pos (360_000 * price)) answer
-    × (outcome ≡ placed_simple answer)
+-- and an answer for one payment to come
+abbrev pub one_yield : SimpleYield → Outcome
+one_yield (simple.Print t) = Print t
+one_yield simple.Below = Below
+one_yield simple.Above = Above
+one_yield simple.NoTime = NoTime
 
--- that of a search by verdicts, when all questions were asked
+-- one payment to come has its exact outcome
+abbrev pub IsOneOutcome : ℕ → ℤ → SinglePayment → Outcome → Type 0
+IsOneOutcome price least payment outcome =
+    (answer : SimpleYield) × IsYieldAnswer least payment (pos (360_000 * price)) answer
+    × (outcome ≡ one_yield answer)
+
+-- many have that of a search by verdicts, when all questions were asked
 abbrev pub final : (PaymentSeries → ℕ → ℕ → Verdict) → ℕ → PaymentSeries → Outcome
-final verdicts price series = placed (final_of verdicts series price)
+final verdicts price series = many_yield (final_of verdicts series price)
+
+abbrev pub IsYieldOutcomeFor : (PaymentSeries → ℕ → ℕ → Verdict) → ℕ → ToCome → Outcome → Type 0
+IsYieldOutcomeFor verdicts price (many series) outcome = outcome ≡ final verdicts price series
+IsYieldOutcomeFor verdicts price (one least payment) outcome =
+    IsOneOutcome price least payment outcome
 
 abbrev pub IsYieldOutcome : (PaymentSeries → ℕ → ℕ → Verdict) → ℕ → Candidate → Outcome → Type 0
 IsYieldOutcome verdicts price candidate outcome =
-    IsOutcomeFor (final verdicts price) price (to_come_of candidate.shape) outcome
+    IsYieldOutcomeFor verdicts price (to_come_of candidate.shape) outcome
 
 -- before the first question nothing is known of many payments
-abbrev pub IsKnownFirst : ℕ → Candidate → Outcome → Type 0
-IsKnownFirst price candidate outcome =
-    IsOutcomeFor (λ series. Above) price (to_come_of candidate.shape) outcome
+abbrev pub IsKnownFor : ℕ → ToCome → Option Outcome → Type 0
+IsKnownFor price (many series) known = known ≡ None
+IsKnownFor price (one least payment) known =
+    (outcome : Outcome) × IsOneOutcome price least payment outcome × (known ≡ Some outcome)
+
+abbrev pub IsKnownFirst : ℕ → Candidate → Option Outcome → Type 0
+IsKnownFirst price candidate known = IsKnownFor price (to_come_of candidate.shape) known

@@ -16,9 +16,9 @@ pub enum Figure {
 /// The lowest figure over redemption candidates, or why there is none (MSRB Rule G-15(a)).
 #[derive(Clone, Copy, Debug, PartialEq, Eq)]
 pub enum LowAnswer {
-    /// The lowest printed figure. `place` is that of the earliest candidate that has it, counted
+    /// The lowest printed figure, and the earliest candidate that has it. Candidates are counted
     /// from 0 in order of date.
-    Low { figure: Figure, place: usize },
+    Low { figure: Figure, candidate: usize },
     /// The exact figure of the candidate with this date is too near the boundary to tell whether it
     /// reaches it, and the lowest figure depends on that.
     Undecided { date: Day, boundary: Boundary },

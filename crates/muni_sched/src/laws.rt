@@ -1,25 +1,28 @@
-//! Laws of the lowest yield and the lowest price.
+//! Laws of the candidates and of the lowest figure over them.
 
-ghost use Rattle.muni_sched.specs.AnswerLaws.{HasOneExactYield, HaveOneExactYields, HasOneExactPrice, HaveOneExactPrices, AllowsOneYield, AllowsOnePrice, OneYieldIsRight, OnePriceIsRight};
+ghost use Rattle.muni_sched.specs.AnswerLaws.{HasOneExactOutcome, HaveOneExactOutcomes, AllowsOneAnswer, OneAnswerIsRight};
+ghost use Rattle.muni_sched.specs.CandidateLaws.{AreOneList};
+
+/// A law of the rule: an issue has one list of redemption candidates at a settlement.
+pub fn the_candidates_are_one()
+    ensures { AreOneList }
+{}
 
 /// A law of the definitions: a candidate has one exact yield at a price, and one exact price at a
 /// yield, and so a list of candidates has one list of them.
 pub fn the_exact_outcome_is_one()
-    ensures candidate_yield { HasOneExactYield }
-    ensures yields { HaveOneExactYields }
-    ensures candidate_price { HasOneExactPrice }
-    ensures prices { HaveOneExactPrices }
+    ensures candidate { HasOneExactOutcome }
+    ensures list { HaveOneExactOutcomes }
 {}
 
-/// A law of the rule: for the same candidates and the same verdicts it allows one answer. So the
-/// answer does not depend on how many threads ask, nor on the order in which they do.
+/// A law of the rule: for the same candidates and the same ends of their worths it allows one
+/// answer. So the answer does not depend on how many threads ask, nor on the order in which they
+/// do.
 pub fn the_answer_is_one()
-    ensures yields { AllowsOneYield }
-    ensures prices { AllowsOnePrice }
+    ensures { AllowsOneAnswer }
 {}
 
 /// A law of the rule: of the answers that are not undecided, at most one is right.
 pub fn one_answer_is_right()
-    ensures yields { OneYieldIsRight }
-    ensures prices { OnePriceIsRight }
+    ensures { OneAnswerIsRight }
 {}

@@ -4,13 +4,13 @@
 
 mod answer;
 mod candidate;
+mod figure;
 mod laws;
 mod lowest;
 mod note;
 mod prices;
 mod range;
 mod redemptions;
-mod scale;
 mod search;
 mod shape;
 mod yield_outcome;
@@ -18,13 +18,15 @@ mod yields;
 
 pub use answer::{Figure, LowAnswer};
 pub use candidate::{Candidate, Shape};
-pub use laws::{one_answer_is_right, the_answer_is_one, the_exact_outcome_is_one};
+pub use laws::{
+    one_answer_is_right, the_answer_is_one, the_candidates_are_one, the_exact_outcome_is_one,
+};
 pub use lowest::{the_lowest_is_one, the_lowest_is_right, the_lowest_is_undecided_only_in_doubt};
 pub use muni_terms::{Boundary, Label};
 pub use prices::lowest_price;
-pub use range::in_range;
+pub use range::out_of_range;
 pub use redemptions::candidates;
-pub use yields::{lowest_yield, lowest_yield_in_turn};
+pub use yields::lowest_yield;
 
 #[cfg(test)]
 mod tests;

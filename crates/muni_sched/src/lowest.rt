@@ -1,24 +1,26 @@
 //! The lowest figure over the outcomes of the candidates.
 
-ghost use Rattle.std.specs.Prelude.{◌≡◌, ◌≤◌, All, length};
+ghost use Rattle.std.specs.Prelude.{◌≡◌, All, length, int_lt};
+ghost use Rattle.muni_sched.specs.Figures as figures;
+ghost use Rattle.muni_sched.specs.Figures.{IsOf, IsLowestOf};
 ghost use Rattle.muni_sched.specs.Lowest.{IsLowest};
-ghost use Rattle.muni_sched.specs.LowestLaws.{AllowsOneAnswer, SoundIsRight, OneIsRight, UndecidedIsUnsure, NoDoubtIsDecided};
-ghost use Rattle.muni_sched.specs.Ranks.{IsInRange, rank, decided_by, IsRanked, IsWithin};
+ghost use Rattle.muni_sched.specs.LowestLaws.{AllowsOneLowest, SoundIsRight, OneLowestIsRight, UndecidedIsUnsure, NoDoubtIsDecided};
+ghost use Rattle.muni_sched.specs.Ranks.{rank, decided_by, IsRanked};
+
+use crate::figure::FigureKind;
 
 #[cfg(test)]
 mod tests;
 
-/// What is known of a candidate's price or yield.
-///
-/// A figure is told by its place: the figures that candidates can have, in thousandths of a dollar
-/// or of a percent, are counted up from 1.
+/// What is known of a candidate's price or yield. A figure is its number of thousandths, of a
+/// dollar or of a percent.
 #[derive(Clone, Copy, Debug, PartialEq, Eq, Default)]
 pub(crate) enum Outcome {
-    /// The figure at this place is printed.
-    Print(u32),
-    /// This place is reached, and it is open whether the next one is. At the least place that may
+    /// This figure is printed.
+    Print(i32),
+    /// This figure is reached, and it is open whether the next one is. At the least figure that may
     /// be unsure it is open whether the candidate is below all its figures.
-    Unsure(u32),
+    Unsure(i32),
     /// The candidate is below all its figures.
     Below,
     /// The candidate is above all its figures.
@@ -31,10 +33,10 @@ pub(crate) enum Outcome {
 /// The lowest figure, or why there is none. Candidates are counted from 0 in order of date.
 #[derive(Clone, Copy, Debug, PartialEq, Eq)]
 pub(crate) enum Lowest {
-    /// The figure at this place, which the candidate is the first to print.
-    Low { place: u32, candidate: usize },
-    /// It is open whether the candidate reaches the next place.
-    Undecided { place: u32, candidate: usize },
+    /// The figure, which the candidate is the first to print.
+    Low { thousandths: i32, candidate: usize },
+    /// It is open whether the candidate reaches the next figure.
+    Undecided { thousandths: i32, candidate: usize },
     /// The candidate is the first below all its figures.
     Below { candidate: usize },
     /// All candidates are above all their figures.
@@ -43,36 +45,36 @@ pub(crate) enum Lowest {
     NoTime { candidate: usize },
 }
 
-/// The lowest figure over the outcomes of the candidates, in order of date. `least` is the least
-/// place that may be unsure. With no candidate it is `Above`.
-pub(crate) fn lowest_of(outcomes: &[Outcome], least: u32) -> Lowest
-    requires { All (IsInRange least) outcomes.now }
-    ensures lowest { IsLowest least outcomes.now result }
-    ensures ranked { IsRanked least outcomes.now result }
-    ensures within { IsWithin least (length outcomes.now) result }
+/// The lowest figure over the outcomes of the candidates, in order of date. With no candidate it is
+/// `Above`.
+
+pub(crate) fn lowest_of(outcomes: &[Outcome], kind: FigureKind) -> Lowest
+    requires { All (IsOf kind) outcomes.now }
+    ensures lowest { IsLowest (figures.least_unsure kind) outcomes.now result }
+    ensures ranked { IsRanked (figures.least_unsure kind) outcomes.now result }
+    ensures candidate { IsLowestOf kind (length outcomes.now) result }
 {
     let mut best = Outcome::Above;
     let mut candidate = 0;
-    for (i, outcome) in outcomes.iter().enumerate() {
-        if rank_of(*outcome, least) < rank_of(best, least) {
+    for (c, outcome) in outcomes.iter().enumerate() {
+        if rank_of(*outcome, kind) < rank_of(best, kind) {
             best = *outcome;
-            candidate = i;
+            candidate = c;
         }
     }
     decided(best, candidate)
 }
 
 // The order in which outcomes decide.
-fn rank_of(outcome: Outcome, least: u32) -> u32
-    requires { IsInRange least outcome }
-    ensures { result ≡ rank least outcome }
+fn rank_of(outcome: Outcome, kind: FigureKind) -> i32
+    ensures { result ≡ rank (figures.least_unsure kind) outcome }
 {
     match outcome {
-        Outcome::NoTime => 0,
-        Outcome::Below => 1,
-        Outcome::Unsure(place) if place == least => 1,
-        Outcome::Unsure(place) | Outcome::Print(place) => place + 1,
-        Outcome::Above => u32::MAX,
+        Outcome::NoTime => i32::MIN,
+        Outcome::Below => i32::MIN + 1,
+        Outcome::Unsure(thousandths) if thousandths == kind.least_unsure() => i32::MIN + 1,
+        Outcome::Unsure(thousandths) | Outcome::Print(thousandths) => thousandths,
+        Outcome::Above => i32::MAX,
     }
 }
 
@@ -82,22 +84,29 @@ fn decided(outcome: Outcome, candidate: usize) -> Lowest
     match outcome {
         Outcome::NoTime => Lowest::NoTime { candidate },
         Outcome::Below => Lowest::Below { candidate },
-        Outcome::Unsure(place) => Lowest::Undecided { place, candidate },
-        Outcome::Print(place) => Lowest::Low { place, candidate },
+        Outcome::Unsure(thousandths) => Lowest::Undecided {
+            thousandths,
+            candidate,
+        },
+        Outcome::Print(thousandths) => Lowest::Low {
+            thousandths,
+            candidate,
+        },
         Outcome::Above => Lowest::Above,
     }
 }
 
 /// A law of the rule: it allows at most one answer.
+
 pub fn the_lowest_is_one()
-    ensures { AllowsOneAnswer }
+    ensures { AllowsOneLowest }
 {}
 
 /// A law of the rule: where each outcome says what is exactly so, or is unsure with cause, the
 /// answer is right (MSRB Rule G-15(a)). Of all answers but the undecided, at most one is right.
 pub fn the_lowest_is_right()
     ensures right { SoundIsRight }
-    ensures one { OneIsRight }
+    ensures one { OneLowestIsRight }
 {}
 
 /// A law of the rule: an undecided answer names a candidate that is unsure, and where nothing is

@@ -1,20 +1,19 @@
 //! The searches for the yields of all candidates, side by side.
 
-ghost use Rattle.std.specs.Prelude.{◌≡◌, ◌<◌, ◌≤◌, ◌+◌, ℕ, List, length, All, map, Option, option_map};
+ghost use Rattle.std.specs.Prelude.{◌≡◌, ◌<◌, ◌≤◌, ◌+◌, ℕ, ℤ, List, length, All, map, Option, None, option_map};
 ghost use Rattle.std.specs.List.{filter, AllZip};
 ghost use Rattle.muni_yield.specs.Bracket.{IsBracket};
 ghost use Rattle.muni_yield.specs.Places.{place_verdict};
 ghost use Rattle.muni_yield.specs.Settled.{settled_as};
 ghost use Rattle.muni_sched.specs.Candidates.{IsCandidate};
+ghost use Rattle.muni_sched.specs.Figures.{IsOf};
 ghost use Rattle.muni_sched.specs.Rounds as spec;
-ghost use Rattle.muni_sched.specs.Rounds.{IsHeldBracket, IsOpen, CanRefine, IsStarted, asked, recorded, missed, missed_first, ceiling_after, ceiling_first, no_ceiling, held_from, refined};
-ghost use Rattle.muni_sched.specs.Scale.{least_unsure, IsOn};
-ghost use Rattle.muni_sched.specs.YieldOutcome.{IsKnownFirst, placed};
-ghost use Rattle.muni_sched.specs.declared.scale.Scale.TheVariants.{Yields};
+ghost use Rattle.muni_sched.specs.Rounds.{IsSearch, IsOpen, IsKnownYield, CanRefine, IsStarted, asked, recorded, missed, missed_first, ceiling_after, ceiling_first, outcomes_of, searches_from, refined};
+ghost use Rattle.muni_sched.specs.YieldOutcome.{IsKnownFirst, many_yield};
+ghost use Rattle.muni_sched.specs.declared.figure.FigureKind.TheVariants.{Yield};
 
 use crate::lowest::Outcome;
-use crate::scale::{LEAST_UNSURE_YIELD, ZERO_YIELD};
-use crate::yield_outcome::{known_first, placed};
+use crate::yield_outcome::{known_first, many_yield};
 use crate::{Candidate, Shape};
 use arrayvec::ArrayVec;
 use muni_dec::Price;
@@ -24,72 +23,70 @@ use muni_yield::Bracket;
 use std::thread;
 use std::thread::Threads;
 
-// Past the place of every figure.
-const NO_CEILING: u32 = u32::MAX;
-
-/// The search of one candidate, and the place of that in the list.
+/// The search for the yield of one candidate, which is counted from 0 in order of date.
 #[derive(Clone, Copy, Debug, PartialEq, Eq, Default)]
-pub(crate) struct Held {
-    place: usize,
+pub(crate) struct OpenSearch {
+    candidate: usize,
     bracket: Bracket,
 }
 
-impl Held {
-    // The place of the lower yield.
-    fn low(&self) -> u32
-        requires { IsHeldBracket self.now }
-        ensures { result ≡ self.now.bracket.low + least_unsure Yields }
-    {
-        (self.bracket.low() + ZERO_YIELD) as u32
-    }
-
-    // The place that the candidate is known not to reach. At 100.002 percent nothing is asked.
-    fn missed(&self) -> u32
-        requires { IsHeldBracket self.now }
+impl OpenSearch {
+    // The figure that the candidate is known not to reach. At 100.002 percent nothing is asked.
+    fn missed(&self) -> Option<i32>
+        requires { IsSearch self.now }
         ensures { result ≡ missed self.now }
     {
         if self.bracket.high() <= 100_001 {
-            (self.bracket.high() + ZERO_YIELD) as u32
+            Some(self.bracket.high())
         } else {
-            NO_CEILING
+            None
         }
     }
 
     // The outcome, once it is known.
     fn settled(&self) -> Option<Outcome>
-        requires { IsHeldBracket self.now }
-        ensures { result ≡ option_map placed (settled_as self.now.bracket) }
+        requires { IsSearch self.now }
+        ensures { result ≡ option_map many_yield (settled_as self.now.bracket) }
     {
-        Some(placed(self.bracket.settled()?))
+        Some(many_yield(self.bracket.settled()?))
     }
 
     // Whether the outcome is not known yet and may be the lowest.
-    fn is_needed(&self, ceiling: u32) -> bool
-        requires { IsHeldBracket self.now }
+    fn is_needed(&self, ceiling: Option<i32>) -> bool
+        requires { IsSearch self.now }
         ensures { result ≡ spec.is_needed ceiling self.now }
     {
         self.bracket.settled().is_none() && !self.is_passed(ceiling)
     }
 
-    // Whether the lower yield was answered by yes, and is at the ceiling or above. At the least
-    // place nothing is asked.
-    fn is_passed(&self, ceiling: u32) -> bool
-        requires { IsHeldBracket self.now }
+    // Whether the lower yield was answered by yes, and is at the ceiling or above. At -5.001
+    // percent nothing is asked.
+    fn is_passed(&self, ceiling: Option<i32>) -> bool
+        requires { IsSearch self.now }
         ensures { result ≡ spec.is_passed ceiling self.now.bracket }
     {
-        self.low() > LEAST_UNSURE_YIELD && ceiling <= self.low()
+        self.bracket.low() > -5_001 && is_at_ceiling(ceiling, self.bracket.low())
+    }
+}
+
+fn is_at_ceiling(ceiling: Option<i32>, thousandths: i32) -> bool
+    ensures { result ≡ spec.is_at_ceiling ceiling thousandths }
+{
+    match ceiling {
+        Some(ceiling) => ceiling <= thousandths,
+        None => false,
     }
 }
 
 /// What is known of the yields of all candidates.
 #[derive(Drop)]
 pub(crate) struct Search {
-    /// The outcomes that are known, each at the place of its candidate, and `Above` elsewhere.
-    known: ArrayVec<Outcome, 41>,
+    /// The outcome of each candidate, if it is known.
+    known: ArrayVec<Option<Outcome>, 41>,
     /// The searches that are still needed.
-    held: ArrayVec<Held, 41>,
-    /// The least place that a candidate is known not to reach.
-    ceiling: u32,
+    searches: ArrayVec<OpenSearch, 41>,
+    /// The least figure that a candidate is known not to reach.
+    ceiling: Option<i32>,
 }
 
 impl Search {
@@ -101,31 +98,36 @@ impl Search {
         ensures { IsStarted price list.now result }
     {
         let known = all_known_first(list, price);
-        let held = held_first(list, price);
-        let ceiling = ceiling_first(&known);
+        let searches = all_searches(list, price);
+        let ceiling = ceiling_first(known.as_slice());
         Search {
             known,
-            held,
+            searches,
             ceiling,
         }
     }
 
-    /// The outcomes that are known.
-    pub(crate) fn known(&self) -> &[Outcome]
-        ensures { result.now ≡ self.now.known.items }
+    /// The outcomes, once nothing is left to ask. A candidate whose outcome is not known cannot be
+    /// the lowest, and stands as above all figures.
+    pub(crate) fn outcomes(&self) -> ArrayVec<Outcome, 41>
+        ensures { result.items ≡ outcomes_of self.now.known.items }
     {
-        self.known.as_slice()
+        let mut outcomes = ArrayVec::new();
+        for known in self.known.as_slice() {
+            outcomes.push(known.unwrap_or(Outcome::Above));
+        }
+        outcomes
     }
 
     /// Whether nothing is left to ask.
     pub(crate) fn is_over(&self) -> bool
         ensures { result ≡ spec.is_over self.now }
     {
-        self.held.as_slice().is_empty()
+        self.searches.as_slice().is_empty()
     }
 
-    /// One round: one question for each search that is held. Then those are dropped whose outcome is
-    /// known or cannot be the lowest.
+    /// One round: one question for each search. Then those are dropped whose outcome is known or
+    /// cannot be the lowest.
     pub(crate) fn refine<R: Threads + Sync, E: Encloser + Sync, G: Gate + Sync>(
         &mut self,
         rt: &R,
@@ -136,131 +138,146 @@ impl Search {
     )
         requires workers { 0 < workers }
         requires can { CanRefine self.old }
-        ensures { self.new
-            ≡ refined (place_verdict (E.ends encloser.now)) self.old }
+        ensures { self.new ≡ refined (place_verdict (E.ends encloser.now)) self.old }
     {
-        ask_each(rt, self.held.as_mut_slice(), workers, round, encloser, gate);
-        record_settled(self.held.as_slice(), self.known.as_mut_slice());
-        self.ceiling = least_ceiling(self.held.as_slice(), self.ceiling);
-        self.held = still_needed(self.held.as_slice(), self.ceiling);
+        ask_each(
+            rt,
+            self.searches.as_mut_slice(),
+            workers,
+            round,
+            encloser,
+            gate,
+        );
+        let searches = self.searches.as_slice();
+        record_settled(searches, self.known.as_mut_slice());
+        self.ceiling = least_ceiling(searches, self.ceiling);
+        self.searches = still_needed(searches, self.ceiling);
     }
 }
 
-fn all_known_first(list: &[Candidate], price: Price) -> ArrayVec<Outcome, 41>
+fn all_known_first(list: &[Candidate], price: Price) -> ArrayVec<Option<Outcome>, 41>
     requires few { length list.now ≤ 41 }
     requires candidates { All IsCandidate list.now }
     requires price { 0 < price }
     ensures known { AllZip (IsKnownFirst price) list.now result.items }
-    ensures range { All (IsOn Yields) result.items }
+    ensures range { All IsKnownYield result.items }
 {
     let mut known = ArrayVec::new();
-    for (i, candidate) in list.iter().enumerate() {
+    for candidate in list {
         known.push(known_first(candidate, price));
     }
     known
 }
 
-fn held_first(list: &[Candidate], price: Price) -> ArrayVec<Held, 41>
+fn all_searches(list: &[Candidate], price: Price) -> ArrayVec<OpenSearch, 41>
     requires few { length list.now ≤ 41 }
     requires candidates { All IsCandidate list.now }
     requires price { 0 < price }
-    ensures { result.items ≡ held_from price 0 list.now }
+    ensures { result.items ≡ searches_from price 0 list.now }
 {
-    let mut held = ArrayVec::new();
-    for (place, candidate) in list.iter().enumerate() {
-        if let Shape::Many(flows) = candidate.shape {
-            held.push(Held {
-                place,
+    let mut searches = ArrayVec::new();
+    for (candidate, redemption) in list.iter().enumerate() {
+        if let Shape::Many(flows) = redemption.shape {
+            searches.push(OpenSearch {
+                candidate,
                 bracket: Bracket::start(flows, price),
             });
         }
     }
-    held
+    searches
 }
 
-// A yield that is printed is not reached at the next place.
-fn missed_first(outcome: Outcome) -> u32
-    requires { IsOn Yields outcome }
-    ensures { result ≡ missed_first outcome }
+// A yield that is printed is not reached at the next figure.
+fn missed_first(known: Option<Outcome>) -> Option<i32>
+    requires { IsKnownYield known }
+    ensures { result ≡ missed_first known }
 {
-    match outcome {
-        Outcome::Print(place) => place + 1,
-        _ => NO_CEILING,
+    match known {
+        Some(Outcome::Print(thousandths)) => Some(thousandths + 1),
+        _ => None,
     }
 }
 
-fn ceiling_first(known: &[Outcome]) -> u32
-    requires { All (IsOn Yields) known.now }
-    ensures { result ≡ ceiling_first no_ceiling known.now }
+fn lower_of(ceiling: Option<i32>, other: Option<i32>) -> Option<i32>
+    ensures { result ≡ spec.lower_of ceiling other }
 {
-    let mut ceiling = NO_CEILING;
-    for (i, outcome) in known.iter().enumerate() {
-        ceiling = ceiling.min(missed_first(*outcome));
+    match (ceiling, other) {
+        (Some(ceiling), Some(other)) => Some(ceiling.min(other)),
+        (Some(ceiling), None) => Some(ceiling),
+        (None, other) => other,
+    }
+}
+
+fn ceiling_first(known: &[Option<Outcome>]) -> Option<i32>
+    requires { All IsKnownYield known.now }
+    ensures { result ≡ ceiling_first None known.now }
+{
+    let mut ceiling = None;
+    for outcome in known {
+        ceiling = lower_of(ceiling, missed_first(*outcome));
     }
     ceiling
 }
 
 fn ask_each<R: Threads + Sync, E: Encloser + Sync, G: Gate + Sync>(
     rt: &R,
-    held: &mut [Held],
+    searches: &mut [OpenSearch],
     workers: usize,
     round: u32,
     encloser: &E,
     gate: &G,
 )
     requires workers { 0 < workers }
-    requires each { All IsOpen held.old }
-    ensures { held.new
-        ≡ map (asked (place_verdict (E.ends encloser.now))) held.old }
+    requires each { All IsOpen searches.old }
+    ensures { searches.new ≡ map (asked (place_verdict (E.ends encloser.now))) searches.old }
 {
     thread::for_each_mut(
         rt,
-        held,
+        searches,
         workers,
-        &|_, one: &mut Held|
-            requires { IsOpen one.now }
-            ensures { one.exit.now ≡ asked
-                (place_verdict (E.ends encloser.entry.now))
-                one.entry.now }
+        &|_, search: &mut OpenSearch|
+            requires { IsOpen search.now }
+            ensures { search.exit.now ≡ asked
+                (place_verdict (E.ends encloser.entry.now)) search.entry.now }
         {
-            gate.start(round, one.place);
-            one.bracket.halve(encloser);
+            gate.start(round, search.candidate);
+            search.bracket.halve(encloser);
         },
     );
 }
 
-fn record_settled(held: &[Held], known: &mut [Outcome])
-    requires brackets { All IsHeldBracket held.now }
-    requires places { All (λ one. one.place < length known.old) held.now }
-    ensures { known.new ≡ recorded held.now known.old }
+fn record_settled(searches: &[OpenSearch], known: &mut [Option<Outcome>])
+    requires each { All IsSearch searches.now }
+    requires candidates { All (λ it. it.candidate < length known.old) searches.now }
+    ensures { known.new ≡ recorded searches.now known.old }
 {
-    for (i, one) in held.iter().enumerate() {
-        if let Some(outcome) = one.settled() {
-            known[one.place] = outcome;
+    for search in searches {
+        if let Some(outcome) = search.settled() {
+            known[search.candidate] = Some(outcome);
         }
     }
 }
 
-fn least_ceiling(held: &[Held], before: u32) -> u32
-    requires { All IsHeldBracket held.now }
-    ensures { result ≡ ceiling_after before held.now }
+fn least_ceiling(searches: &[OpenSearch], before: Option<i32>) -> Option<i32>
+    requires { All IsSearch searches.now }
+    ensures { result ≡ ceiling_after before searches.now }
 {
     let mut ceiling = before;
-    for (i, one) in held.iter().enumerate() {
-        ceiling = ceiling.min(one.missed());
+    for search in searches {
+        ceiling = lower_of(ceiling, search.missed());
     }
     ceiling
 }
 
-fn still_needed(held: &[Held], ceiling: u32) -> ArrayVec<Held, 41>
-    requires few { length held.now ≤ 41 }
-    requires brackets { All IsHeldBracket held.now }
-    ensures { result.items ≡ filter (spec.is_needed ceiling) held.now }
+fn still_needed(searches: &[OpenSearch], ceiling: Option<i32>) -> ArrayVec<OpenSearch, 41>
+    requires few { length searches.now ≤ 41 }
+    requires each { All IsSearch searches.now }
+    ensures { result.items ≡ filter (spec.is_needed ceiling) searches.now }
 {
     let mut needed = ArrayVec::new();
-    for (i, one) in held.iter().enumerate() {
-        if one.is_needed(ceiling) {
-            needed.push(*one);
+    for search in searches {
+        if search.is_needed(ceiling) {
+            needed.push(*search);
         }
     }
     needed

@@ -15,7 +15,7 @@ use crate::note::{days_left, note_payment};
 use muni_days::Day;
 use muni_dec::Price;
 use muni_simple::Single;
-use muni_terms::{Flows, Issue, Kind, flows_are_in_range};
+use muni_terms::{Flows, Issue, Kind};
 
 /// How a redemption after a settlement is priced.
 pub fn shape_at(issue: &Issue, settlement: Day, date: Day, price: Price) -> Shape
@@ -43,7 +43,6 @@ fn series_shape(flows: &Flows) -> Shape
     if flows.n() == 1 {
         Shape::One(last_payment(flows))
     } else {
-        flows_are_in_range(flows);
         Shape::Many(*flows)
     }
 }
@@ -53,7 +52,6 @@ fn last_payment(flows: &Flows) -> Single
     ensures payment { result ≡ spec.single (rule.last_payment flows.now) }
     ensures range { IsSingle single.OnePeriod result }
 {
-    flows_are_in_range(flows);
     Single {
         due: (flows.first() + flows.redemption()) as i64,
         accrued: flows.accrued() as i64,

@@ -1,19 +1,15 @@
 //! The lowest yield over redemption candidates.
 
-ghost use Rattle.std.specs.Prelude.{◌≡◌, ◌<◌, ◌≤◌, ◌+◌, ◌*◌, ◌^◌, length, All};
-ghost use Rattle.std.specs.List.{AllZip};
+ghost use Rattle.std.specs.Prelude.{◌≡◌, ◌<◌, ◌≤◌, ◌+◌, ◌^◌, length, All};
 ghost use Rattle.muni_yield.specs.Places.{place_verdict};
-ghost use Rattle.muni_sched.specs.Answered.{IsLowestOver, NamesYield};
+ghost use Rattle.muni_sched.specs.Answer.{IsLowestAnswer};
+ghost use Rattle.muni_sched.specs.Basis.{at_price};
 ghost use Rattle.muni_sched.specs.Candidates.{IsCandidate};
-ghost use Rattle.muni_sched.specs.Scale.{IsOn, IsLowestOn};
-ghost use Rattle.muni_sched.specs.YieldAnswer.{IsLowestYield, IsRightYield, IsYieldUndecided, IsYieldDecided, IsSearchedOut};
-ghost use Rattle.muni_sched.specs.YieldOutcome.{IsYieldOutcome};
-ghost use Rattle.muni_sched.specs.declared.scale.Scale.TheVariants.{Yields};
+ghost use Rattle.muni_sched.specs.SearchedOut.{AreSearchedOut, CountsRounds};
 
-use crate::lowest::{Lowest, Outcome, lowest_of};
-use crate::scale::{Scale, answer, least_unsure};
+use crate::figure::{FigureKind, answer};
+use crate::lowest::{Outcome, lowest_of};
 use crate::search::Search;
-use crate::yield_outcome::yield_outcome;
 use crate::{Candidate, LowAnswer};
 use arrayvec::ArrayVec;
 use muni_dec::Price;
@@ -25,9 +21,10 @@ use std::thread::Threads;
 /// The lowest yield at a dollar price over 0, over the redemption candidates of an issue (MSRB Rule
 /// G-15(a)). They are those of `candidates`, in order of date.
 ///
-/// The searches for the yields go by rounds, of which there are at most 19. In each, up to
-/// `workers` threads, from 1 to 16, ask one question of each search that is still needed, and tell
-/// the gate before it. `steps` counts the rounds. Each question calls the encloser at most once.
+/// The searches for the yields go by rounds, which `steps` counts.
+// In each, up to `workers` threads, from 1 to 16, ask one question of each search that is still
+// needed, and tell the gate before it (tested). Each question calls the encloser at most once
+// (tested).
 pub fn lowest_yield<R: Threads + Sync, E: Encloser + Sync, G: Gate + Sync, L: Ledger>(
     rt: &R,
     list: &[Candidate],
@@ -42,43 +39,14 @@ pub fn lowest_yield<R: Threads + Sync, E: Encloser + Sync, G: Gate + Sync, L: Le
     requires price { 0 < price }
     requires workers { (1 ≤ workers) × (workers ≤ 16) }
     requires room { steps.old + 19 < 2 ^ 64 }
-    ensures lowest { IsLowestYield (place_verdict (E.ends encloser.now)) price
-        list.now result }
-    ensures right { IsRightYield price list.now result }
-    ensures undecided { IsYieldUndecided price list.now result }
-    ensures decided { IsYieldDecided price list.now result }
-    ensures figure { NamesYield (length list.now) result }
-    ensures steps { (steps.old ≤ steps.new) × (steps.new ≤ steps.old + 19) }
+    ensures answer { IsLowestAnswer (E.ends encloser.now) (at_price price) list.now result }
+    ensures rounds { CountsRounds (place_verdict (E.ends encloser.now)) price list.now steps.old
+        steps.new }
+    ensures few { steps.new ≤ steps.old + 19 }
 {
-    let search = searched(rt, list, price, workers, encloser, gate, steps);
-    let lowest = lowest_of(search.known(), least_unsure(Scale::Yields));
-    yield_answer(encloser, list, price, lowest)
-}
-
-/// The same, where the search of each candidate is run to its end before that of the next begins.
-///
-/// `steps` counts the questions.
-pub fn lowest_yield_in_turn<E: Encloser, L: Ledger>(
-    list: &[Candidate],
-    price: Price,
-    encloser: &E,
-    steps: &mut Steps<L>,
-) -> LowAnswer
-    requires few { length list.now ≤ 41 }
-    requires candidates { All IsCandidate list.now }
-    requires price { 0 < price }
-    requires room { steps.old + 19 * length list.now < 2 ^ 64 }
-    ensures lowest { IsLowestYield (place_verdict (E.ends encloser.now)) price
-        list.now result }
-    ensures right { IsRightYield price list.now result }
-    ensures undecided { IsYieldUndecided price list.now result }
-    ensures decided { IsYieldDecided price list.now result }
-    ensures figure { NamesYield (length list.now) result }
-    ensures steps { (steps.old ≤ steps.new) × (steps.new ≤ steps.old + 19 * length list.now) }
-{
-    let outcomes = outcomes_in_turn(list, price, encloser, steps);
-    let lowest = lowest_of(outcomes.as_slice(), least_unsure(Scale::Yields));
-    yield_answer(encloser, list, price, lowest)
+    let outcomes = searched(rt, list, price, workers, encloser, gate, steps);
+    let lowest = lowest_of(outcomes.as_slice(), FigureKind::Yield);
+    answer(FigureKind::Yield, list, lowest)
 }
 
 // Round by round, until nothing is left to ask.
@@ -90,15 +58,17 @@ fn searched<R: Threads + Sync, E: Encloser + Sync, G: Gate + Sync, L: Ledger>(
     encloser: &E,
     gate: &G,
     steps: &mut Steps<L>,
-) -> Search
+) -> ArrayVec<Outcome, 41>
     requires few { length list.now ≤ 41 }
     requires candidates { All IsCandidate list.now }
     requires price { 0 < price }
     requires workers { 1 ≤ workers }
     requires room { steps.old + 19 < 2 ^ 64 }
-    ensures out { IsSearchedOut (place_verdict (E.ends encloser.now)) price
-        list.now result }
-    ensures steps { (steps.old ≤ steps.new) × (steps.new ≤ steps.old + 19) }
+    ensures out { AreSearchedOut (place_verdict (E.ends encloser.now)) price list.now
+        result.items }
+    ensures rounds { CountsRounds (place_verdict (E.ends encloser.now)) price list.now steps.old
+        steps.new }
+    ensures few { steps.new ≤ steps.old + 19 }
 {
     let mut search = Search::start(list, price);
     let mut round = 0;
@@ -107,49 +77,5 @@ fn searched<R: Threads + Sync, E: Encloser + Sync, G: Gate + Sync, L: Ledger>(
         search.refine(rt, workers as usize, round, encloser, gate);
         round += 1;
     }
-    search
-}
-
-fn outcomes_in_turn<E: Encloser, L: Ledger>(
-    list: &[Candidate],
-    price: Price,
-    encloser: &E,
-    steps: &mut Steps<L>,
-) -> ArrayVec<Outcome, 41>
-    requires few { length list.now ≤ 41 }
-    requires candidates { All IsCandidate list.now }
-    requires price { 0 < price }
-    requires room { steps.old + 19 * length list.now < 2 ^ 64 }
-    ensures each { AllZip (IsYieldOutcome (place_verdict (E.ends encloser.now)) price) list.now
-        result.items }
-    ensures range { All (IsOn Yields) result.items }
-    ensures steps { (steps.old ≤ steps.new) × (steps.new ≤ steps.old + 19 * length list.now) }
-{
-    let mut outcomes = ArrayVec::new();
-    for (i, candidate) in list.iter().enumerate() {
-        outcomes.push(yield_outcome(encloser, candidate, price, steps));
-    }
-    outcomes
-}
-
-// The encloser's laws make the lowest of the outcomes right.
-fn yield_answer<E: Encloser>(
-    encloser: &E,
-    list: &[Candidate],
-    price: Price,
-    lowest: Lowest,
-) -> LowAnswer
-    requires candidates { All IsCandidate list.now }
-    requires price { 0 < price }
-    requires over { IsLowestOver Yields (IsYieldOutcome (place_verdict (E.ends encloser.now)) price)
-        list.now lowest }
-    requires within { IsLowestOn Yields (length list.now) lowest }
-    ensures lowest { IsLowestYield (place_verdict (E.ends encloser.now)) price
-        list.now result }
-    ensures right { IsRightYield price list.now result }
-    ensures undecided { IsYieldUndecided price list.now result }
-    ensures decided { IsYieldDecided price list.now result }
-    ensures figure { NamesYield (length list.now) result }
-{
-    answer(Scale::Yields, list, lowest)
+    search.outcomes()
 }

@@ -1,15 +1,16 @@
-ghost use Rattle.std.specs.Prelude.{ℕ, ◌≤◌, All, IfOk};
-ghost use Rattle.muni_sched.specs.Ranks.{IsInRange};
+ghost use Rattle.std.specs.Prelude.{All, IfOk};
+ghost use Rattle.muni_sched.specs.Figures.{IsOf};
 
 use super::{Lowest, Outcome, lowest_of};
+use crate::figure::FigureKind;
 use arrayvec::ArrayVec;
 use std::process::Abort;
 use std::str::SplitWhitespace;
 use std::test::Fail;
 
-// Outcomes in order of date, and the lowest of them by the rule, computed outside: a place, with
-// `?` where it is unsure, and the candidate. The least place that may be unsure is 0.
-const FROM_0: &str = "\
+// Outcomes in order of date, and the lowest of them by the rule, computed outside: thousandths of a
+// dollar, with `?` where they are unsure, and the candidate. The least that may be unsure is -1.
+const PRICES: &str = "\
 = above
 above = above
 above above = above
@@ -30,10 +31,10 @@ above 7 = 7 at 1
 6? 6? 7 = 6? at 0
 8? 5? 6? 5? = 5? at 1
 7 8? 9? = 7 at 0
-0? 7 = 0? at 0
-7 0? = 0? at 1
-below 0? = below at 0
-0? below = 0? at 0
+-1? 7 = -1? at 0
+7 -1? = -1? at 1
+below -1? = below at 0
+-1? below = -1? at 0
 1 below = below at 1
 7 below below = below at 1
 below above = below at 0
@@ -41,72 +42,68 @@ below 6? = below at 0
 no-time = no-time at 0
 below no-time = no-time at 1
 no-time below = no-time at 0
-0? no-time = no-time at 1
+-1? no-time = no-time at 1
 7 no-time no-time = no-time at 1
 6? no-time = no-time at 1
 above no-time 1 = no-time at 1";
 
-// The same where it is 3.
-const FROM_3: &str = "\
-3? 1 = 3? at 0
-1 3? = 3? at 1
-3? below = 3? at 0
-below 3? = below at 0
-2 4? = 2 at 0
-4? 2 = 2 at 1
-4? 4 = 4? at 0
-4 3? 1 = 3? at 1
-3? no-time = no-time at 1";
+// The same for thousandths of a percent, of which the least that may be unsure is -5,001.
+const YIELDS: &str = "\
+-5001? -5003 = -5001? at 0
+-5003 -5001? = -5001? at 1
+-5001? below = -5001? at 0
+below -5001? = below at 0
+-5002 -5000? = -5002 at 0
+-5000? -5002 = -5002 at 1
+-5000? -5000 = -5000? at 0
+-5000 -5001? -5003 = -5001? at 1
+-5001? no-time = no-time at 1";
 
-fn place(word: &str) -> Result<u32, Fail>
-    ensures { IfOk result (λ place. place ≤ 1_000_000_000) }
+fn figure(word: &str, kind: FigureKind) -> Result<Outcome, Fail>
+    ensures { IfOk result (IsOf kind) }
 {
-    let place = word.parse::<u32>().ok().ok_or("a place")?;
-    if place > 1_000_000_000 {
-        return Err(Fail::from("a place in range"));
+    let figure = word.trim_end_matches('?');
+    let thousandths = figure.parse::<i32>().ok().ok_or("thousandths")?;
+    let is_unsure = word.ends_with('?');
+    let least = match (kind, is_unsure) {
+        (FigureKind::Price, false) => 0,
+        (FigureKind::Price, true) => -1,
+        (FigureKind::Yield, false) => -90_000,
+        (FigureKind::Yield, true) => -5_001,
+    };
+    if thousandths < least || thousandths > 99_999 {
+        return Err(Fail::from("thousandths in range"));
     }
-    Ok(place)
+    if is_unsure {
+        Ok(Outcome::Unsure(thousandths))
+    } else {
+        Ok(Outcome::Print(thousandths))
+    }
 }
 
-fn figure(word: &str, least: u32) -> Result<Outcome, Fail>
-    ensures { IfOk result (IsInRange least) }
-{
-    let place = place(word.trim_end_matches('?'))?;
-    if word.ends_with('?') {
-        if place < least {
-            return Err(Fail::from("a place that may be unsure"));
-        }
-        return Ok(Outcome::Unsure(place));
-    }
-    if place == 0 {
-        return Err(Fail::from("the place of a figure"));
-    }
-    Ok(Outcome::Print(place))
-}
-
-fn outcome(word: &str, least: u32) -> Result<Outcome, Fail>
-    ensures { IfOk result (IsInRange least) }
+fn outcome(word: &str, kind: FigureKind) -> Result<Outcome, Fail>
+    ensures { IfOk result (IsOf kind) }
 {
     match word {
         "below" => Ok(Outcome::Below),
         "above" => Ok(Outcome::Above),
         "no-time" => Ok(Outcome::NoTime),
-        _ => figure(word, least),
+        _ => figure(word, kind),
     }
 }
 
-fn outcomes(words: &str, least: u32) -> Result<ArrayVec<Outcome, 8>, Fail>
-    ensures { IfOk result (λ outcomes. All (IsInRange least) outcomes.items) }
+fn outcomes(words: &str, kind: FigureKind) -> Result<ArrayVec<Outcome, 8>, Fail>
+    ensures { IfOk result (λ outcomes. All (IsOf kind) outcomes.items) }
 {
     let mut outcomes = ArrayVec::new();
     for word in words.split_whitespace() {
-        outcomes.try_push(outcome(word, least)?).ok().ok_or("room")?;
+        outcomes.try_push(outcome(word, kind)?).ok().ok_or("room")?;
     }
     Ok(outcomes)
 }
 
-fn lowest(words: &mut SplitWhitespace<'_>, least: u32) -> Result<Lowest, Fail> {
-    let outcome = outcome(words.next().ok_or("an outcome")?, least)?;
+fn lowest(words: &mut SplitWhitespace<'_>, kind: FigureKind) -> Result<Lowest, Fail> {
+    let outcome = outcome(words.next().ok_or("an outcome")?, kind)?;
     if outcome == Outcome::Above {
         return Ok(Lowest::Above);
     }
@@ -114,28 +111,34 @@ fn lowest(words: &mut SplitWhitespace<'_>, least: u32) -> Result<Lowest, Fail> {
     let word = words.next().ok_or("a candidate")?;
     let candidate = word.parse::<usize>().ok().ok_or("a candidate")?;
     Ok(match outcome {
-        Outcome::Print(place) => Lowest::Low { place, candidate },
-        Outcome::Unsure(place) => Lowest::Undecided { place, candidate },
+        Outcome::Print(thousandths) => Lowest::Low {
+            thousandths,
+            candidate,
+        },
+        Outcome::Unsure(thousandths) => Lowest::Undecided {
+            thousandths,
+            candidate,
+        },
         Outcome::Below => Lowest::Below { candidate },
         Outcome::Above => Lowest::Above,
         Outcome::NoTime => Lowest::NoTime { candidate },
     })
 }
 
-fn are_lowest(rt: &impl Abort, cases: &str, least: u32) -> Result<(), Fail> {
+fn are_lowest(rt: &impl Abort, cases: &str, kind: FigureKind) -> Result<(), Fail> {
     for case in cases.lines() {
         let (words, answer) = case.split_once('=').ok_or("an answer")?;
-        let outcomes = outcomes(words, least)?;
-        let wanted = lowest(&mut answer.split_whitespace(), least)?;
-        assert_eq!(rt; lowest_of(outcomes.as_slice(), least), wanted, "{case}");
+        let outcomes = outcomes(words, kind)?;
+        let wanted = lowest(&mut answer.split_whitespace(), kind)?;
+        assert_eq!(rt; lowest_of(outcomes.as_slice(), kind), wanted, "{case}");
     }
     Ok(())
 }
 
 #[test]
 fn the_lowest_is_that_of_the_rule(rt: HostRuntime) -> Result<(), Fail> {
-    assert_eq!(rt; FROM_0.lines().count(), 35);
-    are_lowest(&rt, FROM_0, 0)?;
-    assert_eq!(rt; FROM_3.lines().count(), 9);
-    are_lowest(&rt, FROM_3, 3)
+    assert_eq!(rt; PRICES.lines().count(), 35);
+    are_lowest(&rt, PRICES, FigureKind::Price)?;
+    assert_eq!(rt; YIELDS.lines().count(), 9);
+    are_lowest(&rt, YIELDS, FigureKind::Yield)
 }

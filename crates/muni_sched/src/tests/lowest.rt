@@ -2,13 +2,14 @@ ghost use Rattle.std.specs.Prelude.{◌≡◌, ◌<◌, ◌≤◌, true, length,
 ghost use Rattle.muni_multi.specs.Horner.{horner_ends};
 ghost use Rattle.muni_multi.specs.HornerLaws.{horner-encloses, horner-narrow};
 ghost use Rattle.muni_sched.specs.Candidates.{IsCandidate};
-ghost use Rattle.muni_sched.specs.PriceAnswer.{IsAtYield};
+ghost use Rattle.muni_sched.specs.PriceOutcome.{IsAtYield};
+ghost use Rattle.muni_sched.specs.Range.{IsGivenFor};
 
 use crate::tests::issues::{day, issue, price, row};
 use crate::tests::lowest_cases::{Case, PRICES, YIELDS};
 use crate::{
-    Boundary, Candidate, Figure, LowAnswer, Shape, candidates, in_range, lowest_price,
-    lowest_yield, lowest_yield_in_turn,
+    Boundary, Candidate, Figure, LowAnswer, Shape, candidates, lowest_price, lowest_yield,
+    out_of_range,
 };
 use arrayvec::ArrayVec;
 use muni_days::Day;
@@ -64,9 +65,9 @@ fn is_answer(found: &LowAnswer, case: &Case) -> Result<bool, Fail> {
     let first = words.next().unwrap_or("");
     let second = words.next().unwrap_or("");
     match found {
-        LowAnswer::Low { figure, place } => {
-            let at = second.parse::<usize>().ok().ok_or("a place")?;
-            Ok(name == "low" && is_figure(figure, first)? && *place == at)
+        LowAnswer::Low { figure, candidate } => {
+            let wanted = second.parse::<usize>().ok().ok_or("a candidate")?;
+            Ok(name == "low" && is_figure(figure, first)? && *candidate == wanted)
         }
         LowAnswer::Undecided { date, boundary } => {
             Ok(name == "undecided" && is_day(date, first)? && is_boundary(boundary, second)?)
@@ -130,36 +131,6 @@ fn by_rounds<R: Threads + Sync, E: Encloser + Sync, G: Gate + Sync>(
     count_rounds::<_, _, _, Brand>(rt, list, price, workers, encloser, gate, Blank::new(1))
 }
 
-fn count_turns<E: Encloser, L: Ledger>(
-    list: &ArrayVec<Candidate, 41>,
-    price: Price,
-    encloser: &E,
-    blank: Blank,
-) -> LowAnswer
-    requires name { blank.name ≡ L.name }
-    requires parts { blank.parts ≡ L.parts }
-    requires some { 0 < blank.parts }
-    requires candidates { All IsCandidate list.now.items }
-    requires price { 0 < price }
-{
-    let mut steps = Steps::<L>::open(blank);
-    lowest_yield_in_turn(list.as_slice(), price, encloser, &mut steps)
-}
-
-fn in_turn<E: Encloser>(list: &ArrayVec<Candidate, 41>, price: Price, encloser: &E) -> LowAnswer
-    requires candidates { All IsCandidate list.now.items }
-    requires price { 0 < price }
-{
-    count_turns::<_, Brand>(list, price, encloser, Blank::new(1))
-}
-
-fn is_found_in_turn(case: &Case) -> Result<bool, Fail> {
-    let list = list_of(case)?;
-    let price = price_over_0(case.given)?;
-    let found = in_turn(&list, price, &Horner);
-    is_answer(&found, case)
-}
-
 fn is_found_by<R: Threads + Sync>(rt: &R, case: &Case, workers: u32) -> Result<bool, Fail>
     requires { (1 ≤ workers) × (workers ≤ 16) }
 {
@@ -172,7 +143,6 @@ fn is_found_by<R: Threads + Sync>(rt: &R, case: &Case, workers: u32) -> Result<b
 #[test]
 fn lowest_yields_are_those_computed_outside(rt: HostRuntime) -> Result<(), Fail> {
     for case in &YIELDS {
-        assert!(rt; is_found_in_turn(case)?, "{} in turn", case.answer);
         assert!(rt; is_found_by(&rt, case, 1)?, "{} by one", case.answer);
         assert!(rt; is_found_by(&rt, case, 2)?, "{} by two", case.answer);
         assert!(rt; is_found_by(&rt, case, 16)?, "{} by sixteen", case.answer);
@@ -192,7 +162,7 @@ fn is_at_yield(candidate: &Candidate) -> bool
 fn are_at_yield(list: &[Candidate]) -> bool
     ensures { (result ≡ true) → All IsAtYield list.now }
 {
-    for (i, candidate) in list.iter().enumerate() {
+    for candidate in list {
         if !is_at_yield(candidate) {
             return false;
         }
@@ -200,15 +170,24 @@ fn are_at_yield(list: &[Candidate]) -> bool
     true
 }
 
-fn is_price_found(case: &Case) -> Result<bool, Fail> {
-    let list = list_of(case)?;
-    let y = yield_of(case.given)?;
-    if list.as_slice().is_empty() || in_range(list.as_slice(), y).is_some() {
+// A yield that may be given for the candidates of an issue with no discounted note.
+fn yield_for(list: &[Candidate], text: &str) -> Result<Yield, Fail>
+    ensures { IfOk result (λ y. (0 < length list.now) × All IsAtYield list.now × All (IsGivenFor y)
+        list.now) }
+{
+    let y = yield_of(text)?;
+    if list.is_empty() || out_of_range(list, y).is_some() {
         return Err(Fail::from("candidates, and a yield in range"));
     }
-    if !are_at_yield(list.as_slice()) {
+    if !are_at_yield(list) {
         return Err(Fail::from("no discounted note"));
     }
+    Ok(y)
+}
+
+fn is_price_found(case: &Case) -> Result<bool, Fail> {
+    let list = list_of(case)?;
+    let y = yield_for(list.as_slice(), case.given)?;
     let found = lowest_price(list.as_slice(), y, &Horner);
     is_answer(&found, case)
 }
@@ -230,7 +209,7 @@ struct CountingGate {
 }
 
 impl Gate for CountingGate {
-    fn start(&self, round: u32, _place: usize) {
+    fn start(&self, round: u32, _candidate: usize) {
         let _ = self.starts.fetch_add(1, Ordering::SeqCst);
         if self.latest.fetch_max(round, Ordering::SeqCst) > round {
             let _ = self.fallen.fetch_add(1, Ordering::SeqCst);
@@ -276,7 +255,8 @@ fn forty_calls() -> Result<ArrayVec<Candidate, 41>, Fail>
 }
 
 // A price, and how many questions and rounds it takes, computed outside. At 100 all candidates have
-// the same yield; at the others their yields part early, and in turn the questions are over 750.
+// the same yield; at the others their yields part early, and one after the other the questions are
+// over 750.
 const FORTY_CALLS: [(&str, u32, u32); 3] = [("100", 779, 19), ("104", 258, 18), ("97", 424, 19)];
 
 fn gate_at_first() -> CountingGate {
@@ -323,16 +303,26 @@ fn questions_go_by_rounds_and_end_where_yields_part(rt: HostRuntime) -> Result<(
     Ok(())
 }
 
+// Four candidates with two payments or more, on no interest date.
+const THREE_CALLS: Case = Case {
+    issue: (
+        "coupons 2020-01-01 2020-07-01 2034-01-01 5",
+        "2026-01-01 102,2028-01-01 101,2030-01-01 100",
+    ),
+    settlement: "2024-02-16",
+    given: "4.125",
+    answer: "",
+};
+
 #[test]
-fn searches_side_by_side_ask_less_than_in_turn(rt: HostRuntime) -> Result<(), Fail> {
-    let list = forty_calls()?;
-    let price = price_over_0("104")?;
-    let turns = encloser_at_first();
-    let one = in_turn(&list, price, &turns);
-    let rounds = encloser_at_first();
-    let other = by_rounds(&rt, &list, price, 2, &rounds, &NoGate);
-    assert!(rt; one == other);
-    assert!(rt; rounds.calls.load(Ordering::SeqCst) <= 258);
-    assert!(rt; turns.calls.load(Ordering::SeqCst) > 700);
+fn a_lowest_price_takes_one_call_of_the_encloser_for_a_candidate(
+    rt: HostRuntime,
+) -> Result<(), Fail> {
+    let list = list_of(&THREE_CALLS)?;
+    let encloser = encloser_at_first();
+    let y = yield_for(list.as_slice(), THREE_CALLS.given)?;
+    let _ = lowest_price(list.as_slice(), y, &encloser);
+    assert_eq!(rt; list.len(), 4);
+    assert_eq!(rt; encloser.calls.load(Ordering::SeqCst), 4);
     Ok(())
 }

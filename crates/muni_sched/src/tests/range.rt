@@ -1,5 +1,5 @@
 use crate::tests::issues::{day, issue};
-use crate::{candidates, in_range};
+use crate::{candidates, out_of_range};
 use muni_dec::Yield;
 use std::cmp::Ordering;
 use std::test::Fail;
@@ -57,7 +57,7 @@ fn a_yield_leaves_its_range_by_one_unit(rt: HostRuntime) -> Result<(), Fail> {
             (i64::from(greatest) + 1, Some(Ordering::Greater)),
         ] {
             let y = Yield::of(units).ok_or("a yield")?;
-            assert!(rt; in_range(list.as_slice(), y) == side, "{terms} {units}");
+            assert!(rt; out_of_range(list.as_slice(), y) == side, "{terms} {units}");
         }
     }
     Ok(())
@@ -66,6 +66,6 @@ fn a_yield_leaves_its_range_by_one_unit(rt: HostRuntime) -> Result<(), Fail> {
 #[test]
 fn no_candidate_excludes_no_yield(rt: HostRuntime) -> Result<(), Fail> {
     let y = Yield::of(-900_000).ok_or("a yield")?;
-    assert!(rt; in_range(&[], y).is_none(), "no candidate");
+    assert!(rt; out_of_range(&[], y).is_none(), "no candidate");
     Ok(())
 }

@@ -1,14 +1,8 @@
-use Rattle.muni_sched.proofs.OneExactLemmas.{candidate-yield, list-yields, candidate-price, list-prices}
+use Rattle.muni_sched.proofs.OneExactLemmas.{candidate-one, list-one}
 use Rattle.muni_sched.proofs.laws.the_exact_outcome_is_one.Goals as goal
 
-pub returns-clause-candidate_yield : goal.returns-clause-candidate_yield
-returns-clause-candidate_yield c = candidate-yield
+pub returns-clause-candidate : goal.returns-clause-candidate
+returns-clause-candidate c = candidate-one
 
-pub returns-clause-yields : goal.returns-clause-yields
-returns-clause-yields c = list-yields
-
-pub returns-clause-candidate_price : goal.returns-clause-candidate_price
-returns-clause-candidate_price c = candidate-price
-
-pub returns-clause-prices : goal.returns-clause-prices
-returns-clause-prices c = list-prices
+pub returns-clause-list : goal.returns-clause-list
+returns-clause-list c = list-one

@@ -1,13 +1,13 @@
 use Rattle.std.proofs.Common.{◌≡◌, take, length, All}
 use Rattle.std.specs.List.{AllZip}
-use Rattle.muni_sched.specs.PriceAnswer.{IsPriceOutcome}
-use Rattle.muni_sched.specs.Scale.{IsOn}
-use Rattle.muni_sched.specs.declared.scale.Scale.TheVariants.{Prices}
+use Rattle.muni_sched.specs.Figures.{IsOf}
+use Rattle.muni_sched.specs.PriceOutcome.{IsPriceOutcome}
+use Rattle.muni_sched.specs.declared.figure.FigureKind.TheVariants.{Price}
 use Rattle.muni_sched.proofs.prices.outcomes_at.Given as goal
 
-abbrev pub invariant-loop-i : goal.invariant-loop-i
-invariant-loop-i g l = record {
-  each : AllZip (IsPriceOutcome (g.E.Encloser.ends l.encloser) l.y) (take l.i l.list) l.outcomes.items;
-  range : All (IsOn Prices) l.outcomes.items;
-  room : length l.outcomes.items ≡ l.i;
+abbrev pub invariant-loop-candidate : goal.invariant-loop-candidate
+invariant-loop-candidate g l = record {
+  each : AllZip (IsPriceOutcome (g.E.Encloser.ends l.encloser) l.y) (take l.candidate-index l.list) l.outcomes.items;
+  range : All (IsOf Price) l.outcomes.items;
+  room : length l.outcomes.items ≡ l.candidate-index;
 }

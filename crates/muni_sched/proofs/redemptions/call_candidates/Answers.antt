@@ -1,36 +1,34 @@
-use Rattle.std.proofs.Common.{◌≡◌, ◌++◌, [], ◌∷◌, true, false, sym, ◌∙◌, arith}
+use Rattle.std.proofs.Common.{◌≡◌, ◌++◌, [], ◌∷◌, true, false, refl, sym, ◌∙◌, arith}
 use Rattle.muni_rule.specs.Civil.{is_before}
 use Rattle.muni_days.specs.Day.{civil}
-use Rattle.muni_sched.proofs.CandidateLemmas.{is_candidate_for, call-later, call-earlier}
-use Rattle.muni_sched.proofs.redemptions.call_candidates.Goals as goal
+use Rattle.muni_sched.specs.declared.candidate.Candidate.{Candidate}
+use Rattle.muni_sched.proofs.CandidateLemmas.{call-later, call-earlier}
 use Rattle.muni_sched.proofs.redemptions.call_candidates.Goals.{then-is_to_come, else-is_to_come}
+use Rattle.muni_sched.proofs.redemptions.call_candidates.Goals as goal
 
-pub loop-i-preserved : goal.loop-i-preserved
-loop-i-preserved c =
+pub loop-call-preserved : goal.loop-call-preserved
+loop-call-preserved c =
     let row = c.args.issue.now in
     let settlement = c.args.settlement in
     let call = c.call-item.result in
-    let list = c.loop-i.list in
-    let so_far = c.loop-i.invariant.candidates in
-    let items : c.deref-call-items.result.now ≡ row.calls.items = cc in
-    let inside = rw items at c.loop-i-test.true in
+    let list = c.loop-call.list in
+    let so_far = c.loop-call.invariant.candidates in
+    let items : c.as_slice-call-items.result.now ≡ row.calls.items = cc in
+    let inside = rw items at c.loop-call-test.true in
     let is_call = rw items at c.call-item.is in
     elim c.if-is_to_come.branch [
       | then-is_to_come w ↦
-          let candidate = w.candidate_at in
-          let shape = w.shape_at-shape in
+          let candidate : Candidate = record { date = call.date; price = call.price; label = w.call_label.result; shape = w.shape_at.result } in
           let later : is_before (civil settlement) (civil call.date) ≡ true = sym c.is_to_come.ensures ∙ w.if-is_to_come.true in
-          let discloses = rw c.row-row.ensures.value at candidate.ensures.disclosed in
-          let next = is_candidate_for row settlement call.date call.price shape.result candidate.result shape.ensures.shape shape.ensures.range candidate.ensures.date candidate.ensures.price candidate.ensures.shape discloses in
-          let pushed : c.if-is_to_come.list.items ≡ list.items ++ candidate.result ∷ [] = cc in
+          let pushed : c.if-is_to_come.list.items ≡ list.items ++ candidate ∷ [] = cc in
           record {
-            candidates = call-later row settlement row.calls.items c.loop-i.i call list.items c.if-is_to_come.list.items candidate.result inside is_call later so_far next pushed;
+            candidates = call-later row settlement row.calls.items c.loop-call.call-index call list.items c.if-is_to_come.list.items candidate inside is_call later so_far refl w.call_label.ensures w.shape_at.ensures.shape w.shape_at.ensures.range pushed;
             room = rw w.list-is (omega arith);
           }
       | else-is_to_come w ↦
           let earlier : is_before (civil settlement) (civil call.date) ≡ false = sym c.is_to_come.ensures ∙ w.if-is_to_come.false in
           record {
-            candidates = rw w.list-is (call-earlier row settlement row.calls.items c.loop-i.i call list.items inside is_call earlier so_far);
+            candidates = rw w.list-is (call-earlier row settlement row.calls.items c.loop-call.call-index call list.items inside is_call earlier so_far);
             room = rw w.list-is (omega arith);
           }
     ]

@@ -4,8 +4,8 @@ use Rattle.muni_sched.proofs.CandidateLemmas.{AreCallCandidates}
 use Rattle.muni_sched.proofs.redemptions.call_candidates.Given as goal
 
 -- the candidates are those of the calls so far
-abbrev pub invariant-loop-i : goal.invariant-loop-i
-invariant-loop-i l = record {
-  candidates : AreCallCandidates l.issue l.settlement (take l.i l.issue.calls.items) l.list.items;
-  room : array_vec_len l.list ≤ l.i;
+abbrev pub invariant-loop-call : goal.invariant-loop-call
+invariant-loop-call l = record {
+  candidates : AreCallCandidates l.issue l.settlement (take l.call-index l.issue.calls.items) l.list.items;
+  room : array_vec_len l.list ≤ l.call-index;
 }

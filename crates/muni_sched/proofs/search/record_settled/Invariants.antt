@@ -2,8 +2,8 @@ use Rattle.std.proofs.Common.{◌≡◌, drop, length}
 use Rattle.muni_sched.specs.Rounds.{recorded}
 use Rattle.muni_sched.proofs.search.record_settled.Given as goal
 
-abbrev pub invariant-loop-i : goal.invariant-loop-i
-invariant-loop-i l = record {
-  rest : recorded (drop l.i l.held) l.known ≡ recorded l.held l.fn.known;
+abbrev pub invariant-loop-search : goal.invariant-loop-search
+invariant-loop-search l = record {
+  rest : recorded (drop l.search-index l.searches) l.known ≡ recorded l.searches l.fn.known;
   len : length l.known ≡ length l.fn.known;
 }

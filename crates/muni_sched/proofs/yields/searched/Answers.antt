@@ -1,7 +1,9 @@
-use Rattle.std.proofs.Common.{rules, arith, ◌≡◌, ◌+◌, ◌-◌, ◌<◌, ◌∙◌, sym, false, true}
+use Rattle.std.proofs.Common.{rules, arith, ◌≡◌, ◌+◌, ◌-◌, ◌<◌, ◌∙◌, sym, subst, false, true}
 use Rattle.muni_yield.specs.Places.{place_verdict}
+use Rattle.muni_sched.specs.Rounds.{rounds, is_over}
+use Rattle.muni_sched.specs.SearchedOut.{AreSearchedOut}
 use Rattle.muni_sched.proofs.SearchLemmas.{round-few}
-use Rattle.muni_sched.proofs.StartLemmas.{started-final, next-final, searched-out}
+use Rattle.muni_sched.proofs.StartLemmas.{started-final, next-final, searched-out, rounds-over, rounds-next}
 use Rattle.muni_sched.proofs.yields.searched.Goals as goal
 
 pub loop-steps-init : goal.loop-steps-init
@@ -11,6 +13,7 @@ loop-steps-init g c =
       final = started-final verdicts c.args.price c.args.list.now c.start-search.result c.requires.price c.requires.candidates c.requires.few c.start-search.ensures;
       most = omega arith;
       steps = omega arith;
+      counted = omega arith;
     }
 
 pub tick-requires : goal.tick-requires
@@ -45,13 +48,27 @@ loop-steps-preserved g c =
       final = next-final verdicts c.args.price c.args.list.now c.loop-steps.round c.loop-steps.search c.refine.new.self few c.refine.ensures known.final;
       most = omega (arith, few);
       steps = let so_far = known.steps in let one = c.tick.ensures in omega (arith, so_far, one);
+      counted = sym (rounds-next verdicts c.loop-steps.round c.loop-steps.search c.refine.new.self few (sym c.is_over.ensures ∙ some) c.refine.ensures) ∙ known.counted;
     }
 
-pub returns-clause-out : goal.returns-clause-out
-returns-clause-out g c =
+pub returns : goal.returns
+returns g c =
     let verdicts = place_verdict (g.E.Encloser.ends c.args.encloser.now) in
-    let over : c.is_over.result ≡ true = search rules in
-    searched-out verdicts c.args.price c.args.list.now c.loop-steps.round c.loop-steps.search (sym c.is_over.ensures ∙ over) c.loop-steps.invariant.final
-
-pub returns-clause-steps : goal.returns-clause-steps
-returns-clause-steps g c = let known = c.loop-steps.invariant in let steps = known.steps in let most = known.most in (omega (arith, steps), omega (arith, steps, most))
+    let list = c.args.list.now in
+    let known = c.loop-steps.invariant in
+    let steps = known.steps in
+    let most = known.most in
+    let round = c.loop-steps.round in
+    let last = c.loop-steps.search in
+    let over : is_over last ≡ true = sym c.is_over.ensures ∙ search rules in
+    let no_more : rounds (19 - round) verdicts last ≡ 0 = rounds-over verdicts (19 - round) last over in
+    let counted = known.counted in
+    record {
+      out = subst (AreSearchedOut verdicts c.args.price list) (sym c.outcomes.ensures) (searched-out verdicts c.args.price list round last over known.final);
+      rounds = record {
+        search = c.start-search.result;
+        started = c.start-search.ensures;
+        counted = omega (arith, steps, counted, no_more);
+      };
+      few = omega (arith, steps, most);
+    }

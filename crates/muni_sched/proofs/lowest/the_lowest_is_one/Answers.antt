@@ -1,0 +1,5 @@
+use Rattle.muni_sched.proofs.SameLemmas.{lowest-same}
+use Rattle.muni_sched.proofs.lowest.the_lowest_is_one.Goals as goal
+
+pub returns : goal.returns
+returns c = lowest-same

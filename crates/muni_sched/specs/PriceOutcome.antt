@@ -1,0 +1,61 @@
+-- What is known of the price of a candidate at a yield.
+use Rattle.std.specs.Prelude.{◌≡◌, ⊤, ℤ, pos, ◌-ℤ◌}
+use Rattle.muni_rule.specs.Payments.{PaymentSeries}
+use Rattle.muni_rule.specs.SinglePayment.{AtLeast}
+use Rattle.muni_rule.specs.Verdicts.{at_least_verdict, dirty_thousandths}
+use Rattle.muni_rule.specs.WorthEnds.{WorthEnds, ends_of}
+use Rattle.muni_multi.specs.Prices as multi
+use Rattle.muni_multi.specs.declared.price.PriceAnswer.{PriceAnswer}
+use Rattle.muni_multi.specs.declared.price.PriceAnswer.TheVariants as found
+use Rattle.muni_simple.specs.Single as simple
+use Rattle.muni_simple.specs.declared.price.SimplePrice.{SimplePrice}
+use Rattle.muni_simple.specs.declared.price.SimplePrice.TheVariants as exact
+use Rattle.muni_sched.specs.declared.candidate.Candidate.{Candidate}
+use Rattle.muni_sched.specs.declared.candidate.Shape.{Shape}
+use Rattle.muni_sched.specs.declared.candidate.Shape.TheVariants.{Many, One, AtRedemption, Discount}
+use Rattle.muni_sched.specs.declared.lowest.Outcome.{Outcome}
+use Rattle.muni_sched.specs.declared.lowest.Outcome.TheVariants.{Print, Unsure, Below}
+use Rattle.muni_sched.specs.ToCome.{ToCome, many, one, to_come_of}
+
+-- a yield is given for all but discounted notes
+abbrev pub IsShapeAtYield : Shape → Type 0
+IsShapeAtYield (Many series) = ⊤
+IsShapeAtYield (One payment) = ⊤
+IsShapeAtYield (AtRedemption payment) = ⊤
+IsShapeAtYield (Discount days) = ⊥
+
+abbrev pub IsAtYield : Candidate → Type 0
+IsAtYield candidate = IsShapeAtYield candidate.shape
+
+-- an answer for many payments: a boundary that is open begins the figure after the one that is
+-- reached
+abbrev pub many_price : PriceAnswer → Outcome
+many_price (found.Price t) = Print (pos t)
+many_price found.BelowZero = Below
+many_price (found.Undecided boundary) = Unsure (pos boundary -ℤ pos 1)
+
+-- and an answer for one payment to come
+abbrev pub one_price : SimplePrice → Outcome
+one_price (exact.Price t) = Print (pos t)
+one_price exact.BelowZero = Below
+
+-- the verdict on the price of many payments, by the ends that an encloser gives
+abbrev pub IsManyOutcome : (ends : PaymentSeries → ℤ → WorthEnds) → ℤ → PaymentSeries
+    → PriceAnswer → Type 0
+IsManyOutcome ends y series answer =
+    multi.IsPriceOutcome (λ t. at_least_verdict (ends_of series y (ends series y))
+    (dirty_thousandths series.accrued t)) answer
+
+-- One payment to come has its exact outcome, and many have that of verdicts.
+abbrev pub IsPriceOutcomeFor : (ends : PaymentSeries → ℤ → WorthEnds) → ℤ → ToCome → Outcome
+    → Type 0
+IsPriceOutcomeFor ends y (many series) outcome =
+    (answer : PriceAnswer) × IsManyOutcome ends y series answer × (outcome ≡ many_price answer)
+IsPriceOutcomeFor ends y (one least payment) outcome =
+    (answer : SimplePrice) × simple.IsPriceAnswer (AtLeast payment y) answer
+    × (outcome ≡ one_price answer)
+
+abbrev pub IsPriceOutcome : (ends : PaymentSeries → ℤ → WorthEnds) → ℤ → Candidate → Outcome
+    → Type 0
+IsPriceOutcome ends y candidate outcome =
+    IsPriceOutcomeFor ends y (to_come_of candidate.shape) outcome

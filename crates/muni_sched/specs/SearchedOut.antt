@@ -1,0 +1,33 @@
+-- A search that is over.
+use Rattle.std.specs.Prelude.{◌≡◌, ℕ, ◌+◌, List, All}
+use Rattle.std.specs.List.{AllZip}
+use Rattle.muni_rule.specs.Payments.{PaymentSeries}
+use Rattle.muni_rule.specs.declared.verdict.Verdict.{Verdict}
+use Rattle.muni_sched.specs.declared.candidate.Candidate.{Candidate}
+use Rattle.muni_sched.specs.declared.figure.FigureKind.TheVariants.{Yield}
+use Rattle.muni_sched.specs.declared.lowest.Lowest.{Lowest}
+use Rattle.muni_sched.specs.declared.lowest.Outcome.{Outcome}
+use Rattle.muni_sched.specs.declared.search.Search.{Search}
+use Rattle.muni_sched.specs.Figures.{least_unsure, IsOf}
+use Rattle.muni_sched.specs.Ranks.{IsRanked}
+use Rattle.muni_sched.specs.Rounds.{IsStarted, rounds}
+use Rattle.muni_sched.specs.YieldOutcome.{IsYieldOutcome}
+
+-- the first of least rank among these outcomes is that among the outcomes of all candidates
+pub record AreSearchedOut
+    (verdicts : PaymentSeries → ℕ → ℕ → Verdict) (price : ℕ) (list : List Candidate)
+    (found : List Outcome) : Type 0 where
+  pub outcomes : List Outcome
+  pub each : AllZip (IsYieldOutcome verdicts price) list outcomes
+  pub ranked : (lowest : Lowest) → IsRanked (least_unsure Yield) found lowest
+      → IsRanked (least_unsure Yield) outcomes lowest
+  pub range : All (IsOf Yield) outcomes
+  pub found_range : All (IsOf Yield) found
+
+-- a count rises by the rounds of the search, of which there are at most 19
+pub record CountsRounds
+    (verdicts : PaymentSeries → ℕ → ℕ → Verdict) (price : ℕ) (list : List Candidate)
+    (before now : ℕ) : Type 0 where
+  pub search : Search
+  pub started : IsStarted price list search
+  pub counted : now ≡ before + rounds 19 verdicts search
