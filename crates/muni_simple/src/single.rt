@@ -11,9 +11,8 @@ pub struct Single {
     pub due: i64,
     /// The accrued interest.
     pub accrued: i64,
-    /// The days left of the interest that the payment has: up to 180, those of its half-year that
-    /// have not passed, or up to 720 with interest at redemption, those from the dated date to
-    /// maturity that have not passed.
+    /// The days left: 180 less those since the last quasi-coupon date, or with interest at
+    /// redemption the days from the dated date to maturity, up to 720, less those to the settlement.
     pub left: i32,
 }
 
