@@ -1,7 +1,17 @@
 -- The numbers and names of refusals.
 use Rattle.std.specs.Prelude.{ℕ, ◌==◌, if◌then◌else◌, List, codes}
+use Rattle.std.specs.declared.cmp.Ordering.{Ordering}
+use Rattle.std.specs.declared.cmp.Ordering.TheVariants.{Less, Equal, Greater}
+use Rattle.muni_msg.specs.declared.refusal.Range.{Range}
+use Rattle.muni_msg.specs.declared.refusal.Range.TheVariants.{Below, Above}
 use Rattle.muni_msg.specs.declared.refusal.Refusal.{Refusal}
 use Rattle.muni_msg.specs.declared.refusal.Refusal.TheVariants.{UnknownIssue, UnknownTrade, Conflict, BadTerms, SettleOutside, GivenOutOfRange, YieldBelow, YieldAbove, NoTime, Undecided, Canceled, WrongNumber, VersionsFull, DeskFull, WrongBasis}
+
+-- the side on which a figure has left its range, by how it compares with all that lies within
+abbrev pub range_of : Ordering → Range
+range_of Less = Below
+range_of Equal = Above
+range_of Greater = Above
 
 -- each refusal has a number of its own
 abbrev pub number_of : Refusal → ℕ

@@ -2,6 +2,7 @@
 #![tactic(auto)]
 
 mod asked;
+mod fields;
 mod figures;
 mod refusal;
 #[cfg(test)]
@@ -9,6 +10,7 @@ mod tests;
 mod version;
 
 pub use asked::{Asked, Given, Side, Terms};
+pub use fields::{read_call, read_given, read_kind, read_side};
 pub use figures::Figures;
 pub use refusal::{Range, Refusal, refusal_name};
 pub use version::{Act, Kept, Version};

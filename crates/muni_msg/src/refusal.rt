@@ -1,11 +1,12 @@
 //! Why the desk refuses a request.
 
 ghost use Rattle.std.specs.Prelude.{◌≡◌, ◌≤◌, length};
-ghost use Rattle.muni_msg.specs.Refusal.{number_of, name_of};
+ghost use Rattle.muni_msg.specs.Refusal.{number_of, name_of, range_of};
 
 use crate::Kept;
 use muni_days::Day;
 use muni_terms::{Boundary, TermsFault};
+use std::cmp::Ordering;
 
 /// Which side of a range was left.
 #[derive(Clone, Copy, Debug, PartialEq, Eq)]
@@ -51,6 +52,19 @@ pub enum Refusal {
     DeskFull,
     /// A discount rate for an issue that is not sold at a discount, or a yield for one that is.
     WrongBasis,
+}
+
+impl Range {
+    /// The side on which a figure that compares so with a range has left it: less or greater than
+    /// all that lies within.
+    pub fn of(side: Ordering) -> Range
+        ensures { result ≡ range_of side }
+    {
+        match side {
+            Ordering::Less => Range::Below,
+            Ordering::Equal | Ordering::Greater => Range::Above,
+        }
+    }
 }
 
 impl Refusal {

@@ -1,0 +1,63 @@
+-- The texts that name a kind of security, a call, a side and a basis, in words, rows and messages.
+use Rattle.std.specs.Prelude.{ℕ, ◌+◌, ◌==◌, if◌then◌else◌, List, take, drop, position, codes, Option, Some, None, option_map, option_and_then}
+use Rattle.std.specs.Result.{result_ok}
+use Rattle.std.specs.Str.{bytes_eq}
+use Rattle.muni_dec.specs.Values.{price_reading, yield_reading}
+use Rattle.muni_days.specs.Day.{day_reading}
+use Rattle.muni_days.specs.declared.day.Day.{Day}
+use Rattle.muni_terms.specs.declared.row.Call.{Call}
+use Rattle.muni_terms.specs.declared.row.Kind.{Kind}
+use Rattle.muni_terms.specs.declared.row.Kind.TheVariants.{Periodic, Zero, AtRedemption, Discount}
+use Rattle.muni_msg.specs.declared.asked.Given.{Given}
+use Rattle.muni_msg.specs.declared.asked.Given.TheVariants.{AtYield, AtPrice, AtRate}
+use Rattle.muni_msg.specs.declared.asked.Side.{Side}
+use Rattle.muni_msg.specs.declared.asked.Side.TheVariants.{Buy, Sell}
+
+infixl 10 ◌>>=◌
+abbrev pub ◌>>=◌ : {A B : Type 0} → Option A → (A → Option B) → Option B
+o >>= f = option_and_then f o
+
+-- a text as a day
+abbrev pub day_in : List ℕ → Option Day
+day_in text = result_ok (day_reading text)
+
+-- a kind that has no first interest date
+abbrev pub plain_kind : List ℕ → Option Kind
+plain_kind text =
+    if bytes_eq text (codes "zero") then Some Zero
+    else (if bytes_eq text (codes "at-redemption") then Some AtRedemption
+    else (if bytes_eq text (codes "discount") then Some Discount else None))
+
+-- a text as a kind, with the text of the first interest date, which is there exactly for `periodic`
+abbrev pub kind_reading : List ℕ → Option (List ℕ) → Option Kind
+kind_reading text (Some first) =
+    if bytes_eq text (codes "periodic") then option_map (λ date. Periodic date) (day_in first)
+    else None
+kind_reading text None = plain_kind text
+
+-- a text as a call, with the place of the colon between its date and its price
+abbrev pub call_reading_at : List ℕ → ℕ → Option Call
+call_reading_at text colon = do
+  date ← day_in (take colon text)
+  price ← result_ok (price_reading (drop (colon + 1) text))
+  Some (record { date = date; price = price })
+
+-- a text as a call: a date, a colon and a price, which may hold no colon more
+abbrev pub call_reading : List ℕ → Option Call
+call_reading text = position (λ b. b == 58) text >>= λ colon. call_reading_at text colon
+
+-- a text as a side
+abbrev pub side_reading : List ℕ → Option Side
+side_reading text =
+    if bytes_eq text (codes "buy") then Some Buy
+    else (if bytes_eq text (codes "sell") then Some Sell else None)
+
+-- the texts of a basis and of its value as what is given
+abbrev pub given_reading : List ℕ → List ℕ → Option Given
+given_reading basis value =
+    if bytes_eq basis (codes "yield")
+    then option_map (λ y. AtYield y) (result_ok (yield_reading value))
+    else (if bytes_eq basis (codes "price")
+    then option_map (λ price. AtPrice price) (result_ok (price_reading value))
+    else (if bytes_eq basis (codes "rate")
+    then option_map (λ rate. AtRate rate) (result_ok (yield_reading value)) else None))

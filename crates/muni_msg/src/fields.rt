@@ -1,0 +1,88 @@
+//! The texts of fields, which words, rows and messages share.
+
+ghost use Rattle.std.specs.Prelude.{◌≡◌, ◌==◌, ◌<◌, length, position, IfSome};
+ghost use Rattle.std.specs.Option.{option_map};
+ghost use Rattle.muni_msg.specs.Fields as spec;
+
+use crate::{Given, Side};
+use muni_days::Day;
+use muni_dec::{Price, Yield};
+use muni_terms::{Call, Kind};
+
+/// The kind of security that a text names: `periodic`, `zero`, `at-redemption` or `discount`.
+///
+/// The text of the first interest date stands exactly beside `periodic`.
+pub fn read_kind(text: &[u8], first: Option<&[u8]>) -> Option<Kind>
+    ensures { result ≡ spec.kind_reading text.now (option_map (λ f. f.now) first.entry) }
+{
+    let Some(first) = first else {
+        return read_plain_kind(text);
+    };
+    if text != b"periodic".as_slice() {
+        return None;
+    }
+    let first = Day::read(first).ok()?;
+    Some(Kind::Periodic { first })
+}
+
+fn read_plain_kind(text: &[u8]) -> Option<Kind>
+    ensures { result ≡ spec.plain_kind text.now }
+{
+    if text == b"zero".as_slice() {
+        return Some(Kind::Zero);
+    }
+    if text == b"at-redemption".as_slice() {
+        return Some(Kind::AtRedemption);
+    }
+    if text == b"discount".as_slice() {
+        return Some(Kind::Discount);
+    }
+    None
+}
+
+/// The call that a text names: its date, a colon and its price, as `2027-01-01:102.5`.
+pub fn read_call(text: &[u8]) -> Option<Call>
+    ensures { result ≡ spec.call_reading text.now }
+{
+    let colon = find_colon(text)?;
+    let date = Day::read(&text[..colon]).ok()?;
+    let price = Price::read(&text[colon + 1..]).ok()?;
+    Some(Call { date, price })
+}
+
+fn find_colon(text: &[u8]) -> Option<usize>
+    ensures value { result ≡ position (λ b. b == 58) text.now }
+    ensures inside { IfSome result (λ colon. colon < length text.now) }
+{
+    text.iter().position(|b| *b == b':')
+}
+
+/// The side that a text names: `buy` or `sell`.
+pub fn read_side(text: &[u8]) -> Option<Side>
+    ensures { result ≡ spec.side_reading text.now }
+{
+    if text == b"buy".as_slice() {
+        return Some(Side::Buy);
+    }
+    if text == b"sell".as_slice() {
+        return Some(Side::Sell);
+    }
+    None
+}
+
+/// What is given by a basis, which is `yield`, `price` or `rate`, and by its value: a price in
+/// dollars per 100 of par, or a yield or a discount rate in percent.
+pub fn read_given(basis: &[u8], value: &[u8]) -> Option<Given>
+    ensures { result ≡ spec.given_reading basis.now value.now }
+{
+    if basis == b"yield".as_slice() {
+        return Some(Given::AtYield(Yield::read(value).ok()?));
+    }
+    if basis == b"price".as_slice() {
+        return Some(Given::AtPrice(Price::read(value).ok()?));
+    }
+    if basis == b"rate".as_slice() {
+        return Some(Given::AtRate(Yield::read(value).ok()?));
+    }
+    None
+}
