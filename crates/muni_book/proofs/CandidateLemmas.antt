@@ -1,25 +1,24 @@
 -- What the redemption candidates of an issue allow to be given.
-use Rattle.std.proofs.Common.{◌≡◌, ℕ, ◌+◌, ◌<◌, true, false, Bool, Some, None, List, [], ◌∷◌, length, map, refl, sym, ap, subst, arith, ℤ, pos, negsuc}
+use Rattle.std.proofs.Common.{◌≡◌, ℕ, ◌<◌, true, false, Bool, Some, None, List, [], ◌∷◌, length, get_or, refl, sym, subst, arith, ℤ, pos, negsuc}
 use Rattle.std.specs.Prelude.{All, Option, option_map, if◌then◌else◌, IfSome}
 use Rattle.std.specs.List.{slice_get}
-use Rattle.std.proofs.lemmas.List.{length-map, length-append}
 use Rattle.std.proofs.lemmas.List.Elements.{All-head, All-tail, All-cons, All-nil}
 use Rattle.std.proofs.lemmas.Int.{ints}
-use Rattle.muni_rule.specs.Accuracy.{rounded_yield}
+use Rattle.std.proofs.lemmas.Option.{slice_get_read}
+use Rattle.muni_rule.specs.Accuracy.{TruncatesTo, Reaches, rounded_yield}
+use Rattle.muni_rule.specs.Discount.{discount_price}
 use Rattle.muni_rule.specs.LastPayment.{is_last_period, last_payment}
 use Rattle.muni_rule.specs.Payments.{PaymentSeries}
-use Rattle.muni_rule.specs.WorthEnds.{WorthEnds}
 use Rattle.muni_rule.specs.Ranges.{IsWithin, IsOnePeriodYield, IsDiscountRate}
-use Rattle.muni_rule.specs.Redemptions.{calls_after, redemptions_after, at_maturity}
+use Rattle.muni_simple.specs.declared.yields.SimpleYield.{SimpleYield}
 use Rattle.muni_dec.specs.Ranges.{IsYield3}
-use Rattle.muni_days.specs.Day.{civil}
 use Rattle.muni_days.specs.declared.day.Day.{Day}
 use Rattle.muni_terms.specs.declared.row.Kind.{Kind}
 use Rattle.muni_terms.specs.declared.row.Kind.TheVariants.{Periodic, Zero, AtRedemption, Discount}
 use Rattle.muni_terms.specs.declared.row.IssueRow.{IssueRow}
-use Rattle.muni_sched.proofs.ToldLemmas.{taken}
-use Rattle.muni_sched.specs.Candidates.{HasShape, disclosed, disclosure, disclosures_of, call_redemption}
-use Rattle.muni_sched.specs.PriceAnswer.{IsAtYield, IsShapeAtYield}
+use Rattle.std.proofs.lemmas.Option.{same_Some}
+use Rattle.muni_sched.specs.Candidates.{HasShape}
+use Rattle.muni_sched.specs.PriceOutcome.{IsAtYield, IsShapeAtYield}
 use Rattle.muni_sched.specs.Range.{given_range, IsGivenFor}
 use Rattle.muni_sched.specs.Shape.{single, series_shape, shape_by}
 use Rattle.muni_sched.specs.declared.candidate.Candidate.{Candidate}
@@ -28,9 +27,7 @@ use Rattle.muni_sched.specs.declared.candidate.Shape.TheVariants as shape
 use Rattle.muni_msg.specs.declared.asked.Given.{Given}
 use Rattle.muni_msg.specs.declared.asked.Given.TheVariants.{AtYield, AtPrice, AtRate}
 use Rattle.muni_book.specs.GivenFor.{IsDiscounted, IsNote, IsOnBasis}
-use Rattle.muni_book.specs.Quoted.{IsQuoted, IsRateQuoted}
-use Rattle.muni_book.specs.Answers.{is_wrong_basis, IsQuote}
-use Rattle.muni_book.specs.declared.answers.Quoted.{Quoted}
+use Rattle.muni_book.specs.Answers.{is_wrong_basis, IsReturn, found_at_rate, IsFoundAtRate}
 
 -- the shape of a series is that of one payment, or of many
 either-at_yield : (last : Bool) (series : PaymentSeries) → IsShapeAtYield (if last then shape.One (single (last_payment series)) else shape.Many series)
@@ -38,20 +35,20 @@ either-at_yield true series = tt
 either-at_yield false series = tt
 
 series-at_yield : (of : Shape) (series : Option PaymentSeries) → Some of ≡ option_map series_shape series → IsShapeAtYield of
-series-at_yield of (Some series) same = subst IsShapeAtYield (sym (taken of (series_shape series) same)) (either-at_yield (is_last_period series) series)
+series-at_yield of (Some series) same = subst IsShapeAtYield (sym (same_Some of (series_shape series) same)) (either-at_yield (is_last_period series) series)
 series-at_yield of None same = absurd (let never : Some of ≡ None = same in cc)
 
 shape-at_yield : (kind : Kind) (y : ℤ) (row : IssueRow) (settlement date : Day) (price : ℕ) (of : Shape) → is_wrong_basis kind (AtYield y) ≡ false → Some of ≡ shape_by kind row settlement date price → IsShapeAtYield of
 shape-at_yield (Periodic first) y row settlement date price of basis same = series-at_yield of _ same
 shape-at_yield Zero y row settlement date price of basis same = series-at_yield of _ same
-shape-at_yield AtRedemption y row settlement date price of basis same = subst IsShapeAtYield (sym (taken of _ same)) tt
+shape-at_yield AtRedemption y row settlement date price of basis same = subst IsShapeAtYield (sym (same_Some of _ same)) tt
 shape-at_yield Discount y row settlement date price of basis same = absurd (let never : true ≡ false = basis in cc)
 
 shape-discounted : (kind : Kind) (rate : ℤ) (row : IssueRow) (settlement date : Day) (price : ℕ) (of : Shape) → is_wrong_basis kind (AtRate rate) ≡ false → Some of ≡ shape_by kind row settlement date price → IsDiscounted of
 shape-discounted (Periodic first) rate row settlement date price of basis same = absurd (let never : true ≡ false = basis in cc)
 shape-discounted Zero rate row settlement date price of basis same = absurd (let never : true ≡ false = basis in cc)
 shape-discounted AtRedemption rate row settlement date price of basis same = absurd (let never : true ≡ false = basis in cc)
-shape-discounted Discount rate row settlement date price of basis same = subst IsDiscounted (sym (taken of _ same)) tt
+shape-discounted Discount rate row settlement date price of basis same = subst IsDiscounted (sym (same_Some of _ same)) tt
 
 all-at_yield : (y : ℤ) (row : IssueRow) (settlement : Day) (list : List Candidate) → is_wrong_basis row.kind (AtYield y) ≡ false → All (HasShape row settlement) list → All IsAtYield list
 all-at_yield y row settlement [] basis all = All-nil IsAtYield
@@ -72,17 +69,6 @@ on-basis (AtYield y) row settlement list basis all = all-at_yield y row settleme
 on-basis (AtPrice price) row settlement list basis all = tt
 on-basis (AtRate rate) row settlement list basis all = all-notes rate row settlement list basis all
 
--- the maturity is always a candidate
-pub some-candidate : (row : IssueRow) (settlement : Day) (list : List Candidate) → map disclosed list ≡ disclosures_of row settlement → 0 < length list
-some-candidate row settlement list same =
-    let calls = calls_after (civil settlement) (map call_redemption row.calls.items) in
-    let all = redemptions_after (civil settlement) (map call_redemption row.calls.items) (civil row.maturity) in
-    let left : length (map disclosed list) ≡ length list = length-map list disclosed in
-    let right : length (map (disclosure (civil row.maturity)) all) ≡ length all = length-map all (disclosure (civil row.maturity)) in
-    let more : length all ≡ length calls + 1 = length-append calls (at_maturity (civil row.maturity) ∷ []) in
-    let both : length (map disclosed list) ≡ length (map (disclosure (civil row.maturity)) all) = ap length same in
-    omega (arith, left, right, more, both)
-
 -- a yield that may be given is shown in the printed range
 given-rounded : (y : ℤ) → IsOnePeriodYield y → IsYield3 (rounded_yield y)
 given-rounded (pos y) given = (omega (arith, ints), omega (arith, ints))
@@ -102,20 +88,23 @@ first-rounded y (candidate ∷ rest) some at given =
 -- what is so of all candidates is so of the first
 pub of-first : (Such : Candidate → Type 0) (list : List Candidate) (candidate : Candidate) → slice_get list 0 ≡ Some candidate → All Such list → Such candidate
 of-first Such [] candidate there all = absurd (let never : None ≡ Some candidate = there in cc)
-of-first Such (first ∷ rest) candidate there all = subst Such (taken first candidate there) (All-head Such first rest all)
+of-first Such (first ∷ rest) candidate there all = subst Such (same_Some first candidate there) (All-head Such first rest all)
 
 pub rate-in_range : (rate : ℤ) (days : ℤ) (of : Shape) → of ≡ shape.Discount days → IsWithin (given_range of) rate → IsDiscountRate rate
 rate-in_range rate days of is given = subst (λ s. IsWithin (given_range s) rate) is given
 
-pub quote-at_rate : (ends : PaymentSeries → ℤ → WorthEnds) (rate : ℤ) (list : List Candidate) (quoted : Quoted) → IsRateQuoted rate list quoted → IsQuoted ends (AtRate rate) list quoted
-quote-at_rate ends rate list quoted is = record { place = 0; there = is.there; quoted = (refl, is.rated) }
-
-pub shape-there : (list : List Candidate) (note : Candidate) (days : ℤ) → slice_get list 0 ≡ Some note → IfSome (slice_get list 0) (λ first. first.shape ≡ shape.Discount days) → note.shape ≡ shape.Discount days
-shape-there list note days there is = subst (λ first. IfSome first (λ found. found.shape ≡ shape.Discount days)) there is
-
--- figures of a quote's price and yield are those of the quote
-pub quote-filled : (ends : PaymentSeries → ℤ → WorthEnds) (given : Given) (list lent : List Candidate) (candidate : Candidate) (price p : ℕ) (yld y : ℤ) → lent ≡ list → p ≡ price → y ≡ yld → IsQuote ends given lent candidate price yld → IsQuote ends given list candidate p y
-quote-filled ends given list lent candidate price p yld y same at by quote =
-    subst (λ l. IsQuote ends given l candidate p y) same
-    (subst (λ n. IsQuote ends given lent candidate n y) (sym at)
-    (subst (λ z. IsQuote ends given lent candidate price z) (sym by) quote))
+-- the first candidate, as it is read, is found at a rate with the days up to it
+pub found-at_rate : (rate days : ℤ) (list : List Candidate) (note : Candidate) (price : ℕ) (return : SimpleYield) → 0 < length list → note ≡ get_or list 0 note → IfSome (slice_get list 0) (λ first. first.shape ≡ shape.Discount days) → TruncatesTo (Reaches (discount_price rate days)) price → IsReturn days (discount_price rate days) return → IsFoundAtRate rate list (found_at_rate note price return)
+found-at_rate rate days list note price return some first is truncated exact =
+    let there : slice_get list 0 ≡ Some note = slice_get_read list (length list) 0 note refl some first in
+    record {
+      note = note;
+      there = there;
+      days = days;
+      shape = subst (λ found. IfSome found (λ candidate. candidate.shape ≡ shape.Discount days)) there is;
+      price = price;
+      truncated = truncated;
+      return = return;
+      exact = exact;
+      is_found = refl;
+    }

@@ -1,3 +1,3 @@
 pub mod CandidateLemmas
-pub mod FigureCases
+pub mod FoundLemmas
 pub mod UniqueLemmas

@@ -1,9 +1,7 @@
--- What may be given for redemption candidates, and the figures that are found.
+-- What may be given for redemption candidates.
 use Rattle.std.specs.Prelude.{◌<◌, ⊤, List, All}
-use Rattle.muni_sched.specs.PriceAnswer.{IsAtYield}
+use Rattle.muni_sched.specs.PriceOutcome.{IsAtYield}
 use Rattle.muni_sched.specs.Range.{IsGivenFor}
-use Rattle.muni_sched.specs.declared.answer.Figure.{Figure}
-use Rattle.muni_sched.specs.declared.answer.Figure.TheVariants as figure
 use Rattle.muni_sched.specs.declared.candidate.Candidate.{Candidate}
 use Rattle.muni_sched.specs.declared.candidate.Shape.{Shape}
 use Rattle.muni_sched.specs.declared.candidate.Shape.TheVariants.{Many, One, AtRedemption, Discount}
@@ -31,13 +29,3 @@ abbrev pub IsOnBasis : Given → List Candidate → Type 0
 IsOnBasis (AtYield y) list = All IsAtYield list
 IsOnBasis (AtPrice price) list = ⊤
 IsOnBasis (AtRate rate) list = All IsNote list
-
--- a figure is a price
-abbrev pub IsPriceFigure : Figure → Type 0
-IsPriceFigure (figure.Price t) = ⊤
-IsPriceFigure (figure.Yield t) = ⊥
-
--- or a yield
-abbrev pub IsYieldFigure : Figure → Type 0
-IsYieldFigure (figure.Price t) = ⊥
-IsYieldFigure (figure.Yield t) = ⊤

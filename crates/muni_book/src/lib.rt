@@ -4,5 +4,5 @@
 mod answers;
 mod laws;
 
-pub use answers::{figures, sum};
+pub use answers::figures;
 pub use laws::the_answer_to_a_request_is_unique;

@@ -1,31 +1,21 @@
-use Rattle.std.proofs.Common.{rules, ◌≡◌, refl, pos}
-use Rattle.muni_simple.specs.declared.yields.SimpleYield.TheVariants.{NoTime}
-use Rattle.muni_sched.specs.Range.{IsGivenFor}
-use Rattle.muni_book.proofs.CandidateLemmas.{of-first, rate-in_range, shape-there}
+use Rattle.std.proofs.Common.{rules}
+use Rattle.muni_rule.specs.Accuracy.{TruncatesTo, Reaches}
+use Rattle.muni_rule.specs.Discount.{discount_price}
+use Rattle.muni_simple.specs.declared.yields.SimpleYield.TheVariants.{Print, NoTime}
+use Rattle.muni_book.specs.Answers.{IsReturn}
+use Rattle.muni_book.proofs.CandidateLemmas.{found-at_rate}
 use Rattle.muni_book.proofs.answers.at_rate.Goals as goal
 
-pub rate_price-requires-clause-rate : goal.rate_price-requires-clause-rate
-rate_price-requires-clause-rate c =
-    let list = c.args.list.now in
-    let note = c.candidate_at-note.result in
+pub returns-in-Print-clause-found : goal.returns-in-Print-clause-found
+returns-in-Print-clause-found c =
     let days = c.days_left-days.result in
-    let there = c.candidate_at-note.ensures in
-    rate-in_range c.args.rate days note.shape (shape-there list note days there c.days_left-days.ensures.shape)
-    (of-first (IsGivenFor c.args.rate) list note there c.requires.in_range)
+    let exact : IsReturn days (discount_price c.args.rate days) (Print c.in-Print.yld) = search rules in
+    let truncated : TruncatesTo (Reaches (discount_price c.args.rate days)) c.rate_price-price.result = search rules in
+    found-at_rate c.args.rate days c.args.list.now c.index-list-0.result c.rate_price-price.result (Print c.in-Print.yld) c.requires.some c.index-list-0.is c.days_left-days.ensures.shape truncated exact
 
-pub returns-in-NoTime-clause-said : goal.returns-in-NoTime-clause-said
-returns-in-NoTime-clause-said c =
-    let list = c.args.list.now in
-    let note = c.candidate_at-note.result in
+pub returns-in-NoTime-clause-found : goal.returns-in-NoTime-clause-found
+returns-in-NoTime-clause-found c =
     let days = c.days_left-days.result in
-    let there = c.candidate_at-note.ensures in
-    let none : days ≡ pos 0 = search rules in
-    record {
-      note = note;
-      there = there;
-      days = days;
-      shape = shape-there list note days there c.days_left-days.ensures.shape;
-      said = NoTime;
-      return = none;
-      applies = refl;
-    }
+    let exact : IsReturn days (discount_price c.args.rate days) NoTime = search rules in
+    let truncated : TruncatesTo (Reaches (discount_price c.args.rate days)) c.rate_price-price.result = search rules in
+    found-at_rate c.args.rate days c.args.list.now c.index-list-0.result c.rate_price-price.result NoTime c.requires.some c.index-list-0.is c.days_left-days.ensures.shape truncated exact

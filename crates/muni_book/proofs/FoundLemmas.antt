@@ -1,0 +1,91 @@
+-- What is found over the candidates at what is given is unique.
+use Rattle.std.proofs.Common.{◌≡◌, ℕ, zero, suc, ◌*◌, ◌≤◌, ◌<◌, List, Option, Some, None, refl, sym, subst, ap, ◌∙◌, arith, ℤ, pos, negsuc, ◌+ℤ◌, ◌≤ℤ◌, ◌<ℤ◌, Result}
+use Rattle.std.specs.Prelude.{All, option_map, if◌then◌else◌, ◌==◌}
+use Rattle.std.proofs.Math.Nat.{mul-le-mul}
+use Rattle.std.proofs.lemmas.Int.{ints}
+use Rattle.muni_rule.specs.Accuracy.{TruncatesTo, Reaches}
+use Rattle.muni_rule.specs.Discount.{discount_price, discounted}
+use Rattle.muni_rule.specs.Payments.{PaymentSeries}
+use Rattle.muni_rule.specs.Ranges.{IsDiscountRate}
+use Rattle.muni_rule.specs.WorthEnds.{WorthEnds}
+use Rattle.muni_simple.specs.declared.yields.SimpleYield.{SimpleYield}
+use Rattle.muni_simple.proofs.OneAnswer.{answer-same}
+use Rattle.muni_sched.specs.Basis.{at_yield, at_price, ArePriced}
+use Rattle.muni_sched.specs.Candidates.{IsCandidate}
+use Rattle.muni_sched.specs.Range.{side_of_first, IsGivenFor}
+use Rattle.muni_sched.specs.Shape.{IsPriceable}
+use Rattle.muni_sched.specs.declared.candidate.Candidate.{Candidate}
+use Rattle.muni_sched.specs.declared.candidate.Shape.TheVariants as shape
+use Rattle.muni_sched.proofs.OneAnswerLemmas.{one-answer}
+use Rattle.muni_rule.specs.Printed.{IsClosed}
+use Rattle.muni_rule.proofs.OnePriceLemmas.{printed-one}
+use Rattle.muni_sched.proofs.RangeLemmas.{all-given}
+use Rattle.std.proofs.lemmas.Option.{same_Some}
+use Rattle.muni_msg.specs.Refusal.{range_of}
+use Rattle.muni_msg.specs.declared.asked.Given.{Given}
+use Rattle.muni_msg.specs.declared.asked.Given.TheVariants.{AtYield, AtPrice, AtRate}
+use Rattle.muni_msg.specs.declared.refusal.Range.TheVariants as range
+use Rattle.muni_msg.specs.declared.refusal.Refusal.{Refusal}
+use Rattle.muni_book.specs.declared.answers.PriceAndYield.{PriceAndYield}
+use Rattle.muni_book.specs.Answers.{side_left, found_at_yield, found_at_price, found_at_rate, IsReturn, IsFound}
+use Rattle.muni_book.specs.GivenFor.{IsInRange, IsOnBasis}
+use Rattle.muni_book.proofs.CandidateLemmas.{of-first, rate-in_range}
+
+-- ---- what is given lies in its range
+none-mapped : {X Y : Type 0} (f : X → Y) (side : Option X) → option_map f side ≡ None → side ≡ None
+none-mapped f None none = refl
+none-mapped f (Some side) none = absurd (let never : Some (f side) ≡ None = none in cc)
+
+some-price : (price : ℕ) → (if price == 0 then Some range.Below else None) ≡ None → 0 < price
+some-price zero none = absurd (let never : Some range.Below ≡ None = none in cc)
+some-price (suc price) none = omega arith
+
+pub inside-range : (given : Given) (list : List Candidate) → side_left given list ≡ None → IsInRange given list
+inside-range (AtYield y) list none = all-given y list (none-mapped range_of (side_of_first y list) none)
+inside-range (AtPrice price) list none = some-price price none
+inside-range (AtRate rate) list none = all-given rate list (none-mapped range_of (side_of_first rate list) none)
+
+-- what is given may be given for the candidates
+pub record IsCase (given : Given) (list : List Candidate) : Type 0 where
+  pub candidates : All IsCandidate list
+  pub basis : IsOnBasis given list
+  pub in_range : IsInRange given list
+
+-- ---- at a rate
+price-above : (rate days : ℤ) → IsDiscountRate rate → pos 0 ≤ℤ days → days ≤ℤ pos 720 → pos 0 <ℤ (discount_price rate days +ℤ pos 0)
+price-above (negsuc r) days given from most = let least = given.0 in absurd (omega (arith, ints, least))
+price-above (pos rate) (negsuc d) given from most = absurd (omega (arith, ints, from))
+price-above (pos rate) (pos days) given from most =
+    let greatest = given.1 in
+    let small : rate ≤ 300_000 = omega (arith, ints, greatest) in
+    let few : days ≤ 720 = omega (arith, ints, most) in
+    let discount : rate * days ≤ 300_000 * 720 = mul-le-mul small few in
+    omega (arith, ints, discount)
+
+return-unique : (rate days : ℤ) (return other : SimpleYield) → IsDiscountRate rate → (pos 0 ≤ℤ days) × (days ≤ℤ pos 720) → IsReturn days (discount_price rate days) return → IsReturn days (discount_price rate days) other → return ≡ other
+return-unique rate days return other given range is also =
+    answer-same (negsuc 44_999) (discounted days) (discount_price rate days) return other (omega (arith, ints)) (price-above rate days given range.0 range.1) is also
+
+at_most-closed : (price : ℤ) → IsClosed (Reaches price)
+at_most-closed price = λ amount smaller less reached. omega (arith, ints, less, reached)
+
+-- ---- at each basis
+pub found-unique : (ends : PaymentSeries → ℤ → WorthEnds) (given : Given) (list : List Candidate) (found other : Result PriceAndYield Refusal) → IsCase given list → IsFound ends given list found → IsFound ends given list other → found ≡ other
+found-unique ends (AtYield y) list found other case is also =
+    let askable : ArePriced y list = record { candidates = case.candidates; basis = case.basis; in_range = case.in_range } in
+    let low : is.0 ≡ also.0 = one-answer ends (at_yield y) list is.0 also.0 askable is.1.rule also.1.rule in
+    same_Some found other (is.2 ∙ ap (found_at_yield y list) low ∙ sym also.2)
+found-unique ends (AtPrice price) list found other case is also =
+    let low : is.0 ≡ also.0 = one-answer ends (at_price price) list is.0 also.0 (case.in_range, case.candidates) is.1.rule also.1.rule in
+    same_Some found other (is.2 ∙ ap (found_at_price price list) low ∙ sym also.2)
+found-unique ends (AtRate rate) list found other case is also =
+    let note : is.note ≡ also.note = same_Some is.note also.note (sym is.there ∙ also.there) in
+    let shapes : shape.Discount is.days ≡ shape.Discount also.days = sym is.shape ∙ ap (λ (c : Candidate). c.shape) note ∙ also.shape in
+    let days : is.days ≡ also.days = cc in
+    let given : IsDiscountRate rate = rate-in_range rate is.days is.note.shape is.shape (of-first (IsGivenFor rate) list is.note is.there case.in_range) in
+    let range : IsPriceable (shape.Discount is.days) = subst IsPriceable is.shape (of-first IsCandidate list is.note is.there case.candidates) in
+    let exact : IsReturn is.days (discount_price rate is.days) also.return = subst (λ d. IsReturn d (discount_price rate d) also.return) (sym days) also.exact in
+    let truncated : TruncatesTo (Reaches (discount_price rate is.days)) also.price = subst (λ d. TruncatesTo (Reaches (discount_price rate d)) also.price) (sym days) also.truncated in
+    let price : is.price ≡ also.price = printed-one (Reaches (discount_price rate is.days)) is.price also.price (at_most-closed (discount_price rate is.days)) is.truncated truncated in
+    let return : is.return ≡ also.return = return-unique rate is.days is.return also.return given range is.exact exact in
+    is.is_found ∙ (λ i. found_at_rate (note i) (price i) (return i)) ∙ sym also.is_found
