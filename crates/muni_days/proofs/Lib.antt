@@ -4,3 +4,4 @@ pub mod DayLemmas
 pub mod FormLemmas
 pub mod TextLemmas
 pub mod ReadingLemmas
+pub mod EarlyLemmas

@@ -4,7 +4,12 @@ use Rattle.std.proofs.lemmas.Int.{ints}
 use Rattle.std.proofs.lemmas.Bool.Decides.{nat_tests}
 use Rattle.muni_rule.specs.Civil.{Civil, order_of, month_index, months_on}
 use Rattle.muni_rule.specs.DayCount.{first_counted, last_counted, days360}
-use Rattle.muni_desk.specs.QuoteOne.{Job, is_next, period_start, settles, accrued_days}
+use Rattle.muni_days.specs.Day.{civil}
+use Rattle.muni_days.specs.declared.day.Day.{Day}
+use Rattle.muni_days.proofs.CivilLemmas.{is_civil, is_of_desk}
+use Rattle.muni_days.proofs.EarlyLemmas.{IsEarly}
+use Rattle.muni_desk.specs.QuoteOne.{is_next, period_start, settles, accrued_days}
+use Rattle.muni_desk.specs.declared.quote_one.QuoteOneRequest.{QuoteOneRequest}
 
 -- the six months before a day that every month has
 record IsPeriod (start next : Civil) : Type 0 where
@@ -25,8 +30,8 @@ last_counted-small : (first day : ℕ) → first ≤ 28 → last_counted first d
 last_counted-small first day h = grind (arith, nat_tests)
 
 days360-within : (start settlement next : Civil) → IsPeriod start next → 1 ≤ settlement.day → settlement.day ≤ 31 → order_of start ≤ order_of settlement → order_of settlement < order_of next → (pos 0 ≤ℤ days360 start settlement) × (days360 start settlement ≤ℤ pos 180)
-days360-within start settlement next period ends after before =
-    let r = within_six_months (start.year * 12 + start.month) (settlement.year * 12 + settlement.month) start.day settlement.day period.from period.to ends (omega arith) (omega arith) in
+days360-within start settlement next period low high after before =
+    let r = within_six_months (start.year * 12 + start.month) (settlement.year * 12 + settlement.month) start.day settlement.day period.from period.to low high (omega arith) (omega arith) in
     rw (first_counted-small start.day period.to, last_counted-small start.day settlement.day period.to) (omega (arith, ints), omega (arith, ints))
 
 six_months_before : (next : Civil) → 1902 ≤ next.year → 1 ≤ next.month → 1 ≤ next.day → next.day ≤ 28 → IsPeriod (months_on next (negsuc 5)) next
@@ -40,8 +45,25 @@ both_le a b c d h = grind (arith, nat_tests)
 le_and_lt : (a b c d : ℕ) → nat_le a b && nat_lt c d ≡ true → (a ≤ b) × (c < d)
 le_and_lt a b c d h = grind (arith, nat_tests)
 
-pub accrued_days-within : (job : Job) → is_next job.next ≡ true → settles job ≡ true → 1 ≤ job.next.month → 1 ≤ job.next.day → 1 ≤ job.settlement.day → job.settlement.day ≤ 31 → (pos 0 ≤ℤ accrued_days job) × (accrued_days job ≤ℤ pos 180)
-accrued_days-within job next settles month day ends =
-    let date = both_le job.next.day 28 1902 job.next.year next in
-    let order = le_and_lt (order_of (period_start job)) (order_of job.settlement) (order_of job.settlement) (order_of job.next) settles in
-    days360-within (period_start job) job.settlement job.next (six_months_before job.next date.1 month day date.0) ends order.0 order.1
+pub accrued_days-within : (request : QuoteOneRequest) → is_next (civil request.next) ≡ true → settles request ≡ true → (pos 0 ≤ℤ accrued_days request) × (accrued_days request ≤ℤ pos 180)
+accrued_days-within request next settles =
+    let on = is_civil request.next in
+    let at = is_civil request.settlement in
+    let date = both_le (civil request.next).day 28 1902 (civil request.next).year next in
+    let order = le_and_lt (order_of (period_start request)) (order_of (civil request.settlement)) (order_of (civil request.settlement)) (order_of (civil request.next)) settles in
+    days360-within (period_start request) (civil request.settlement) (civil request.next) (six_months_before (civil request.next) date.1 on.month_from on.day_from date.0) at.day_from at.day_to order.0 order.1
+
+-- the period begins on a day of the desk
+pub start-early : (next : Day) → is_next (civil next) ≡ true → IsEarly (months_on (civil next) (negsuc 5))
+start-early next is =
+    let on = is_of_desk next in
+    let date = both_le (civil next).day 28 1902 (civil next).year is in
+    let index : unsigned_abs (pos (month_index (civil next)) +ℤ negsuc 5) ≡ month_index (civil next) - 6 = omega (arith, ints, on.civil.month_from) in
+    record {
+      year_from = rw index (omega (arith, date.1, on.civil.month_from));
+      year_to = rw index (omega (arith, on.year_to, on.civil.month_to));
+      month_from = omega arith;
+      month_to = omega arith;
+      day_from = on.civil.day_from;
+      day_to = date.0;
+    }

@@ -1,17 +1,27 @@
--- The first word that is an option.
-use Rattle.std.proofs.Common.{◌≡◌, ℕ, ◌<◌, Bool, true, false, ltb, List, [], length, Some, None, position, arith, refl}
-use Rattle.std.proofs.lemmas.Bool.Decides.{nat_tests}
-use Rattle.std.proofs.lemmas.List.Sums.{position_or_len_is}
-use Rattle.muni_desk.specs.Words.{word}
+-- Options among the words of the program, which are seen as their bytes.
+use Rattle.std.proofs.Common.{◌≡◌, ℕ, Bool, true, false, ◌||◌, List, [], ◌∷◌, map, Some, refl, ap, Bor, String, Global}
+use Rattle.std.specs.Prelude.{find, option_map, Option, if◌then◌else◌, string_bytes, nat_le}
+use Rattle.std.specs.List.{list_all, list_any}
+use Rattle.std.proofs.lemmas.List.Folds.{list_all-map}
+use Rattle.muni_desk.specs.Words.{is_option, are_known, are_single, count_of}
 
-pub position-found : (p : List ℕ → Bool) (words : List (List ℕ)) (place : ℕ) → place < length words → ((k : ℕ) → k < place → p (word words k) ≡ false) → p (word words place) ≡ true → Some place ≡ position p words
-position-found p words place inside before here =
-    let first = position_or_len_is p words place [] (omega arith) before (λ _. here) in
-    let found : ltb place (length words) ≡ true = grind (arith, nat_tests) in
-    rw (first, found) refl
+found-map : {X Y : Type 0} (f : X → Y) (x : X) (test : Bool) (rest : Option X) (mapped : Option Y) → mapped ≡ option_map f rest → (if test then Some (f x) else mapped) ≡ option_map f (if test then Some x else rest)
+found-map f x true rest mapped same = refl
+found-map f x false rest mapped same = same
 
-pub position-absent : (p : List ℕ → Bool) (words : List (List ℕ)) (count : ℕ) → length words ≡ count → ((k : ℕ) → k < count → p (word words k) ≡ false) → None ≡ position p words
-position-absent p words count all before =
-    let first = position_or_len_is p words count [] (omega arith) before (λ h. absurd (omega arith)) in
-    let absent : ltb count (length words) ≡ false = grind (arith, nat_tests) in
-    rw (first, absent) refl
+find-map : {X Y : Type 0} (p : Y → Bool) (f : X → Y) (xs : List X) → find p (map f xs) ≡ option_map f (find (λ x. p (f x)) xs)
+find-map p f [] = refl
+find-map p f (x ∷ xs) = found-map f x (p (f x)) (find (λ z. p (f z)) xs) (find p (map f xs)) (find-map p f xs)
+
+list_any-map : {X Y : Type 0} (p : Y → Bool) (f : X → Y) (xs : List X) → list_any p (map f xs) ≡ list_any (λ x. p (f x)) xs
+list_any-map p f [] = refl
+list_any-map p f (x ∷ xs) = ap (λ rest. p (f x) || rest) (list_any-map p f xs)
+
+pub found_strings : (name : List ℕ) (words : List (String Global)) → find (is_option name) (map string_bytes words) ≡ option_map string_bytes (find (λ word. is_option name (string_bytes word)) words)
+found_strings name words = find-map (is_option name) string_bytes words
+
+pub known-strings : (names : List (Bor (List ℕ))) (words : List (String Global)) → are_known (map (λ name. name.now) names) (map string_bytes words) ≡ list_all (λ word. list_any (λ name. is_option name.now (string_bytes word)) names) words
+known-strings names words = simp (list_all-map, list_any-map)
+
+pub single-strings : (names : List (Bor (List ℕ))) (words : List (String Global)) → are_single (map (λ name. name.now) names) (map string_bytes words) ≡ list_all (λ name. nat_le (count_of name.now (map string_bytes words)) 1) names
+single-strings names words = simp list_all-map

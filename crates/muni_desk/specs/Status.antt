@@ -14,11 +14,3 @@ number_of StoreFault = 6
 number_of DoorFault = 7
 number_of NoMemory = 8
 number_of TooLarge = 9
-
--- those in which a command that has no store can end
-abbrev pub IsStorelessStatus : Status → Type 0
-IsStorelessStatus Done = Unit {0}
-IsStorelessStatus Usage = Unit {0}
-IsStorelessStatus Refused = Unit {0}
-IsStorelessStatus WriteFault = Unit {0}
-IsStorelessStatus _ = ⊥

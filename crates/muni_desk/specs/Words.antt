@@ -1,7 +1,7 @@
--- Words of the command line, and the options among them.
-use Rattle.std.specs.Prelude.{position, ℕ, ◌==◌, ◌&&◌, Bool, nat_le, nat_lt, if◌then◌else◌, List, [], length, map, filter, take, drop, slice_index_or, count_by, Option, Some, None, option_map, option_and_then}
-use Rattle.std.specs.Str.{bytes_eq}
-use Rattle.muni_dec.specs.Digits.{are_digits, number}
+-- Words of the command line, and the options among them. The name of an option is given with its dashes
+-- and its equals sign.
+use Rattle.std.specs.Prelude.{ℕ, ◌&&◌, Bool, nat_eq, nat_lt, nat_le, if◌then◌else◌, List, [], length, drop, slice_index_or, find, count_by, Option, Some, None, option_and_then}
+use Rattle.std.specs.List.{starts_with, list_all, list_any, filter_map}
 
 infixl 10 ◌>>=◌
 abbrev pub ◌>>=◌ : {A B : Type 0} → Option A → (A → Option B) → Option B
@@ -11,35 +11,33 @@ o >>= f = option_and_then f o
 abbrev pub word : List (List ℕ) → ℕ → List ℕ
 word words place = slice_index_or words place []
 
--- a word is this text
-abbrev pub is_word : List (List ℕ) → ℕ → List ℕ → Bool
-is_word words place text = bytes_eq (word words place) text
+-- the word is the option of this name, with a value that is not empty
+abbrev pub is_option : List ℕ → List ℕ → Bool
+is_option name word = starts_with nat_eq word name && nat_lt (length name) (length word)
 
--- The word is an option of this name: `--name=` and a value that is not empty. The name is given with
--- its dashes and its equals sign.
-abbrev pub has_name : List ℕ → List ℕ → Bool
-has_name name word = nat_lt (length name) (length word) && bytes_eq (take (length name) word) name
-
--- the value in a word that is the option of this name
-abbrev pub value_in : List ℕ → List ℕ → List ℕ
-value_in name word = drop (length name) word
+-- its value
+abbrev pub value_in : List ℕ → List ℕ → Option (List ℕ)
+value_in name word = if is_option name word then Some (drop (length name) word) else None
 
 -- how often an option stands among words
 abbrev pub count_of : List ℕ → List (List ℕ) → ℕ
-count_of name words = count_by (has_name name) words
+count_of name words = count_by (is_option name) words
 
--- an option does not stand among the words
-abbrev pub is_absent : List ℕ → List (List ℕ) → Bool
-is_absent name words = count_of name words == 0
+-- each word is the option of one of these names
+abbrev pub are_known : List (List ℕ) → List (List ℕ) → Bool
+are_known names words = list_all (λ word. list_any (λ name. is_option name word) names) words
 
--- the value of an option, where it stands exactly once
+-- the option of each of these names stands once at most
+abbrev pub are_single : List (List ℕ) → List (List ℕ) → Bool
+are_single names words = list_all (λ name. nat_le (count_of name words) 1) names
+
+abbrev pub are_options : (names single : List (List ℕ)) → List (List ℕ) → Bool
+are_options names single words = are_known names words && are_single single words
+
+-- the value of the first option of a name
 abbrev pub value_of : List ℕ → List (List ℕ) → Option (List ℕ)
-value_of name words =
-    if count_of name words == 1
-    then option_map (λ place. value_in name (word words place)) (position (has_name name) words)
-    else None
+value_of name words = find (is_option name) words >>= value_in name
 
--- the values of an option, in the order in which they stand
+-- the values of all options of a name, in the order in which they stand
 abbrev pub values_of : List ℕ → List (List ℕ) → List (List ℕ)
-values_of name words =
-    map (λ word. value_in name word) (filter (λ word. has_name name word) words)
+values_of name words = filter_map (value_in name) words

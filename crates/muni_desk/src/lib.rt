@@ -1,25 +1,23 @@
 //! The commands of the desk.
 #![tactic(auto)]
 
-mod book;
+mod answers;
 mod command;
 mod drill;
-mod job;
 mod laws;
-mod one_period;
 mod output;
-mod quote;
-mod ranges;
+mod quote_one;
+mod quote_options;
+mod request;
 mod status;
 #[cfg(test)]
 mod tests;
-mod trade;
 mod words;
 
-pub use command::desk;
-pub use laws::{
-    the_line_is_one, the_summary_is_one, the_text_is_one, what_is_answered_is_one,
-    what_is_written_is_one,
-};
-pub use one_period::quote_one;
-pub use status::Status;
+pub use answers::answer;
+pub use command::{Command, CommandLine, read};
+pub use drill::DrillRequest;
+pub use output::desk;
+pub use quote_one::QuoteOneRequest;
+pub use request::QuoteRequest;
+pub use status::{Answer, Status};

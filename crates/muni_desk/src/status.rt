@@ -1,5 +1,9 @@
+//! How a command ends, and what it says.
+
 ghost use Rattle.std.specs.Prelude.{◌≡◌};
 ghost use Rattle.muni_desk.specs.Status.{number_of};
+
+use arrayvec::ArrayVec;
 
 /// How a command ended.
 #[derive(Clone, Copy, Debug, PartialEq, Eq)]
@@ -41,4 +45,11 @@ impl Status {
             Status::TooLarge => 9,
         }
     }
+}
+
+/// What a command says: a text of lines, and the status in which it ends once the text is written.
+#[derive(Drop)]
+pub struct Answer {
+    pub status: Status,
+    pub text: ArrayVec<u8, 512>,
 }

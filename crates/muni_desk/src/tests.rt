@@ -8,8 +8,7 @@ mod quote_cases;
 mod quote_one_cases;
 mod schedule_cases;
 
-use crate::job::read_job;
-use crate::{Status, desk, quote_one};
+use crate::{Command, CommandLine, QuoteRequest, Status, desk, read};
 use muni_days::Day;
 use muni_edge::{MemSink, NoGate};
 use muni_multi::Horner;
@@ -21,9 +20,10 @@ use std::thread::Threads;
 const WORKED: &str = "quote-one 5 2024-07-01 2024-04-01 100 4";
 
 const UNCALLED: &str =
-    "--kind=zero --dated=2020-01-01 --maturity=2030-01-01 --settle=2024-04-01 --yield=4";
+    "quote --kind=zero --dated=2020-01-01 --maturity=2030-01-01 --settle=2024-04-01 --yield=4";
 
-const CALLED: &str = "--kind=zero --call=2027-01-01:102.5 --dated=2020-01-01 --maturity=2030-01-01 \
+const CALLED: &str =
+    "quote --kind=zero --call=2027-01-01:102.5 --dated=2020-01-01 --maturity=2030-01-01 \
     --workers=07 --settle=2024-04-01 --call=2025-07-01:100 --yield=4";
 
 fn words_of(alloc: Global, line: &str) -> Result<Vec<String>, Fail> {
@@ -90,31 +90,34 @@ fn calls_and_workers_are_read_as_they_are_written(rt: HostRuntime) -> Result<(),
     answers_are_right(&rt, rt.alloc(), call_cases::CASES)
 }
 
+// The request of a quote, and the workers.
+fn quoted(alloc: Global, line: &str) -> Result<(QuoteRequest, u32), Fail> {
+    let words = words_of(alloc, line)?;
+    let CommandLine { command, workers } = read(words.as_slice()).ok_or("a command")?;
+    match command {
+        Command::Quote(request) => Ok((request, workers)),
+        Command::QuoteOne(_) | Command::Drill(_) => Err("a quote")?,
+    }
+}
+
 #[test]
 fn calls_stay_in_their_order(rt: HostRuntime) -> Result<(), Fail> {
-    let words = words_of(rt.alloc(), CALLED)?;
-    let job = read_job(words.as_slice()).ok_or("a job")?;
-    assert_eq!(rt; job.trade.calls.len(), 2);
-    assert_eq!(rt;
-        job.trade.calls[0].date,
-        Day::of(2027, 1, 1).ok_or("a day")?
-    );
-    assert_eq!(rt; job.trade.calls[0].price.units(), 102_500_000);
-    assert_eq!(rt;
-        job.trade.calls[1].date,
-        Day::of(2025, 7, 1).ok_or("a day")?
-    );
-    assert_eq!(rt; job.trade.calls[1].price.units(), 100_000_000);
-    assert_eq!(rt; job.workers, 7);
+    let (request, workers) = quoted(rt.alloc(), CALLED)?;
+    let calls = &request.row.calls;
+    assert_eq!(rt; calls.len(), 2);
+    assert_eq!(rt; calls[0].date, Day::of(2027, 1, 1).ok_or("a day")?);
+    assert_eq!(rt; calls[0].price.units(), 102_500_000);
+    assert_eq!(rt; calls[1].date, Day::of(2025, 7, 1).ok_or("a day")?);
+    assert_eq!(rt; calls[1].price.units(), 100_000_000);
+    assert_eq!(rt; workers, 7);
     Ok(())
 }
 
 #[test]
 fn a_quote_without_calls_has_one_worker(rt: HostRuntime) -> Result<(), Fail> {
-    let words = words_of(rt.alloc(), UNCALLED)?;
-    let job = read_job(words.as_slice()).ok_or("a job")?;
-    assert!(rt; job.trade.calls.is_empty());
-    assert_eq!(rt; job.workers, 1);
+    let (request, workers) = quoted(rt.alloc(), UNCALLED)?;
+    assert!(rt; request.row.calls.is_empty());
+    assert_eq!(rt; workers, 1);
     Ok(())
 }
 
@@ -147,7 +150,6 @@ fn no_word_at_all_is_no_command(rt: HostRuntime) -> Result<(), Fail> {
         desk(&rt, &[], &mut output, &Horner, &NoGate),
         Status::Usage
     );
-    assert_eq!(rt; quote_one(&[], &mut output), Status::Usage);
     assert!(rt; output.bytes().is_empty());
     Ok(())
 }
@@ -169,7 +171,7 @@ fn an_output_that_is_full_holds_the_front_of_the_line(rt: HostRuntime) -> Result
     let mut output = sink(rt.alloc(), 3, &[])?;
     let words = words_of(rt.alloc(), WORKED)?;
     assert_eq!(rt;
-        quote_one(words.as_slice(), &mut output),
+        desk(&rt, words.as_slice(), &mut output, &Horner, &NoGate),
         Status::WriteFault
     );
     assert_eq!(rt; output.bytes(), b"100".as_slice());

@@ -1,6 +1,7 @@
 //! Words of the command line, and the options among them.
 
-ghost use Rattle.std.specs.Prelude.{◌≡◌, ◌<◌, ◌≤◌, true, map, length, position, IfSome, string_bytes};
+ghost use Rattle.std.specs.Prelude.{◌≡◌, ◌<◌, length, map, find, nat_le, string_bytes};
+ghost use Rattle.std.specs.List.{list_all, list_any};
 ghost use Rattle.std.specs.Option.{option_map};
 ghost use Rattle.muni_desk.specs.Words as spec;
 
@@ -12,69 +13,74 @@ pub fn word_at(words: &[String], place: usize) -> &[u8]
     words[place].as_bytes()
 }
 
-/// Whether the word at a place is this text.
-pub fn is_word(words: &[String], place: usize, text: &[u8]) -> bool
-    requires { place < length words.now }
-    ensures { result ≡ spec.is_word (map string_bytes words.now) place text.now }
+/// The value in a word that is the option of a name. The name has its dashes and its equals sign, and
+/// the value is not empty.
+pub fn value_in<'a>(word: &'a [u8], name: &[u8]) -> Option<&'a [u8]>
+    ensures { option_map (λ value. value.now) result ≡ spec.value_in name.now word.now }
 {
-    word_at(words, place) == text
+    word.strip_prefix(name).filter(|value| !value.is_empty())
 }
 
-/// Whether a word is the option of a name, with a value that is not empty.
-pub fn has_name(word: &[u8], name: &[u8]) -> bool
-    ensures { result ≡ spec.has_name name.now word.now }
+fn is_option(word: &[u8], name: &[u8]) -> bool
+    ensures { result ≡ spec.is_option name.now word.now }
 {
-    name.len() < word.len() && &word[..name.len()] == name
+    word.starts_with(name) && name.len() < word.len()
 }
 
-/// The value in a word that is the option of a name.
-pub fn value_in<'a>(word: &'a [u8], name: &[u8]) -> &'a [u8]
-    requires { spec.has_name name.now word.now ≡ true }
-    ensures { result.now ≡ spec.value_in name.now word.now }
+fn is_any_option(word: &[u8], names: &[&[u8]]) -> bool
+    ensures { result ≡ list_any (λ name. spec.is_option name.now word.now) names.now }
 {
-    &word[name.len()..]
+    names.iter().any(|name| is_option(word, name))
 }
 
-/// How often the option of a name stands among words. The name has its dashes and its equals sign.
+fn are_known(words: &[String], names: &[&[u8]]) -> bool
+    ensures { result ≡ list_all (λ word. list_any
+        (λ name. spec.is_option name.now (string_bytes word)) names.now) words.now }
+{
+    words
+        .iter()
+        .all(|word| is_any_option(word.as_bytes(), names))
+}
+
+/// How often the option of a name stands among words.
 pub fn count_of(words: &[String], name: &[u8]) -> usize
     ensures { result ≡ spec.count_of name.now (map string_bytes words.now) }
 {
-    let mut count = 0;
-    for place in 0..words.len() {
-        if has_name(word_at(words, place), name) {
-            count += 1;
-        }
-    }
-    count
+    words
+        .iter()
+        .filter(|word| is_option(word.as_bytes(), name))
+        .count()
 }
 
-/// Whether the option of a name does not stand among words.
-pub fn is_absent(words: &[String], name: &[u8]) -> bool
-    ensures { result ≡ spec.is_absent name.now (map string_bytes words.now) }
+fn are_single(words: &[String], names: &[&[u8]]) -> bool
+    ensures { result ≡ list_all (λ name. nat_le
+        (spec.count_of name.now (map string_bytes words.now)) 1) names.now }
 {
-    count_of(words, name) == 0
+    names.iter().all(|name| count_of(words, name) <= 1)
 }
 
-fn place_of(words: &[String], name: &[u8]) -> Option<usize>
-    ensures value { result ≡ position (spec.has_name name.now) (map string_bytes words.now) }
-    ensures inside { IfSome result (λ place. (place < length words.now)
-        × (spec.has_name name.now (spec.word (map string_bytes words.now) place) ≡ true)) }
+/// Whether each word is the option of one of two lists of names, and each option of the first list
+/// stands once at most.
+pub fn are_options(words: &[String], names: &[&[u8]], single: &[&[u8]]) -> bool
+    ensures { result ≡ spec.are_options (map (λ name. name.now) names.now)
+        (map (λ name. name.now) single.now) (map string_bytes words.now) }
 {
-    for place in 0..words.len() {
-        if has_name(word_at(words, place), name) {
-            return Some(place);
-        }
-    }
-    None
+    are_known(words, names) && are_single(words, single)
 }
 
-/// The value of the option of a name, where it stands exactly once.
+fn find_option<'a>(words: &'a [String], name: &[u8]) -> Option<&'a String>
+    ensures { option_map (λ word. word.now) result
+        ≡ find (λ word. spec.is_option name.now (string_bytes word)) words.now }
+{
+    words.iter().find(|word| is_option(word.as_bytes(), name))
+}
+
+/// The value of the first option of a name.
+#[tactic(auto, using(crate::proofs::WordsLemmas::found_strings))]
 pub fn value_of<'a>(words: &'a [String], name: &[u8]) -> Option<&'a [u8]>
-    ensures { option_map (λ v. v.now) result ≡ spec.value_of name.now (map string_bytes words.now) }
+    ensures { option_map (λ value. value.now) result
+        ≡ spec.value_of name.now (map string_bytes words.now) }
 {
-    if count_of(words, name) != 1 {
-        return None;
-    }
-    let place = place_of(words, name)?;
-    Some(value_in(word_at(words, place), name))
+    let word = find_option(words, name)?;
+    value_in(word.as_bytes(), name)
 }

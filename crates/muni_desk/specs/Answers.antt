@@ -1,0 +1,52 @@
+-- What the desk says to a command, by the price, the figures or the sums that are right for it.
+-- `ends` are those that the encloser gives to payments and a yield. What is said is no fact of the workers.
+use Rattle.std.specs.Prelude.{◌≡◌, ◌++◌, ◌∷◌, [], List, ℕ, Ok, Err, ℤ}
+use Rattle.muni_rule.specs.Payments.{PaymentSeries}
+use Rattle.muni_rule.specs.WorthEnds.{WorthEnds}
+use Rattle.muni_dec.specs.Decimal.{decimal_text}
+use Rattle.muni_msg.specs.declared.figures.Figures.{Figures}
+use Rattle.muni_msg.specs.declared.refusal.Refusal.{Refusal}
+use Rattle.muni_confirm.specs.Figures.{figure_text}
+use Rattle.muni_confirm.specs.Refusal.{refusal_text}
+use Rattle.muni_desk.specs.Drill.{IsSummary}
+use Rattle.muni_desk.specs.QuoteOne.{IsPriced}
+use Rattle.muni_desk.specs.Request.{IsAnswered}
+use Rattle.muni_desk.specs.declared.command.Command.{Command}
+use Rattle.muni_desk.specs.declared.command.Command.TheVariants.{QuoteOne, Quote, Drill}
+use Rattle.muni_desk.specs.declared.drill.options.DrillRequest.{DrillRequest}
+use Rattle.muni_desk.specs.declared.quote_one.QuoteOneRequest.{QuoteOneRequest}
+use Rattle.muni_desk.specs.declared.request.QuoteRequest.{QuoteRequest}
+use Rattle.muni_desk.specs.declared.status.Answer.{Answer}
+use Rattle.muni_desk.specs.declared.status.Status.{Status}
+use Rattle.muni_desk.specs.declared.status.Status.TheVariants.{Done, Refused}
+
+-- the line of a price: its three decimals
+abbrev pub price_line : ℕ → List ℕ
+price_line t = decimal_text 3 t ++ 10 ∷ []
+
+-- `quote-one`: the line says the price, or the refusal that applies
+abbrev pub IsQuoteOneText : QuoteOneRequest → Status → List ℕ → Type 0
+IsQuoteOneText request Done text = (t : ℕ) × IsPriced request (Ok t) × (text ≡ price_line t)
+IsQuoteOneText request Refused text =
+    (refusal : Refusal) × IsPriced request (Err refusal) × (text ≡ refusal_text refusal)
+IsQuoteOneText request status text = ⊥
+
+-- `quote`: the lines show the figures, or the line says the refusal that applies
+abbrev pub IsQuoteText : (ends : PaymentSeries → ℤ → WorthEnds) → QuoteRequest → Status → List ℕ → Type 0
+IsQuoteText ends request Done text =
+    (figures : Figures) × IsAnswered ends request.row request.asked (Ok figures)
+    × (text ≡ figure_text figures request.asked.given)
+IsQuoteText ends request Refused text =
+    (refusal : Refusal) × IsAnswered ends request.row request.asked (Err refusal) × (text ≡ refusal_text refusal)
+IsQuoteText ends request status text = ⊥
+
+-- `drill`: the lines are the summary
+abbrev pub IsDrillText : (ends : PaymentSeries → ℤ → WorthEnds) → DrillRequest → Status → List ℕ → Type 0
+IsDrillText ends request Done text = IsSummary ends request text
+IsDrillText ends request status text = ⊥
+
+-- the answer is right
+abbrev pub IsAnswer : (ends : PaymentSeries → ℤ → WorthEnds) → Command → Answer → Type 0
+IsAnswer ends (QuoteOne request) answer = IsQuoteOneText request answer.status answer.text.items
+IsAnswer ends (Quote request) answer = IsQuoteText ends request answer.status answer.text.items
+IsAnswer ends (Drill request) answer = IsDrillText ends request answer.status answer.text.items

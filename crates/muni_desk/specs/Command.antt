@@ -1,0 +1,24 @@
+-- What words ask the desk for.
+use Rattle.std.specs.Prelude.{◌≡◌, ◌≤◌, ⊤, true, if◌then◌else◌, List, ℕ, [], ◌∷◌, codes, Option, None}
+use Rattle.std.specs.Str.{bytes_eq}
+use Rattle.muni_days.specs.Day.{civil}
+use Rattle.muni_desk.specs.DrillOptions.{drill_of}
+use Rattle.muni_desk.specs.QuoteOne.{is_next, quote_one_of}
+use Rattle.muni_desk.specs.QuoteOptions.{quote_of}
+use Rattle.muni_desk.specs.declared.command.Command.{Command}
+use Rattle.muni_desk.specs.declared.command.Command.TheVariants.{QuoteOne, Quote, Drill}
+use Rattle.muni_desk.specs.declared.command.CommandLine.{CommandLine}
+
+-- the command of words: the first is its name, and those behind it say what it is asked for
+abbrev pub command_of : List (List ℕ) → Option CommandLine
+command_of [] = None
+command_of (name ∷ words) =
+    if bytes_eq name (codes "quote-one") then quote_one_of words
+    else (if bytes_eq name (codes "quote") then quote_of words
+    else (if bytes_eq name (codes "drill") then drill_of words else None))
+
+-- a command that words may name
+abbrev pub IsAnswerable : Command → Type 0
+IsAnswerable (QuoteOne request) = is_next (civil request.next) ≡ true
+IsAnswerable (Quote request) = ⊤
+IsAnswerable (Drill request) = request.count ≤ 1_000

@@ -1,0 +1,52 @@
+//! The options of `drill`.
+
+ghost use Rattle.std.specs.Prelude.{◌≡◌, ◌≤◌, map, IfSome, string_bytes};
+ghost use Rattle.muni_desk.specs.DrillOptions as spec;
+ghost use Rattle.muni_desk.specs.Command.{IsAnswerable};
+
+use crate::command::{Command, CommandLine};
+use crate::words::{are_options, value_of};
+use muni_dec::digits::read_number;
+
+const COUNT: &[u8] = b"--count=";
+
+const SEED: &[u8] = b"--seed=";
+
+const WORKERS: &[u8] = b"--workers=";
+
+const NAMES: [&[u8]; 3] = [COUNT, SEED, WORKERS];
+
+/// A book of trades that is generated from a number.
+#[derive(Clone, Copy)]
+pub struct DrillRequest {
+    /// The first state of the generator.
+    pub seed: u64,
+    /// How many trades, from 0 to 1,000.
+    pub count: u64,
+}
+
+/// What words ask for, where they are options of `drill`, in any order.
+pub fn read_drill(words: &[String]) -> Option<CommandLine>
+    ensures command { result ≡ spec.drill_of (map string_bytes words.now) }
+    ensures answerable { IfSome result (λ line. IsAnswerable line.command) }
+    ensures workers { IfSome result (λ line. (1 ≤ line.workers) × (line.workers ≤ 16)) }
+{
+    if !are_options(words, &NAMES, &NAMES) {
+        return None;
+    }
+    let count = read_number_of(words, COUNT, 0, 1_000)?;
+    let seed = read_number_of(words, SEED, 0, u64::MAX)?;
+    let workers = read_number_of(words, WORKERS, 1, 16)? as u32;
+    Some(CommandLine {
+        command: Command::Drill(DrillRequest { seed, count }),
+        workers,
+    })
+}
+
+fn read_number_of(words: &[String], name: &[u8], least: u64, greatest: u64) -> Option<u64>
+    ensures value { result
+        ≡ spec.number_of name.now least greatest (map string_bytes words.now) }
+    ensures range { IfSome result (λ number. (least ≤ number) × (number ≤ greatest)) }
+{
+    read_number(value_of(words, name)?, 20, least, greatest)
+}

@@ -1,0 +1,174 @@
+//! The options of `quote`.
+
+ghost use Rattle.std.specs.Prelude.{◌≡◌, ◌≤◌, map, codes, IfSome, string_bytes};
+ghost use Rattle.std.specs.Option.{option_map};
+ghost use Rattle.muni_terms.specs.Check as terms;
+ghost use Rattle.muni_desk.specs.Command.{IsAnswerable};
+ghost use Rattle.muni_desk.specs.QuoteOptions as spec;
+ghost use Rattle.muni_desk.specs.Words.{count_of, values_of};
+
+use crate::command::{Command, CommandLine};
+use crate::request::{NO_CUSIP, QuoteRequest, issue_name};
+use crate::words::{are_options, count_of, value_in, value_of};
+use arrayvec::ArrayVec;
+use muni_days::Day;
+use muni_dec::digits::read_number;
+use muni_dec::{Coupon, Par};
+use muni_msg::{Asked, Given, read_call, read_given, read_kind};
+use muni_terms::{Call, IssueRow, Kind};
+
+const CALL: &[u8] = b"--call=";
+
+const KIND: &[u8] = b"--kind=";
+
+const DATED: &[u8] = b"--dated=";
+
+const FIRST: &[u8] = b"--first=";
+
+const MATURITY: &[u8] = b"--maturity=";
+
+const COUPON: &[u8] = b"--coupon=";
+
+const SETTLE: &[u8] = b"--settle=";
+
+const PAR: &[u8] = b"--par=";
+
+const YIELD: &[u8] = b"--yield=";
+
+const PRICE: &[u8] = b"--price=";
+
+const RATE: &[u8] = b"--rate=";
+
+const WORKERS: &[u8] = b"--workers=";
+
+// All but the first stand once at most.
+const NAMES: [&[u8]; 12] = [
+    CALL, KIND, DATED, FIRST, MATURITY, COUPON, SETTLE, PAR, YIELD, PRICE, RATE, WORKERS,
+];
+
+/// What words ask for, where they are options of `quote`, in any order.
+pub fn read_quote(words: &[String]) -> Option<CommandLine>
+    ensures command { result ≡ spec.quote_of (map string_bytes words.now) }
+    ensures answerable { IfSome result (λ line. IsAnswerable line.command) }
+    ensures workers { IfSome result (λ line. (1 ≤ line.workers) × (line.workers ≤ 16)) }
+{
+    if !are_options(words, &NAMES, &NAMES[1..]) {
+        return None;
+    }
+    let row = read_row(words)?;
+    let asked = read_asked(words)?;
+    let workers = read_workers(words)?;
+    Some(CommandLine {
+        command: Command::Quote(QuoteRequest { row, asked }),
+        workers,
+    })
+}
+
+fn read_row(words: &[String]) -> Option<IssueRow>
+    ensures { result ≡ spec.row_of (map string_bytes words.now) }
+{
+    let kind = read_kind(value_of(words, KIND)?, value_of(words, FIRST))?;
+    let dated = read_date(words, DATED)?;
+    let maturity = read_date(words, MATURITY)?;
+    let coupon = read_coupon(pays_interest(kind), value_of(words, COUPON))?;
+    let calls = read_calls(words)?;
+    Some(IssueRow {
+        cusip: NO_CUSIP,
+        name: issue_name(b"QUOTE"),
+        kind,
+        dated,
+        maturity,
+        coupon,
+        calls,
+    })
+}
+
+fn read_asked(words: &[String]) -> Option<Asked>
+    ensures { result ≡ spec.asked_of (map string_bytes words.now) }
+{
+    let par = read_par(value_of(words, PAR))?;
+    let settle = read_date(words, SETTLE)?;
+    let given = read_one_given(words)?;
+    Some(Asked {
+        cusip: NO_CUSIP,
+        par,
+        settle,
+        given,
+    })
+}
+
+fn read_date(words: &[String], name: &[u8]) -> Option<Day>
+    ensures { result ≡ spec.date_of name.now (map string_bytes words.now) }
+{
+    Day::read(value_of(words, name)?).ok()
+}
+
+fn pays_interest(kind: Kind) -> bool
+    ensures { result ≡ terms.pays_interest kind }
+{
+    match kind {
+        Kind::Periodic { .. } | Kind::AtRedemption => true,
+        Kind::Zero | Kind::Discount => false,
+    }
+}
+
+// A coupon is given exactly where there is interest.
+fn read_coupon(has_interest: bool, text: Option<&[u8]>) -> Option<Coupon>
+    ensures { result ≡ spec.coupon_of has_interest (option_map (λ t. t.now) text.entry) }
+{
+    match (has_interest, text) {
+        (true, Some(text)) => Coupon::read(text).ok(),
+        (false, None) => Some(Coupon::new(0)),
+        (true, None) | (false, Some(_)) => None,
+    }
+}
+
+fn read_calls(words: &[String]) -> Option<ArrayVec<Call, 40>>
+    ensures { option_map (λ calls. calls.items) result
+        ≡ spec.calls_of (map string_bytes words.now) }
+{
+    if count_of(words, CALL) > 40 {
+        return None;
+    }
+    let mut calls = ArrayVec::new();
+    for word in words {
+        if let Some(text) = value_in(word.as_bytes(), CALL) {
+            calls.push(read_call(text)?);
+        }
+    }
+    Some(calls)
+}
+
+fn read_par(text: Option<&[u8]>) -> Option<Par>
+    ensures { result ≡ spec.par_of (option_map (λ t. t.now) text.entry) }
+{
+    match text {
+        Some(text) => Par::read(text).ok(),
+        None => Some(Par::new(100)),
+    }
+}
+
+fn read_one_given(words: &[String]) -> Option<Given>
+    ensures { result ≡ spec.given_of (map string_bytes words.now) }
+{
+    match (
+        value_of(words, YIELD),
+        value_of(words, PRICE),
+        value_of(words, RATE),
+    ) {
+        (Some(yld), None, None) => read_given(b"yield", yld),
+        (None, Some(price), None) => read_given(b"price", price),
+        (None, None, Some(rate)) => read_given(b"rate", rate),
+        _ => None,
+    }
+}
+
+fn read_workers(words: &[String]) -> Option<u32>
+    ensures value { result ≡ spec.workers_of (map string_bytes words.now) }
+    ensures range { IfSome result (λ workers. (1 ≤ workers) × (workers ≤ 16)) }
+{
+    match value_of(words, WORKERS) {
+        Some(text) => Some(read_number(text, 20, 1, 16)? as u32),
+        None => Some(1),
+    }
+}

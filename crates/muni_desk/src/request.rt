@@ -1,0 +1,52 @@
+//! A request for the figures of a security that is given by its terms, and the answer to it.
+
+ghost use Rattle.std.specs.Prelude.{◌≡◌, ◌≤◌, length, IfOk};
+ghost use Rattle.muni_desk.specs.Request.{IsAnswered};
+
+use arrayvec::ArrayVec;
+use muni_book::figures;
+use muni_edge::Gate;
+use muni_msg::{Asked, Figures, Refusal};
+use muni_multi::Encloser;
+use muni_terms::{IssueRow, check};
+use std::thread::Threads;
+
+/// The CUSIP of a security that has no number of its own.
+pub const NO_CUSIP: [u8; 9] = *b"000000000";
+
+/// The terms of a security, and what is asked for of it.
+#[derive(Drop)]
+pub struct QuoteRequest {
+    pub row: IssueRow,
+    pub asked: Asked,
+}
+
+/// A name of at most 60 bytes, as it stands in the terms.
+pub fn issue_name(text: &[u8]) -> ArrayVec<u8, 60>
+    requires { length text.now ≤ 60 }
+    ensures { result.items ≡ text.now }
+{
+    let mut name = ArrayVec::new();
+    let _ = name.try_extend_from_slice(text);
+    name
+}
+
+/// The figures, or the refusal that applies first: the first fault of the terms, or that of
+/// `muni_book`.
+pub fn answer_of<R: Threads + Sync, E: Encloser + Sync, G: Gate + Sync>(
+    rt: &R,
+    row: IssueRow,
+    asked: &Asked,
+    workers: u32,
+    encloser: &E,
+    gate: &G,
+) -> Result<Figures, Refusal>
+    requires { (1 ≤ workers) × (workers ≤ 16) }
+    ensures right { IsAnswered (E.ends encloser.now) row asked.now result }
+    ensures accrued { IfOk result (λ figures. figures.accrued ≤ 60_000_000_000) }
+{
+    match check(row) {
+        Ok(issue) => figures(rt, &issue, asked, workers, encloser, gate),
+        Err(fault) => Err(Refusal::BadTerms(fault)),
+    }
+}
