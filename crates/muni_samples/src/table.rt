@@ -72,6 +72,11 @@ impl<'a> Sample<'a> {
         str::from_utf8(self.text(name)?).ok()?.parse::<i64>().ok()
     }
 
+    /// A number of things, or the place of one, counted from 0.
+    pub fn count(&self, name: &str) -> Option<usize> {
+        str::from_utf8(self.text(name)?).ok()?.parse::<usize>().ok()
+    }
+
     pub fn day(&self, name: &str) -> Option<Day> {
         Day::read(self.text(name)?).ok()
     }

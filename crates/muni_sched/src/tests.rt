@@ -1,4 +1,3 @@
-mod issues;
 mod lowest;
 mod lowest_cases;
 mod range;

@@ -5,8 +5,7 @@ ghost use Rattle.muni_sched.specs.Candidates.{IsCandidate};
 ghost use Rattle.muni_sched.specs.PriceOutcome.{IsAtYield};
 ghost use Rattle.muni_sched.specs.Range.{IsGivenFor};
 
-use crate::tests::issues::{day, issue, price, row};
-use crate::tests::lowest_cases::{Case, PRICES, YIELDS};
+use crate::tests::lowest_cases::{PRICES, YIELDS};
 use crate::{
     Boundary, Candidate, Figure, LowAnswer, Shape, candidates, lowest_price, lowest_yield,
     out_of_range,
@@ -16,6 +15,7 @@ use muni_days::Day;
 use muni_dec::{Price, Yield};
 use muni_edge::{Gate, NoGate, Steps};
 use muni_multi::{Encloser, Horner};
+use muni_samples::{Sample, Table};
 use muni_span::worth::Worth;
 use muni_terms::{Call, Flows, check};
 use std::marker::Brand;
@@ -24,64 +24,66 @@ use std::sync::ledger::{Blank, Ledger};
 use std::test::Fail;
 use std::thread::Threads;
 
-fn list_of(case: &Case) -> Result<ArrayVec<Candidate, 41>, Fail>
+fn list_of(case: &Sample<'_>) -> Result<ArrayVec<Candidate, 41>, Fail>
     ensures { IfOk result (λ list. All IsCandidate list.items) }
 {
-    let (terms, calls) = case.issue;
-    let issue = issue(terms, calls)?;
-    let settlement = day(case.settlement)?;
+    let issue = case.issue().ok_or("an issue")?;
+    let settlement = case.day("settle=").ok_or("a settlement")?;
     if !issue.settles(settlement) {
-        return Err(Fail::from("a settlement"));
+        return Err(Fail::from("a settlement of the issue"));
     }
     Ok(candidates(&issue, settlement))
 }
 
-fn yield_of(text: &str) -> Result<Yield, Fail> {
-    Ok(Yield::read(text.as_bytes()).ok().ok_or("a yield")?)
-}
-
-fn is_figure(figure: &Figure, text: &str) -> Result<bool, Fail> {
+// Whether a figure is that of a word, which has at most three decimals.
+fn is_figure(figure: &Figure, case: &Sample<'_>) -> Result<bool, Fail> {
     match figure {
-        Figure::Price(found) => Ok(found.units() == price(text)?.units() / 1000),
-        Figure::Yield(found) => Ok(found.units() == yield_of(text)?.units() / 10),
+        Figure::Price(found) => {
+            Ok(found.units() == case.price("low=").ok_or("a price")?.units() / 1000)
+        }
+        Figure::Yield(found) => Ok(
+            found.units() == case.yld("low=").ok_or("a yield")?.units() / 10,
+        ),
     }
 }
 
-fn is_boundary(boundary: &Boundary, text: &str) -> Result<bool, Fail> {
+fn is_boundary(boundary: &Boundary, case: &Sample<'_>) -> Result<bool, Fail> {
     match boundary {
-        Boundary::Price(found) => Ok(found.units() == price(text)?.units() / 1000),
-        Boundary::Yield(found) => Ok(found.units() == yield_of(text)?.units()),
+        Boundary::Price(found) => {
+            Ok(found.units() == case.price("boundary=").ok_or("a price")?.units() / 1000)
+        }
+        Boundary::Yield(found) => {
+            Ok(found.units() == case.yld("boundary=").ok_or("a yield")?.units())
+        }
     }
 }
 
-fn is_day(date: &Day, text: &str) -> Result<bool, Fail> {
-    Ok(*date == day(text)?)
+fn is_day(date: Day, case: &Sample<'_>, name: &str) -> bool {
+    match case.day(name) {
+        Some(wanted) => date == wanted,
+        None => false,
+    }
 }
 
 // Whether it is the answer that a case names.
-fn is_answer(found: &LowAnswer, case: &Case) -> Result<bool, Fail> {
-    let mut words = case.answer.split(' ');
-    let name = words.next().ok_or("an answer")?;
-    let first = words.next().unwrap_or("");
-    let second = words.next().unwrap_or("");
+fn is_answer(found: &LowAnswer, case: &Sample<'_>) -> Result<bool, Fail> {
     match found {
         LowAnswer::Low { figure, candidate } => {
-            let wanted = second.parse::<usize>().ok().ok_or("a candidate")?;
-            Ok(name == "low" && is_figure(figure, first)? && *candidate == wanted)
+            Ok(case.count("candidate=") == Some(*candidate) && is_figure(figure, case)?)
         }
         LowAnswer::Undecided { date, boundary } => {
-            Ok(name == "undecided" && is_day(date, first)? && is_boundary(boundary, second)?)
+            Ok(is_day(*date, case, "undecided=") && is_boundary(boundary, case)?)
         }
-        LowAnswer::Below { date } => Ok(name == "below" && is_day(date, first)?),
-        LowAnswer::Above => Ok(name == "above"),
-        LowAnswer::NoTime { date } => Ok(name == "no_time" && is_day(date, first)?),
+        LowAnswer::Below { date } => Ok(is_day(*date, case, "below=")),
+        LowAnswer::Above => Ok(case.has("above")),
+        LowAnswer::NoTime { date } => Ok(is_day(*date, case, "no-time=")),
     }
 }
 
-fn price_over_0(text: &str) -> Result<Price, Fail>
+fn price_over_0(case: &Sample<'_>) -> Result<Price, Fail>
     ensures { IfOk result (λ price. 0 < price) }
 {
-    let price = price(text)?;
+    let price = case.price("price=").ok_or("a price")?;
     if price.units() == 0 {
         return Err(Fail::from("a price over 0"));
     }
@@ -131,22 +133,28 @@ fn by_rounds<R: Threads + Sync, E: Encloser + Sync, G: Gate + Sync>(
     count_rounds::<_, _, _, Brand>(rt, list, price, workers, encloser, gate, Blank::new(1))
 }
 
-fn is_found_by<R: Threads + Sync>(rt: &R, case: &Case, workers: u32) -> Result<bool, Fail>
+fn is_found_by<R: Threads + Sync>(rt: &R, case: &Sample<'_>, workers: u32) -> Result<bool, Fail>
     requires { (1 ≤ workers) × (workers ≤ 16) }
 {
     let list = list_of(case)?;
-    let price = price_over_0(case.given)?;
+    let price = price_over_0(case)?;
     let found = by_rounds(rt, &list, price, workers, &Horner, &NoGate);
     is_answer(&found, case)
 }
 
 #[test]
 fn lowest_yields_are_those_computed_outside(rt: HostRuntime) -> Result<(), Fail> {
-    for case in &YIELDS {
-        assert!(rt; is_found_by(&rt, case, 1)?, "{} by one", case.answer);
-        assert!(rt; is_found_by(&rt, case, 2)?, "{} by two", case.answer);
-        assert!(rt; is_found_by(&rt, case, 16)?, "{} by sixteen", case.answer);
+    let mut table = Table::new();
+    let mut cases = 0_u32;
+    for line in YIELDS.lines() {
+        if let Some(case) = table.sample(line) {
+            assert!(rt; is_found_by(&rt, &case, 1)?, "{line} by one");
+            assert!(rt; is_found_by(&rt, &case, 2)?, "{line} by two");
+            assert!(rt; is_found_by(&rt, &case, 16)?, "{line} by sixteen");
+            cases = cases.wrapping_add(1);
+        }
     }
+    assert_eq!(rt; cases, 20);
     Ok(())
 }
 
@@ -171,11 +179,11 @@ fn are_at_yield(list: &[Candidate]) -> bool
 }
 
 // A yield that may be given for the candidates of an issue with no discounted note.
-fn yield_for(list: &[Candidate], text: &str) -> Result<Yield, Fail>
-    ensures { IfOk result (λ y. (0 < length list.now) × All IsAtYield list.now × All (IsGivenFor y)
-        list.now) }
+fn yield_for(list: &[Candidate], case: &Sample<'_>) -> Result<Yield, Fail>
+    ensures { IfOk result
+        (λ y. (0 < length list.now) × All IsAtYield list.now × All (IsGivenFor y) list.now) }
 {
-    let y = yield_of(text)?;
+    let y = case.yld("yield=").ok_or("a yield")?;
     if list.is_empty() || out_of_range(list, y).is_some() {
         return Err(Fail::from("candidates, and a yield in range"));
     }
@@ -185,18 +193,24 @@ fn yield_for(list: &[Candidate], text: &str) -> Result<Yield, Fail>
     Ok(y)
 }
 
-fn is_price_found(case: &Case) -> Result<bool, Fail> {
+fn is_price_found(case: &Sample<'_>) -> Result<bool, Fail> {
     let list = list_of(case)?;
-    let y = yield_for(list.as_slice(), case.given)?;
+    let y = yield_for(list.as_slice(), case)?;
     let found = lowest_price(list.as_slice(), y, &Horner);
     is_answer(&found, case)
 }
 
 #[test]
 fn lowest_prices_are_those_computed_outside(rt: HostRuntime) -> Result<(), Fail> {
-    for case in &PRICES {
-        assert!(rt; is_price_found(case)?, "{}", case.answer);
+    let mut table = Table::new();
+    let mut cases = 0_u32;
+    for line in PRICES.lines() {
+        if let Some(case) = table.sample(line) {
+            assert!(rt; is_price_found(&case)?, "{line}");
+            cases = cases.wrapping_add(1);
+        }
     }
+    assert_eq!(rt; cases, 13);
     Ok(())
 }
 
@@ -240,24 +254,32 @@ impl Encloser for CountingEncloser {
 fn forty_calls() -> Result<ArrayVec<Candidate, 41>, Fail>
     ensures { IfOk result (λ list. All IsCandidate list.items) }
 {
-    let mut row = row("coupons 2023-01-01 2023-07-01 2045-01-01 5")?;
-    let price = price("100")?;
+    let case = Sample::of(UNCALLED);
+    let mut row = case.row().ok_or("terms")?;
     for i in 0u64..40 {
         let date = Day::of(2025 + i / 2, 1 + 6 * (i % 2), 1).ok_or("a day")?;
+        let price = Price::PAR;
         let _ = row.calls.try_push(Call { date, price });
     }
     let issue = check(row).ok().ok_or("an issue")?;
-    let settlement = day("2024-01-01")?;
+    let settlement = case.day("settle=").ok_or("a settlement")?;
     if !issue.settles(settlement) {
-        return Err(Fail::from("a settlement"));
+        return Err(Fail::from("a settlement of the issue"));
     }
     Ok(candidates(&issue, settlement))
 }
 
+const UNCALLED: &str =
+    "periodic dated=2023-01-01 first=2023-07-01 maturity=2045-01-01 coupon=5 settle=2024-01-01";
+
 // A price, and how many questions and rounds it takes, computed outside. At 100 all candidates have
 // the same yield; at the others their yields part early, and one after the other the questions are
 // over 750.
-const FORTY_CALLS: [(&str, u32, u32); 3] = [("100", 779, 19), ("104", 258, 18), ("97", 424, 19)];
+const FORTY_CALLS: [(&str, u32, u32); 3] = [
+    ("price=100", 779, 19),
+    ("price=104", 258, 18),
+    ("price=97", 424, 19),
+];
 
 fn gate_at_first() -> CountingGate {
     CountingGate {
@@ -277,7 +299,7 @@ fn encloser_at_first() -> CountingEncloser {
 fn questions_go_by_rounds_and_end_where_yields_part(rt: HostRuntime) -> Result<(), Fail> {
     let list = forty_calls()?;
     for (given, starts, rounds) in FORTY_CALLS {
-        let price = price_over_0(given)?;
+        let price = price_over_0(&Sample::of(given))?;
         for workers in [1, 2, 16] {
             let gate = gate_at_first();
             let encloser = encloser_at_first();
@@ -304,23 +326,17 @@ fn questions_go_by_rounds_and_end_where_yields_part(rt: HostRuntime) -> Result<(
 }
 
 // Four candidates with two payments or more, on no interest date.
-const THREE_CALLS: Case = Case {
-    issue: (
-        "coupons 2020-01-01 2020-07-01 2034-01-01 5",
-        "2026-01-01 102,2028-01-01 101,2030-01-01 100",
-    ),
-    settlement: "2024-02-16",
-    given: "4.125",
-    answer: "",
-};
+const THREE_CALLS: &str = "periodic dated=2020-01-01 first=2020-07-01 maturity=2034-01-01 coupon=5 \
+     call=2026-01-01:102 call=2028-01-01:101 call=2030-01-01:100 settle=2024-02-16 yield=4.125";
 
 #[test]
 fn a_lowest_price_takes_one_call_of_the_encloser_for_a_candidate(
     rt: HostRuntime,
 ) -> Result<(), Fail> {
-    let list = list_of(&THREE_CALLS)?;
+    let case = Sample::of(THREE_CALLS);
+    let list = list_of(&case)?;
     let encloser = encloser_at_first();
-    let y = yield_for(list.as_slice(), THREE_CALLS.given)?;
+    let y = yield_for(list.as_slice(), &case)?;
     let _ = lowest_price(list.as_slice(), y, &encloser);
     assert_eq!(rt; list.len(), 4);
     assert_eq!(rt; encloser.calls.load(Ordering::SeqCst), 4);

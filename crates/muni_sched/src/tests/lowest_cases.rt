@@ -1,242 +1,72 @@
 //! Lowest figures, computed with whole numbers outside the program.
-
-/// An issue with calls at a settlement, the price or the yield, and the answer.
-#[derive(Clone, Copy)]
-pub struct Case {
-    pub issue: (&'static str, &'static str),
-    pub settlement: &'static str,
-    pub given: &'static str,
-    pub answer: &'static str,
-}
-
-const TWO_CALLS: &str = "coupons 2020-01-01 2020-07-01 2029-01-01 5";
-
-const CALLS: &str = "2025-01-01 102,2026-01-01 100";
-
-const ONE_CALL: &str = "coupons 2020-01-01 2020-07-01 2034-01-01 4";
-
-const ZERO: &str = "zero 2020-01-01 - 2034-01-01 0";
-
-const NOTE: &str = "note 2024-01-01 - 2025-01-01 4";
-
-const DISCOUNTED: &str = "discount 2024-01-01 - 2024-04-01 0";
-
-const USUAL: &str = "coupons 2022-01-01 2022-07-01 2044-01-01 4";
+//!
+//! A line `base` gives an issue with its calls to the lines behind it. These give a settlement, a
+//! price or a yield, and the answer: the `low` figure and the first candidate that has it, or the
+//! date of one that is `below`, has `no-time` or is `undecided` at a boundary, or `above`.
 
 /// At a price. In the last three the exact yield to the call lies on a boundary, or beside it.
-pub const YIELDS: [Case; 20] = [
-    Case {
-        issue: (USUAL, "2034-01-01 100"),
-        settlement: "2024-01-01",
-        given: "108.584",
-        answer: "low 3.000 0",
-    },
-    Case {
-        issue: (ONE_CALL, "2029-01-01 100"),
-        settlement: "2024-01-01",
-        given: "100",
-        answer: "low 4.000 0",
-    },
-    Case {
-        issue: (TWO_CALLS, CALLS),
-        settlement: "2024-01-01",
-        given: "107",
-        answer: "low 0.000 0",
-    },
-    Case {
-        issue: (TWO_CALLS, CALLS),
-        settlement: "2024-01-01",
-        given: "97",
-        answer: "low 5.698 2",
-    },
-    Case {
-        issue: (TWO_CALLS, CALLS),
-        settlement: "2024-08-15",
-        given: "101.5",
-        answer: "low 3.868 1",
-    },
-    Case {
-        issue: (TWO_CALLS, CALLS),
-        settlement: "2024-08-15",
-        given: "104.75",
-        answer: "low -2.163 0",
-    },
-    Case {
-        issue: (TWO_CALLS, CALLS),
-        settlement: "2024-12-31",
-        given: "103",
-        answer: "no_time 2025-01-01",
-    },
-    Case {
-        issue: ("coupons 2020-01-01 2020-07-01 2024-01-01 5", ""),
-        settlement: "2023-12-31",
-        given: "99",
-        answer: "no_time 2024-01-01",
-    },
-    Case {
-        issue: ("coupons 2020-01-01 2020-07-01 2025-01-01 1", ""),
-        settlement: "2024-01-01",
-        given: "150",
-        answer: "below 2025-01-01",
-    },
-    Case {
-        issue: ("coupons 2020-01-01 2020-07-01 2025-01-01 1", ""),
-        settlement: "2024-01-01",
-        given: "1",
-        answer: "above",
-    },
-    Case {
-        issue: (
-            "coupons 2020-01-01 2020-07-01 2031-01-01 1",
-            "2026-01-01 100,2028-01-01 100",
-        ),
-        settlement: "2024-01-01",
-        given: "150",
-        answer: "below 2026-01-01",
-    },
-    Case {
-        issue: (
-            "coupons 2020-01-01 2020-07-01 2031-01-01 9",
-            "2024-07-01 104,2026-01-01 102",
-        ),
-        settlement: "2024-03-31",
-        given: "107.25",
-        answer: "low -3.653 0",
-    },
-    Case {
-        issue: (ZERO, "2029-01-01 75.5"),
-        settlement: "2024-01-01",
-        given: "55.367",
-        answer: "low 6.000 1",
-    },
-    Case {
-        issue: (NOTE, ""),
-        settlement: "2024-07-01",
-        given: "100.463",
-        answer: "low 3.000 0",
-    },
-    Case {
-        issue: (NOTE, ""),
-        settlement: "2024-07-01",
-        given: "300",
-        answer: "below 2025-01-01",
-    },
-    Case {
-        issue: (DISCOUNTED, ""),
-        settlement: "2024-01-01",
-        given: "99.25",
-        answer: "low 3.023 0",
-    },
-    Case {
-        issue: ("discount 2024-01-01 - 2024-03-31 0", ""),
-        settlement: "2024-03-30",
-        given: "99.25",
-        answer: "no_time 2024-03-31",
-    },
-    Case {
-        issue: (ZERO, "2025-07-01 125"),
-        settlement: "2023-12-31",
-        given: "134.217728",
-        answer: "undecided 2025-07-01 -4.6875",
-    },
-    Case {
-        issue: (ZERO, "2025-07-01 125"),
-        settlement: "2023-12-31",
-        given: "134.217727",
-        answer: "low -4.687 0",
-    },
-    Case {
-        issue: (ZERO, "2025-07-01 98.415"),
-        settlement: "2023-12-31",
-        given: "83.88608",
-        answer: "low 1.765 1",
-    },
-];
+pub const YIELDS: &str = "\
+base periodic dated=2022-01-01 first=2022-07-01 maturity=2044-01-01 coupon=4 call=2034-01-01:100
+settle=2024-01-01 price=108.584 low=3.000 candidate=0
+base periodic dated=2020-01-01 first=2020-07-01 maturity=2034-01-01 coupon=4 call=2029-01-01:100
+settle=2024-01-01 price=100 low=4.000 candidate=0
+base periodic dated=2020-01-01 first=2020-07-01 maturity=2029-01-01 coupon=5 call=2025-01-01:102 \
+     call=2026-01-01:100
+settle=2024-01-01 price=107 low=0.000 candidate=0
+settle=2024-01-01 price=97 low=5.698 candidate=2
+settle=2024-08-15 price=101.5 low=3.868 candidate=1
+settle=2024-08-15 price=104.75 low=-2.163 candidate=0
+settle=2024-12-31 price=103 no-time=2025-01-01
+base periodic dated=2020-01-01 first=2020-07-01 maturity=2024-01-01 coupon=5
+settle=2023-12-31 price=99 no-time=2024-01-01
+base periodic dated=2020-01-01 first=2020-07-01 maturity=2025-01-01 coupon=1
+settle=2024-01-01 price=150 below=2025-01-01
+settle=2024-01-01 price=1 above
+base periodic dated=2020-01-01 first=2020-07-01 maturity=2031-01-01 coupon=1 call=2026-01-01:100 \
+     call=2028-01-01:100
+settle=2024-01-01 price=150 below=2026-01-01
+base periodic dated=2020-01-01 first=2020-07-01 maturity=2031-01-01 coupon=9 call=2024-07-01:104 \
+     call=2026-01-01:102
+settle=2024-03-31 price=107.25 low=-3.653 candidate=0
+base zero dated=2020-01-01 maturity=2034-01-01 call=2029-01-01:75.5
+settle=2024-01-01 price=55.367 low=6.000 candidate=1
+base at-redemption dated=2024-01-01 maturity=2025-01-01 coupon=4
+settle=2024-07-01 price=100.463 low=3.000 candidate=0
+settle=2024-07-01 price=300 below=2025-01-01
+base discount dated=2024-01-01 maturity=2024-04-01
+settle=2024-01-01 price=99.25 low=3.023 candidate=0
+base discount dated=2024-01-01 maturity=2024-03-31
+settle=2024-03-30 price=99.25 no-time=2024-03-31
+base zero dated=2020-01-01 maturity=2034-01-01 call=2025-07-01:125
+settle=2023-12-31 price=134.217728 undecided=2025-07-01 boundary=-4.6875
+settle=2023-12-31 price=134.217727 low=-4.687 candidate=0
+base zero dated=2020-01-01 maturity=2034-01-01 call=2025-07-01:98.415
+settle=2023-12-31 price=83.88608 low=1.765 candidate=1";
 
-/// At a yield. In the last two the exact price to one of the redemptions lies on a boundary.
-pub const PRICES: [Case; 13] = [
-    Case {
-        issue: (TWO_CALLS, CALLS),
-        settlement: "2024-01-01",
-        given: "0",
-        answer: "low 107.000 0",
-    },
-    Case {
-        issue: (ONE_CALL, "2029-01-01 100"),
-        settlement: "2024-01-01",
-        given: "4",
-        answer: "low 100.000 0",
-    },
-    Case {
-        issue: (ONE_CALL, "2029-01-01 100"),
-        settlement: "2024-01-01",
-        given: "4.0001",
-        answer: "low 99.999 0",
-    },
-    Case {
-        issue: (
-            "coupons 2020-01-01 2020-07-01 2034-01-01 10",
-            "2025-01-01 110.5",
-        ),
-        settlement: "2024-01-01",
-        given: "20",
-        answer: "low 57.432 1",
-    },
-    Case {
-        issue: (USUAL, "2034-01-01 100"),
-        settlement: "2024-01-01",
-        given: "3",
-        answer: "low 108.584 0",
-    },
-    Case {
-        issue: (TWO_CALLS, CALLS),
-        settlement: "2025-01-01",
-        given: "0",
-        answer: "low 105.000 0",
-    },
-    Case {
-        issue: (TWO_CALLS, CALLS),
-        settlement: "2024-08-15",
-        given: "3.5",
-        answer: "low 101.996 1",
-    },
-    Case {
-        issue: (TWO_CALLS, CALLS),
-        settlement: "2024-08-15",
-        given: "-1.25",
-        answer: "low 104.384 0",
-    },
-    Case {
-        issue: (NOTE, ""),
-        settlement: "2024-07-01",
-        given: "3",
-        answer: "low 100.463 0",
-    },
-    Case {
-        issue: ("note 2024-01-01 - 2026-01-01 30", ""),
-        settlement: "2025-01-01",
-        given: "999.999",
-        answer: "below 2026-01-01",
-    },
-    Case {
-        issue: (ZERO, "2029-01-01 75.5"),
-        settlement: "2024-01-01",
-        given: "6",
-        answer: "low 55.367 1",
-    },
-    Case {
-        issue: ("zero 2020-01-01 - 2026-07-01 0", ""),
-        settlement: "2024-01-01",
-        given: "50",
-        answer: "undecided 2026-07-01 32.768",
-    },
-    Case {
-        issue: (
-            "coupons 2020-01-01 2020-07-01 2034-01-01 10",
-            "2026-07-01 130.5255",
-        ),
-        settlement: "2024-01-01",
-        given: "20",
-        answer: "low 57.432 1",
-    },
-];
+/// At a yield. In two of them the exact price to one of the redemptions lies on a boundary.
+pub const PRICES: &str = "\
+base periodic dated=2020-01-01 first=2020-07-01 maturity=2029-01-01 coupon=5 call=2025-01-01:102 \
+     call=2026-01-01:100
+settle=2024-01-01 yield=0 low=107.000 candidate=0
+settle=2025-01-01 yield=0 low=105.000 candidate=0
+settle=2024-08-15 yield=3.5 low=101.996 candidate=1
+settle=2024-08-15 yield=-1.25 low=104.384 candidate=0
+base periodic dated=2020-01-01 first=2020-07-01 maturity=2034-01-01 coupon=4 call=2029-01-01:100
+settle=2024-01-01 yield=4 low=100.000 candidate=0
+settle=2024-01-01 yield=4.0001 low=99.999 candidate=0
+base periodic dated=2020-01-01 first=2020-07-01 maturity=2034-01-01 coupon=10 \
+     call=2025-01-01:110.5
+settle=2024-01-01 yield=20 low=57.432 candidate=1
+base periodic dated=2022-01-01 first=2022-07-01 maturity=2044-01-01 coupon=4 call=2034-01-01:100
+settle=2024-01-01 yield=3 low=108.584 candidate=0
+base at-redemption dated=2024-01-01 maturity=2025-01-01 coupon=4
+settle=2024-07-01 yield=3 low=100.463 candidate=0
+base at-redemption dated=2024-01-01 maturity=2026-01-01 coupon=30
+settle=2025-01-01 yield=999.999 below=2026-01-01
+base zero dated=2020-01-01 maturity=2034-01-01 call=2029-01-01:75.5
+settle=2024-01-01 yield=6 low=55.367 candidate=1
+base zero dated=2020-01-01 maturity=2026-07-01
+settle=2024-01-01 yield=50 undecided=2026-07-01 boundary=32.768
+base periodic dated=2020-01-01 first=2020-07-01 maturity=2034-01-01 coupon=10 \
+     call=2026-07-01:130.5255
+settle=2024-01-01 yield=20 low=57.432 candidate=1";

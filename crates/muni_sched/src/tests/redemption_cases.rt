@@ -1,89 +1,101 @@
 //! Redemption candidates, computed with whole numbers outside the program.
+//!
+//! A line `base` gives an issue with its calls, a settlement, and how many candidates there are.
+//! Each line behind it gives one of these: its number from 0 in order of date, its date, its price,
+//! its label, and how it is priced: by `many` payments, of which there are n, with A, the accrued
+//! interest and the redemption; by `one` payment that is due, or that of a `note`, the accrued
+//! interest and the days left; or by the days of a `discounted` note.
 
-/// A kind, a dated date, a first interest date (`-` where there is none), a maturity and a coupon;
-/// the calls; the settlement; and the candidates.
-///
-/// A candidate is its date, its price and its label. Then come the number of payments, the days
-/// into the period, the accrued interest and the redemption, or what one payment pays, the accrued
-/// interest and the days left, or the days of a discounted note.
-pub const CASES: [&str; 19] = [
-    "coupons 2020-01-01 2020-07-01 2032-01-01 4||2024-03-01|\
-     2032-01-01 100 MATURITY many 16 60 240000000000 36000000000000",
-    "coupons 2020-01-01 2020-07-01 2032-01-01 4|\
-     2024-07-01 102,2025-01-01 100.000001,2025-07-01 100,2027-01-01 99.5|2024-03-31|\
-     2024-07-01 102 CALL one 37440000000000 360000000000 90,\
-     2025-01-01 100.000001 CALL many 2 90 360000000000 36000000360000,\
-     2025-07-01 100 PAR many 3 90 360000000000 36000000000000,\
-     2027-01-01 99.5 CALL many 6 90 360000000000 35820000000000,\
-     2032-01-01 100 MATURITY many 16 90 360000000000 36000000000000",
-    "coupons 2020-01-01 2020-07-01 2032-01-01 4|\
-     2024-07-01 102,2025-01-01 100.000001,2025-07-01 100,2027-01-01 99.5|2024-06-30|\
-     2024-07-01 102 CALL one 37440000000000 716000000000 1,\
-     2025-01-01 100.000001 CALL many 2 179 716000000000 36000000360000,\
-     2025-07-01 100 PAR many 3 179 716000000000 36000000000000,\
-     2027-01-01 99.5 CALL many 6 179 716000000000 35820000000000,\
-     2032-01-01 100 MATURITY many 16 179 716000000000 36000000000000",
-    "coupons 2020-01-01 2020-07-01 2032-01-01 4|\
-     2024-07-01 102,2025-01-01 100.000001,2025-07-01 100,2027-01-01 99.5|2024-07-01|\
-     2025-01-01 100.000001 CALL one 36720000360000 0 180,\
-     2025-07-01 100 PAR many 2 0 0 36000000000000,\
-     2027-01-01 99.5 CALL many 5 0 0 35820000000000,\
-     2032-01-01 100 MATURITY many 15 0 0 36000000000000",
-    "coupons 2020-01-01 2020-07-01 2032-01-01 4|\
-     2024-07-01 102,2025-01-01 100.000001,2025-07-01 100,2027-01-01 99.5|2024-07-02|\
-     2025-01-01 100.000001 CALL one 36720000360000 4000000000 179,\
-     2025-07-01 100 PAR many 2 1 4000000000 36000000000000,\
-     2027-01-01 99.5 CALL many 5 1 4000000000 35820000000000,\
-     2032-01-01 100 MATURITY many 15 1 4000000000 36000000000000",
-    "coupons 2020-01-01 2020-07-01 2032-01-01 4|\
-     2024-07-01 102,2025-01-01 100.000001,2025-07-01 100,2027-01-01 99.5|2026-12-31|\
-     2027-01-01 99.5 CALL one 36540000000000 720000000000 0,\
-     2032-01-01 100 MATURITY many 11 180 720000000000 36000000000000",
-    "coupons 2020-01-01 2020-07-01 2032-01-01 4|\
-     2024-07-01 102,2025-01-01 100.000001,2025-07-01 100,2027-01-01 99.5|2027-01-01|\
-     2032-01-01 100 MATURITY many 10 0 0 36000000000000",
-    "coupons 2020-01-01 2020-07-01 2032-01-01 4|\
-     2024-07-01 102,2025-01-01 100.000001,2025-07-01 100,2027-01-01 99.5|2031-07-01|\
-     2032-01-01 100 MATURITY one 36720000000000 0 180",
-    "coupons 2023-08-31 2024-02-28 2026-08-28 3.0625|\
-     2024-02-28 101,2024-08-28 100,2025-02-28 100.5|2023-08-31|\
-     2024-02-28 101 CALL one 36905125000000 0 177,\
-     2024-08-28 100 PAR many 2 3 0 36000000000000,\
-     2025-02-28 100.5 CALL many 3 3 0 36180000000000,\
-     2026-08-28 100 MATURITY many 6 3 0 36000000000000",
-    "coupons 2023-08-31 2024-02-28 2026-08-28 3.0625|\
-     2024-02-28 101,2024-08-28 100,2025-02-28 100.5|2024-02-28|\
-     2024-08-28 100 PAR one 36551250000000 0 180,\
-     2025-02-28 100.5 CALL many 2 0 0 36180000000000,\
-     2026-08-28 100 MATURITY many 5 0 0 36000000000000",
-    "coupons 2023-08-31 2024-02-28 2026-08-28 3.0625|\
-     2024-02-28 101,2024-08-28 100,2025-02-28 100.5|2024-02-29|\
-     2024-08-28 100 PAR one 36551250000000 3062500000 179,\
-     2025-02-28 100.5 CALL many 2 1 3062500000 36180000000000,\
-     2026-08-28 100 MATURITY many 5 1 3062500000 36000000000000",
-    "coupons 2023-08-31 2024-02-28 2026-08-28 3.0625|\
-     2024-02-28 101,2024-08-28 100,2025-02-28 100.5|2026-08-27|\
-     2026-08-28 100 MATURITY one 36551250000000 548187500000 1",
-    "coupons 2024-01-15 2024-10-01 2026-10-01 6|\
-     2024-10-01 103,2025-04-01 100|2024-02-01|\
-     2024-10-01 103 CALL many 2 120 96000000000 37080000000000,\
-     2025-04-01 100 PAR many 3 120 96000000000 36000000000000,\
-     2026-10-01 100 MATURITY many 6 120 96000000000 36000000000000",
-    "zero 2020-01-01 - 2026-07-15 0|\
-     2025-01-15 80.25,2026-01-15 100|2024-08-31|\
-     2025-01-15 80.25 CALL one 28890000000000 0 134,\
-     2026-01-15 100 PAR many 3 46 0 36000000000000,\
-     2026-07-15 100 MATURITY many 4 46 0 36000000000000",
-    "zero 2020-01-01 - 2026-07-15 0|\
-     2025-01-15 80.25,2026-01-15 100|2025-01-15|\
-     2026-01-15 100 PAR many 2 0 0 36000000000000,\
-     2026-07-15 100 MATURITY many 3 0 0 36000000000000",
-    "note 2024-01-31 - 2025-03-31 4||2024-07-31|\
-     2025-03-31 100 MATURITY at_redemption 37680000000000 720000000000 240",
-    "note 2024-01-31 - 2025-03-31 4||2025-03-30|\
-     2025-03-31 100 MATURITY at_redemption 37680000000000 1680000000000 0",
-    "discount 2024-01-31 - 2025-03-31 0||2024-02-29|\
-     2025-03-31 100 MATURITY discount 392",
-    "discount 2024-01-31 - 2025-03-31 0||2025-03-30|\
-     2025-03-31 100 MATURITY discount 0",
-];
+pub const CASES: &str = "\
+base periodic dated=2020-01-01 first=2020-07-01 maturity=2032-01-01 coupon=4 settle=2024-03-01 \
+     candidates=1
+no=0 date=2032-01-01 at=100 MATURITY many n=16 a=60 accrued=240000000000 redemption=36000000000000
+base periodic dated=2020-01-01 first=2020-07-01 maturity=2032-01-01 coupon=4 call=2024-07-01:102 \
+     call=2025-01-01:100.000001 call=2025-07-01:100 call=2027-01-01:99.5 settle=2024-03-31 \
+     candidates=5
+no=0 date=2024-07-01 at=102 CALL one due=37440000000000 accrued=360000000000 left=90
+no=1 date=2025-01-01 at=100.000001 CALL many n=2 a=90 accrued=360000000000 redemption=36000000360000
+no=2 date=2025-07-01 at=100 PAR many n=3 a=90 accrued=360000000000 redemption=36000000000000
+no=3 date=2027-01-01 at=99.5 CALL many n=6 a=90 accrued=360000000000 redemption=35820000000000
+no=4 date=2032-01-01 at=100 MATURITY many n=16 a=90 accrued=360000000000 redemption=36000000000000
+base periodic dated=2020-01-01 first=2020-07-01 maturity=2032-01-01 coupon=4 call=2024-07-01:102 \
+     call=2025-01-01:100.000001 call=2025-07-01:100 call=2027-01-01:99.5 settle=2024-06-30 \
+     candidates=5
+no=0 date=2024-07-01 at=102 CALL one due=37440000000000 accrued=716000000000 left=1
+no=1 date=2025-01-01 at=100.000001 CALL many n=2 a=179 accrued=716000000000 \
+     redemption=36000000360000
+no=2 date=2025-07-01 at=100 PAR many n=3 a=179 accrued=716000000000 redemption=36000000000000
+no=3 date=2027-01-01 at=99.5 CALL many n=6 a=179 accrued=716000000000 redemption=35820000000000
+no=4 date=2032-01-01 at=100 MATURITY many n=16 a=179 accrued=716000000000 redemption=36000000000000
+base periodic dated=2020-01-01 first=2020-07-01 maturity=2032-01-01 coupon=4 call=2024-07-01:102 \
+     call=2025-01-01:100.000001 call=2025-07-01:100 call=2027-01-01:99.5 settle=2024-07-01 \
+     candidates=4
+no=0 date=2025-01-01 at=100.000001 CALL one due=36720000360000 accrued=0 left=180
+no=1 date=2025-07-01 at=100 PAR many n=2 a=0 accrued=0 redemption=36000000000000
+no=2 date=2027-01-01 at=99.5 CALL many n=5 a=0 accrued=0 redemption=35820000000000
+no=3 date=2032-01-01 at=100 MATURITY many n=15 a=0 accrued=0 redemption=36000000000000
+base periodic dated=2020-01-01 first=2020-07-01 maturity=2032-01-01 coupon=4 call=2024-07-01:102 \
+     call=2025-01-01:100.000001 call=2025-07-01:100 call=2027-01-01:99.5 settle=2024-07-02 \
+     candidates=4
+no=0 date=2025-01-01 at=100.000001 CALL one due=36720000360000 accrued=4000000000 left=179
+no=1 date=2025-07-01 at=100 PAR many n=2 a=1 accrued=4000000000 redemption=36000000000000
+no=2 date=2027-01-01 at=99.5 CALL many n=5 a=1 accrued=4000000000 redemption=35820000000000
+no=3 date=2032-01-01 at=100 MATURITY many n=15 a=1 accrued=4000000000 redemption=36000000000000
+base periodic dated=2020-01-01 first=2020-07-01 maturity=2032-01-01 coupon=4 call=2024-07-01:102 \
+     call=2025-01-01:100.000001 call=2025-07-01:100 call=2027-01-01:99.5 settle=2026-12-31 \
+     candidates=2
+no=0 date=2027-01-01 at=99.5 CALL one due=36540000000000 accrued=720000000000 left=0
+no=1 date=2032-01-01 at=100 MATURITY many n=11 a=180 accrued=720000000000 redemption=36000000000000
+base periodic dated=2020-01-01 first=2020-07-01 maturity=2032-01-01 coupon=4 call=2024-07-01:102 \
+     call=2025-01-01:100.000001 call=2025-07-01:100 call=2027-01-01:99.5 settle=2027-01-01 \
+     candidates=1
+no=0 date=2032-01-01 at=100 MATURITY many n=10 a=0 accrued=0 redemption=36000000000000
+base periodic dated=2020-01-01 first=2020-07-01 maturity=2032-01-01 coupon=4 call=2024-07-01:102 \
+     call=2025-01-01:100.000001 call=2025-07-01:100 call=2027-01-01:99.5 settle=2031-07-01 \
+     candidates=1
+no=0 date=2032-01-01 at=100 MATURITY one due=36720000000000 accrued=0 left=180
+base periodic dated=2023-08-31 first=2024-02-28 maturity=2026-08-28 coupon=3.0625 \
+     call=2024-02-28:101 call=2024-08-28:100 call=2025-02-28:100.5 settle=2023-08-31 \
+     candidates=4
+no=0 date=2024-02-28 at=101 CALL one due=36905125000000 accrued=0 left=177
+no=1 date=2024-08-28 at=100 PAR many n=2 a=3 accrued=0 redemption=36000000000000
+no=2 date=2025-02-28 at=100.5 CALL many n=3 a=3 accrued=0 redemption=36180000000000
+no=3 date=2026-08-28 at=100 MATURITY many n=6 a=3 accrued=0 redemption=36000000000000
+base periodic dated=2023-08-31 first=2024-02-28 maturity=2026-08-28 coupon=3.0625 \
+     call=2024-02-28:101 call=2024-08-28:100 call=2025-02-28:100.5 settle=2024-02-28 \
+     candidates=3
+no=0 date=2024-08-28 at=100 PAR one due=36551250000000 accrued=0 left=180
+no=1 date=2025-02-28 at=100.5 CALL many n=2 a=0 accrued=0 redemption=36180000000000
+no=2 date=2026-08-28 at=100 MATURITY many n=5 a=0 accrued=0 redemption=36000000000000
+base periodic dated=2023-08-31 first=2024-02-28 maturity=2026-08-28 coupon=3.0625 \
+     call=2024-02-28:101 call=2024-08-28:100 call=2025-02-28:100.5 settle=2024-02-29 \
+     candidates=3
+no=0 date=2024-08-28 at=100 PAR one due=36551250000000 accrued=3062500000 left=179
+no=1 date=2025-02-28 at=100.5 CALL many n=2 a=1 accrued=3062500000 redemption=36180000000000
+no=2 date=2026-08-28 at=100 MATURITY many n=5 a=1 accrued=3062500000 redemption=36000000000000
+base periodic dated=2023-08-31 first=2024-02-28 maturity=2026-08-28 coupon=3.0625 \
+     call=2024-02-28:101 call=2024-08-28:100 call=2025-02-28:100.5 settle=2026-08-27 \
+     candidates=1
+no=0 date=2026-08-28 at=100 MATURITY one due=36551250000000 accrued=548187500000 left=1
+base periodic dated=2024-01-15 first=2024-10-01 maturity=2026-10-01 coupon=6 call=2024-10-01:103 \
+     call=2025-04-01:100 settle=2024-02-01 candidates=3
+no=0 date=2024-10-01 at=103 CALL many n=2 a=120 accrued=96000000000 redemption=37080000000000
+no=1 date=2025-04-01 at=100 PAR many n=3 a=120 accrued=96000000000 redemption=36000000000000
+no=2 date=2026-10-01 at=100 MATURITY many n=6 a=120 accrued=96000000000 redemption=36000000000000
+base zero dated=2020-01-01 maturity=2026-07-15 call=2025-01-15:80.25 call=2026-01-15:100 \
+     settle=2024-08-31 candidates=3
+no=0 date=2025-01-15 at=80.25 CALL one due=28890000000000 accrued=0 left=134
+no=1 date=2026-01-15 at=100 PAR many n=3 a=46 accrued=0 redemption=36000000000000
+no=2 date=2026-07-15 at=100 MATURITY many n=4 a=46 accrued=0 redemption=36000000000000
+base zero dated=2020-01-01 maturity=2026-07-15 call=2025-01-15:80.25 call=2026-01-15:100 \
+     settle=2025-01-15 candidates=2
+no=0 date=2026-01-15 at=100 PAR many n=2 a=0 accrued=0 redemption=36000000000000
+no=1 date=2026-07-15 at=100 MATURITY many n=3 a=0 accrued=0 redemption=36000000000000
+base at-redemption dated=2024-01-31 maturity=2025-03-31 coupon=4 settle=2024-07-31 candidates=1
+no=0 date=2025-03-31 at=100 MATURITY note due=37680000000000 accrued=720000000000 left=240
+base at-redemption dated=2024-01-31 maturity=2025-03-31 coupon=4 settle=2025-03-30 candidates=1
+no=0 date=2025-03-31 at=100 MATURITY note due=37680000000000 accrued=1680000000000 left=0
+base discount dated=2024-01-31 maturity=2025-03-31 settle=2024-02-29 candidates=1
+no=0 date=2025-03-31 at=100 MATURITY discounted days=392
+base discount dated=2024-01-31 maturity=2025-03-31 settle=2025-03-30 candidates=1
+no=0 date=2025-03-31 at=100 MATURITY discounted days=0";

@@ -1,11 +1,10 @@
-use crate::tests::issues::{day, issue, price, row};
 use crate::tests::redemption_cases::CASES;
 use crate::{Candidate, Label, Shape, candidates};
 use muni_days::Day;
 use muni_dec::Price;
+use muni_samples::{Sample, Table};
+use muni_simple::Single;
 use muni_terms::{Call, check};
-use std::process::Abort;
-use std::str::Split;
 use std::test::Fail;
 
 fn name_of(label: Label) -> &'static str {
@@ -16,84 +15,68 @@ fn name_of(label: Label) -> &'static str {
     }
 }
 
-fn numbers_are(rt: &impl Abort, numbers: &[i64], words: &mut Split<'_, char>) -> Result<(), Fail> {
-    for number in numbers {
-        let expected = words.next().ok_or("a number")?;
-        assert_eq!(rt; Some(*number), expected.parse::<i64>().ok(), "{expected}");
-    }
-    Ok(())
+fn is_payment(payment: &Single, case: &Sample<'_>) -> bool {
+    case.number("due=") == Some(payment.due)
+        && case.number("accrued=") == Some(payment.accrued)
+        && case.number("left=") == Some(i64::from(payment.left))
 }
 
-fn shape_is(
-    rt: &impl Abort,
-    candidate: &Candidate,
-    words: &mut Split<'_, char>,
-) -> Result<(), Fail> {
-    let shape = words.next().ok_or("a shape")?;
-    match candidate.shape {
+fn is_shape(shape: &Shape, case: &Sample<'_>) -> bool {
+    match shape {
         Shape::Many(flows) => {
-            assert_eq!(rt; shape, "many");
-            let accrued = flows.accrued() as i64;
-            let redemption = flows.redemption() as i64;
-            let numbers = [
-                i64::from(flows.n()),
-                i64::from(flows.a()),
-                accrued,
-                redemption,
-            ];
-            numbers_are(rt, &numbers, words)
+            case.has("many")
+                && case.number("n=") == Some(i64::from(flows.n()))
+                && case.number("a=") == Some(i64::from(flows.a()))
+                && case.number("accrued=") == Some(flows.accrued() as i64)
+                && case.number("redemption=") == Some(flows.redemption() as i64)
         }
-        Shape::One(payment) => {
-            assert_eq!(rt; shape, "one");
-            let numbers = [payment.due, payment.accrued, i64::from(payment.left)];
-            numbers_are(rt, &numbers, words)
-        }
-        Shape::AtRedemption(payment) => {
-            assert_eq!(rt; shape, "at_redemption");
-            let numbers = [payment.due, payment.accrued, i64::from(payment.left)];
-            numbers_are(rt, &numbers, words)
-        }
+        Shape::One(payment) => case.has("one") && is_payment(payment, case),
+        Shape::AtRedemption(payment) => case.has("note") && is_payment(payment, case),
         Shape::Discount { days } => {
-            assert_eq!(rt; shape, "discount");
-            numbers_are(rt, &[i64::from(days)], words)
+            case.has("discounted") && case.number("days=") == Some(i64::from(*days))
         }
     }
 }
 
-fn candidate_is(rt: &impl Abort, candidate: &Candidate, expected: &str) -> Result<(), Fail> {
-    let mut words = expected.split(' ');
-    let date = day(words.next().ok_or("a date")?)?;
-    assert!(rt; candidate.date == date, "{expected}");
-    let at = price(words.next().ok_or("a price")?)?;
-    assert_eq!(rt; candidate.price.units(), at.units(), "{expected}");
-    let label = words.next().ok_or("a label")?;
-    assert_eq!(rt; name_of(candidate.label), label, "{expected}");
-    shape_is(rt, candidate, &mut words)
+// Whether it is the candidate that a case gives.
+fn is_candidate(candidate: &Candidate, case: &Sample<'_>) -> Result<bool, Fail> {
+    let date = case.day("date=").ok_or("a date")?;
+    let price = case.price("at=").ok_or("a price")?;
+    Ok(
+        candidate.date == date
+            && candidate.price == price
+            && case.has(name_of(candidate.label))
+            && is_shape(&candidate.shape, case),
+    )
 }
 
 #[test]
 fn candidates_are_those_computed_outside(rt: HostRuntime) -> Result<(), Fail> {
-    for case in CASES {
-        let mut parts = case.split('|');
-        let terms = parts.next().ok_or("terms")?;
-        let calls = parts.next().ok_or("calls")?;
-        let settlement = day(parts.next().ok_or("a settlement")?)?;
-        let expected = parts.next().ok_or("candidates")?;
-        let issue = issue(terms, calls)?;
-        assert!(rt; issue.settles(settlement), "{case}");
+    let mut table = Table::new();
+    let mut cases = 0_u32;
+    for line in CASES.lines() {
+        let Some(case) = table.sample(line) else {
+            continue;
+        };
+        let issue = case.issue().ok_or("an issue")?;
+        let settlement = case.day("settle=").ok_or("a settlement")?;
+        assert!(rt; issue.settles(settlement), "{line}");
         let list = candidates(&issue, settlement);
-        let mut lines = expected.split(',');
-        for candidate in list.as_slice() {
-            candidate_is(&rt, candidate, lines.next().ok_or("one candidate less")?)?;
-        }
-        assert!(rt; lines.next().is_none(), "one candidate more: {case}");
+        assert_eq!(rt; Some(list.len()), case.count("candidates="), "{line}");
+        let number = case.count("no=").ok_or("a number")?;
+        let candidate = list.as_slice().get(number).ok_or("a candidate")?;
+        assert!(rt; is_candidate(candidate, &case)?, "{line}");
+        cases = cases.wrapping_add(1);
     }
+    assert_eq!(rt; cases, 46);
     Ok(())
 }
 
+const UNCALLED: &str = "periodic dated=2020-01-01 first=2020-07-01 maturity=2045-01-01 coupon=4";
+
 #[test]
 fn forty_calls_and_the_maturity_are_forty_one_candidates(rt: HostRuntime) -> Result<(), Fail> {
-    let mut row = row("coupons 2020-01-01 2020-07-01 2045-01-01 4")?;
+    let mut row = Sample::of(UNCALLED).row().ok_or("terms")?;
     let price = Price::of(101_000_000).ok_or("a price")?;
     for i in 0u64..40 {
         let date = Day::of(2021 + i / 2, 1 + 6 * (i % 2), 1).ok_or("a day")?;
@@ -101,14 +84,14 @@ fn forty_calls_and_the_maturity_are_forty_one_candidates(rt: HostRuntime) -> Res
     }
     let issue = check(row).ok().ok_or("an issue")?;
     for (settlement, count) in [
-        ("2020-01-01", 41),
-        ("2020-12-31", 41),
-        ("2021-01-01", 40),
-        ("2030-07-01", 21),
-        ("2040-06-30", 2),
-        ("2040-07-01", 1),
+        ("settle=2020-01-01", 41),
+        ("settle=2020-12-31", 41),
+        ("settle=2021-01-01", 40),
+        ("settle=2030-07-01", 21),
+        ("settle=2040-06-30", 2),
+        ("settle=2040-07-01", 1),
     ] {
-        let settlement = day(settlement)?;
+        let settlement = Sample::of(settlement).day("settle=").ok_or("a day")?;
         assert!(rt; issue.settles(settlement));
         let list = candidates(&issue, settlement);
         assert_eq!(rt; list.len(), count);
