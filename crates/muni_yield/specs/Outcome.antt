@@ -6,6 +6,7 @@ use Rattle.muni_rule.specs.ManyPeriods.{to_come, AtLeast, More}
 use Rattle.muni_rule.specs.Outcomes.{IsBelow, IsAbove, IsPrint}
 use Rattle.muni_rule.specs.Payments.{PaymentSeries, IsSeries}
 use Rattle.muni_rule.specs.PrintedYield.{boundary, Reached}
+use Rattle.muni_rule.specs.Ranges.{many_periods_prints}
 use Rattle.muni_rule.specs.declared.verdict.Verdict.{Verdict}
 use Rattle.muni_rule.specs.declared.verdict.Verdict.TheVariants as verdict
 use Rattle.muni_yield.specs.declared.outcome.Outcome.{Outcome}
@@ -13,10 +14,10 @@ use Rattle.muni_yield.specs.declared.outcome.Outcome.TheVariants.{Print, Below, 
 
 -- the least yield that is printed, -5 percent, and the greatest, 100 percent
 abbrev pub least_printed : ℤ
-least_printed = negsuc 4_999
+least_printed = many_periods_prints.least
 
 abbrev pub greatest_printed : ℤ
-greatest_printed = pos 100_000
+greatest_printed = many_periods_prints.greatest
 
 -- a yield is printed, or leaves the range, by the exact price
 abbrev pub IsYieldOutcome : (AtLeast More : ℤ → Type 0) → Outcome → Type 0
