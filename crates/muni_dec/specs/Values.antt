@@ -1,6 +1,7 @@
 -- The kinds of decimals: their places, their ranges, and what a text says as one of them.
-use Rattle.std.specs.Prelude.{ℕ, nat_le, nat_lt, ◌&&◌, if◌then◌else◌, List, Option, Some, None, Result, Ok, Err, ℤ, pos, negsuc}
+use Rattle.std.specs.Prelude.{ℕ, nat_le, nat_lt, ◌&&◌, if◌then◌else◌, List, Option, Some, None, is_none, Result, Ok, Err, ℤ, pos, negsuc}
 use Rattle.std.specs.Option.{ok_or}
+use Rattle.muni_rule.specs.Ranges.{side_of, one_period_prints}
 use Rattle.muni_dec.specs.Decimal.{reading, signed_reading, digits_reading}
 use Rattle.muni_dec.specs.declared.fault.DecFault.{DecFault}
 use Rattle.muni_dec.specs.declared.fault.DecFault.TheVariants.{OutOfRange}
@@ -63,9 +64,9 @@ if_yield units = if_percent 999_999 9_999_999 units
 unfoldable pub yield_reading : List ℕ → Result ℤ DecFault
 yield_reading text = percent_reading 4 999_999 9_999_999 text
 
--- a printed yield: from -90.000 to 999.999 percent
+-- a printed yield, of any security: the widest range is that of one period
 abbrev pub if_printed_yield : ℤ → Option ℤ
-if_printed_yield units = if_percent 90_000 999_999 units
+if_printed_yield units = if is_none (side_of one_period_prints units) then Some units else None
 
 -- a par: whole dollars from 1 to 1,000,000,000, where a point is a byte that does not belong
 abbrev pub if_par : ℕ → Option ℕ
