@@ -12,6 +12,7 @@ use crate::{Command, CommandLine, QuoteRequest, Status, desk, read};
 use muni_days::Day;
 use muni_edge::{MemSink, NoGate};
 use muni_multi::Horner;
+use muni_samples::{Sample, Table};
 use std::alloc::Global;
 use std::process::Abort;
 use std::test::Fail;
@@ -26,11 +27,31 @@ const CALLED: &str =
     "quote --kind=zero --call=2027-01-01:102.5 --dated=2020-01-01 --maturity=2030-01-01 \
     --workers=07 --settle=2024-04-01 --call=2025-07-01:100 --yield=4";
 
-fn words_of(alloc: Global, line: &str) -> Result<Vec<String>, Fail> {
-    let mut words = Vec::new(alloc);
+fn push_words(alloc: Global, words: &mut Vec<String>, line: &str) -> Result<(), Fail> {
     for word in line.split(' ') {
         words.push(String::from_str(alloc, word)?)?;
     }
+    Ok(())
+}
+
+fn words_of(alloc: Global, line: &str) -> Result<Vec<String>, Fail> {
+    let mut words = Vec::new(alloc);
+    push_words(alloc, &mut words, line)?;
+    Ok(words)
+}
+
+// The words of the base, and those of the line.
+fn words_of_case(alloc: Global, case: &Sample<'_>) -> Result<Vec<String>, Fail> {
+    let [base, own] = case.words();
+    let mut words = Vec::new(alloc);
+    if !base.is_empty() {
+        push_words(
+            alloc,
+            &mut words,
+            str::from_utf8(base).ok().ok_or("a text")?,
+        )?;
+    }
+    push_words(alloc, &mut words, str::from_utf8(own).ok().ok_or("a text")?)?;
     Ok(words)
 }
 
@@ -44,50 +65,60 @@ fn written(alloc: Global, output: &MemSink) -> Result<String, Fail> {
     Ok(text.trim_end_matches('\n').replace(alloc, "\n", "/")?)
 }
 
+// Whether the words of each line, behind those of its base, end in the status and write the text
+// that stand behind the bars.
 fn answers_are_right<R: Threads + Sync + Abort>(
     rt: &R,
     alloc: Global,
     cases: &str,
+    wanted: u32,
 ) -> Result<(), Fail> {
-    for case in cases.lines() {
-        if case.is_empty() || case.starts_with('#') {
+    let mut table = Table::new();
+    let mut count = 0_u32;
+    for line in cases.lines() {
+        if line.is_empty() {
             continue;
         }
-        let (line, answered) = case.split_once('|').ok_or("words")?;
+        let (own, answered) = line.split_once('|').unwrap_or((line, ""));
+        let Some(case) = table.sample(own) else {
+            continue;
+        };
         let (status, text) = answered.split_once('|').ok_or("a status")?;
         let mut output = sink(alloc, 512, &[])?;
-        let words = words_of(alloc, line)?;
+        let words = words_of_case(alloc, &case)?;
         let number = desk(rt, words.as_slice(), &mut output, &Horner, &NoGate).number();
         assert_eq!(rt; number, status.parse::<u8>()?, "{line}");
         assert_eq!(rt; written(alloc, &output)?.as_str(), text, "{line}");
         assert_eq!(rt; output.bytes().ends_with(b"\n"), !text.is_empty(), "{line}");
+        count = count.wrapping_add(1);
     }
+    assert_eq!(rt; count, wanted);
     Ok(())
 }
 
 #[test]
 fn prices_of_a_last_period_are_the_exact_ones(rt: HostRuntime) -> Result<(), Fail> {
-    answers_are_right(&rt, rt.alloc(), quote_one_cases::CASES)
+    answers_are_right(&rt, rt.alloc(), quote_one_cases::CASES, 131)
 }
 
 #[test]
 fn figures_of_notes_are_the_exact_ones(rt: HostRuntime) -> Result<(), Fail> {
-    answers_are_right(&rt, rt.alloc(), quote_cases::CASES)
+    answers_are_right(&rt, rt.alloc(), quote_cases::CASES, 168)
 }
 
 #[test]
 fn figures_of_bonds_are_the_exact_ones(rt: HostRuntime) -> Result<(), Fail> {
-    answers_are_right(&rt, rt.alloc(), bond_cases::CASES)
+    answers_are_right(&rt, rt.alloc(), bond_cases::CASES, 163)
 }
 
 #[test]
 fn yields_of_bonds_at_a_price_are_the_exact_ones(rt: HostRuntime) -> Result<(), Fail> {
-    answers_are_right(&rt, rt.alloc(), price_cases::CASES)
+    answers_are_right(&rt, rt.alloc(), price_cases::CASES, 157)
 }
 
 #[test]
 fn calls_and_workers_are_read_as_they_are_written(rt: HostRuntime) -> Result<(), Fail> {
-    answers_are_right(&rt, rt.alloc(), call_cases::CASES)
+    answers_are_right(&rt, rt.alloc(), call_cases::CASES, 86)
 }
 
 // The request of a quote, and the workers.
@@ -123,12 +154,12 @@ fn a_quote_without_calls_has_one_worker(rt: HostRuntime) -> Result<(), Fail> {
 
 #[test]
 fn the_lowest_figure_over_the_schedule_is_disclosed(rt: HostRuntime) -> Result<(), Fail> {
-    answers_are_right(&rt, rt.alloc(), schedule_cases::CASES)
+    answers_are_right(&rt, rt.alloc(), schedule_cases::CASES, 255)
 }
 
 #[test]
 fn sums_of_generated_books_are_the_exact_ones(rt: HostRuntime) -> Result<(), Fail> {
-    answers_are_right(&rt, rt.alloc(), drill_cases::CASES)
+    answers_are_right(&rt, rt.alloc(), drill_cases::CASES, 39)
 }
 
 #[test]

@@ -1,9 +1,9 @@
 //! Issues, settlements and payments for the tests, from the lines of a table.
 //!
 //! A line is words with blanks between them. A line `base ..` is no case: its words go before those
-//! of each line behind it, up to the next `base`. A line `# ..` is a comment. An issue is its kind
-//! (`periodic`, `zero`, `at-redemption` or `discount`), `dated=`, `first=`, `maturity=`, `coupon=` and
-//! `call=DATE:PRICE`, once for each call; `settle=` is a settlement.
+//! of each line behind it, up to the next `base`, which may have none. A line `# ..` is a comment. An
+//! issue is its kind (`periodic`, `zero`, `at-redemption` or `discount`), `dated=`, `first=`,
+//! `maturity=`, `coupon=` and `call=DATE:PRICE`, once for each call; `settle=` is a settlement.
 #![tactic(auto)]
 
 mod issue;

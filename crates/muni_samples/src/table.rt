@@ -29,6 +29,10 @@ impl<'a> Table<'a> {
             self.base = base;
             return None;
         }
+        if line == b"base".as_slice() {
+            self.base = b"";
+            return None;
+        }
         if line.starts_with(b"# ".as_slice()) {
             return None;
         }
@@ -62,7 +66,7 @@ impl<'a> Sample<'a> {
         }
     }
 
-    /// The words of the base, and those of the line, with blanks between them.
+    /// The words of the base, and those of the line, each with blanks between them.
     pub fn words(&self) -> [&'a [u8]; 2] {
         [self.base, self.line]
     }

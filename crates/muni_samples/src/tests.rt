@@ -7,8 +7,8 @@ const TABLE: &str = "\
 base periodic dated=2022-01-01 first=2022-07-01 maturity=2044-01-01 coupon=4
 settle=2024-01-01 call=2034-01-01:101.5 n=20 redemption=101.5
 settle=2024-01-01 n=40 redemption=100
-base zero dated=2020-01-01 maturity=2034-01-01
-settle=2024-01-01 n=20 redemption=100";
+base
+zero dated=2020-01-01 maturity=2034-01-01 settle=2024-01-01 n=20 redemption=100";
 
 #[test]
 fn a_line_extends_the_base_before_it(rt: HostRuntime) -> Result<(), Fail> {

@@ -1,99 +1,107 @@
 //! Words of `quote` with calls and workers, the number of the status that they end in, and the lines
 //! that are written, with a slash between.
+//! A line `base ..` gives its words to the lines behind it, up to the next `base`.
 //!
 //! The lines were worked outside the program, by the rules of words and terms.
 
 pub const CASES: &str = r"
 # Calls that do not read
-quote --kind=periodic --dated=2020-01-01 --first=2020-07-01 --maturity=2050-01-01 --coupon=5 --settle=2024-04-01 --yield=4 --call=2025-01-01|2|
-quote --kind=periodic --dated=2020-01-01 --first=2020-07-01 --maturity=2050-01-01 --coupon=5 --settle=2024-04-01 --yield=4 --call=2025-01-01:|2|
-quote --kind=periodic --dated=2020-01-01 --first=2020-07-01 --maturity=2050-01-01 --coupon=5 --settle=2024-04-01 --yield=4 --call=:100|2|
-quote --kind=periodic --dated=2020-01-01 --first=2020-07-01 --maturity=2050-01-01 --coupon=5 --settle=2024-04-01 --yield=4 --call=:|2|
-quote --kind=periodic --dated=2020-01-01 --first=2020-07-01 --maturity=2050-01-01 --coupon=5 --settle=2024-04-01 --yield=4 --call=|2|
-quote --kind=periodic --dated=2020-01-01 --first=2020-07-01 --maturity=2050-01-01 --coupon=5 --settle=2024-04-01 --yield=4 --call|2|
-quote --kind=periodic --dated=2020-01-01 --first=2020-07-01 --maturity=2050-01-01 --coupon=5 --settle=2024-04-01 --yield=4 --call=2025-01-01::100|2|
-quote --kind=periodic --dated=2020-01-01 --first=2020-07-01 --maturity=2050-01-01 --coupon=5 --settle=2024-04-01 --yield=4 --call=2025-01-01:100:|2|
-quote --kind=periodic --dated=2020-01-01 --first=2020-07-01 --maturity=2050-01-01 --coupon=5 --settle=2024-04-01 --yield=4 --call=2025-01-01:100:100|2|
-quote --kind=periodic --dated=2020-01-01 --first=2020-07-01 --maturity=2050-01-01 --coupon=5 --settle=2024-04-01 --yield=4 --call=2025-01-01:2025-07-01:100|2|
-quote --kind=periodic --dated=2020-01-01 --first=2020-07-01 --maturity=2050-01-01 --coupon=5 --settle=2024-04-01 --yield=4 --call=2025-01-01=100|2|
-quote --kind=periodic --dated=2020-01-01 --first=2020-07-01 --maturity=2050-01-01 --coupon=5 --settle=2024-04-01 --yield=4 --call=2025-01-01,100|2|
-quote --kind=periodic --dated=2020-01-01 --first=2020-07-01 --maturity=2050-01-01 --coupon=5 --settle=2024-04-01 --yield=4 --call=100:2025-01-01|2|
-quote --kind=periodic --dated=2020-01-01 --first=2020-07-01 --maturity=2050-01-01 --coupon=5 --settle=2024-04-01 --yield=4 --call=2025-1-01:100|2|
-quote --kind=periodic --dated=2020-01-01 --first=2020-07-01 --maturity=2050-01-01 --coupon=5 --settle=2024-04-01 --yield=4 --call=2025-02-30:100|2|
-quote --kind=periodic --dated=2020-01-01 --first=2020-07-01 --maturity=2050-01-01 --coupon=5 --settle=2024-04-01 --yield=4 --call=1899-07-01:100|2|
-quote --kind=periodic --dated=2020-01-01 --first=2020-07-01 --maturity=2050-01-01 --coupon=5 --settle=2024-04-01 --yield=4 --call=2025-01-01:1000|2|
-quote --kind=periodic --dated=2020-01-01 --first=2020-07-01 --maturity=2050-01-01 --coupon=5 --settle=2024-04-01 --yield=4 --call=2025-01-01:-1|2|
-quote --kind=periodic --dated=2020-01-01 --first=2020-07-01 --maturity=2050-01-01 --coupon=5 --settle=2024-04-01 --yield=4 --call=2025-01-01:+100|2|
-quote --kind=periodic --dated=2020-01-01 --first=2020-07-01 --maturity=2050-01-01 --coupon=5 --settle=2024-04-01 --yield=4 --call=2025-01-01:100.0000000|2|
-quote --kind=periodic --dated=2020-01-01 --first=2020-07-01 --maturity=2050-01-01 --coupon=5 --settle=2024-04-01 --yield=4 --call=2025-01-01:100.|2|
-quote --kind=periodic --dated=2020-01-01 --first=2020-07-01 --maturity=2050-01-01 --coupon=5 --settle=2024-04-01 --yield=4 --call=2025-01-01:100%|2|
-quote --kind=periodic --dated=2020-01-01 --first=2020-07-01 --maturity=2050-01-01 --coupon=5 --settle=2024-04-01 --yield=4 --Call=2025-01-01:100|2|
-quote --kind=periodic --dated=2020-01-01 --first=2020-07-01 --maturity=2050-01-01 --coupon=5 --settle=2024-04-01 --yield=4 -call=2025-01-01:100|2|
-quote --kind=periodic --dated=2020-01-01 --first=2020-07-01 --maturity=2050-01-01 --coupon=5 --settle=2024-04-01 --yield=4 --calls=2025-01-01:100|2|
+base quote --kind=periodic --dated=2020-01-01 --first=2020-07-01 --maturity=2050-01-01 --coupon=5 --settle=2024-04-01 --yield=4
+--call=2025-01-01|2|
+--call=2025-01-01:|2|
+--call=:100|2|
+--call=:|2|
+--call=|2|
+--call|2|
+--call=2025-01-01::100|2|
+--call=2025-01-01:100:|2|
+--call=2025-01-01:100:100|2|
+--call=2025-01-01:2025-07-01:100|2|
+--call=2025-01-01=100|2|
+--call=2025-01-01,100|2|
+--call=100:2025-01-01|2|
+--call=2025-1-01:100|2|
+--call=2025-02-30:100|2|
+--call=1899-07-01:100|2|
+--call=2025-01-01:1000|2|
+--call=2025-01-01:-1|2|
+--call=2025-01-01:+100|2|
+--call=2025-01-01:100.0000000|2|
+--call=2025-01-01:100.|2|
+--call=2025-01-01:100%|2|
+--Call=2025-01-01:100|2|
+-call=2025-01-01:100|2|
+--calls=2025-01-01:100|2|
 # One of several that does not read
-quote --kind=periodic --dated=2020-01-01 --first=2020-07-01 --maturity=2050-01-01 --coupon=5 --settle=2024-04-01 --yield=4 --call=2025-01-01:100 --call=2025-07-01|2|
-quote --kind=periodic --dated=2020-01-01 --first=2020-07-01 --maturity=2050-01-01 --coupon=5 --settle=2024-04-01 --yield=4 --call=2025-01-01 --call=2025-07-01:100|2|
-quote --kind=periodic --dated=2020-01-01 --first=2020-07-01 --maturity=2050-01-01 --coupon=5 --settle=2024-04-01 --yield=4 --call=2025-01-01:100 --call=2025-07-01:x --call=2026-01-01:100|2|
-quote --kind=periodic --dated=2020-01-01 --first=2020-07-01 --maturity=2050-01-01 --coupon=5 --settle=2024-04-01 --yield=4 --call=2025-02-01:100 --call=2025-07-01:x|2|
-quote --kind=periodic --dated=2020-01-01 --first=2020-07-01 --maturity=2050-01-01 --coupon=5 --settle=2024-04-01 --yield=4 --call=2025-01-01:100 --call=2025-07-01:100 --call=2026-01-01:100 --call=2026-07-01:100 --call=2027-01-01:100 --call=2027-07-01:100 --call=2028-01-01:100 --call=2028-07-01:100 --call=2029-01-01:100 --call=2029-07-01:100 --call=2030-01-01:100 --call=2030-07-01:100 --call=2031-01-01:100 --call=2031-07-01:100 --call=2032-01-01:100 --call=2032-07-01:100 --call=2033-01-01:100 --call=2033-07-01:100 --call=2034-01-01:100 --call=2034-07-01:100 --call=2035-01-01:100 --call=2035-07-01:100 --call=2036-01-01:100 --call=2036-07-01:100 --call=2037-01-01:100 --call=2037-07-01:100 --call=2038-01-01:100 --call=2038-07-01:100 --call=2039-01-01:100 --call=2039-07-01:100 --call=2040-01-01:100 --call=2040-07-01:100 --call=2041-01-01:100 --call=2041-07-01:100 --call=2042-01-01:100 --call=2042-07-01:100 --call=2043-01-01:100 --call=2043-07-01:100 --call=2044-01-01:100 --call=x|2|
+--call=2025-01-01:100 --call=2025-07-01|2|
+--call=2025-01-01 --call=2025-07-01:100|2|
+--call=2025-01-01:100 --call=2025-07-01:x --call=2026-01-01:100|2|
+--call=2025-02-01:100 --call=2025-07-01:x|2|
+--call=2025-01-01:100 --call=2025-07-01:100 --call=2026-01-01:100 --call=2026-07-01:100 --call=2027-01-01:100 --call=2027-07-01:100 --call=2028-01-01:100 --call=2028-07-01:100 --call=2029-01-01:100 --call=2029-07-01:100 --call=2030-01-01:100 --call=2030-07-01:100 --call=2031-01-01:100 --call=2031-07-01:100 --call=2032-01-01:100 --call=2032-07-01:100 --call=2033-01-01:100 --call=2033-07-01:100 --call=2034-01-01:100 --call=2034-07-01:100 --call=2035-01-01:100 --call=2035-07-01:100 --call=2036-01-01:100 --call=2036-07-01:100 --call=2037-01-01:100 --call=2037-07-01:100 --call=2038-01-01:100 --call=2038-07-01:100 --call=2039-01-01:100 --call=2039-07-01:100 --call=2040-01-01:100 --call=2040-07-01:100 --call=2041-01-01:100 --call=2041-07-01:100 --call=2042-01-01:100 --call=2042-07-01:100 --call=2043-01-01:100 --call=2043-07-01:100 --call=2044-01-01:100 --call=x|2|
 # Forty calls, and one more
-quote --kind=periodic --dated=2020-01-01 --first=2020-07-01 --maturity=2050-01-01 --coupon=5 --settle=2024-04-01 --yield=4 --call=2025-01-01:100 --call=2025-07-01:100 --call=2026-01-01:100 --call=2026-07-01:100 --call=2027-01-01:100 --call=2027-07-01:100 --call=2028-01-01:100 --call=2028-07-01:100 --call=2029-01-01:100 --call=2029-07-01:100 --call=2030-01-01:100 --call=2030-07-01:100 --call=2031-01-01:100 --call=2031-07-01:100 --call=2032-01-01:100 --call=2032-07-01:100 --call=2033-01-01:100 --call=2033-07-01:100 --call=2034-01-01:100 --call=2034-07-01:100 --call=2035-01-01:100 --call=2035-07-01:100 --call=2036-01-01:100 --call=2036-07-01:100 --call=2037-01-01:100 --call=2037-07-01:100 --call=2038-01-01:100 --call=2038-07-01:100 --call=2039-01-01:100 --call=2039-07-01:100 --call=2040-01-01:100 --call=2040-07-01:100 --call=2041-01-01:100 --call=2041-07-01:100 --call=2042-01-01:100 --call=2042-07-01:100 --call=2043-01-01:100 --call=2043-07-01:100 --call=2044-01-01:100 --call=2025-02-01:100|3|REFUSED 4 BadTerms 6 2025-02-01
-quote --kind=periodic --dated=2020-01-01 --first=2020-07-01 --maturity=2050-01-01 --coupon=5 --settle=2024-04-01 --yield=4 --call=2025-01-01:100 --call=2025-07-01:100 --call=2026-01-01:100 --call=2026-07-01:100 --call=2027-01-01:100 --call=2027-07-01:100 --call=2028-01-01:100 --call=2028-07-01:100 --call=2029-01-01:100 --call=2029-07-01:100 --call=2030-01-01:100 --call=2030-07-01:100 --call=2031-01-01:100 --call=2031-07-01:100 --call=2032-01-01:100 --call=2032-07-01:100 --call=2033-01-01:100 --call=2033-07-01:100 --call=2034-01-01:100 --call=2034-07-01:100 --call=2035-01-01:100 --call=2035-07-01:100 --call=2036-01-01:100 --call=2036-07-01:100 --call=2037-01-01:100 --call=2037-07-01:100 --call=2038-01-01:100 --call=2038-07-01:100 --call=2039-01-01:100 --call=2039-07-01:100 --call=2040-01-01:100 --call=2040-07-01:100 --call=2041-01-01:100 --call=2041-07-01:100 --call=2042-01-01:100 --call=2042-07-01:100 --call=2043-01-01:100 --call=2043-07-01:100 --call=2044-01-01:100 --call=2044-07-01:100 --call=2045-01-01:100|2|
-quote --kind=periodic --dated=2020-01-01 --first=2020-07-01 --maturity=2050-01-01 --coupon=5 --settle=2024-04-01 --yield=4 --call=2025-01-01:100 --call=2025-07-01:100 --call=2026-01-01:100 --call=2026-07-01:100 --call=2027-01-01:100 --call=2027-07-01:100 --call=2028-01-01:100 --call=2028-07-01:100 --call=2029-01-01:100 --call=2029-07-01:100 --call=2030-01-01:100 --call=2030-07-01:100 --call=2031-01-01:100 --call=2031-07-01:100 --call=2032-01-01:100 --call=2032-07-01:100 --call=2033-01-01:100 --call=2033-07-01:100 --call=2034-01-01:100 --call=2034-07-01:100 --call=2035-01-01:100 --call=2035-07-01:100 --call=2036-01-01:100 --call=2036-07-01:100 --call=2037-01-01:100 --call=2037-07-01:100 --call=2038-01-01:100 --call=2038-07-01:100 --call=2039-01-01:100 --call=2039-07-01:100 --call=2040-01-01:100 --call=2040-07-01:100 --call=2041-01-01:100 --call=2041-07-01:100 --call=2042-01-01:100 --call=2042-07-01:100 --call=2043-01-01:100 --call=2043-07-01:100 --call=2044-01-01:100 --call=2044-07-01:100 --call=2025-02-01:100|2|
-quote --kind=periodic --dated=2020-01-01 --first=2020-07-01 --maturity=2050-01-01 --coupon=5 --settle=2024-04-01 --yield=4 --call=2025-02-01:100 --call=2025-01-01:100 --call=2025-07-01:100 --call=2026-01-01:100 --call=2026-07-01:100 --call=2027-01-01:100 --call=2027-07-01:100 --call=2028-01-01:100 --call=2028-07-01:100 --call=2029-01-01:100 --call=2029-07-01:100 --call=2030-01-01:100 --call=2030-07-01:100 --call=2031-01-01:100 --call=2031-07-01:100 --call=2032-01-01:100 --call=2032-07-01:100 --call=2033-01-01:100 --call=2033-07-01:100 --call=2034-01-01:100 --call=2034-07-01:100 --call=2035-01-01:100 --call=2035-07-01:100 --call=2036-01-01:100 --call=2036-07-01:100 --call=2037-01-01:100 --call=2037-07-01:100 --call=2038-01-01:100 --call=2038-07-01:100 --call=2039-01-01:100 --call=2039-07-01:100 --call=2040-01-01:100 --call=2040-07-01:100 --call=2041-01-01:100 --call=2041-07-01:100 --call=2042-01-01:100 --call=2042-07-01:100 --call=2043-01-01:100 --call=2043-07-01:100 --call=2044-01-01:100 --call=2044-07-01:100|2|
-quote --kind=periodic --dated=2020-01-01 --first=2020-07-01 --maturity=2050-01-01 --coupon=5 --settle=2024-04-01 --yield=4 --call=2025-01-01:100 --call=2025-07-01:100 --call=2026-01-01:100 --call=2026-07-01:100 --call=2027-01-01:100 --call=2027-07-01:100 --call=2028-01-01:100 --call=2028-07-01:100 --call=2029-01-01:100 --call=2029-07-01:100 --call=2030-01-01:100 --call=2030-07-01:100 --call=2031-01-01:100 --call=2031-07-01:100 --call=2032-01-01:100 --call=2032-07-01:100 --call=2033-01-01:100 --call=2033-07-01:100 --call=2034-01-01:100 --call=2034-07-01:100 --call=2035-01-01:100 --call=2035-07-01:100 --call=2036-01-01:100 --call=2036-07-01:100 --call=2037-01-01:100 --call=2037-07-01:100 --call=2038-01-01:100 --call=2038-07-01:100 --call=2039-01-01:100 --call=2039-07-01:100 --call=2040-01-01:100 --call=2040-07-01:100 --call=2041-01-01:100 --call=2041-07-01:100 --call=2042-01-01:100 --call=2042-07-01:100 --call=2043-01-01:100 --call=2043-07-01:100 --call=2044-01-01:100 --call=2044-07-01:100 --call=x|2|
-quote --kind=periodic --dated=2020-01-01 --first=2020-07-01 --maturity=2050-01-01 --coupon=5 --settle=2024-04-01 --yield=4 --call=2025-01-01:100 --call=2025-07-01:100 --call=2026-01-01:100 --call=2026-07-01:100 --call=2027-01-01:100 --call=2027-07-01:100 --call=2028-01-01:100 --call=2028-07-01:100 --call=2029-01-01:100 --call=2029-07-01:100 --call=2030-01-01:100 --call=2030-07-01:100 --call=2031-01-01:100 --call=2031-07-01:100 --call=2032-01-01:100 --call=2032-07-01:100 --call=2033-01-01:100 --call=2033-07-01:100 --call=2034-01-01:100 --call=2034-07-01:100 --call=2035-01-01:100 --call=2035-07-01:100 --call=2036-01-01:100 --call=2036-07-01:100 --call=2037-01-01:100 --call=2037-07-01:100 --call=2038-01-01:100 --call=2038-07-01:100 --call=2039-01-01:100 --call=2039-07-01:100 --call=2040-01-01:100 --call=2040-07-01:100 --call=2041-01-01:100 --call=2041-07-01:100 --call=2042-01-01:100 --call=2042-07-01:100 --call=2043-01-01:100 --call=2043-07-01:100 --call=2044-01-01:100 --call=2044-07-01:100 --call=2045-01-01:100 --call=2045-07-01:100|2|
+--call=2025-01-01:100 --call=2025-07-01:100 --call=2026-01-01:100 --call=2026-07-01:100 --call=2027-01-01:100 --call=2027-07-01:100 --call=2028-01-01:100 --call=2028-07-01:100 --call=2029-01-01:100 --call=2029-07-01:100 --call=2030-01-01:100 --call=2030-07-01:100 --call=2031-01-01:100 --call=2031-07-01:100 --call=2032-01-01:100 --call=2032-07-01:100 --call=2033-01-01:100 --call=2033-07-01:100 --call=2034-01-01:100 --call=2034-07-01:100 --call=2035-01-01:100 --call=2035-07-01:100 --call=2036-01-01:100 --call=2036-07-01:100 --call=2037-01-01:100 --call=2037-07-01:100 --call=2038-01-01:100 --call=2038-07-01:100 --call=2039-01-01:100 --call=2039-07-01:100 --call=2040-01-01:100 --call=2040-07-01:100 --call=2041-01-01:100 --call=2041-07-01:100 --call=2042-01-01:100 --call=2042-07-01:100 --call=2043-01-01:100 --call=2043-07-01:100 --call=2044-01-01:100 --call=2025-02-01:100|3|REFUSED 4 BadTerms 6 2025-02-01
+--call=2025-01-01:100 --call=2025-07-01:100 --call=2026-01-01:100 --call=2026-07-01:100 --call=2027-01-01:100 --call=2027-07-01:100 --call=2028-01-01:100 --call=2028-07-01:100 --call=2029-01-01:100 --call=2029-07-01:100 --call=2030-01-01:100 --call=2030-07-01:100 --call=2031-01-01:100 --call=2031-07-01:100 --call=2032-01-01:100 --call=2032-07-01:100 --call=2033-01-01:100 --call=2033-07-01:100 --call=2034-01-01:100 --call=2034-07-01:100 --call=2035-01-01:100 --call=2035-07-01:100 --call=2036-01-01:100 --call=2036-07-01:100 --call=2037-01-01:100 --call=2037-07-01:100 --call=2038-01-01:100 --call=2038-07-01:100 --call=2039-01-01:100 --call=2039-07-01:100 --call=2040-01-01:100 --call=2040-07-01:100 --call=2041-01-01:100 --call=2041-07-01:100 --call=2042-01-01:100 --call=2042-07-01:100 --call=2043-01-01:100 --call=2043-07-01:100 --call=2044-01-01:100 --call=2044-07-01:100 --call=2045-01-01:100|2|
+--call=2025-01-01:100 --call=2025-07-01:100 --call=2026-01-01:100 --call=2026-07-01:100 --call=2027-01-01:100 --call=2027-07-01:100 --call=2028-01-01:100 --call=2028-07-01:100 --call=2029-01-01:100 --call=2029-07-01:100 --call=2030-01-01:100 --call=2030-07-01:100 --call=2031-01-01:100 --call=2031-07-01:100 --call=2032-01-01:100 --call=2032-07-01:100 --call=2033-01-01:100 --call=2033-07-01:100 --call=2034-01-01:100 --call=2034-07-01:100 --call=2035-01-01:100 --call=2035-07-01:100 --call=2036-01-01:100 --call=2036-07-01:100 --call=2037-01-01:100 --call=2037-07-01:100 --call=2038-01-01:100 --call=2038-07-01:100 --call=2039-01-01:100 --call=2039-07-01:100 --call=2040-01-01:100 --call=2040-07-01:100 --call=2041-01-01:100 --call=2041-07-01:100 --call=2042-01-01:100 --call=2042-07-01:100 --call=2043-01-01:100 --call=2043-07-01:100 --call=2044-01-01:100 --call=2044-07-01:100 --call=2025-02-01:100|2|
+--call=2025-02-01:100 --call=2025-01-01:100 --call=2025-07-01:100 --call=2026-01-01:100 --call=2026-07-01:100 --call=2027-01-01:100 --call=2027-07-01:100 --call=2028-01-01:100 --call=2028-07-01:100 --call=2029-01-01:100 --call=2029-07-01:100 --call=2030-01-01:100 --call=2030-07-01:100 --call=2031-01-01:100 --call=2031-07-01:100 --call=2032-01-01:100 --call=2032-07-01:100 --call=2033-01-01:100 --call=2033-07-01:100 --call=2034-01-01:100 --call=2034-07-01:100 --call=2035-01-01:100 --call=2035-07-01:100 --call=2036-01-01:100 --call=2036-07-01:100 --call=2037-01-01:100 --call=2037-07-01:100 --call=2038-01-01:100 --call=2038-07-01:100 --call=2039-01-01:100 --call=2039-07-01:100 --call=2040-01-01:100 --call=2040-07-01:100 --call=2041-01-01:100 --call=2041-07-01:100 --call=2042-01-01:100 --call=2042-07-01:100 --call=2043-01-01:100 --call=2043-07-01:100 --call=2044-01-01:100 --call=2044-07-01:100|2|
+--call=2025-01-01:100 --call=2025-07-01:100 --call=2026-01-01:100 --call=2026-07-01:100 --call=2027-01-01:100 --call=2027-07-01:100 --call=2028-01-01:100 --call=2028-07-01:100 --call=2029-01-01:100 --call=2029-07-01:100 --call=2030-01-01:100 --call=2030-07-01:100 --call=2031-01-01:100 --call=2031-07-01:100 --call=2032-01-01:100 --call=2032-07-01:100 --call=2033-01-01:100 --call=2033-07-01:100 --call=2034-01-01:100 --call=2034-07-01:100 --call=2035-01-01:100 --call=2035-07-01:100 --call=2036-01-01:100 --call=2036-07-01:100 --call=2037-01-01:100 --call=2037-07-01:100 --call=2038-01-01:100 --call=2038-07-01:100 --call=2039-01-01:100 --call=2039-07-01:100 --call=2040-01-01:100 --call=2040-07-01:100 --call=2041-01-01:100 --call=2041-07-01:100 --call=2042-01-01:100 --call=2042-07-01:100 --call=2043-01-01:100 --call=2043-07-01:100 --call=2044-01-01:100 --call=2044-07-01:100 --call=x|2|
+--call=2025-01-01:100 --call=2025-07-01:100 --call=2026-01-01:100 --call=2026-07-01:100 --call=2027-01-01:100 --call=2027-07-01:100 --call=2028-01-01:100 --call=2028-07-01:100 --call=2029-01-01:100 --call=2029-07-01:100 --call=2030-01-01:100 --call=2030-07-01:100 --call=2031-01-01:100 --call=2031-07-01:100 --call=2032-01-01:100 --call=2032-07-01:100 --call=2033-01-01:100 --call=2033-07-01:100 --call=2034-01-01:100 --call=2034-07-01:100 --call=2035-01-01:100 --call=2035-07-01:100 --call=2036-01-01:100 --call=2036-07-01:100 --call=2037-01-01:100 --call=2037-07-01:100 --call=2038-01-01:100 --call=2038-07-01:100 --call=2039-01-01:100 --call=2039-07-01:100 --call=2040-01-01:100 --call=2040-07-01:100 --call=2041-01-01:100 --call=2041-07-01:100 --call=2042-01-01:100 --call=2042-07-01:100 --call=2043-01-01:100 --call=2043-07-01:100 --call=2044-01-01:100 --call=2044-07-01:100 --call=2045-01-01:100 --call=2045-07-01:100|2|
 # Calls that the terms do not have
-quote --kind=periodic --dated=2020-01-01 --first=2020-07-01 --maturity=2050-01-01 --coupon=5 --settle=2024-04-01 --yield=4 --call=2025-02-01:100|3|REFUSED 4 BadTerms 6 2025-02-01
-quote --kind=periodic --dated=2020-01-01 --first=2020-07-01 --maturity=2050-01-01 --coupon=5 --settle=2024-04-01 --yield=4 --call=2020-01-01:100|3|REFUSED 4 BadTerms 6 2020-01-01
-quote --kind=periodic --dated=2020-01-01 --first=2020-07-01 --maturity=2050-01-01 --coupon=5 --settle=2024-04-01 --yield=4 --call=2019-07-01:100|3|REFUSED 4 BadTerms 6 2019-07-01
-quote --kind=periodic --dated=2020-01-01 --first=2020-07-01 --maturity=2050-01-01 --coupon=5 --settle=2024-04-01 --yield=4 --call=2050-01-01:100|3|REFUSED 4 BadTerms 6 2050-01-01
-quote --kind=periodic --dated=2020-01-01 --first=2020-07-01 --maturity=2050-01-01 --coupon=5 --settle=2024-04-01 --yield=4 --call=2050-07-01:100|3|REFUSED 4 BadTerms 6 2050-07-01
-quote --kind=periodic --dated=2020-01-01 --first=2020-07-01 --maturity=2050-01-01 --coupon=5 --settle=2024-04-01 --yield=4 --call=2025-01-02:100|3|REFUSED 4 BadTerms 6 2025-01-02
-quote --kind=zero --dated=2020-01-01 --maturity=2030-01-01 --settle=2024-04-01 --yield=4 --call=2025-02-01:100|3|REFUSED 4 BadTerms 6 2025-02-01
-quote --kind=zero --dated=2020-01-01 --maturity=2030-01-01 --settle=2024-04-01 --yield=4 --call=2030-01-01:100|3|REFUSED 4 BadTerms 6 2030-01-01
-quote --kind=at-redemption --dated=2024-01-01 --maturity=2025-01-01 --settle=2024-07-01 --coupon=4 --yield=3 --call=2024-07-01:100|3|REFUSED 4 BadTerms 6 2024-07-01
+base
 quote --kind=discount --dated=2024-01-01 --maturity=2025-01-01 --settle=2024-07-01 --rate=3 --call=2024-07-01:100|3|REFUSED 4 BadTerms 6 2024-07-01
-quote --kind=at-redemption --dated=2024-01-01 --maturity=2025-01-01 --settle=2024-07-01 --coupon=4 --yield=3 --call=2025-01-01:100|3|REFUSED 4 BadTerms 6 2025-01-01
-quote --kind=periodic --dated=2020-01-01 --first=2020-07-01 --maturity=2050-01-01 --coupon=5 --settle=2024-04-01 --yield=4 --call=2025-01-01:0.999999|3|REFUSED 4 BadTerms 8 2025-01-01
-quote --kind=periodic --dated=2020-01-01 --first=2020-07-01 --maturity=2050-01-01 --coupon=5 --settle=2024-04-01 --yield=4 --call=2025-01-01:200.000001|3|REFUSED 4 BadTerms 8 2025-01-01
-quote --kind=periodic --dated=2020-01-01 --first=2020-07-01 --maturity=2050-01-01 --coupon=5 --settle=2024-04-01 --yield=4 --call=2025-01-01:0|3|REFUSED 4 BadTerms 8 2025-01-01
-quote --kind=periodic --dated=2020-01-01 --first=2020-07-01 --maturity=2050-01-01 --coupon=5 --settle=2024-04-01 --yield=4 --call=2025-01-01:999.999999|3|REFUSED 4 BadTerms 8 2025-01-01
+base quote --kind=periodic --dated=2020-01-01 --first=2020-07-01 --maturity=2050-01-01 --coupon=5 --settle=2024-04-01 --yield=4
+--call=2025-02-01:100|3|REFUSED 4 BadTerms 6 2025-02-01
+--call=2020-01-01:100|3|REFUSED 4 BadTerms 6 2020-01-01
+--call=2019-07-01:100|3|REFUSED 4 BadTerms 6 2019-07-01
+--call=2050-01-01:100|3|REFUSED 4 BadTerms 6 2050-01-01
+--call=2050-07-01:100|3|REFUSED 4 BadTerms 6 2050-07-01
+--call=2025-01-02:100|3|REFUSED 4 BadTerms 6 2025-01-02
+--call=2025-01-01:0.999999|3|REFUSED 4 BadTerms 8 2025-01-01
+--call=2025-01-01:200.000001|3|REFUSED 4 BadTerms 8 2025-01-01
+--call=2025-01-01:0|3|REFUSED 4 BadTerms 8 2025-01-01
+--call=2025-01-01:999.999999|3|REFUSED 4 BadTerms 8 2025-01-01
+base quote --kind=zero --dated=2020-01-01 --maturity=2030-01-01 --settle=2024-04-01 --yield=4
+--call=2025-02-01:100|3|REFUSED 4 BadTerms 6 2025-02-01
+--call=2030-01-01:100|3|REFUSED 4 BadTerms 6 2030-01-01
+base quote --kind=at-redemption --dated=2024-01-01 --maturity=2025-01-01 --settle=2024-07-01 --coupon=4 --yield=3
+--call=2024-07-01:100|3|REFUSED 4 BadTerms 6 2024-07-01
+--call=2025-01-01:100|3|REFUSED 4 BadTerms 6 2025-01-01
 # Calls in the order in which they are given
-quote --kind=periodic --dated=2020-01-01 --first=2020-07-01 --maturity=2050-01-01 --coupon=5 --settle=2024-04-01 --yield=4 --call=2025-01-01:100 --call=2025-01-01:100|3|REFUSED 4 BadTerms 7 2025-01-01
-quote --kind=periodic --dated=2020-01-01 --first=2020-07-01 --maturity=2050-01-01 --coupon=5 --settle=2024-04-01 --yield=4 --call=2025-01-01:101 --call=2025-01-01:100|3|REFUSED 4 BadTerms 7 2025-01-01
-quote --kind=periodic --dated=2020-01-01 --first=2020-07-01 --maturity=2050-01-01 --coupon=5 --settle=2024-04-01 --yield=4 --call=2025-07-01:100 --call=2025-01-01:100|3|REFUSED 4 BadTerms 7 2025-01-01
-quote --kind=periodic --dated=2020-01-01 --first=2020-07-01 --maturity=2050-01-01 --coupon=5 --settle=2024-04-01 --yield=4 --call=2025-07-01:100 --call=2026-01-01:100 --call=2025-01-01:0.5|3|REFUSED 4 BadTerms 7 2025-01-01
-quote --kind=periodic --dated=2020-01-01 --first=2020-07-01 --maturity=2050-01-01 --coupon=5 --settle=2024-04-01 --yield=4 --call=2025-02-01:100 --call=2025-01-01:0.5|3|REFUSED 4 BadTerms 6 2025-02-01
-quote --kind=periodic --dated=2020-01-01 --first=2020-07-01 --maturity=2050-01-01 --coupon=5 --settle=2024-04-01 --yield=4 --call=2025-01-01:0.5 --call=2025-02-01:100|3|REFUSED 4 BadTerms 8 2025-01-01
+base
 quote --call=2025-07-01:100 --kind=periodic --dated=2020-01-01 --first=2020-07-01 --maturity=2050-01-01 --call=2025-01-01:100 --coupon=5 --settle=2024-04-01 --yield=4|3|REFUSED 4 BadTerms 7 2025-01-01
+base quote --kind=periodic --dated=2020-01-01 --first=2020-07-01 --maturity=2050-01-01 --coupon=5 --settle=2024-04-01 --yield=4
+--call=2025-01-01:100 --call=2025-01-01:100|3|REFUSED 4 BadTerms 7 2025-01-01
+--call=2025-01-01:101 --call=2025-01-01:100|3|REFUSED 4 BadTerms 7 2025-01-01
+--call=2025-07-01:100 --call=2025-01-01:100|3|REFUSED 4 BadTerms 7 2025-01-01
+--call=2025-07-01:100 --call=2026-01-01:100 --call=2025-01-01:0.5|3|REFUSED 4 BadTerms 7 2025-01-01
+--call=2025-02-01:100 --call=2025-01-01:0.5|3|REFUSED 4 BadTerms 6 2025-02-01
+--call=2025-01-01:0.5 --call=2025-02-01:100|3|REFUSED 4 BadTerms 8 2025-01-01
 # Workers
-quote --kind=periodic --dated=2020-01-01 --first=2020-07-01 --maturity=2050-01-01 --coupon=5 --settle=2024-04-01 --yield=4 --call=2025-02-01:100 --workers=1|3|REFUSED 4 BadTerms 6 2025-02-01
-quote --kind=periodic --dated=2020-01-01 --first=2020-07-01 --maturity=2050-01-01 --coupon=5 --settle=2024-04-01 --yield=4 --call=2025-02-01:100 --workers=16|3|REFUSED 4 BadTerms 6 2025-02-01
-quote --kind=periodic --dated=2020-01-01 --first=2020-07-01 --maturity=2050-01-01 --coupon=5 --settle=2024-04-01 --yield=4 --call=2025-02-01:100 --workers=9|3|REFUSED 4 BadTerms 6 2025-02-01
-quote --kind=periodic --dated=2020-01-01 --first=2020-07-01 --maturity=2050-01-01 --coupon=5 --settle=2024-04-01 --yield=4 --call=2025-02-01:100 --workers=01|3|REFUSED 4 BadTerms 6 2025-02-01
-quote --kind=periodic --dated=2020-01-01 --first=2020-07-01 --maturity=2050-01-01 --coupon=5 --settle=2024-04-01 --yield=4 --call=2025-02-01:100 --workers=00000000000000000001|3|REFUSED 4 BadTerms 6 2025-02-01
-quote --kind=periodic --dated=2020-01-01 --first=2020-07-01 --maturity=2050-01-01 --coupon=5 --settle=2024-04-01 --yield=4 --call=2025-02-01:100 --workers=00000000000000000016|3|REFUSED 4 BadTerms 6 2025-02-01
-quote --kind=periodic --dated=2020-01-01 --first=2020-07-01 --maturity=2050-01-01 --coupon=5 --settle=2024-04-01 --yield=4 --call=2025-02-01:100 --workers=0|2|
-quote --kind=periodic --dated=2020-01-01 --first=2020-07-01 --maturity=2050-01-01 --coupon=5 --settle=2024-04-01 --yield=4 --call=2025-02-01:100 --workers=00|2|
-quote --kind=periodic --dated=2020-01-01 --first=2020-07-01 --maturity=2050-01-01 --coupon=5 --settle=2024-04-01 --yield=4 --call=2025-02-01:100 --workers=17|2|
-quote --kind=periodic --dated=2020-01-01 --first=2020-07-01 --maturity=2050-01-01 --coupon=5 --settle=2024-04-01 --yield=4 --call=2025-02-01:100 --workers=100|2|
-quote --kind=periodic --dated=2020-01-01 --first=2020-07-01 --maturity=2050-01-01 --coupon=5 --settle=2024-04-01 --yield=4 --call=2025-02-01:100 --workers=00000000000000000017|2|
-quote --kind=periodic --dated=2020-01-01 --first=2020-07-01 --maturity=2050-01-01 --coupon=5 --settle=2024-04-01 --yield=4 --call=2025-02-01:100 --workers=000000000000000000001|2|
-quote --kind=periodic --dated=2020-01-01 --first=2020-07-01 --maturity=2050-01-01 --coupon=5 --settle=2024-04-01 --yield=4 --call=2025-02-01:100 --workers=99999999999|2|
-quote --kind=periodic --dated=2020-01-01 --first=2020-07-01 --maturity=2050-01-01 --coupon=5 --settle=2024-04-01 --yield=4 --call=2025-02-01:100 --workers=18446744073709551617|2|
-quote --kind=periodic --dated=2020-01-01 --first=2020-07-01 --maturity=2050-01-01 --coupon=5 --settle=2024-04-01 --yield=4 --call=2025-02-01:100 --workers=100000000000000000001|2|
-quote --kind=periodic --dated=2020-01-01 --first=2020-07-01 --maturity=2050-01-01 --coupon=5 --settle=2024-04-01 --yield=4 --call=2025-02-01:100 --workers=|2|
-quote --kind=periodic --dated=2020-01-01 --first=2020-07-01 --maturity=2050-01-01 --coupon=5 --settle=2024-04-01 --yield=4 --call=2025-02-01:100 --workers|2|
-quote --kind=periodic --dated=2020-01-01 --first=2020-07-01 --maturity=2050-01-01 --coupon=5 --settle=2024-04-01 --yield=4 --call=2025-02-01:100 --workers=x|2|
-quote --kind=periodic --dated=2020-01-01 --first=2020-07-01 --maturity=2050-01-01 --coupon=5 --settle=2024-04-01 --yield=4 --call=2025-02-01:100 --workers=1x|2|
-quote --kind=periodic --dated=2020-01-01 --first=2020-07-01 --maturity=2050-01-01 --coupon=5 --settle=2024-04-01 --yield=4 --call=2025-02-01:100 --workers=-1|2|
-quote --kind=periodic --dated=2020-01-01 --first=2020-07-01 --maturity=2050-01-01 --coupon=5 --settle=2024-04-01 --yield=4 --call=2025-02-01:100 --workers=+1|2|
-quote --kind=periodic --dated=2020-01-01 --first=2020-07-01 --maturity=2050-01-01 --coupon=5 --settle=2024-04-01 --yield=4 --call=2025-02-01:100 --workers=1.0|2|
-quote --kind=periodic --dated=2020-01-01 --first=2020-07-01 --maturity=2050-01-01 --coupon=5 --settle=2024-04-01 --yield=4 --call=2025-02-01:100 --workers=1=|2|
-quote --kind=periodic --dated=2020-01-01 --first=2020-07-01 --maturity=2050-01-01 --coupon=5 --settle=2024-04-01 --yield=4 --call=2025-02-01:100 --Workers=1|2|
-quote --kind=periodic --dated=2020-01-01 --first=2020-07-01 --maturity=2050-01-01 --coupon=5 --settle=2024-04-01 --yield=4 --call=2025-02-01:100 --worker=1|2|
-quote --kind=periodic --dated=2020-01-01 --first=2020-07-01 --maturity=2050-01-01 --coupon=5 --settle=2024-04-01 --yield=4 --call=2025-02-01:100 --workers=1 --workers=1|2|
-quote --kind=periodic --dated=2020-01-01 --first=2020-07-01 --maturity=2050-01-01 --coupon=5 --settle=2024-04-01 --yield=4 --call=2025-02-01:100 --workers=1 --workers=2|2|
-quote --kind=periodic --dated=2020-01-01 --first=2020-07-01 --maturity=2050-01-01 --coupon=5 --settle=2024-04-01 --yield=4 --call=2025-02-01:100 --workers=1 --workers=x|2|
-";
+base quote --kind=periodic --dated=2020-01-01 --first=2020-07-01 --maturity=2050-01-01 --coupon=5 --settle=2024-04-01 --yield=4 --call=2025-02-01:100
+--workers=1|3|REFUSED 4 BadTerms 6 2025-02-01
+--workers=16|3|REFUSED 4 BadTerms 6 2025-02-01
+--workers=9|3|REFUSED 4 BadTerms 6 2025-02-01
+--workers=01|3|REFUSED 4 BadTerms 6 2025-02-01
+--workers=00000000000000000001|3|REFUSED 4 BadTerms 6 2025-02-01
+--workers=00000000000000000016|3|REFUSED 4 BadTerms 6 2025-02-01
+--workers=0|2|
+--workers=00|2|
+--workers=17|2|
+--workers=100|2|
+--workers=00000000000000000017|2|
+--workers=000000000000000000001|2|
+--workers=99999999999|2|
+--workers=18446744073709551617|2|
+--workers=100000000000000000001|2|
+--workers=|2|
+--workers|2|
+--workers=x|2|
+--workers=1x|2|
+--workers=-1|2|
+--workers=+1|2|
+--workers=1.0|2|
+--workers=1=|2|
+--Workers=1|2|
+--worker=1|2|
+--workers=1 --workers=1|2|
+--workers=1 --workers=2|2|
+--workers=1 --workers=x|2|";

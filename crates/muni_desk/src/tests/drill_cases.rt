@@ -47,5 +47,4 @@ drill --count=1 --seed=000000000000000000007 --workers=1|2|
 drill --count=1 --seed=1 --workers=0|2|
 drill --count=1 --seed=1 --workers=17|2|
 --count=1 --seed=1 --workers=1|2|
-Drill --count=1 --seed=1 --workers=1|2|
-";
+Drill --count=1 --seed=1 --workers=1|2|";
