@@ -262,7 +262,7 @@ stray-behind places whole (d ∷ digits) c rest some few is all stray = record {
 }
 
 -- digits are a numeral where there is one
-numeral-some : (digits : List ℕ) → 1 ≤ length digits → list_all is_ascii_digit digits ≡ true → IsNumeral 10 digits
+pub numeral-some : (digits : List ℕ) → 1 ≤ length digits → list_all is_ascii_digit digits ≡ true → IsNumeral 10 digits
 numeral-some digits some all =
     let nonempty : ltb 0 (length digits) ≡ true = grind (arith, nat_tests) in
     numeral digits (rw (nonempty, all) refl)

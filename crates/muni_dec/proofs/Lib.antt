@@ -3,3 +3,4 @@ pub mod GrammarLemmas
 pub mod NumberLemmas
 pub mod FaultLemmas
 pub mod SignedFaultLemmas
+pub mod RoundTripLemmas

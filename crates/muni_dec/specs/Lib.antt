@@ -8,3 +8,4 @@ pub mod Numbers
 pub mod FaultPlaces
 pub mod Fault
 pub mod Line
+pub mod RoundTrip

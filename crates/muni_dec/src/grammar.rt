@@ -3,6 +3,7 @@
 ghost use Rattle.muni_dec.specs.FaultPlaces.{TellsDecimalFaults, TellsSignedFaults, ReadsDigits, TellsDigitFaults};
 ghost use Rattle.muni_dec.specs.Grammar.{ReadsDecimals, ReadsSigned};
 ghost use Rattle.muni_dec.specs.Numbers.{ReadsNumbers};
+ghost use Rattle.muni_dec.specs.RoundTrip.{DecimalsAreReadAgain, SignedAreReadAgain, DigitsAreReadAgain};
 
 /// Laws of the definitions that the readers' contracts cite: exactly the texts of each format are
 /// read, each as the number that it writes.
@@ -19,4 +20,11 @@ pub fn faults_are_where_the_format_is_left()
     ensures unsigned { TellsDecimalFaults }
     ensures signed { TellsSignedFaults }
     ensures digits { TellsDigitFaults }
+{}
+
+/// What is written with all its places is read again as the same number.
+pub fn what_is_written_is_read_again()
+    ensures unsigned { DecimalsAreReadAgain }
+    ensures signed { SignedAreReadAgain }
+    ensures digits { DigitsAreReadAgain }
 {}
