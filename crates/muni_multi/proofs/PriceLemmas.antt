@@ -10,10 +10,12 @@ use Rattle.muni_rule.specs.Verdicts.{at_least_verdict, dirty_thousandths}
 use Rattle.muni_rule.specs.WorthEnds.{WorthEnds, ends_of}
 use Rattle.muni_rule.specs.declared.verdict.Verdict.{Verdict}
 use Rattle.muni_rule.specs.declared.verdict.Verdict.TheVariants.{Yes, No, Unsure}
-use Rattle.muni_rule.proofs.EnclosedLemmas.{IsEnclosed, at_least-true, at_least-false, at_least-doubtful}
+use Rattle.muni_rule.specs.Printed.{HasOnePrice}
+use Rattle.muni_rule.proofs.EnclosedLemmas.{IsEnclosed, divisor-least, at_least-true, at_least-false, at_least-doubtful}
+use Rattle.muni_rule.proofs.OnePriceLemmas.{many_periods-price}
 use Rattle.muni_multi.specs.declared.price.PriceAnswer.{PriceAnswer}
 use Rattle.muni_multi.specs.declared.price.PriceAnswer.TheVariants.{Price, BelowZero, Undecided}
-use Rattle.muni_multi.specs.Prices.{IsPriceAnswer, IsDoubtfulAnswer, IsPriceOutcome, whole_verdict}
+use Rattle.muni_multi.specs.Prices.{IsPriceAnswer, IsDoubtfulAnswer, IsPriceOutcome, whole_verdict, IsDecided, OnePriceIsRight}
 
 chosen : (a b p q : Bool) → a ≡ p → b ≡ q → (if a then Yes else (if b then No else Unsure)) ≡ (if p then Yes else (if q then No else Unsure))
 chosen a b p q first second = rw (first, second) refl
@@ -78,3 +80,18 @@ pub outcome-doubtful : (series : PaymentSeries) (y : ℤ) (enclosure : WorthEnds
 outcome-doubtful series y enclosure (Price t) given outcome = tt
 outcome-doubtful series y enclosure BelowZero given outcome = tt
 outcome-doubtful series y enclosure (Undecided boundary) given outcome = at_least-doubtful series y enclosure (360000000 * boundary) _ given refl outcome.unsure
+
+-- at a yield one price is right
+one-price : (Reaches : ℤ → Type 0) (one other : PriceAnswer) → HasOnePrice Reaches → IsDecided one → IsDecided other → IsPriceAnswer Reaches one → IsPriceAnswer Reaches other → one ≡ other
+one-price Reaches (Price t) (Price u) has sure settled is also = ap Price (has.one_is_printed t u is also)
+one-price Reaches (Price t) BelowZero has sure settled is also = absurd (has.none_below_zero t is also)
+one-price Reaches (Price t) (Undecided b) has sure settled is also = absurd settled
+one-price Reaches BelowZero (Price u) has sure settled is also = absurd (has.none_below_zero u also is)
+one-price Reaches BelowZero BelowZero has sure settled is also = refl
+one-price Reaches BelowZero (Undecided b) has sure settled is also = absurd settled
+one-price Reaches (Undecided b) other has sure settled is also = absurd sure
+
+pub one_price-right : OnePriceIsRight
+one_price-right series y one other within sure settled is also =
+    let divisor = divisor-least y within in
+    one-price (AtLeast (to_come series) y) one other (many_periods-price (to_come series) y (omega (arith, divisor))) sure settled is also

@@ -2,8 +2,10 @@
 use Rattle.std.specs.Prelude.{◌≡◌, ℕ, ◌+◌, ⊤, nat_le, nat_lt, if◌then◌else◌, ℤ}
 use Rattle.muni_rule.specs.Accuracy.{thousandths}
 use Rattle.muni_rule.specs.Doubt.{IsDoubtful}
+use Rattle.muni_rule.specs.ManyPeriods.{to_come, AtLeast}
 use Rattle.muni_rule.specs.Payments.{PaymentSeries}
 use Rattle.muni_rule.specs.Printed.{IsPrintedPrice, IsBelowZero}
+use Rattle.muni_rule.specs.Ranges.{IsManyPeriodsBoundary}
 use Rattle.muni_rule.specs.Verdicts.{IsUndecidedAt}
 use Rattle.muni_rule.specs.declared.verdict.Verdict.{Verdict}
 use Rattle.muni_rule.specs.declared.verdict.Verdict.TheVariants.{Yes, No, Unsure}
@@ -11,10 +13,10 @@ use Rattle.muni_multi.specs.declared.price.PriceAnswer.{PriceAnswer}
 use Rattle.muni_multi.specs.declared.price.PriceAnswer.TheVariants.{Price, BelowZero, Undecided}
 
 -- a price is the printed one, and below zero none is
-abbrev pub IsPriceAnswer : (ℤ → Type 0) → PriceAnswer → Type 0
-IsPriceAnswer AtLeast (Price t) = IsPrintedPrice AtLeast t
-IsPriceAnswer AtLeast BelowZero = IsBelowZero AtLeast
-IsPriceAnswer AtLeast (Undecided _) = ⊤
+abbrev pub IsPriceAnswer : (Reaches : ℤ → Type 0) → PriceAnswer → Type 0
+IsPriceAnswer Reaches (Price t) = IsPrintedPrice Reaches t
+IsPriceAnswer Reaches BelowZero = IsBelowZero Reaches
+IsPriceAnswer Reaches (Undecided _) = ⊤
 
 -- undecided is only a boundary in doubt: the exact price is within 10^-9 dollars of it, in no exact
 -- case
@@ -38,3 +40,18 @@ figure (Undecided boundary) = boundary
 -- the verdict on a worth between two whole amounts
 abbrev pub whole_verdict : ℕ → ℕ → ℕ → Verdict
 whole_verdict low high x = if nat_le x low then Yes else (if nat_lt high x then No else Unsure)
+
+-- an answer that is not open
+abbrev pub IsDecided : PriceAnswer → Type 0
+IsDecided (Price t) = ⊤
+IsDecided BelowZero = ⊤
+IsDecided (Undecided boundary) = ⊥
+
+-- two answers that are decided and right at a yield are the same
+abbrev pub OnePriceIsRight : Type 0
+OnePriceIsRight =
+    (series : PaymentSeries) (y : ℤ) (one other : PriceAnswer)
+    → IsManyPeriodsBoundary y → IsDecided one → IsDecided other
+    → IsPriceAnswer (AtLeast (to_come series) y) one
+    → IsPriceAnswer (AtLeast (to_come series) y) other
+    → one ≡ other

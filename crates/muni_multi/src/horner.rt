@@ -14,8 +14,7 @@ use muni_span::worth::{Worth, of};
 use muni_terms::Flows;
 
 /// Encloses a worth by one sum from the last payment to the first.
-///
-/// A call takes one discount factor, its root, one power of it and a step for each payment.
+// A call takes one discount factor, its root, one power of it and a step for each payment.
 #[derive(Clone, Copy, Debug, PartialEq, Eq)]
 pub struct Horner;
 

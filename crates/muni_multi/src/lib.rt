@@ -12,7 +12,7 @@ mod verdicts;
 pub use encloser::Encloser;
 pub use horner::{Horner, sums_are_narrow};
 pub use muni_rule::Verdict;
-pub use price::{PriceAnswer, printed_price};
+pub use price::{PriceAnswer, at_most_one_price_is_right, printed_price};
 pub use verdicts::{at_least, more};
 
 #[cfg(test)]

@@ -5,7 +5,7 @@ ghost use Rattle.muni_rule.specs.ManyPeriods.{to_come, AtLeast};
 ghost use Rattle.muni_rule.specs.Ranges.{IsManyPeriodsBoundary};
 ghost use Rattle.muni_rule.specs.Verdicts.{at_least_verdict, dirty_thousandths};
 ghost use Rattle.muni_rule.specs.WorthEnds.{ends_of};
-ghost use Rattle.muni_multi.specs.Prices.{figure, whole_verdict, IsPriceOutcome, IsPriceAnswer, IsDoubtfulAnswer};
+ghost use Rattle.muni_multi.specs.Prices.{figure, whole_verdict, IsPriceOutcome, IsPriceAnswer, IsDoubtfulAnswer, OnePriceIsRight};
 
 use crate::Encloser;
 use crate::exact::ends;
@@ -67,3 +67,9 @@ fn price_between(low: u64, high: u64, accrued: u64) -> PriceAnswer
         }
     }
 }
+
+/// A law of the definitions: of the answers that are right at a yield at most one is not
+/// `Undecided`.
+pub fn at_most_one_price_is_right()
+    ensures { OnePriceIsRight }
+{}

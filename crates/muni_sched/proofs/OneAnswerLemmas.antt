@@ -3,14 +3,14 @@ use Rattle.std.proofs.Common.{◌≡◌, ◌<◌, ◌≤◌, ◌+◌, ◌*◌, �
 use Rattle.std.proofs.Math.Nat.{mul-le-mul_right}
 use Rattle.std.proofs.lemmas.Bool.{cases_lt}
 use Rattle.std.proofs.lemmas.Int.{ints}
-use Rattle.muni_rule.specs.Accuracy.{thousandths}
 use Rattle.muni_rule.specs.Payments.{PaymentSeries}
+use Rattle.muni_rule.specs.Printed.{HasOnePrice}
 use Rattle.muni_rule.specs.SinglePayment.{AtLeast}
 use Rattle.muni_rule.specs.Verdicts.{at_least_verdict, dirty_thousandths, IsUndecidedAt}
 use Rattle.muni_rule.specs.WorthEnds.{WorthEnds, ends_of}
 use Rattle.muni_rule.specs.declared.verdict.Verdict.{Verdict}
 use Rattle.muni_rule.specs.declared.verdict.Verdict.TheVariants as verdict
-use Rattle.muni_rule.proofs.AtLeastLemmas.{AtLeast-smaller}
+use Rattle.muni_rule.proofs.OnePriceLemmas.{one_payment-price}
 use Rattle.muni_multi.specs.Prices as multi
 use Rattle.muni_multi.specs.declared.price.PriceAnswer.{PriceAnswer}
 use Rattle.muni_multi.specs.declared.price.PriceAnswer.TheVariants as found
@@ -31,7 +31,7 @@ use Rattle.muni_sched.specs.PriceOutcome.{many_price, one_price, IsPriceOutcomeF
 use Rattle.muni_sched.specs.ToCome.{ToCome, many, one, to_come_of}
 use Rattle.muni_sched.specs.YieldOutcome.{one_yield, IsYieldOutcomeFor}
 use Rattle.muni_sched.proofs.AllSoundLemmas.{IsAskable, all-askable, some-same}
-use Rattle.muni_sched.proofs.PriceSoundLemmas.{IsPriced, IsClosed, printed-one}
+use Rattle.muni_sched.proofs.PriceSoundLemmas.{IsPriced}
 use Rattle.muni_sched.proofs.SameLemmas.{lowest-same}
 use Rattle.muni_sched.proofs.YieldSoundLemmas.{IsBounded, bounds}
 use Rattle.muni_sched.proofs.ZipLemmas.{zip-same}
@@ -45,11 +45,11 @@ yield-same verdicts price (one least payment) x z range some is also =
     is.2 ∙ ap one_yield (answer-same least payment (pos (360000 * price)) is.0 also.0 order above is.1 also.1) ∙ sym also.2
 
 -- ---- prices
-simple-same : (Reaches : ℤ → Type 0) (said other : SimplePrice) → IsClosed Reaches → simple.IsPriceAnswer Reaches said → simple.IsPriceAnswer Reaches other → said ≡ other
-simple-same Reaches (exact.Price s) (exact.Price t) closed is also = ap exact.Price (printed-one Reaches s t closed is also)
-simple-same Reaches (exact.Price s) exact.BelowZero closed is also = absurd (also.zero_not_reached (closed (thousandths s) (pos 0) (omega (arith, ints)) is.reached))
-simple-same Reaches exact.BelowZero (exact.Price t) closed is also = absurd (is.zero_not_reached (closed (thousandths t) (pos 0) (omega (arith, ints)) also.reached))
-simple-same Reaches exact.BelowZero exact.BelowZero closed is also = refl
+simple-same : (Reaches : ℤ → Type 0) (said other : SimplePrice) → HasOnePrice Reaches → simple.IsPriceAnswer Reaches said → simple.IsPriceAnswer Reaches other → said ≡ other
+simple-same Reaches (exact.Price s) (exact.Price t) has is also = ap exact.Price (has.one_is_printed s t is also)
+simple-same Reaches (exact.Price s) exact.BelowZero has is also = absurd (has.none_below_zero s is also)
+simple-same Reaches exact.BelowZero (exact.Price t) has is also = absurd (has.none_below_zero t also is)
+simple-same Reaches exact.BelowZero exact.BelowZero has is also = refl
 
 -- what is not reached by a verdict is reached by none at a higher amount
 abbrev IsFalling : (ℕ → Verdict) → Type 0
@@ -101,7 +101,7 @@ price-same ends y (many series) x z range is also =
     ∙ sym also.2
 price-same ends y (one least payment) x z range is also =
     is.2
-    ∙ ap one_price (simple-same (AtLeast payment y) is.0 also.0 (λ amount smaller less reached. AtLeast-smaller payment y amount smaller range less reached) is.1 also.1)
+    ∙ ap one_price (simple-same (AtLeast payment y) is.0 also.0 (one_payment-price payment y range) is.1 also.1)
     ∙ sym also.2
 
 -- ---- each candidate, and the answer over all

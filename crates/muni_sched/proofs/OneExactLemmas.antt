@@ -1,22 +1,17 @@
 -- A candidate has one exact outcome.
-use Rattle.std.proofs.Common.{◌≡◌, ◌<◌, ◌≤◌, ◌+◌, ◌-◌, ◌*◌, ◌^◌, ℕ, zero, suc, [], ◌∷◌, length, refl, arith, ◌⊎◌, ⊎_elim, inl, inr, subst, ℤ, pos, negsuc, ◌+ℤ◌, ◌*ℤ◌, ◌≤ℤ◌, ◌<ℤ◌}
-use Rattle.std.specs.Prelude.{unsigned_abs}
-use Rattle.std.proofs.Math.Nat.{mul-le-mul_left, mul-le-mul_right, one-le-pow, pow-suc}
+use Rattle.std.proofs.Common.{◌≡◌, ◌<◌, ◌*◌, ℕ, [], ◌∷◌, refl, arith, ◌⊎◌, ⊎_elim, inl, inr, ℤ, pos, ◌+ℤ◌, ◌*ℤ◌, ◌≤ℤ◌, ◌<ℤ◌}
 use Rattle.std.proofs.lemmas.Int.{ints}
 use Rattle.std.proofs.lemmas.List.Elements.{All-head}
-use Rattle.muni_rule.specs.Accuracy.{thousandths}
 use Rattle.muni_rule.specs.ManyPeriods as periods
 use Rattle.muni_rule.specs.ManyPeriods.{to_come, discount_divisor, asked_power, worth_power}
 use Rattle.muni_rule.specs.Outcomes.{IsBelow, IsAbove, IsPrint, HasOneOutcome}
-use Rattle.muni_rule.specs.Payments.{PaymentSeries}
-use Rattle.muni_rule.specs.Printed.{IsPrintedPrice, IsBelowZero}
-use Rattle.muni_rule.specs.Ranges.{IsManyPeriodsBoundary}
+use Rattle.muni_rule.specs.Printed.{IsPrintedPrice, IsBelowZero, IsClosed, HasOnePrice}
 use Rattle.muni_rule.specs.Schedule.{prints, is_below, is_above, no_time}
 use Rattle.muni_rule.specs.SinglePayment.{SinglePayment, growth, AtLeast, More}
-use Rattle.muni_rule.proofs.AtLeastLemmas.{AtLeast-smaller}
+use Rattle.muni_rule.proofs.AtLeastLemmas.{AtLeast-closed, many-closed}
 use Rattle.muni_rule.proofs.EnclosedLemmas.{divisor-least}
 use Rattle.muni_rule.proofs.FallLemmas.{price_falls}
-use Rattle.muni_rule.proofs.ManyPeriodFallLemmas.{at_least-decided}
+use Rattle.muni_rule.proofs.OnePriceLemmas.{one_payment-price, many_periods-price}
 use Rattle.muni_rule.proofs.OutcomeLemmas.{Decided, one_outcome}
 use Rattle.muni_simple.specs.Yields.{greatest_printed}
 use Rattle.muni_yield.specs.Outcome as search
@@ -27,7 +22,7 @@ use Rattle.muni_sched.specs.Exact.{IsExactIn, IsExactSingle, IsExactYieldOf, IsE
 use Rattle.muni_sched.specs.ToCome.{ToCome, many, one, to_come_of}
 use Rattle.muni_sched.proofs.AllSoundLemmas.{IsAskable, all-askable}
 use Rattle.muni_sched.proofs.IntLemmas.{less_or_not}
-use Rattle.muni_sched.proofs.PriceSoundLemmas.{IsPriced, IsClosed, many-closed, printed-same, below-same}
+use Rattle.muni_sched.proofs.PriceSoundLemmas.{IsPriced, printed-same, below-same}
 use Rattle.muni_sched.proofs.YieldSoundLemmas.{IsTimed, AtPrice, MoreThan, many-outcome, in-print, in-below, in-above}
 use Rattle.muni_sched.proofs.ZipLemmas.{zip-has_one}
 
@@ -101,69 +96,20 @@ yield-one price (one least payment) some is =
     single-one least payment (pos (360000 * price)) order is.1 above
 
 -- ---- prices
--- what holds first and does not hold at last stops to hold somewhere
-last-held : (Holds : ℕ → Type 0) (m : ℕ) → ((k : ℕ) → Decided (Holds k)) → Holds 0 → ¬ (Holds m) → (k : ℕ) × Holds k × ¬ (Holds (k + 1))
-last-held Holds zero decided first last = absurd (last first)
-last-held Holds (suc m) decided first last =
+-- a printed price is the exact outcome, and so is none
+price-has_one : (Reaches : ℤ → Type 0) → IsClosed Reaches → HasOnePrice Reaches → HasOne (IsExactPriceBy Reaches)
+price-has_one Reaches closed has =
     ⊎_elim
-    (λ (here : Holds m). let next : m + 1 ≡ suc m = omega arith in (m, here, λ held. last (subst Holds next held)))
-    (λ (not_here : ¬ (Holds m)). last-held Holds m decided first not_here)
-    (decided m)
-
-printed-has_one : (Reaches : ℤ → Type 0) (t : ℕ) → IsClosed Reaches → Reaches (thousandths t) → ¬ (Reaches (thousandths (t + 1))) → HasOne (IsExactPriceBy Reaches)
-printed-has_one Reaches t closed reached not_next =
-    let print : IsPrintedPrice Reaches t = record { reached = reached; next_not_reached = not_next } in
-    record { value = prints (pos t); such = print; only = λ exact is. printed-same Reaches t exact closed print is }
-
--- where some amount is not reached, there is one price
-price-has_one : (Reaches : ℤ → Type 0) (m : ℕ) → IsClosed Reaches → ((amount : ℤ) → Decided (Reaches amount)) → ¬ (Reaches (thousandths m)) → HasOne (IsExactPriceBy Reaches)
-price-has_one Reaches m closed decided missed =
-    ⊎_elim
-    (λ (first : Reaches (thousandths 0)).
-    let last = last-held (λ t. Reaches (thousandths t)) m (λ t. decided (thousandths t)) first missed in
-    printed-has_one Reaches last.0 closed last.1 last.2)
-    (λ (none : ¬ (Reaches (thousandths 0))).
-    let below : IsBelowZero Reaches = record { zero_not_reached = none } in
-    record { value = is_below; such = below; only = λ exact is. below-same Reaches exact closed below is })
-    (decided (thousandths 0))
-
--- a product with a factor from 1 up is not smaller
-mul-from : (x factor : ℤ) → pos 0 ≤ℤ x → pos 0 <ℤ factor → x ≤ℤ (x *ℤ factor)
-mul-from (pos x) (pos factor) from above = let times : x * 1 ≤ x * factor = mul-le-mul_left x (omega (arith, ints, above)) in omega (arith, ints, times)
-mul-from (pos x) (negsuc factor) from above = absurd (omega (arith, ints, above))
-mul-from (negsuc x) factor from above = absurd (omega (arith, ints, from))
-
--- one payment does not reach a price past its amount
-single-missed : (payment : SinglePayment) (y : ℤ) → pos 0 <ℤ growth payment y → ¬ (AtLeast payment y (thousandths (unsigned_abs payment.due + unsigned_abs payment.accrued + 1)))
-single-missed payment y above reached =
-    let x : ℤ = thousandths (unsigned_abs payment.due + unsigned_abs payment.accrued + 1) +ℤ payment.accrued in
-    let from : pos 0 ≤ℤ x = omega (arith, ints) in
-    let times : x ≤ℤ (x *ℤ growth payment y) = mul-from x (growth payment y) from above in
-    omega (arith, ints, times, reached)
-
--- and many payments none past the numerator of their worth
-power-from : (x v e : ℕ) → 1 ≤ x → 1 ≤ v → x ≤ x ^ 180 * v ^ e
-power-from x v e some divides =
-    let powers : 1 ≤ x ^ 179 = one-le-pow 179 x some in
-    let others : 1 ≤ v ^ e = one-le-pow e v divides in
-    let times : 1 * x ≤ x ^ 179 * x = mul-le-mul_right x powers in
-    let all : x ^ 179 * x * 1 ≤ x ^ 179 * x * v ^ e = mul-le-mul_left (x ^ 179 * x) others in
-    rw (pow-suc x 179) (omega (arith, times, all))
-
-many-missed : (series : PaymentSeries) (y : ℤ) → IsManyPeriodsBoundary y → ¬ (periods.AtLeast (to_come series) y (thousandths (worth_power (to_come series) y + 1)))
-many-missed series y within reached =
-    let at_least = reached.at_least in
-    let divisor = divisor-least y within in
-    let least = power-from (360000000 * (worth_power (to_come series) y + 1) + series.accrued) (discount_divisor y) ((length (to_come series).payments - 1) * 180 + (180 - series.a)) (omega arith) (omega (arith, divisor)) in
-    omega (arith, at_least, least)
+    (λ (below : IsBelowZero Reaches). record { value = is_below; such = below; only = λ exact is. below-same Reaches exact closed below is })
+    (λ (print : (t : ℕ) × IsPrintedPrice Reaches t). record { value = prints (pos print.0); such = print.1; only = λ exact is. printed-same Reaches print.0 exact closed print.1 is })
+    has.some
 
 price-one : (y : ℤ) (to_be : ToCome) → IsPriced y to_be → HasOne (IsExactPriceOf y to_be)
 price-one y (many series) range =
-    price-has_one (periods.AtLeast (to_come series) y) (worth_power (to_come series) y + 1) (many-closed series y) (λ amount. at_least-decided (to_come series) y amount) (many-missed series y range.2)
+    let divisor = divisor-least y range.2 in
+    price-has_one (periods.AtLeast (to_come series) y) (many-closed (to_come series) y) (many_periods-price (to_come series) y (omega (arith, divisor)))
 price-one y (one least payment) range =
-    price-has_one (AtLeast payment y) (unsigned_abs payment.due + unsigned_abs payment.accrued + 1) (λ amount smaller less reached. AtLeast-smaller payment y amount smaller range less reached)
-    (λ amount. le-decided ((amount +ℤ payment.accrued) *ℤ growth payment y) (payment.due *ℤ pos 360000000))
-    (single-missed payment y range)
+    price-has_one (AtLeast payment y) (AtLeast-closed payment y range) (one_payment-price payment y range)
 
 -- ---- either
 exact-one : (basis : Basis) (candidate : Candidate) → IsAskable basis (to_come_of candidate.shape) → HasOne (IsExact basis candidate)

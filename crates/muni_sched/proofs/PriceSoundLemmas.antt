@@ -1,15 +1,14 @@
 -- The outcome of a candidate is true of its exact price, and unsure only in doubt.
-use Rattle.std.proofs.Common.{◌≡◌, ◌<◌, ◌≤◌, ◌+◌, ◌-◌, ◌*◌, ◌^◌, ℕ, zero, suc, List, [], ◌∷◌, length, refl, ap, sym, subst, inl, ⊎_elim, arith, ◌∙◌, ℤ, pos, negsuc, ◌+ℤ◌, ◌-ℤ◌, ◌≤ℤ◌, ◌<ℤ◌, ◌≢◌}
+use Rattle.std.proofs.Common.{◌≡◌, ◌<◌, ◌≤◌, ◌+◌, ◌-◌, ◌*◌, ℕ, zero, suc, List, [], ◌∷◌, length, refl, ap, sym, subst, inl, ⊎_elim, arith, ◌∙◌, ℤ, pos, negsuc, ◌+ℤ◌, ◌-ℤ◌, ◌<ℤ◌, ◌≢◌}
 use Rattle.std.specs.List.{AllZip}
-use Rattle.std.proofs.Math.Nat.{mul-le-mul_right, pow-le-pow_left}
 use Rattle.std.proofs.lemmas.Bool.{cases_lt}
 use Rattle.std.proofs.lemmas.Int.{ints}
 use Rattle.muni_rule.specs.Accuracy.{thousandths}
 use Rattle.muni_rule.specs.Doubt.{IsDoubtful}
 use Rattle.muni_rule.specs.ManyPeriods as periods
-use Rattle.muni_rule.specs.ManyPeriods.{PeriodicPayments, to_come, discount_divisor, DirtyAtLeast}
+use Rattle.muni_rule.specs.ManyPeriods.{to_come}
 use Rattle.muni_rule.specs.Payments.{PaymentSeries, IsSeries}
-use Rattle.muni_rule.specs.Printed.{IsPrintedPrice, IsBelowZero}
+use Rattle.muni_rule.specs.Printed.{IsPrintedPrice, IsBelowZero, IsClosed}
 use Rattle.muni_rule.specs.Ranges.{IsWithin, IsManyPeriodsBoundary}
 use Rattle.muni_rule.specs.Schedule.{ExactOutcome, prints, is_below, is_above, no_time, IsFrom}
 use Rattle.muni_rule.specs.SinglePayment.{SinglePayment, growth, AtLeast}
@@ -17,8 +16,9 @@ use Rattle.muni_rule.specs.Verdicts.{at_least_verdict, dirty_thousandths, IsUnde
 use Rattle.muni_rule.specs.WorthEnds.{WorthEnds, ends_of}
 use Rattle.muni_rule.specs.declared.verdict.Verdict.{Verdict}
 use Rattle.muni_rule.specs.declared.verdict.Verdict.TheVariants as verdict
-use Rattle.muni_rule.proofs.AtLeastLemmas.{AtLeast-smaller}
+use Rattle.muni_rule.proofs.AtLeastLemmas.{AtLeast-closed, many-closed}
 use Rattle.muni_rule.proofs.EnclosedLemmas.{IsEnclosed, at_least-true}
+use Rattle.muni_rule.proofs.OnePriceLemmas.{printed-one}
 use Rattle.muni_multi.specs.Prices as multi
 use Rattle.muni_multi.specs.declared.price.PriceAnswer.{PriceAnswer}
 use Rattle.muni_multi.specs.declared.price.PriceAnswer.TheVariants as found
@@ -56,35 +56,6 @@ shape-priced y (Discount days) is basis given = absurd basis
 
 pub priced : (y : ℤ) (candidate : Candidate) → IsCandidate candidate → IsAtYield candidate → IsGivenFor y candidate → IsPriced y (to_come_of candidate.shape)
 priced y candidate is basis given = shape-priced y candidate.shape is basis given
-
--- ---- a price that is at least an amount is at least each smaller one
-dirty-smaller : (bond : PeriodicPayments) (y amount smaller : ℤ) → smaller ≤ℤ amount → DirtyAtLeast bond y amount → DirtyAtLeast bond y smaller
-dirty-smaller bond y (pos x) (pos z) less reached =
-    let order : z ≤ x = omega (arith, ints) in
-    let raised : z ^ 180 ≤ x ^ 180 = pow-le-pow_left order 180 in
-    let scaled = mul-le-mul_right (discount_divisor y ^ ((length bond.payments - 1) * 180 + (180 - bond.a))) raised in
-    let at_least = reached.at_least in
-    record { at_least = omega (arith, scaled, at_least) }
-dirty-smaller bond y (negsuc x) (pos z) less reached = absurd (omega (arith, ints))
-dirty-smaller bond y amount (negsuc z) less reached = tt
-
-many-smaller : (bond : PeriodicPayments) (y amount smaller : ℤ) → smaller ≤ℤ amount → periods.AtLeast bond y amount → periods.AtLeast bond y smaller
-many-smaller bond y amount smaller less reached = dirty-smaller bond y (amount +ℤ pos bond.accrued) (smaller +ℤ pos bond.accrued) (omega (arith, ints)) reached
-
--- the amounts that a price reaches are those up to it
-abbrev pub IsClosed : (ℤ → Type 0) → Type 0
-IsClosed Reaches = (amount smaller : ℤ) → smaller ≤ℤ amount → Reaches amount → Reaches smaller
-
--- at most one price is printed
-pub printed-one : (Reaches : ℤ → Type 0) (s t : ℕ) → IsClosed Reaches → IsPrintedPrice Reaches s → IsPrintedPrice Reaches t → s ≡ t
-printed-one Reaches s t closed is also =
-    ⊎_elim
-    (λ (less : s < t). absurd (is.next_not_reached (closed (thousandths t) (thousandths (s + 1)) (omega (arith, ints)) also.reached)))
-    (λ (most : t ≤ s). ⊎_elim
-    (λ (more : t < s). absurd (also.next_not_reached (closed (thousandths s) (thousandths (t + 1)) (omega (arith, ints)) is.reached)))
-    (λ (least : s ≤ t). omega arith)
-    (cases_lt t s))
-    (cases_lt s t)
 
 -- ---- an answer as an exact outcome
 pub printed-same : (Reaches : ℤ → Type 0) (t : ℕ) (exactly : ExactOutcome) → IsClosed Reaches → IsPrintedPrice Reaches t → IsExactPriceBy Reaches exactly → exactly ≡ prints (pos t)
@@ -129,9 +100,6 @@ reached-below said b (suc t) is less =
     let next : t + 1 ≡ suc t = omega arith in
     not_no (said (suc t)) (is.least (suc t) less) (λ missed. is.not_printed t (reached-below said b t is before) (ap said next ∙ missed))
 
-pub many-closed : (series : PaymentSeries) (y : ℤ) → IsClosed (periods.AtLeast (to_come series) y)
-many-closed series y = λ amount smaller less reached. many-smaller (to_come series) y amount smaller less reached
-
 not-least : (b : ℕ) → (pos b -ℤ pos 1) ≢ negsuc 0 → 0 < b
 not-least zero other = absurd (other (omega (arith, ints)))
 not-least (suc b) other = omega arith
@@ -146,24 +114,24 @@ many-unsure series y enclosure b exactly given is doubt exact_is = record {
       let said = reached-below (λ t. at_least_verdict (ends_of series y enclosure) (dirty_thousandths series.accrued t)) b (b - 1) is (omega (arith, some)) in
       let reached : periods.AtLeast (to_come series) y (thousandths (b - 1)) = at_least-true series y enclosure (360000000 * (b - 1)) _ given refl said in
       let before : pos (b - 1) ≡ (pos b -ℤ pos 1) = omega (arith, ints, some) in
-      subst (λ t. IsFrom t exactly) before (price-from (periods.AtLeast (to_come series) y) (b - 1) exactly (many-closed series y) reached exact_is);
+      subst (λ t. IsFrom t exactly) before (price-from (periods.AtLeast (to_come series) y) (b - 1) exactly (many-closed (to_come series) y) reached exact_is);
 }
 
 many-sound : (series : PaymentSeries) (y : ℤ) (enclosure : WorthEnds) (answer : PriceAnswer) (exactly : ExactOutcome) → IsEnclosed series y enclosure → multi.IsPriceOutcome (λ t. at_least_verdict (ends_of series y enclosure) (dirty_thousandths series.accrued t)) answer → IsExactPriceOf y (many series) exactly
     → IsSound (negsuc 0) (IsFigureInDoubt (at_yield y) (many series)) (many_price answer) exactly
 many-sound series y enclosure (found.Price t) exactly given is exact_is =
-    printed-same (periods.AtLeast (to_come series) y) t exactly (many-closed series y) (outcome-exact series y enclosure (found.Price t) given is) exact_is
+    printed-same (periods.AtLeast (to_come series) y) t exactly (many-closed (to_come series) y) (outcome-exact series y enclosure (found.Price t) given is) exact_is
 many-sound series y enclosure found.BelowZero exactly given is exact_is =
-    below-same (periods.AtLeast (to_come series) y) exactly (many-closed series y) (outcome-exact series y enclosure found.BelowZero given is) exact_is
+    below-same (periods.AtLeast (to_come series) y) exactly (many-closed (to_come series) y) (outcome-exact series y enclosure found.BelowZero given is) exact_is
 many-sound series y enclosure (found.Undecided b) exactly given is exact_is =
     many-unsure series y enclosure b exactly given is (outcome-doubtful series y enclosure (found.Undecided b) given is) exact_is
 
 -- ---- one payment
 single-sound : (payment : SinglePayment) (y : ℤ) (answer : SimplePrice) (IsDoubtfulAt : ℤ → Type 0) (exactly : ExactOutcome) → pos 0 <ℤ growth payment y → simple.IsPriceAnswer (AtLeast payment y) answer → IsExactPriceBy (AtLeast payment y) exactly → IsSound (negsuc 0) IsDoubtfulAt (one_price answer) exactly
 single-sound payment y (exact.Price t) D exactly above is exact_is =
-    printed-same (AtLeast payment y) t exactly (λ amount smaller less reached. AtLeast-smaller payment y amount smaller above less reached) is exact_is
+    printed-same (AtLeast payment y) t exactly (AtLeast-closed payment y above) is exact_is
 single-sound payment y exact.BelowZero D exactly above is exact_is =
-    below-same (AtLeast payment y) exactly (λ amount smaller less reached. AtLeast-smaller payment y amount smaller above less reached) is exact_is
+    below-same (AtLeast payment y) exactly (AtLeast-closed payment y above) is exact_is
 
 -- ---- each candidate
 -- two ends enclose the worth of every series at this yield

@@ -1,10 +1,13 @@
 -- Laws of the rule: it gives one answer, that one is right, and it is undecided only in doubt.
-use Rattle.std.specs.Prelude.{◌≡◌, ℕ, List, Bool, true, ℤ}
+use Rattle.std.specs.Prelude.{◌≡◌, ℕ, List, ℤ}
 use Rattle.muni_rule.specs.Schedule.{ExactOutcome}
+use Rattle.muni_sched.specs.declared.candidate.Candidate.{Candidate}
 use Rattle.muni_sched.specs.declared.lowest.Outcome.{Outcome}
 use Rattle.muni_sched.specs.declared.lowest.Outcome.TheVariants.{Unsure}
 use Rattle.muni_sched.specs.declared.lowest.Lowest.{Lowest}
 use Rattle.muni_sched.specs.declared.lowest.Lowest.TheVariants.{Undecided}
+use Rattle.muni_sched.specs.Basis.{Basis, kind_of, IsInDoubt}
+use Rattle.muni_sched.specs.Figures.{least_unsure}
 use Rattle.muni_sched.specs.Lowest.{outcome_at, IsLowest}
 use Rattle.muni_sched.specs.Sound.{AreSound, IsRight}
 
@@ -14,14 +17,14 @@ AllowsOneLowest =
     (least : ℤ) (outcomes : List Outcome) (one other : Lowest)
     → IsLowest least outcomes one → IsLowest least outcomes other → one ≡ other
 
--- The answer over sound outcomes is right. `is_doubtful` tells of a candidate and a figure whether
--- it is in doubt that the candidate reaches it.
+-- the answer over sound outcomes is right
 abbrev pub SoundIsRight : Type 0
 SoundIsRight =
-    (least : ℤ) (is_doubtful : ℕ → ℤ → Bool) (exact : ℕ → ExactOutcome) (outcomes : List Outcome)
+    (basis : Basis) (list : List Candidate) (exact : ℕ → ExactOutcome) (outcomes : List Outcome)
     (answer : Lowest)
-    → AreSound least (λ c t. is_doubtful c t ≡ true) outcomes exact → IsLowest least outcomes answer
-    → IsRight (λ c t. is_doubtful c t ≡ true) exact answer
+    → AreSound (least_unsure (kind_of basis)) (IsInDoubt basis list) outcomes exact
+    → IsLowest (least_unsure (kind_of basis)) outcomes answer
+    → IsRight (IsInDoubt basis list) exact answer
 
 -- of the answers that are not undecided, at most one is right
 abbrev pub OneLowestIsRight : Type 0
@@ -38,5 +41,8 @@ UndecidedIsUnsure =
 -- where no candidate is in doubt at any figure, the answer over sound outcomes is not undecided
 abbrev pub NoDoubtIsDecided : Type 0
 NoDoubtIsDecided =
-    (least : ℤ) (exact : ℕ → ExactOutcome) (outcomes : List Outcome) (s : ℤ) (c : ℕ)
-    → AreSound least (λ k t. ⊥) outcomes exact → ¬ (IsLowest least outcomes (Undecided s c))
+    (basis : Basis) (list : List Candidate) (exact : ℕ → ExactOutcome) (outcomes : List Outcome)
+    (s : ℤ) (c : ℕ)
+    → ((k : ℕ) (t : ℤ) → ¬ (IsInDoubt basis list k t))
+    → AreSound (least_unsure (kind_of basis)) (IsInDoubt basis list) outcomes exact
+    → ¬ (IsLowest (least_unsure (kind_of basis)) outcomes (Undecided s c))

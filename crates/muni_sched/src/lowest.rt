@@ -47,7 +47,6 @@ pub(crate) enum Lowest {
 
 /// The lowest figure over the outcomes of the candidates, in order of date. With no candidate it is
 /// `Above`.
-
 pub(crate) fn lowest_of(outcomes: &[Outcome], kind: FigureKind) -> Lowest
     requires { All (IsOf kind) outcomes.now }
     ensures lowest { IsLowest (figures.least_unsure kind) outcomes.now result }
@@ -97,7 +96,6 @@ fn decided(outcome: Outcome, candidate: usize) -> Lowest
 }
 
 /// A law of the rule: it allows at most one answer.
-
 pub fn the_lowest_is_one()
     ensures { AllowsOneLowest }
 {}

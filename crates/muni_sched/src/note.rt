@@ -21,7 +21,7 @@ struct NoteDays {
 }
 
 /// The one payment of a note that pays its interest at redemption.
-pub fn note_payment(issue: &Issue, settlement: Day) -> Single
+pub(crate) fn note_payment(issue: &Issue, settlement: Day) -> Single
     requires note { anchor_of issue.now ≡ None }
     requires settled { settles issue.now settlement ≡ true }
     ensures payment { result ≡ single (rule.note_payment issue.now.coupon (civil issue.now.dated)
@@ -38,7 +38,7 @@ pub fn note_payment(issue: &Issue, settlement: Day) -> Single
 }
 
 /// The days of 30/360 from a settlement to the maturity of a note.
-pub fn days_left(issue: &Issue, settlement: Day) -> i32
+pub(crate) fn days_left(issue: &Issue, settlement: Day) -> i32
     requires note { anchor_of issue.now ≡ None }
     requires settled { settles issue.now settlement ≡ true }
     ensures value { result ≡ count.days360 (civil settlement) (civil issue.now.maturity) }

@@ -14,10 +14,17 @@ half-power halvings few =
     let more : 19 - halvings ≡ suc (19 - (halvings + 1)) = omega arith in
     ap (λ n. 2 ^ n) more ∙ omega (arith, pow-suc 2 (19 - (halvings + 1)))
 
-by-count : {A : Type 0} (count : ℕ) → (count ≡ 0 → A) → (count ≡ 1 → A) → (2 ≤ count → A) → A
-by-count zero none one more = none refl
-by-count (suc zero) none one more = one refl
-by-count (suc (suc count)) none one more = more (omega arith)
+-- nothing is answered by yes yet, or nothing at the top, or both
+by-places : {A : Type 0} (bracket : YieldBracket) → IsBracket bracket → (bracket.low ≡ 0 → A) → (1 ≤ bracket.low → bracket.high ≡ 105003 → A) → (1 ≤ bracket.low → bracket.high ≤ 105002 → A) → A
+by-places bracket is first second later =
+    let top = is.top in
+    ⊎_elim
+    (λ (some : 0 < bracket.low). ⊎_elim
+    (λ (asked : bracket.high < 105003). later (omega (arith, some)) (omega (arith, asked)))
+    (λ (top_open : 105003 ≤ bracket.high). second (omega (arith, some)) (omega (arith, top_open, top)))
+    (cases_lt bracket.high 105003))
+    (λ (none : bracket.low ≤ 0). first (omega (arith, none)))
+    (cases_lt 0 bracket.low)
 
 pub pending-apart : (bracket : YieldBracket) → IsBracket bracket → is_settled bracket ≡ false → bracket.low + 1 < bracket.high
 pending-apart bracket is pending =
@@ -35,91 +42,79 @@ settled-next bracket settled = eqb-true bracket.high (bracket.low + 1) settled
 pub few-asked : (bracket : YieldBracket) → IsBracket bracket → is_settled bracket ≡ false → bracket.halvings < 19
 few-asked bracket is pending =
     let apart = pending-apart bracket is pending in
-    ⊎_elim
-    (λ (few : bracket.halvings < 19). few)
+    let few = is.few in
+    by-places bracket is
+    (λ none. let first = is.first none apart in omega (arith, first))
+    (λ some top_open. let second = is.second some top_open apart in omega (arith, second))
+    (λ some asked. ⊎_elim
+    (λ (less : bracket.halvings < 19). less)
     (λ (all : 19 ≤ bracket.halvings).
     let none : 19 - bracket.halvings ≡ 0 = omega arith in
     let one : 2 ^ (19 - bracket.halvings) ≡ 1 = ap (λ n. 2 ^ n) none in
-    let two : 2 ≤ bracket.halvings = omega arith in
-    absurd (omega (arith, (is.later two).1, apart, one)))
-    (cases_lt bracket.halvings 19)
+    absurd (omega (arith, is.later some asked, apart, one)))
+    (cases_lt bracket.halvings 19))
 
-pub middle-question : (bracket : YieldBracket) → IsBracket bracket → is_settled bracket ≡ false → 2 ≤ bracket.halvings → IsQuestion bracket (bracket.low + (bracket.high - bracket.low) / 2)
-middle-question bracket is pending later =
-    let apart = pending-apart bracket is pending in
-    let few = few-asked bracket is pending in
-    let half = half-power bracket.halvings few in
-    let near = (is.later later).1 in
-    let top = is.top in
-    record {
-      above = omega (arith, apart);
-      below = omega (arith, apart);
-      most = omega (arith, apart, top);
-      first = λ none. absurd (omega arith);
-      second = λ one. absurd (omega arith);
-      near_low = λ _. omega (arith, apart, half, near);
-      near_high = λ _. omega (arith, apart, half, near);
-    }
-
-first-question : (bracket : YieldBracket) → IsBracket bracket → bracket.halvings ≡ 0 → IsQuestion bracket 1
-first-question bracket is none =
-    let places = is.first none in
-    record {
-      above = omega (arith, places);
-      below = omega (arith, places);
-      most = omega arith;
-      first = λ _. refl;
-      second = λ one. absurd (omega arith);
-      near_low = λ later. absurd (omega arith);
-      near_high = λ later. absurd (omega arith);
-    }
-
-second-question : (bracket : YieldBracket) → IsBracket bracket → is_settled bracket ≡ false → bracket.halvings ≡ 1 → IsQuestion bracket 105002
-second-question bracket is pending one =
-    let places = is.second one (pending-apart bracket is pending) in
-    record {
-      above = omega (arith, places);
-      below = omega (arith, places);
-      most = omega arith;
-      first = λ none. absurd (omega arith);
-      second = λ _. refl;
-      near_low = λ later. absurd (omega arith);
-      near_high = λ later. absurd (omega arith);
-    }
-
-question-first : (bracket : YieldBracket) → bracket.halvings ≡ 0 → question bracket ≡ 1
+question-first : (bracket : YieldBracket) → bracket.low ≡ 0 → question bracket ≡ 1
 question-first bracket none = grind (arith, nat_tests)
 
-question-second : (bracket : YieldBracket) → bracket.halvings ≡ 1 → question bracket ≡ 105002
-question-second bracket one = grind (arith, nat_tests)
+question-second : (bracket : YieldBracket) → 1 ≤ bracket.low → bracket.high ≡ 105003 → question bracket ≡ 105002
+question-second bracket some top_open = grind (arith, nat_tests)
 
-question-later : (bracket : YieldBracket) → 2 ≤ bracket.halvings → question bracket ≡ bracket.low + (bracket.high - bracket.low) / 2
-question-later bracket later = grind (arith, nat_tests)
+question-later : (bracket : YieldBracket) → 1 ≤ bracket.low → bracket.high ≤ 105002 → question bracket ≡ bracket.low + (bracket.high - bracket.low) / 2
+question-later bracket some asked = grind (arith, nat_tests)
 
-is-question : (bracket : YieldBracket) → IsBracket bracket → is_settled bracket ≡ false → IsQuestion bracket (question bracket)
+pub is-question : (bracket : YieldBracket) → IsBracket bracket → is_settled bracket ≡ false → IsQuestion bracket (question bracket)
 is-question bracket is pending =
-    by-count bracket.halvings
-    (λ none. subst (IsQuestion bracket) (sym (question-first bracket none)) (first-question bracket is none))
-    (λ one. subst (IsQuestion bracket) (sym (question-second bracket one)) (second-question bracket is pending one))
-    (λ later. subst (IsQuestion bracket) (sym (question-later bracket later)) (middle-question bracket is pending later))
+    let apart = pending-apart bracket is pending in
+    let few = few-asked bracket is pending in
+    by-places bracket is
+    (λ none. let first = is.first none apart in let asks = question-first bracket none in record {
+      above = omega (arith, asks, none);
+      below = omega (arith, asks, first);
+      most = omega (arith, asks);
+      first = λ _. asks;
+      second = λ some _. absurd (omega (arith, none, some));
+      near_low = λ some _. absurd (omega (arith, none, some));
+      near_high = λ some _. absurd (omega (arith, none, some));
+    })
+    (λ some top_open. let second = is.second some top_open apart in let asks = question-second bracket some top_open in record {
+      above = omega (arith, asks, second);
+      below = omega (arith, asks, top_open);
+      most = omega (arith, asks);
+      first = λ none. absurd (omega (arith, none, some));
+      second = λ _ _. asks;
+      near_low = λ _ asked. absurd (omega (arith, asked, top_open));
+      near_high = λ _ asked. absurd (omega (arith, asked, top_open));
+    })
+    (λ some asked. let half = half-power bracket.halvings few in let near = is.later some asked in let asks = question-later bracket some asked in record {
+      above = omega (arith, asks, apart);
+      below = omega (arith, asks, apart);
+      most = omega (arith, asks, apart, asked);
+      first = λ none. absurd (omega (arith, none, some));
+      second = λ _ top_open. absurd (omega (arith, asked, top_open));
+      near_low = λ _ _. omega (arith, asks, apart, half, near);
+      near_high = λ _ _. omega (arith, asks, apart, half, near);
+    })
+
+pub middle-question : (bracket : YieldBracket) → IsBracket bracket → is_settled bracket ≡ false → 1 ≤ bracket.low → bracket.high ≤ 105002 → IsQuestion bracket (bracket.low + (bracket.high - bracket.low) / 2)
+middle-question bracket is pending some asked = subst (IsQuestion bracket) (question-later bracket some asked) (is-question bracket is pending)
 
 lowered : (bracket : YieldBracket) (place : ℕ) (verdict : Verdict) → IsBracket bracket → is_settled bracket ≡ false → IsQuestion bracket place → IsBracket (record { series = bracket.series; price = bracket.price; low = bracket.low; high = place; at_high = verdict; halvings = bracket.halvings + 1 })
 lowered bracket place verdict is pending asked =
     let few = few-asked bracket is pending in
     let apart = pending-apart bracket is pending in
-    let top = is.top in
-    let below = asked.below in
+    let most = asked.most in
     record {
       many = is.many;
       price = is.price;
       apart = asked.above;
-      top = omega (arith, below, top);
-      first = λ none. absurd (omega arith);
-      second = λ one. λ wide. let none : bracket.halvings ≡ 0 = omega arith in absurd (omega (arith, is.first none, asked.first none));
-      later = λ later. by-count bracket.halvings
-          (λ none. absurd (omega arith))
-          (λ one. let width : 2 ^ (19 - (bracket.halvings + 1)) ≡ 131072 = ap (λ n. 2 ^ (19 - (n + 1))) one in omega (arith, is.second one apart, asked.second one, width))
-          (λ more. ((is.later more).0, asked.near_low more));
+      top = omega (arith, most);
+      first = λ none wide. absurd (omega (arith, asked.first none, none, wide));
+      second = λ some top_open. absurd (omega (arith, most, top_open));
+      later = λ some _. by-places bracket is
+          (λ none. absurd (omega (arith, none, some)))
+          (λ _ top_open. let second = is.second some top_open apart in let width : 2 ^ (19 - (bracket.halvings + 1)) ≡ 131072 = ap (λ n. 2 ^ (19 - (n + 1))) second.1 in omega (arith, asked.second some top_open, width))
+          (λ _ known. asked.near_low some known);
       few = omega (arith, few);
     }
 
@@ -133,12 +128,15 @@ raised bracket place is pending asked =
       price = is.price;
       apart = asked.below;
       top = is.top;
-      first = λ none. absurd (omega arith);
-      second = λ one. λ wide. let none : bracket.halvings ≡ 0 = omega arith in (asked.first none, (is.first none).1);
-      later = λ later. by-count bracket.halvings
-          (λ none. absurd (omega arith))
-          (λ one. let width : 2 ^ (19 - (bracket.halvings + 1)) ≡ 131072 = ap (λ n. 2 ^ (19 - (n + 1))) one in omega (arith, is.second one apart, asked.second one, width))
-          (λ more. (omega (arith, above), asked.near_high more));
+      first = λ none _. absurd (omega (arith, none, above));
+      second = λ _ top_open wide. by-places bracket is
+          (λ none. let first = is.first none apart in (asked.first none, omega (arith, first)))
+          (λ some _. absurd (omega (arith, asked.second some top_open, top_open, wide)))
+          (λ _ known. absurd (omega (arith, known, top_open)));
+      later = λ _ known. by-places bracket is
+          (λ none. let first = is.first none apart in absurd (omega (arith, first, known)))
+          (λ _ top_open. absurd (omega (arith, top_open, known)))
+          (λ some _. asked.near_high some known);
       few = omega (arith, few);
     }
 
@@ -166,9 +164,9 @@ start-is series price many some = record {
   price = some;
   apart = omega arith;
   top = omega arith;
-  first = λ _. (refl, refl);
-  second = λ one. absurd (omega arith);
-  later = λ later. absurd (omega arith);
+  first = λ _ _. (refl, refl);
+  second = λ from. absurd (omega (arith, from));
+  later = λ from. absurd (omega (arith, from));
   few = omega arith;
 }
 

@@ -14,7 +14,7 @@ pub record YieldBracket : Type 0 where
   pub at_high : Verdict
   pub halvings : ℕ
 
--- before the first question the places are those beside the range, at which nothing is asked
+-- before the first question the places are those next to the range, at which nothing is asked
 abbrev pub start_of : PaymentSeries → ℕ → YieldBracket
 start_of series price = record {
   series = series;
@@ -32,8 +32,8 @@ is_settled bracket = bracket.high == bracket.low + 1
 -- the place that is asked next: the first of the range, then the one past its last, then the middle
 abbrev pub question : YieldBracket → ℕ
 question bracket =
-    if bracket.halvings == 0 then 1
-    else (if bracket.halvings == 1 then 105_002
+    if bracket.low == 0 then 1
+    else (if bracket.high == 105_003 then 105_002
     else bracket.low + (bracket.high - bracket.low) / 2)
 
 -- yes raises the lower place to the one that was asked, and any other answer lowers the higher one
@@ -80,11 +80,12 @@ pub record IsBracket (bracket : YieldBracket) : Type 0 where
   pub price : 0 < bracket.price
   pub apart : bracket.low < bracket.high
   pub top : bracket.high ≤ 105_003
-  pub first : bracket.halvings ≡ 0 → (bracket.low ≡ 0) × (bracket.high ≡ 105_003)
-  pub second : bracket.halvings ≡ 1 → (bracket.low + 1 < bracket.high)
-      → (bracket.low ≡ 1) × (bracket.high ≡ 105_003)
-  pub later : 2 ≤ bracket.halvings
-      → (1 ≤ bracket.low) × (bracket.high ≤ bracket.low + 2 ^ (19 - bracket.halvings))
+  pub first : bracket.low ≡ 0 → bracket.low + 1 < bracket.high
+      → (bracket.high ≡ 105_003) × (bracket.halvings ≡ 0)
+  pub second : 1 ≤ bracket.low → bracket.high ≡ 105_003 → bracket.low + 1 < bracket.high
+      → (bracket.low ≡ 1) × (bracket.halvings ≡ 1)
+  pub later : 1 ≤ bracket.low → bracket.high ≤ 105_002
+      → bracket.high ≤ bracket.low + 2 ^ (19 - bracket.halvings)
   pub few : bracket.halvings ≤ 19
 
 -- a place that may be asked next
@@ -92,10 +93,12 @@ pub record IsQuestion (bracket : YieldBracket) (place : ℕ) : Type 0 where
   pub above : bracket.low < place
   pub below : place < bracket.high
   pub most : place ≤ 105_002
-  pub first : bracket.halvings ≡ 0 → place ≡ 1
-  pub second : bracket.halvings ≡ 1 → place ≡ 105_002
-  pub near_low : 2 ≤ bracket.halvings → place ≤ bracket.low + 2 ^ (19 - (bracket.halvings + 1))
-  pub near_high : 2 ≤ bracket.halvings → bracket.high ≤ place + 2 ^ (19 - (bracket.halvings + 1))
+  pub first : bracket.low ≡ 0 → place ≡ 1
+  pub second : 1 ≤ bracket.low → bracket.high ≡ 105_003 → place ≡ 105_002
+  pub near_low : 1 ≤ bracket.low → bracket.high ≤ 105_002
+      → place ≤ bracket.low + 2 ^ (19 - (bracket.halvings + 1))
+  pub near_high : 1 ≤ bracket.low → bracket.high ≤ 105_002
+      → bracket.high ≤ place + 2 ^ (19 - (bracket.halvings + 1))
 
 -- the higher place was asked, and not answered by yes
 pub record IsMissed (verdict : ℕ → Verdict) (high : ℕ) (at_high : Verdict) : Type 0 where

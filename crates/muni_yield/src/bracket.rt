@@ -129,7 +129,7 @@ impl Bracket {
         *self = self.answered(place, verdict);
     }
 
-    // The place that is asked next.
+    // The place that is asked next. At 0 and 105,003, next to the range, nothing is.
     fn question(&self) -> u32
         requires { spec.is_settled self.now ≡ false }
         ensures value { result ≡ spec.question self.now }
@@ -137,9 +137,9 @@ impl Bracket {
         ensures most { result ≤ 105_002 }
         ensures between { IsQuestion self.now result }
     {
-        if self.halvings == 0 {
+        if self.low == 0 {
             1
-        } else if self.halvings == 1 {
+        } else if self.high == 105_003 {
             105_002
         } else {
             self.low + (self.high - self.low) / 2

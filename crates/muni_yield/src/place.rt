@@ -12,7 +12,7 @@ use muni_multi::{Encloser, Verdict, at_least, more};
 use muni_terms::Flows;
 
 /// The yield at a place, in thousandths of a percent.
-pub fn yield_at(place: u32) -> i32
+pub(crate) fn yield_at(place: u32) -> i32
     requires { place ≤ 105_003 }
     ensures { result ≡ spec.yield_at place }
 {
@@ -20,7 +20,7 @@ pub fn yield_at(place: u32) -> i32
 }
 
 /// The printed yield at a place.
-pub fn printed_at(place: u32) -> Yield3
+pub(crate) fn printed_at(place: u32) -> Yield3
     requires { place ≤ 105_003 }
     ensures { result ≡ spec.yield_at place }
 {
@@ -38,7 +38,7 @@ fn boundary_at(place: u32) -> i32
 }
 
 /// Whether the yield at a price is printed as the one at a place or above.
-pub fn ask<E: Encloser>(encloser: &E, flows: &Flows, price: Price, place: u32) -> Verdict
+pub(crate) fn ask<E: Encloser>(encloser: &E, flows: &Flows, price: Price, place: u32) -> Verdict
     requires many { 2 ≤ flows.now.n }
     requires some { 1 ≤ place }
     requires most { place ≤ 105_002 }

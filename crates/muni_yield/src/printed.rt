@@ -16,8 +16,8 @@ use std::sync::ledger::Ledger;
 
 /// The yield at a dollar price (MSRB Rule G-33(b)(ii)). Two payments or more are to come.
 ///
-/// `steps` counts one for each question, of which there are at most 19. Each calls the encloser at
-/// most once.
+/// `steps` counts one for each question, of which there are at most 19.
+// Each calls the encloser at most once (tested).
 pub fn printed_yield<E: Encloser, L: Ledger>(
     encloser: &E,
     flows: &Flows,
@@ -40,27 +40,6 @@ pub fn printed_yield<E: Encloser, L: Ledger>(
     ensures few { steps.new ≤ steps.old + 19 }
 {
     flows_are_in_range(flows);
-    settled(encloser, flows, price, steps)
-}
-
-// Asks until the search is settled.
-fn settled<E: Encloser, L: Ledger>(
-    encloser: &E,
-    flows: &Flows,
-    price: Price,
-    steps: &mut Steps<L>,
-) -> Outcome
-    requires many { 2 ≤ flows.now.n }
-    requires price { 0 < price }
-    requires room { steps.old + 19 < 2 ^ 64 }
-    ensures verdicts { IsVerdictOutcome (yield_verdict (E.ends encloser.now flows.now) flows.now
-        price) result }
-    ensures outcome { result
-        ≡ final_of (place_verdict (E.ends encloser.now)) flows.now price }
-    ensures steps { steps.new ≡ steps.old + (run 19 (place_verdict (E.ends encloser.now))
-        (start_of flows.now price)).halvings }
-    ensures few { steps.new ≤ steps.old + 19 }
-{
     let mut bracket = Bracket::start(*flows, price);
     loop {
         if let Some(outcome) = bracket.settled() {

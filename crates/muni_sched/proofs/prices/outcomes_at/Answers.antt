@@ -1,4 +1,4 @@
-use Rattle.std.proofs.Common.{rules}
+use Rattle.std.proofs.Common.{rules, [], ◌∷◌, ◌++◌}
 use Rattle.std.proofs.lemmas.List.Elements.{All-push, All-same}
 use Rattle.muni_sched.specs.Figures.{IsOf}
 use Rattle.muni_sched.specs.PriceOutcome.{IsPriceOutcome}
@@ -14,6 +14,6 @@ loop-candidate-preserved g c =
     record {
       each = zip-next (IsPriceOutcome ends c.args.y) c.args.list.now c.loop-candidate.candidate-index c.candidate-item.result c.loop-candidate.outcomes.items c.push.new.self.items outcome
           c.loop-candidate-test.true c.candidate-item.is so_far.each c.price_outcome.ensures.outcome c.push.ensures.items;
-      range = All-same (IsOf Price) c.push.new.self.items _ c.push.ensures.items (All-push (IsOf Price) c.loop-candidate.outcomes.items outcome so_far.range c.price_outcome.ensures.range);
+      range = All-same (IsOf Price) c.push.new.self.items (c.loop-candidate.outcomes.items ++ outcome ∷ []) c.push.ensures.items (All-push (IsOf Price) c.loop-candidate.outcomes.items outcome so_far.range c.price_outcome.ensures.range);
       room = search rules;
     }
