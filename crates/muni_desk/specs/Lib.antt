@@ -10,3 +10,5 @@ pub mod Sums
 pub mod Drill
 pub mod Answers
 pub mod Written
+pub mod AnswerLaws
+pub mod WordLaws

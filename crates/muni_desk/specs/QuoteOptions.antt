@@ -3,12 +3,11 @@ use Rattle.std.specs.Prelude.{ℕ, Bool, true, false, nat_le, if◌then◌else�
 use Rattle.std.specs.Result.{result_ok}
 use Rattle.muni_dec.specs.Digits.{number_reading}
 use Rattle.muni_dec.specs.Values.{coupon_reading, par_reading}
-use Rattle.muni_days.specs.Day.{day_reading}
 use Rattle.muni_days.specs.declared.day.Day.{Day}
 use Rattle.muni_terms.specs.Check.{pays_interest}
 use Rattle.muni_terms.specs.declared.row.Call.{Call}
 use Rattle.muni_terms.specs.declared.row.IssueRow.{IssueRow}
-use Rattle.muni_msg.specs.Fields.{kind_reading, call_reading, given_reading}
+use Rattle.muni_msg.specs.Fields.{day_in, kind_reading, call_reading, given_reading}
 use Rattle.muni_msg.specs.declared.asked.Asked.{Asked}
 use Rattle.muni_msg.specs.declared.asked.Given.{Given}
 use Rattle.muni_desk.specs.Words.{◌>>=◌, are_options, value_of, values_of}
@@ -28,7 +27,7 @@ options = codes "--call=" ∷ single_options
 
 -- a date that an option gives
 abbrev pub date_of : List ℕ → List (List ℕ) → Option Day
-date_of name words = value_of name words >>= λ text. result_ok (day_reading text)
+date_of name words = value_of name words >>= λ text. day_in text
 
 -- the coupon, which is given exactly where there is interest
 abbrev pub coupon_of : Bool → Option (List ℕ) → Option ℕ

@@ -17,6 +17,7 @@ mod words;
 pub use answers::answer;
 pub use command::{Command, CommandLine, read};
 pub use drill::DrillRequest;
+pub use laws::{the_answer_is_unique, the_workers_do_not_show, words_are_read_by_the_rule};
 pub use output::desk;
 pub use quote_one::QuoteOneRequest;
 pub use request::QuoteRequest;

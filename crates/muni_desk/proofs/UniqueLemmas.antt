@@ -1,0 +1,109 @@
+-- One answer is right for a command.
+use Rattle.std.proofs.Common.{◌≡◌, ℕ, zero, suc, ◌∷◌, [], ◌++◌, List, refl, sym, ap, ◌∙◌, subst, true, Result, Ok, Err, ℤ}
+use Rattle.std.specs.Prelude.{MatchResult}
+use Rattle.muni_rule.specs.Payments.{PaymentSeries}
+use Rattle.muni_rule.specs.WorthEnds.{WorthEnds}
+use Rattle.muni_days.specs.Day.{civil}
+use Rattle.muni_terms.specs.Check.{checked}
+use Rattle.muni_terms.specs.declared.row.IssueRow.{IssueRow}
+use Rattle.muni_terms.specs.declared.row.TermsFault.{TermsFault}
+use Rattle.muni_msg.specs.declared.asked.Asked.{Asked}
+use Rattle.muni_msg.specs.declared.figures.Figures.{Figures}
+use Rattle.muni_msg.specs.declared.refusal.Refusal.{Refusal}
+use Rattle.muni_msg.specs.declared.refusal.Refusal.TheVariants.{BadTerms}
+use Rattle.muni_confirm.specs.Figures.{figure_text}
+use Rattle.muni_confirm.specs.Refusal.{refusal_text}
+use Rattle.muni_book.specs.Answers.{IsRightAnswer}
+use Rattle.muni_book.proofs.UniqueLemmas.{answers-unique}
+use Rattle.muni_desk.specs.Answers.{price_line, IsQuoteOneText, IsQuoteText, IsDrillText, IsAnswer}
+use Rattle.muni_desk.specs.Command.{IsAnswerable}
+use Rattle.muni_desk.specs.Drill.{IsDrilled, IsBook}
+use Rattle.muni_desk.specs.QuoteOne.{is_next}
+use Rattle.muni_desk.specs.Request.{IsAnswered}
+use Rattle.muni_desk.specs.Sums.{Answered, summary_text}
+use Rattle.muni_desk.specs.declared.command.Command.{Command}
+use Rattle.muni_desk.specs.declared.command.Command.TheVariants.{QuoteOne, Quote, Drill}
+use Rattle.muni_desk.specs.declared.drill.options.DrillRequest.{DrillRequest}
+use Rattle.muni_desk.specs.declared.quote_one.QuoteOneRequest.{QuoteOneRequest}
+use Rattle.muni_desk.specs.declared.request.QuoteRequest.{QuoteRequest}
+use Rattle.muni_desk.specs.declared.status.Answer.{Answer}
+use Rattle.muni_desk.specs.declared.status.Status.{Status}
+use Rattle.muni_desk.specs.declared.status.Status.TheVariants.{Done, Refused}
+use Rattle.muni_desk.proofs.GeneratorLemmas.{generated-unique}
+use Rattle.muni_desk.proofs.QuoteOneLemmas.{priced-unique}
+
+-- ---- a request for figures
+answered-by : (ends : PaymentSeries → ℤ → WorthEnds) (asked : Asked) (read : Result IssueRow TermsFault) (answer other : Result Figures Refusal) → MatchResult read (λ issue. IsRightAnswer ends issue asked answer) (λ fault. answer ≡ Err (BadTerms fault)) → MatchResult read (λ issue. IsRightAnswer ends issue asked other) (λ fault. other ≡ Err (BadTerms fault)) → answer ≡ other
+answered-by ends asked (Ok issue) answer other is also = answers-unique ends issue asked answer other is also
+answered-by ends asked (Err fault) answer other is also = is ∙ sym also
+
+answered-unique : (ends : PaymentSeries → ℤ → WorthEnds) (row : IssueRow) (asked : Asked) (answer other : Result Figures Refusal) → IsAnswered ends row asked answer → IsAnswered ends row asked other → answer ≡ other
+answered-unique ends row asked answer other is also = answered-by ends asked (checked row) answer other is also
+
+-- ---- a generated book
+drilled-unique : (ends : PaymentSeries → ℤ → WorthEnds) (seed place : ℕ) (it other : Answered) → IsDrilled ends seed place it → IsDrilled ends seed place other → it ≡ other
+drilled-unique ends seed place it other is also =
+    let request : it.request ≡ other.request = generated-unique _ it.request other.request is.generated also.generated in
+    let moved : IsAnswered ends other.request.row other.request.asked it.answer = subst (λ r. IsAnswered ends r.row r.asked it.answer) request is.answered in
+    let answer : it.answer ≡ other.answer = answered-unique ends other.request.row other.request.asked it.answer other.answer moved also.answered in
+    λ i. record { request = request i; answer = answer i }
+
+book-unique : (ends : PaymentSeries → ℤ → WorthEnds) (seed count : ℕ) (book others : List Answered) → IsBook ends seed count book → IsBook ends seed count others → book ≡ others
+book-unique ends seed zero book others is also = is ∙ sym also
+book-unique ends seed (suc count) book others is also =
+    let earlier : is.0 ≡ also.0 = book-unique ends seed count is.0 also.0 is.2 also.2 in
+    let last : is.1 ≡ also.1 = drilled-unique ends seed count is.1 also.1 is.3 also.3 in
+    is.4 ∙ (λ i. earlier i ++ last i ∷ []) ∙ sym also.4
+
+-- ---- texts and the status
+record IsSame (status other : Status) (text also : List ℕ) : Type 0 where
+  ends : status ≡ other
+  writes : text ≡ also
+
+result-either : {A : Type 0} (x : ℕ) (refused : Refusal) → Ok x ≡ Err refused → A
+result-either x refused same = absurd (let never : Ok x ≡ Err refused = same in cc)
+
+figures-either : {A : Type 0} (figures : Figures) (refused : Refusal) → Ok figures ≡ Err refused → A
+figures-either figures refused same = absurd (let never : Ok figures ≡ Err refused = same in cc)
+
+quote_one-same : (request : QuoteOneRequest) (status other : Status) (text also : List ℕ) → is_next (civil request.next) ≡ true → IsQuoteOneText request status text → IsQuoteOneText request other also → IsSame status other text also
+quote_one-same request Done Done text also next is so =
+    let price : is.0 ≡ so.0 = (let same : Ok is.0 ≡ Ok so.0 = priced-unique request (Ok is.0) (Ok so.0) next is.1 so.1 in cc) in
+    record { ends = refl; writes = is.2 ∙ ap price_line price ∙ sym so.2 }
+quote_one-same request Done Refused text also next is so = result-either is.0 so.0 (priced-unique request (Ok is.0) (Err so.0) next is.1 so.1)
+quote_one-same request Refused Done text also next is so = result-either so.0 is.0 (priced-unique request (Ok so.0) (Err is.0) next so.1 is.1)
+quote_one-same request Refused Refused text also next is so =
+    let refusal : is.0 ≡ so.0 = (let same : Err is.0 ≡ Err so.0 = priced-unique request (Err is.0) (Err so.0) next is.1 so.1 in cc) in
+    record { ends = refl; writes = is.2 ∙ ap refusal_text refusal ∙ sym so.2 }
+quote_one-same request Done other text also next is so = absurd so
+quote_one-same request Refused other text also next is so = absurd so
+quote_one-same request status other text also next is so = absurd is
+
+quote-same : (ends : PaymentSeries → ℤ → WorthEnds) (request : QuoteRequest) (status other : Status) (text also : List ℕ) → IsQuoteText ends request status text → IsQuoteText ends request other also → IsSame status other text also
+quote-same ends request Done Done text also is so =
+    let figures : is.0 ≡ so.0 = (let same : Ok is.0 ≡ Ok so.0 = answered-unique ends request.row request.asked (Ok is.0) (Ok so.0) is.1 so.1 in cc) in
+    record { ends = refl; writes = is.2 ∙ ap (λ it. figure_text it request.asked.given) figures ∙ sym so.2 }
+quote-same ends request Done Refused text also is so = figures-either is.0 so.0 (answered-unique ends request.row request.asked (Ok is.0) (Err so.0) is.1 so.1)
+quote-same ends request Refused Done text also is so = figures-either so.0 is.0 (answered-unique ends request.row request.asked (Ok so.0) (Err is.0) so.1 is.1)
+quote-same ends request Refused Refused text also is so =
+    let refusal : is.0 ≡ so.0 = (let same : Err is.0 ≡ Err so.0 = answered-unique ends request.row request.asked (Err is.0) (Err so.0) is.1 so.1 in cc) in
+    record { ends = refl; writes = is.2 ∙ ap refusal_text refusal ∙ sym so.2 }
+quote-same ends request Done other text also is so = absurd so
+quote-same ends request Refused other text also is so = absurd so
+quote-same ends request status other text also is so = absurd is
+
+drill-same : (ends : PaymentSeries → ℤ → WorthEnds) (request : DrillRequest) (status other : Status) (text also : List ℕ) → IsDrillText ends request status text → IsDrillText ends request other also → IsSame status other text also
+drill-same ends request Done Done text also is so =
+    let book = book-unique ends request.seed request.count is.0 so.0 is.1 so.1 in
+    record { ends = refl; writes = is.2 ∙ ap summary_text book ∙ sym so.2 }
+drill-same ends request Done other text also is so = absurd so
+drill-same ends request status other text also is so = absurd is
+
+-- ---- the answer
+answer-by : (answer other : Answer) → IsSame answer.status other.status answer.text.items other.text.items → answer ≡ other
+answer-by answer other same = λ i. record { status = same.ends i; text = record { items = same.writes i } }
+
+pub answer-unique : (ends : PaymentSeries → ℤ → WorthEnds) (command : Command) (answer other : Answer) → IsAnswerable command → IsAnswer ends command answer → IsAnswer ends command other → answer ≡ other
+answer-unique ends (QuoteOne request) answer other next is also = answer-by answer other (quote_one-same request answer.status other.status answer.text.items other.text.items next is also)
+answer-unique ends (Quote request) answer other fine is also = answer-by answer other (quote-same ends request answer.status other.status answer.text.items other.text.items is also)
+answer-unique ends (Drill request) answer other few is also = answer-by answer other (drill-same ends request answer.status other.status answer.text.items other.text.items is also)

@@ -1,0 +1,199 @@
+-- What the words of a command line say, in the rule's own words.
+use Rattle.std.specs.Prelude.{◌≡◌, ◌≢◌, ◌<◌, ◌≤◌, ◌↔◌, ◌⊎◌, ℕ, List, [], ◌∷◌, ◌++◌, length, map, filter, All, Contains, codes, Some, None, Ok}
+use Rattle.std.specs.List.{AllZip}
+use Rattle.muni_dec.specs.Digits.{number_reading}
+use Rattle.muni_dec.specs.Values.{coupon_reading, par_reading, price_reading, yield_reading}
+use Rattle.muni_days.specs.Day.{day_reading}
+use Rattle.muni_terms.specs.declared.row.Call.{Call}
+use Rattle.muni_terms.specs.declared.row.Kind.{Kind}
+use Rattle.muni_terms.specs.declared.row.Kind.TheVariants.{Periodic, Zero, AtRedemption, Discount}
+use Rattle.muni_terms.specs.declared.row.IssueRow.{IssueRow}
+use Rattle.muni_msg.specs.declared.asked.Asked.{Asked}
+use Rattle.muni_msg.specs.declared.asked.Given.{Given}
+use Rattle.muni_msg.specs.declared.asked.Given.TheVariants.{AtYield, AtPrice, AtRate}
+use Rattle.muni_desk.specs.Words.{word, is_option}
+use Rattle.muni_desk.specs.QuoteOptions.{options, single_options}
+use Rattle.muni_desk.specs.DrillOptions as drill
+use Rattle.muni_desk.specs.Command.{command_of}
+use Rattle.muni_desk.specs.declared.command.Command.{Command}
+use Rattle.muni_desk.specs.declared.command.Command.TheVariants.{QuoteOne, Quote, Drill}
+use Rattle.muni_desk.specs.declared.command.CommandLine.{CommandLine}
+use Rattle.muni_desk.specs.declared.drill.options.DrillRequest.{DrillRequest}
+use Rattle.muni_desk.specs.declared.quote_one.QuoteOneRequest.{QuoteOneRequest}
+use Rattle.muni_desk.specs.declared.request.QuoteRequest.{QuoteRequest}
+
+-- ---- one option
+-- a word is the option of a name: the name, and behind it a value that is not empty
+pub record IsOption (name text : List ℕ) : Type 0 where
+  pub value : List ℕ
+  pub joined : text ≡ name ++ value
+  pub not_empty : value ≢ []
+
+-- the option of one of these names
+pub record IsKnown (names : List (List ℕ)) (text : List ℕ) : Type 0 where
+  pub name : List ℕ
+  pub listed : Contains names name
+  pub is_its : IsOption name text
+
+-- the option of a name stands at one place at most
+abbrev pub IsSingle : List (List ℕ) → List ℕ → Type 0
+IsSingle words name =
+    (i j : ℕ) → i < length words → j < length words
+    → IsOption name (word words i) → IsOption name (word words j) → i ≡ j
+
+-- an option with this value stands among words
+pub record Says (words : List (List ℕ)) (name value : List ℕ) : Type 0 where
+  pub among : Contains words (name ++ value)
+  pub not_empty : value ≢ []
+
+-- an option stands among words, and its value is read so
+pub record Reads (words : List (List ℕ)) (name : List ℕ) (IsRead : List ℕ → Type 0)
+    : Type 0 where
+  pub text : List ℕ
+  pub stands : Says words name text
+  pub is_read : IsRead text
+
+-- an option stands nowhere among words
+abbrev pub Lacks : List (List ℕ) → List ℕ → Type 0
+Lacks words name = (value : List ℕ) → ¬ (Says words name value)
+
+-- where the option stands, its value is read so, and else this holds
+abbrev pub ReadsOr : List (List ℕ) → List ℕ → (List ℕ → Type 0) → Type 0 → Type 0
+ReadsOr words name IsRead IsElse = Reads words name IsRead ⊎ (Lacks words name × IsElse)
+
+-- ---- the options of `quote`
+-- the kind, and the first interest date exactly where it is `periodic`
+abbrev pub SaysKind : List (List ℕ) → Kind → Type 0
+SaysKind words (Periodic first) =
+    Says words (codes "--kind=") (codes "periodic")
+    × Reads words (codes "--first=") (λ text. day_reading text ≡ Ok first)
+SaysKind words Zero = Says words (codes "--kind=") (codes "zero") × Lacks words (codes "--first=")
+SaysKind words AtRedemption =
+    Says words (codes "--kind=") (codes "at-redemption") × Lacks words (codes "--first=")
+SaysKind words Discount =
+    Says words (codes "--kind=") (codes "discount") × Lacks words (codes "--first=")
+
+-- the coupon, exactly where securities of the kind pay interest
+abbrev pub SaysCoupon : List (List ℕ) → Kind → ℕ → Type 0
+SaysCoupon words (Periodic first) coupon =
+    Reads words (codes "--coupon=") (λ text. coupon_reading text ≡ Ok coupon)
+SaysCoupon words Zero coupon = Lacks words (codes "--coupon=") × (coupon ≡ 0)
+SaysCoupon words AtRedemption coupon =
+    Reads words (codes "--coupon=") (λ text. coupon_reading text ≡ Ok coupon)
+SaysCoupon words Discount coupon = Lacks words (codes "--coupon=") × (coupon ≡ 0)
+
+-- a text says a call: a date, a colon and a price
+pub record IsCall (text : List ℕ) (call : Call) : Type 0 where
+  pub date : List ℕ
+  pub price : List ℕ
+  pub joined : text ≡ date ++ codes ":" ++ price
+  pub is_date : day_reading date ≡ Ok call.date
+  pub is_price : price_reading price ≡ Ok call.price
+
+-- the calls, of which there are 40 at most: the words of their option, in the order in which they
+-- stand, are its name with each of these texts, and each text says the call in its place
+pub record SaysCalls (words : List (List ℕ)) (calls : List Call) : Type 0 where
+  pub texts : List (List ℕ)
+  pub in_order :
+      filter (is_option (codes "--call=")) words ≡ map (λ text. codes "--call=" ++ text) texts
+  pub at_most : length texts ≤ 40
+  pub are_read : AllZip IsCall texts calls
+
+-- exactly one of a yield, a price and a rate
+abbrev pub SaysGiven : List (List ℕ) → Given → Type 0
+SaysGiven words (AtYield y) =
+    Reads words (codes "--yield=") (λ text. yield_reading text ≡ Ok y)
+    × Lacks words (codes "--price=") × Lacks words (codes "--rate=")
+SaysGiven words (AtPrice price) =
+    Lacks words (codes "--yield=")
+    × Reads words (codes "--price=") (λ text. price_reading text ≡ Ok price)
+    × Lacks words (codes "--rate=")
+SaysGiven words (AtRate rate) =
+    Lacks words (codes "--yield=") × Lacks words (codes "--price=")
+    × Reads words (codes "--rate=") (λ text. yield_reading text ≡ Ok rate)
+
+-- the terms of the security, which has no number of its own
+pub record SaysTerms (words : List (List ℕ)) (row : IssueRow) : Type 0 where
+  pub kind : SaysKind words row.kind
+  pub dated : Reads words (codes "--dated=") (λ text. day_reading text ≡ Ok row.dated)
+  pub maturity : Reads words (codes "--maturity=") (λ text. day_reading text ≡ Ok row.maturity)
+  pub coupon : SaysCoupon words row.kind row.coupon
+  pub calls : SaysCalls words row.calls.items
+  pub cusip : row.cusip ≡ codes "000000000"
+  pub name : row.name.items ≡ codes "QUOTE"
+
+-- what is asked for of it: the par is 100 where none is given
+pub record SaysAsked (words : List (List ℕ)) (asked : Asked) : Type 0 where
+  pub par :
+      ReadsOr words (codes "--par=") (λ text. par_reading text ≡ Ok asked.par) (asked.par ≡ 100)
+  pub settle : Reads words (codes "--settle=") (λ text. day_reading text ≡ Ok asked.settle)
+  pub given : SaysGiven words asked.given
+  pub cusip : asked.cusip ≡ codes "000000000"
+
+-- words behind `quote`: from 1 to 16 workers, and one where no number is given
+pub record IsQuote (words : List (List ℕ)) (request : QuoteRequest) (workers : ℕ) : Type 0 where
+  pub known : All (IsKnown options) words
+  pub single : All (IsSingle words) single_options
+  pub terms : SaysTerms words request.row
+  pub asked : SaysAsked words request.asked
+  pub at_once :
+      ReadsOr words (codes "--workers=") (λ text. number_reading 20 1 16 text ≡ Some workers)
+      (workers ≡ 1)
+
+-- ---- the options of `drill`
+-- words behind `drill`: up to 1,000 trades, a seed below 2^64, and from 1 to 16 workers
+pub record IsDrill (words : List (List ℕ)) (request : DrillRequest) (workers : ℕ) : Type 0 where
+  pub known : All (IsKnown drill.options) words
+  pub single : All (IsSingle words) drill.options
+  pub count :
+      Reads words (codes "--count=") (λ text. number_reading 20 0 1_000 text ≡ Some request.count)
+  pub seed :
+      Reads words (codes "--seed=")
+      (λ text. number_reading 20 0 18_446_744_073_709_551_615 text ≡ Some request.seed)
+  pub at_once :
+      Reads words (codes "--workers=") (λ text. number_reading 20 1 16 text ≡ Some workers)
+
+-- ---- the words of `quote-one`
+-- five words behind `quote-one`, in their order; the next interest date has a day that every month
+-- has, and is not before 1902
+pub record IsQuoteOne (words : List (List ℕ)) (request : QuoteOneRequest) : Type 0 where
+  pub five : length words ≡ 5
+  pub coupon : coupon_reading (word words 0) ≡ Ok request.coupon
+  pub next : day_reading (word words 1) ≡ Ok request.next
+  pub settlement : day_reading (word words 2) ≡ Ok request.settlement
+  pub redemption : price_reading (word words 3) ≡ Ok request.redemption
+  pub yld : yield_reading (word words 4) ≡ Ok request.yld
+  pub day_at_most : request.next.day ≤ 28
+  pub year_at_least : 1902 ≤ request.next.year
+
+-- ---- the command line
+-- the first word names the command, and those behind it say what is asked of it
+abbrev pub IsSaid : List (List ℕ) → Command → ℕ → Type 0
+IsSaid [] command workers = ⊥
+IsSaid (name ∷ words) (QuoteOne request) workers =
+    (name ≡ codes "quote-one") × IsQuoteOne words request × (workers ≡ 1)
+IsSaid (name ∷ words) (Quote request) workers =
+    (name ≡ codes "quote") × IsQuote words request workers
+IsSaid (name ∷ words) (Drill request) workers =
+    (name ≡ codes "drill") × IsDrill words request workers
+
+abbrev pub IsCommandLine : List (List ℕ) → CommandLine → Type 0
+IsCommandLine words line = IsSaid words line.command line.workers
+
+-- words are read as a command line exactly where they say it
+abbrev pub ReadsCommandLines : Type 0
+ReadsCommandLines =
+    (words : List (List ℕ)) (line : CommandLine)
+    → (command_of words ≡ Some line) ↔ IsCommandLine words line
+
+-- and refused exactly where they say none
+abbrev pub RefusesOtherWords : Type 0
+RefusesOtherWords =
+    (words : List (List ℕ))
+    → (command_of words ≡ None) ↔ ((line : CommandLine) → ¬ (IsCommandLine words line))
+
+-- a word is the option of one name at most
+abbrev pub NamesAreApart : Type 0
+NamesAreApart =
+    (name other text : List ℕ) → Contains options name → Contains options other
+    → IsOption name text → IsOption other text → name ≡ other
