@@ -30,12 +30,16 @@ same_place date other civil other_civil same =
     let day : date.day ≡ other.day = omega (arith, civil, other_civil) in
     λ i. record { year = year i; month = month i; day = day i }
 
+-- days at one place in the order of days are one day
+pub same_day : (day other : Day) → place_of day ≡ place_of other → day ≡ other
+same_day day other same = same_date day other (same_place (civil day) (civil other) (is_civil day) (is_civil other) same)
+
 -- `==` on days tells whether they are one day
 pub day_decides : (day other : Day) → Decides (place_of day == place_of other) (day ≡ other)
 day_decides day other =
     Decides-like (place_of day == place_of other)
-    (λ same. same_date day other (same_place (civil day) (civil other) (is_civil day) (is_civil other) same))
-    (λ same. ap place_of same)
+    (same_day day other)
+    (ap place_of)
     (Decides-eqb (place_of day) (place_of other))
 
 -- these three numbers are a day, or they are none

@@ -1,12 +1,14 @@
 //! What a trade or a quote asks for.
 
 ghost use Rattle.std.specs.Prelude.{◌≡◌, ◌↔◌, true};
+ghost use Rattle.std.specs.Cmp.Rules.{comparing};
+ghost use Rattle.std.proofs.Common.{rules};
 
 use muni_days::Day;
 use muni_dec::{Par, Price, Yield};
 
 /// On which basis a trade is done.
-#[derive(Clone, Copy, Debug, PartialEq, Eq)]
+#[derive(Clone, Copy, Debug)]
 pub enum Given {
     /// At a yield; the price is computed.
     AtYield(Yield),
@@ -17,14 +19,14 @@ pub enum Given {
 }
 
 /// The customer's side of a trade.
-#[derive(Clone, Copy, Debug, PartialEq, Eq)]
+#[derive(Clone, Copy, Debug)]
 pub enum Side {
     Buy,
     Sell,
 }
 
 /// What figures are asked for.
-#[derive(Clone, Copy, Debug, PartialEq, Eq)]
+#[derive(Clone, Copy, Debug)]
 pub struct Asked {
     pub cusip: [u8; 9],
     pub par: Par,
@@ -34,62 +36,98 @@ pub struct Asked {
 }
 
 /// The terms of a trade.
-#[derive(Clone, Copy, Debug, PartialEq, Eq)]
+#[derive(Clone, Copy, Debug)]
 pub struct Terms {
     pub asked: Asked,
     pub side: Side,
 }
 
-fn same_given(given: &Given, other: &Given) -> bool
-    ensures { (result ≡ true) ↔ (given.now ≡ other.now) }
-{
-    match (given, other) {
-        (Given::AtYield(y), Given::AtYield(other)) => y.units() == other.units(),
-        (Given::AtPrice(price), Given::AtPrice(other)) => price.units() == other.units(),
-        (Given::AtRate(rate), Given::AtRate(other)) => rate.units() == other.units(),
-        _ => false,
-    }
-}
+impl PartialEq for Given {
+    ghost use Rattle.muni_msg.specs.Asked.{given_eq};
 
-fn same_cusip(cusip: &[u8], other: &[u8]) -> bool
-    ensures { (result ≡ true) ↔ (cusip.now ≡ other.now) }
-{
-    cusip == other
-}
+    ghost eq = { given_eq };
 
-fn same_side(side: &Side, other: &Side) -> bool
-    ensures { (result ≡ true) ↔ (side.now ≡ other.now) }
-{
-    match (side, other) {
-        (Side::Buy, Side::Buy) => true,
-        (Side::Sell, Side::Sell) => true,
-        _ => false,
-    }
-}
+    ghost laws = { Prim.search (comparing, rules) };
 
-impl Asked {
-    /// Whether the same figures are asked for.
-    pub fn same(&self, other: &Asked) -> bool
-        ensures { (result ≡ true) ↔ (self.now ≡ other.now) }
+    #[tactic(auto, using(crate::proofs::AskedLemmas::given_decides))]
+    fn eq(&self, other: &Given) -> bool
+        ensures value { result ≡ given_eq self.now other.now }
+        ensures same { (result ≡ true) ↔ (self.now ≡ other.now) }
     {
-        if !same_cusip(&self.cusip, &other.cusip) {
-            return false;
+        match (self, other) {
+            (Given::AtYield(y), Given::AtYield(other)) => *y == *other,
+            (Given::AtPrice(price), Given::AtPrice(other)) => *price == *other,
+            (Given::AtRate(rate), Given::AtRate(other)) => *rate == *other,
+            _ => false,
         }
-        if self.par.units() != other.par.units() {
-            return false;
-        }
-        self.settle == other.settle && same_given(&self.given, &other.given)
     }
 }
 
-impl Terms {
-    /// Whether the terms are the same.
-    pub fn same(&self, other: &Terms) -> bool
-        ensures { (result ≡ true) ↔ (self.now ≡ other.now) }
+impl Eq for Given {
+    ghost laws = { Prim.search (comparing, rules) };
+}
+
+impl PartialEq for Side {
+    ghost use Rattle.muni_msg.specs.Asked.{side_eq};
+
+    ghost eq = { side_eq };
+
+    ghost laws = { Prim.search (comparing, rules) };
+
+    #[tactic(auto, using(crate::proofs::AskedLemmas::side_decides))]
+    fn eq(&self, other: &Side) -> bool
+        ensures value { result ≡ side_eq self.now other.now }
+        ensures same { (result ≡ true) ↔ (self.now ≡ other.now) }
     {
-        if !self.asked.same(&other.asked) {
-            return false;
+        match (self, other) {
+            (Side::Buy, Side::Buy) => true,
+            (Side::Sell, Side::Sell) => true,
+            _ => false,
         }
-        same_side(&self.side, &other.side)
     }
+}
+
+impl Eq for Side {
+    ghost laws = { Prim.search (comparing, rules) };
+}
+
+impl PartialEq for Asked {
+    ghost use Rattle.muni_msg.specs.Asked.{asked_eq};
+
+    ghost eq = { asked_eq };
+
+    ghost laws = { Prim.search (comparing, rules) depth 9 };
+
+    #[tactic(auto, using(crate::proofs::AskedLemmas::asked_decides))]
+    fn eq(&self, other: &Asked) -> bool
+        ensures value { result ≡ asked_eq self.now other.now }
+        ensures same { (result ≡ true) ↔ (self.now ≡ other.now) }
+    {
+        let same_amount = self.cusip == other.cusip && self.par == other.par;
+        same_amount && self.settle == other.settle && self.given == other.given
+    }
+}
+
+impl Eq for Asked {
+    ghost laws = { Prim.search (comparing, rules) depth 9 };
+}
+
+impl PartialEq for Terms {
+    ghost use Rattle.muni_msg.specs.Asked.{terms_eq};
+
+    ghost eq = { terms_eq };
+
+    ghost laws = { Prim.search (comparing, rules) depth 12 };
+
+    #[tactic(auto, using(crate::proofs::AskedLemmas::terms_decides))]
+    fn eq(&self, other: &Terms) -> bool
+        ensures value { result ≡ terms_eq self.now other.now }
+        ensures same { (result ≡ true) ↔ (self.now ≡ other.now) }
+    {
+        self.asked == other.asked && self.side == other.side
+    }
+}
+
+impl Eq for Terms {
+    ghost laws = { Prim.search (comparing, rules) depth 12 };
 }

@@ -18,16 +18,18 @@ fn terms_are_the_same_where_every_part_is(rt: HostRuntime) -> Result<(), Fail> {
         side: Side::Buy,
     };
     assert!(rt;
-        terms.same(&Terms {
-            asked,
-            side: Side::Buy
-        })
+        terms
+            == Terms {
+                asked,
+                side: Side::Buy
+            }
     );
     assert!(rt;
-        !terms.same(&Terms {
-            asked,
-            side: Side::Sell
-        })
+        terms
+            != Terms {
+                asked,
+                side: Side::Sell
+            }
     );
     for other in [
         Asked {
@@ -52,10 +54,11 @@ fn terms_are_the_same_where_every_part_is(rt: HostRuntime) -> Result<(), Fail> {
         },
     ] {
         assert!(rt;
-            !terms.same(&Terms {
-                asked: other,
-                side: Side::Buy
-            })
+            terms
+                != Terms {
+                    asked: other,
+                    side: Side::Buy
+                }
         );
     }
     Ok(())

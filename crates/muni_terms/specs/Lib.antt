@@ -3,3 +3,4 @@ pub mod Check
 pub mod Flows
 pub mod Issue
 pub mod LastMonth
+pub mod Row

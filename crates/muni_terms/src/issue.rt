@@ -1,6 +1,8 @@
 //! Issues: rows that passed every test.
 
 ghost use Rattle.std.specs.Prelude.{◌≡◌, ◌↔◌, ◌<◌, ◌≤ℤ◌, true, pos, Some, None, IsSome};
+ghost use Rattle.std.specs.Cmp.Rules.{comparing};
+ghost use Rattle.std.proofs.Common.{rules};
 ghost use Rattle.muni_rule.specs.Civil.{order_of};
 ghost use Rattle.muni_rule.specs.Payments.{payments_of};
 ghost use Rattle.muni_days.specs.Day.{civil};
@@ -48,6 +50,25 @@ pub fn check(row: IssueRow) -> Result<Issue, TermsFault>
     }
 }
 
+impl PartialEq for Issue {
+    ghost use Rattle.muni_terms.specs.Row.{row_eq};
+
+    ghost eq = { row_eq };
+
+    ghost laws = { Prim.search (comparing, rules) depth 12 };
+
+    fn eq(&self, other: &Issue) -> bool
+        ensures value { result ≡ row_eq self.now other.now }
+        ensures same { (result ≡ true) ↔ (self.now ≡ other.now) }
+    {
+        self.row == other.row
+    }
+}
+
+impl Eq for Issue {
+    ghost laws = { Prim.search (comparing, rules) depth 12 };
+}
+
 impl Issue {
     /// An issue of equal value.
     pub fn copy(&self) -> Issue
@@ -56,13 +77,6 @@ impl Issue {
         Issue {
             row: self.row.copy(),
         }
-    }
-
-    /// Whether both issues are of equal value.
-    pub fn same(&self, other: &Issue) -> bool
-        ensures { (result ≡ true) ↔ (self.now ≡ other.now) }
-    {
-        self.row.same(&other.row)
     }
 
     /// The terms, which pass every test.

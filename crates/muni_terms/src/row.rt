@@ -1,6 +1,8 @@
 //! The terms of an issue as they are given, and what may be wrong with them.
 
 ghost use Rattle.std.specs.Prelude.{◌≡◌, ◌↔◌, true};
+ghost use Rattle.std.specs.Cmp.Rules.{comparing};
+ghost use Rattle.std.proofs.Common.{rules};
 ghost use Rattle.muni_terms.specs.Fault.{fault_number};
 
 use arrayvec::ArrayVec;
@@ -25,7 +27,7 @@ impl Default for Call {
 }
 
 /// How an issue pays interest.
-#[derive(Clone, Copy, Debug, PartialEq, Eq)]
+#[derive(Clone, Copy, Debug)]
 pub enum Kind {
     /// Twice a year, from the first interest date on.
     Periodic { first: Day },
@@ -116,28 +118,55 @@ fn copy_calls(calls: &ArrayVec<Call, 40>) -> ArrayVec<Call, 40>
     copy
 }
 
-fn same_bytes(bytes: &[u8], other: &[u8]) -> bool
-    ensures { (result ≡ true) ↔ (bytes.now ≡ other.now) }
-{
-    bytes == other
-}
+impl PartialEq for Kind {
+    ghost use Rattle.muni_terms.specs.Row.{kind_eq};
 
-fn same_kind(kind: &Kind, other: &Kind) -> bool
-    ensures { (result ≡ true) ↔ (kind.now ≡ other.now) }
-{
-    match (kind, other) {
-        (Kind::Periodic { first }, Kind::Periodic { first: other }) => *first == *other,
-        (Kind::Zero, Kind::Zero) => true,
-        (Kind::AtRedemption, Kind::AtRedemption) => true,
-        (Kind::Discount, Kind::Discount) => true,
-        _ => false,
+    ghost eq = { kind_eq };
+
+    ghost laws = { Prim.search (comparing, rules) };
+
+    #[tactic(auto, using(crate::proofs::RowLemmas::kind_decides))]
+    fn eq(&self, other: &Kind) -> bool
+        ensures value { result ≡ kind_eq self.now other.now }
+        ensures same { (result ≡ true) ↔ (self.now ≡ other.now) }
+    {
+        match (self, other) {
+            (Kind::Periodic { first }, Kind::Periodic { first: other }) => *first == *other,
+            (Kind::Zero, Kind::Zero) => true,
+            (Kind::AtRedemption, Kind::AtRedemption) => true,
+            (Kind::Discount, Kind::Discount) => true,
+            _ => false,
+        }
     }
 }
 
-fn same_calls(calls: &[Call], other: &[Call]) -> bool
-    ensures { (result ≡ true) ↔ (calls.now ≡ other.now) }
-{
-    calls == other
+impl Eq for Kind {
+    ghost laws = { Prim.search (comparing, rules) };
+}
+
+impl PartialEq for IssueRow {
+    ghost use Rattle.muni_terms.specs.Row.{row_eq};
+
+    ghost eq = { row_eq };
+
+    ghost laws = { Prim.search (comparing, rules) depth 12 };
+
+    fn eq(&self, other: &IssueRow) -> bool
+        ensures value { result ≡ row_eq self.now other.now }
+        ensures same { (result ≡ true) ↔ (self.now ≡ other.now) }
+    {
+        let same_dates = self.dated == other.dated && self.maturity == other.maturity;
+        let same_texts = self.cusip == other.cusip && self.name == other.name;
+        same_dates
+            && same_texts
+            && self.coupon == other.coupon
+            && self.kind == other.kind
+            && self.calls == other.calls
+    }
+}
+
+impl Eq for IssueRow {
+    ghost laws = { Prim.search (comparing, rules) depth 12 };
 }
 
 impl IssueRow {
@@ -154,18 +183,5 @@ impl IssueRow {
             coupon: self.coupon,
             calls: copy_calls(&self.calls),
         }
-    }
-
-    /// Whether both rows are of equal value.
-    pub fn same(&self, other: &IssueRow) -> bool
-        ensures { (result ≡ true) ↔ (self.now ≡ other.now) }
-    {
-        same_bytes(&self.cusip, &other.cusip)
-            && same_bytes(&self.name, &other.name)
-            && same_kind(&self.kind, &other.kind)
-            && self.dated == other.dated
-            && self.maturity == other.maturity
-            && self.coupon == other.coupon
-            && same_calls(&self.calls, &other.calls)
     }
 }

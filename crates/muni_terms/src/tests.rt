@@ -283,7 +283,7 @@ fn is_shared<T: Send + Sync>(_shared: &T) {}
 fn threads_can_share_an_issue(rt: HostRuntime) -> Result<(), Fail> {
     let issue = check(usual()?).ok().ok_or("an issue")?;
     is_shared(&issue);
-    assert!(rt; issue.same(&issue.copy()));
+    assert!(rt; issue == issue.copy());
     Ok(())
 }
 
@@ -291,12 +291,12 @@ fn threads_can_share_an_issue(rt: HostRuntime) -> Result<(), Fail> {
 fn rows_and_issues_are_copied_and_compared_by_value(rt: HostRuntime) -> Result<(), Fail> {
     let row = with_calls(&[("2034-01-01", "100")])?;
     let other = with_calls(&[("2034-01-01", "101")])?;
-    assert!(rt; row.same(&row.copy()), "a copied row");
-    assert!(rt; !row.same(&other), "another call price");
+    assert!(rt; row == row.copy(), "a copied row");
+    assert!(rt; row != other, "another call price");
     let issue = check(row).ok().ok_or("an issue")?;
     let other = check(other).ok().ok_or("an issue")?;
-    assert!(rt; issue.same(&issue.copy()), "a copied issue");
-    assert!(rt; !issue.same(&other), "another issue");
+    assert!(rt; issue == issue.copy(), "a copied issue");
+    assert!(rt; issue != other, "another issue");
     Ok(())
 }
 

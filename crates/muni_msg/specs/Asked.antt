@@ -1,0 +1,47 @@
+-- What `==` says of what is asked, and of its parts.
+use Rattle.std.specs.Prelude.{ℕ, ℤ, pos, Bool, nat_eq}
+use Rattle.std.specs.Ordering.{on, eq_of_both, int_eq}
+use lib.Pointwise.{pointwise}
+use Rattle.muni_days.specs.Day.{place_of}
+use Rattle.muni_msg.specs.declared.asked.Given.{Given}
+use Rattle.muni_msg.specs.declared.asked.Given.TheVariants.{AtYield, AtPrice, AtRate}
+use Rattle.muni_msg.specs.declared.asked.Side.{Side}
+use Rattle.muni_msg.specs.declared.asked.Side.TheVariants.{Buy, Sell}
+use Rattle.muni_msg.specs.declared.asked.Asked.{Asked}
+use Rattle.muni_msg.specs.declared.asked.Terms.{Terms}
+
+-- a number that tells bases apart
+abbrev pub basis_key : Given → ℕ
+basis_key (AtYield y) = 0
+basis_key (AtPrice price) = 1
+basis_key (AtRate rate) = 2
+
+-- what is given on any basis, in units
+abbrev pub given_units : Given → ℤ
+given_units (AtYield y) = y
+given_units (AtPrice price) = pos price
+given_units (AtRate rate) = rate
+
+-- what `==` says of two that are given
+abbrev pub given_eq : Given → Given → Bool
+given_eq = eq_of_both (on basis_key nat_eq) (on given_units int_eq)
+
+-- a number that tells sides apart
+abbrev pub side_key : Side → ℕ
+side_key Buy = 0
+side_key Sell = 1
+
+-- of two sides
+abbrev pub side_eq : Side → Side → Bool
+side_eq = on side_key nat_eq
+
+-- of two that are asked: all parts are equal
+abbrev pub asked_eq : Asked → Asked → Bool
+asked_eq =
+    eq_of_both
+    (eq_of_both (on (λ asked. asked.cusip) (pointwise nat_eq)) (on (λ asked. asked.par) nat_eq))
+    (eq_of_both (on (λ asked. place_of asked.settle) nat_eq) (on (λ asked. asked.given) given_eq))
+
+-- and of two terms: both parts are
+abbrev pub terms_eq : Terms → Terms → Bool
+terms_eq = eq_of_both (on (λ terms. terms.asked) asked_eq) (on (λ terms. terms.side) side_eq)
