@@ -12,7 +12,7 @@ use Rattle.muni_yield.proofs.BracketLemmas.{halved-next}
 use Rattle.muni_sched.specs.declared.lowest.Outcome.{Outcome}
 use Rattle.muni_sched.specs.declared.search.OpenSearch.{OpenSearch}
 use Rattle.muni_sched.specs.declared.search.Search.{Search}
-use Rattle.muni_sched.specs.Rounds.{IsSearch, IsOpen, asked, noted, recorded, ceiling_after, is_needed, refined}
+use Rattle.muni_sched.specs.Search.{IsSearch, IsOpen, asked, noted, recorded, ceiling_after, is_needed, refined}
 use Rattle.muni_sched.specs.YieldOutcome.{many_yield}
 
 -- a list that was written through a slice of all of it

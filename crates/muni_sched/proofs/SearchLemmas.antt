@@ -27,7 +27,7 @@ use Rattle.muni_sched.specs.declared.search.Search.{Search}
 use Rattle.muni_sched.specs.Figures.{IsOf}
 use Rattle.muni_sched.specs.Lowest as lowest
 use Rattle.muni_sched.specs.Ranks.{rank, decided_by, IsFirstOfLeastRank, IsRanked}
-use Rattle.muni_sched.specs.Rounds.{CanRefine, asked, noted, recorded, missed, lower_of, ceiling_after, is_at_ceiling, is_passed, is_needed, refined, outcomes_of}
+use Rattle.muni_sched.specs.Search.{CanRefine, asked, noted, recorded, missed, lower_of, ceiling_after, is_at_ceiling, is_passed, is_needed, refined, outcomes_of}
 use Rattle.muni_sched.specs.YieldOutcome.{many_yield}
 use Rattle.muni_sched.proofs.IntLemmas.{int_eq-same, int_eq-other, equal_or_not, less_or_not}
 use Rattle.muni_sched.proofs.RoundLemmas.{length-noted, length-recorded}

@@ -6,8 +6,10 @@ use Rattle.std.proofs.lemmas.Int.{ints}
 use Rattle.std.proofs.lemmas.List.{get_or_default}
 use Rattle.std.proofs.lemmas.List.Elements.{All-head, All-tail, All-cons, All-nil}
 use Rattle.muni_rule.specs.Payments.{PaymentSeries}
+use Rattle.muni_rule.specs.WorthEnds.{WorthEnds}
 use Rattle.muni_rule.specs.declared.verdict.Verdict.{Verdict}
 use Rattle.muni_yield.specs.Bracket.{start_of}
+use Rattle.muni_yield.specs.Places.{place_verdict}
 use Rattle.muni_yield.specs.Settled.{final_of}
 use Rattle.muni_yield.proofs.BracketLemmas.{start-is}
 use Rattle.muni_sched.specs.declared.candidate.Candidate.{Candidate}
@@ -21,7 +23,7 @@ use Rattle.muni_sched.specs.declared.search.Search.{Search}
 use Rattle.muni_sched.specs.Candidates.{IsCandidate}
 use Rattle.muni_sched.specs.Figures.{IsOf}
 use Rattle.muni_sched.specs.Lowest as lowest
-use Rattle.muni_sched.specs.Rounds.{IsKnownYield, missed_first, lower_of, ceiling_first, searches_for, searches_from, IsStarted, is_over, refined, rounds, outcomes_of}
+use Rattle.muni_sched.specs.Search.{IsKnownYield, missed_first, lower_of, ceiling_first, searches_for, searches_from, IsStarted, is_over, refined, rounds, outcomes_of}
 use Rattle.muni_sched.specs.SearchedOut.{AreSearchedOut}
 use Rattle.muni_sched.specs.Shape.{IsPriceable}
 use Rattle.muni_sched.specs.ToCome.{ToCome, many, one, to_come_of}
@@ -224,15 +226,15 @@ next-final verdicts price list r search next few is before = record {
 }
 
 -- and when nothing is left to ask
-pub searched-out : (verdicts : PaymentSeries → ℕ → ℕ → Verdict) (price : ℕ) (list : List Candidate) (r : ℕ) (search : Search) → is_over search ≡ true → IsFinal verdicts price list r search → AreSearchedOut verdicts price list (outcomes_of search.known.items)
-searched-out verdicts price list r search over is =
+pub searched-out : (ends : PaymentSeries → ℤ → WorthEnds) (price : ℕ) (list : List Candidate) (r : ℕ) (search : Search) → is_over search ≡ true → IsFinal (place_verdict ends) price list r search → AreSearchedOut ends price list (outcomes_of search.known.items)
+searched-out ends price list r search over is =
     let none = over-none search.searches.items over in
     record {
       outcomes = is.finals;
       each = is.outcomes;
-      ranked = λ lowest ranked. ranked-of_all verdicts is.finals r search lowest is.refined none ranked;
+      ranked = λ lowest ranked. ranked-of_all (place_verdict ends) is.finals r search lowest is.refined none ranked;
       range = λ k d inside. subst (IsOf Yield) (get_or_default is.finals k Above d inside) (is.refined.of k);
-      found_range = told-of verdicts is.finals r search is.refined;
+      found_range = told-of (place_verdict ends) is.finals r search is.refined;
     }
 
 -- ---- the count of the rounds

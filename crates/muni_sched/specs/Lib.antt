@@ -11,7 +11,7 @@ pub mod ToCome
 pub mod Exact
 pub mod PriceOutcome
 pub mod YieldOutcome
-pub mod Rounds
+pub mod Search
 pub mod SearchedOut
 pub mod Basis
 pub mod Answer

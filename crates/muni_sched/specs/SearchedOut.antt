@@ -1,8 +1,9 @@
 -- A search that is over.
-use Rattle.std.specs.Prelude.{◌≡◌, ℕ, ◌+◌, List, All}
+use Rattle.std.specs.Prelude.{◌≡◌, ℕ, ◌+◌, List, All, ℤ}
 use Rattle.std.specs.List.{AllZip}
 use Rattle.muni_rule.specs.Payments.{PaymentSeries}
-use Rattle.muni_rule.specs.declared.verdict.Verdict.{Verdict}
+use Rattle.muni_rule.specs.WorthEnds.{WorthEnds}
+use Rattle.muni_yield.specs.Places.{place_verdict}
 use Rattle.muni_sched.specs.declared.candidate.Candidate.{Candidate}
 use Rattle.muni_sched.specs.declared.figure.FigureKind.TheVariants.{Yield}
 use Rattle.muni_sched.specs.declared.lowest.Lowest.{Lowest}
@@ -10,15 +11,15 @@ use Rattle.muni_sched.specs.declared.lowest.Outcome.{Outcome}
 use Rattle.muni_sched.specs.declared.search.Search.{Search}
 use Rattle.muni_sched.specs.Figures.{least_unsure, IsOf}
 use Rattle.muni_sched.specs.Ranks.{IsRanked}
-use Rattle.muni_sched.specs.Rounds.{IsStarted, rounds}
+use Rattle.muni_sched.specs.Search.{IsStarted, rounds}
 use Rattle.muni_sched.specs.YieldOutcome.{IsYieldOutcome}
 
 -- the first of least rank among these outcomes is that among the outcomes of all candidates
 pub record AreSearchedOut
-    (verdicts : PaymentSeries → ℕ → ℕ → Verdict) (price : ℕ) (list : List Candidate)
+    (ends : PaymentSeries → ℤ → WorthEnds) (price : ℕ) (list : List Candidate)
     (found : List Outcome) : Type 0 where
   pub outcomes : List Outcome
-  pub each : AllZip (IsYieldOutcome verdicts price) list outcomes
+  pub each : AllZip (IsYieldOutcome (place_verdict ends) price) list outcomes
   pub ranked : (lowest : Lowest) → IsRanked (least_unsure Yield) found lowest
       → IsRanked (least_unsure Yield) outcomes lowest
   pub range : All (IsOf Yield) outcomes
@@ -26,8 +27,8 @@ pub record AreSearchedOut
 
 -- a count rises by the rounds of the search, of which there are at most 19
 pub record CountsRounds
-    (verdicts : PaymentSeries → ℕ → ℕ → Verdict) (price : ℕ) (list : List Candidate)
+    (ends : PaymentSeries → ℤ → WorthEnds) (price : ℕ) (list : List Candidate)
     (before now : ℕ) : Type 0 where
   pub search : Search
   pub started : IsStarted price list search
-  pub counted : now ≡ before + rounds 19 verdicts search
+  pub counted : now ≡ before + rounds 19 (place_verdict ends) search

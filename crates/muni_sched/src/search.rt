@@ -7,8 +7,8 @@ ghost use Rattle.muni_yield.specs.Places.{place_verdict};
 ghost use Rattle.muni_yield.specs.Settled.{settled_as};
 ghost use Rattle.muni_sched.specs.Candidates.{IsCandidate};
 ghost use Rattle.muni_sched.specs.Figures.{IsOf};
-ghost use Rattle.muni_sched.specs.Rounds as spec;
-ghost use Rattle.muni_sched.specs.Rounds.{IsSearch, IsOpen, IsKnownYield, CanRefine, IsStarted, asked, recorded, missed, missed_first, ceiling_after, ceiling_first, outcomes_of, searches_from, refined};
+ghost use Rattle.muni_sched.specs.Search as spec;
+ghost use Rattle.muni_sched.specs.Search.{IsSearch, IsOpen, IsKnownYield, CanRefine, IsStarted, asked, recorded, missed, missed_first, ceiling_after, ceiling_first, outcomes_of, searches_from, refined};
 ghost use Rattle.muni_sched.specs.YieldOutcome.{IsKnownFirst, many_yield};
 ghost use Rattle.muni_sched.specs.declared.figure.FigureKind.TheVariants.{Yield};
 

@@ -3,7 +3,7 @@
 ghost use Rattle.std.specs.Prelude.{◌≡◌, ◌<◌};
 ghost use Rattle.muni_sched.specs.Candidates.{IsCandidate};
 ghost use Rattle.muni_sched.specs.Figures.{IsOf};
-ghost use Rattle.muni_sched.specs.Rounds.{IsKnownYield};
+ghost use Rattle.muni_sched.specs.Search.{IsKnownYield};
 ghost use Rattle.muni_sched.specs.YieldOutcome as spec;
 ghost use Rattle.muni_sched.specs.YieldOutcome.{IsSearched, IsKnownFirst};
 ghost use Rattle.muni_sched.specs.declared.figure.FigureKind.TheVariants.{Yield};

@@ -1,7 +1,6 @@
 //! The lowest yield over redemption candidates.
 
 ghost use Rattle.std.specs.Prelude.{◌≡◌, ◌<◌, ◌≤◌, ◌+◌, ◌^◌, length, All};
-ghost use Rattle.muni_yield.specs.Places.{place_verdict};
 ghost use Rattle.muni_sched.specs.Answer.{IsLowestAnswer};
 ghost use Rattle.muni_sched.specs.Basis.{at_price};
 ghost use Rattle.muni_sched.specs.Candidates.{IsCandidate};
@@ -40,8 +39,7 @@ pub fn lowest_yield<R: Threads + Sync, E: Encloser + Sync, G: Gate + Sync, L: Le
     requires workers { (1 ≤ workers) × (workers ≤ 16) }
     requires room { steps.old + 19 < 2 ^ 64 }
     ensures answer { IsLowestAnswer (E.ends encloser.now) (at_price price) list.now result }
-    ensures rounds { CountsRounds (place_verdict (E.ends encloser.now)) price list.now steps.old
-        steps.new }
+    ensures rounds { CountsRounds (E.ends encloser.now) price list.now steps.old steps.new }
     ensures few { steps.new ≤ steps.old + 19 }
 {
     let outcomes = searched(rt, list, price, workers, encloser, gate, steps);
@@ -64,10 +62,8 @@ fn searched<R: Threads + Sync, E: Encloser + Sync, G: Gate + Sync, L: Ledger>(
     requires price { 0 < price }
     requires workers { 1 ≤ workers }
     requires room { steps.old + 19 < 2 ^ 64 }
-    ensures out { AreSearchedOut (place_verdict (E.ends encloser.now)) price list.now
-        result.items }
-    ensures rounds { CountsRounds (place_verdict (E.ends encloser.now)) price list.now steps.old
-        steps.new }
+    ensures out { AreSearchedOut (E.ends encloser.now) price list.now result.items }
+    ensures rounds { CountsRounds (E.ends encloser.now) price list.now steps.old steps.new }
     ensures few { steps.new ≤ steps.old + 19 }
 {
     let mut search = Search::start(list, price);

@@ -16,7 +16,7 @@ use Rattle.muni_rule.proofs.ManyPeriodFallLemmas.{many_periods-fall, at_least-de
 use Rattle.muni_yield.specs.Places.{yield_at, yield_verdict}
 use Rattle.muni_yield.specs.Bracket.{YieldBracket, start_of, is_settled, run, IsBracket, IsMissed, IsAnswered}
 use Rattle.muni_yield.specs.Settled.{printed_as, outcome_at, outcome_of, settled_as, final_of}
-use Rattle.muni_yield.specs.Outcome.{least_printed, greatest_printed, IsYieldOutcome, IsDoubtfulOutcome, IsVerdictOutcome, IsInRange, IsSure, OneYieldIsRight}
+use Rattle.muni_yield.specs.Outcome.{least_printed, greatest_printed, IsYieldOutcome, IsDoubtfulOutcome, IsVerdictOutcome, IsOutcomeInRange, IsSure, OneYieldIsRight}
 use Rattle.muni_yield.specs.declared.outcome.Outcome.{Outcome}
 use Rattle.muni_yield.specs.declared.outcome.Outcome.TheVariants.{Print, Below, Above, Unsure}
 use Rattle.muni_yield.proofs.PlaceLemmas.{AreEnclosed, tells}
@@ -165,7 +165,7 @@ outcome-doubtful series ends price (Unsure lower) law said =
           said.reached;
     }
 
-pub outcome-in_range : (said : ℤ → Verdict) (outcome : Outcome) → IsVerdictOutcome said outcome → IsInRange outcome
+pub outcome-in_range : (said : ℤ → Verdict) (outcome : Outcome) → IsVerdictOutcome said outcome → IsOutcomeInRange outcome
 outcome-in_range said (Print t) told = (told.least, told.most)
 outcome-in_range said Below told = tt
 outcome-in_range said Above told = tt

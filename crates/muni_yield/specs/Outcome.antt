@@ -6,7 +6,7 @@ use Rattle.muni_rule.specs.ManyPeriods.{to_come, AtLeast, More}
 use Rattle.muni_rule.specs.Outcomes.{IsBelow, IsAbove, IsPrint}
 use Rattle.muni_rule.specs.Payments.{PaymentSeries, IsSeries}
 use Rattle.muni_rule.specs.PrintedYield.{boundary, Reached}
-use Rattle.muni_rule.specs.Ranges.{many_periods_prints}
+use Rattle.muni_rule.specs.Ranges.{IsWithin, many_periods_prints}
 use Rattle.muni_rule.specs.declared.verdict.Verdict.{Verdict}
 use Rattle.muni_rule.specs.declared.verdict.Verdict.TheVariants as verdict
 use Rattle.muni_yield.specs.declared.outcome.Outcome.{Outcome}
@@ -63,11 +63,11 @@ IsVerdictOutcome said Above = said (greatest_printed +ℤ pos 1) ≡ verdict.Yes
 IsVerdictOutcome said (Unsure lower) = IsUnsureVerdict said lower
 
 -- a printed yield is in the range, and so is one that is reached and unsure, or it is just below
-abbrev pub IsInRange : Outcome → Type 0
-IsInRange (Unsure lower) = (negsuc 5_000 ≤ℤ lower) × (lower ≤ℤ greatest_printed)
-IsInRange (Print t) = (least_printed ≤ℤ t) × (t ≤ℤ greatest_printed)
-IsInRange Below = ⊤
-IsInRange Above = ⊤
+abbrev pub IsOutcomeInRange : Outcome → Type 0
+IsOutcomeInRange (Unsure lower) = (negsuc 5_000 ≤ℤ lower) × (lower ≤ℤ greatest_printed)
+IsOutcomeInRange (Print t) = IsWithin many_periods_prints t
+IsOutcomeInRange Below = ⊤
+IsOutcomeInRange Above = ⊤
 
 -- an outcome that is not unsure
 abbrev pub IsSure : Outcome → Type 0

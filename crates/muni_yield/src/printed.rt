@@ -3,7 +3,7 @@
 ghost use Rattle.std.specs.Prelude.{◌≡◌, ◌+◌, ◌*◌, ◌^◌, ◌<◌, ◌≤◌, pos};
 ghost use Rattle.muni_rule.specs.ManyPeriods.{to_come, AtLeast, More};
 ghost use Rattle.muni_yield.specs.Bracket.{start_of, run};
-ghost use Rattle.muni_yield.specs.Outcome.{IsYieldOutcome, IsDoubtfulOutcome, IsInRange, IsVerdictOutcome};
+ghost use Rattle.muni_yield.specs.Outcome.{IsYieldOutcome, IsDoubtfulOutcome, IsOutcomeInRange, IsVerdictOutcome};
 ghost use Rattle.muni_yield.specs.Places.{place_verdict, yield_verdict};
 ghost use Rattle.muni_yield.specs.Settled.{final_of};
 
@@ -30,7 +30,7 @@ pub fn printed_yield<E: Encloser, L: Ledger>(
     ensures exact { IsYieldOutcome (λ y. AtLeast (to_come flows.now) y (pos (360_000 * price)))
         (λ y. More (to_come flows.now) y (pos (360_000 * price))) result }
     ensures doubtful { IsDoubtfulOutcome flows.now price result }
-    ensures range { IsInRange result }
+    ensures range { IsOutcomeInRange result }
     ensures verdicts { IsVerdictOutcome (yield_verdict (E.ends encloser.now flows.now) flows.now
         price) result }
     ensures outcome { result

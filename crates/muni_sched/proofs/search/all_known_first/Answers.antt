@@ -1,6 +1,6 @@
 use Rattle.std.proofs.Common.{rules}
 use Rattle.std.proofs.lemmas.List.Elements.{All-push, All-same}
-use Rattle.muni_sched.specs.Rounds.{IsKnownYield}
+use Rattle.muni_sched.specs.Search.{IsKnownYield}
 use Rattle.muni_sched.specs.YieldOutcome.{IsKnownFirst}
 use Rattle.muni_sched.proofs.ZipLemmas.{zip-next}
 use Rattle.muni_sched.proofs.search.all_known_first.Goals as goal

@@ -1,6 +1,6 @@
 use Rattle.std.proofs.Common.{◌≡◌, take, length, All}
 use Rattle.std.specs.List.{AllZip}
-use Rattle.muni_sched.specs.Rounds.{IsKnownYield}
+use Rattle.muni_sched.specs.Search.{IsKnownYield}
 use Rattle.muni_sched.specs.YieldOutcome.{IsKnownFirst}
 use Rattle.muni_sched.proofs.search.all_known_first.Given as goal
 

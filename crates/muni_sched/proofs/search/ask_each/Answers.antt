@@ -2,7 +2,7 @@ use Rattle.std.proofs.Common.{rules, arith, ◌≡◌, ◌<◌, ◌∙◌, sym, 
 use Rattle.std.proofs.lemmas.List.{same_lists, get_or-map, length-map}
 use Rattle.muni_yield.specs.Places.{place_verdict}
 use Rattle.muni_sched.specs.declared.search.OpenSearch.{OpenSearch}
-use Rattle.muni_sched.specs.Rounds.{asked}
+use Rattle.muni_sched.specs.Search.{asked}
 use Rattle.muni_sched.proofs.search.ask_each.Goals as goal
 
 pub returns : goal.returns

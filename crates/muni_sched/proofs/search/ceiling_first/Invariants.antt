@@ -1,5 +1,5 @@
 use Rattle.std.proofs.Common.{◌≡◌, None, drop}
-use Rattle.muni_sched.specs.Rounds as spec
+use Rattle.muni_sched.specs.Search as spec
 use Rattle.muni_sched.proofs.search.ceiling_first.Given as goal
 
 abbrev pub invariant-loop-outcome : goal.invariant-loop-outcome

@@ -1,5 +1,5 @@
 use Rattle.std.proofs.Common.{◌≡◌, drop}
-use Rattle.muni_sched.specs.Rounds.{ceiling_after}
+use Rattle.muni_sched.specs.Search.{ceiling_after}
 use Rattle.muni_sched.proofs.search.least_ceiling.Given as goal
 
 abbrev pub invariant-loop-search : goal.invariant-loop-search

@@ -1,5 +1,5 @@
 use Rattle.std.proofs.Common.{◌≡◌, drop, length}
-use Rattle.muni_sched.specs.Rounds.{recorded}
+use Rattle.muni_sched.specs.Search.{recorded}
 use Rattle.muni_sched.proofs.search.record_settled.Given as goal
 
 abbrev pub invariant-loop-search : goal.invariant-loop-search

@@ -1,6 +1,6 @@
 use Rattle.std.proofs.Common.{◌≡◌, take, length, ◌≤◌}
 use Rattle.std.specs.List.{filter}
-use Rattle.muni_sched.specs.Rounds.{is_needed}
+use Rattle.muni_sched.specs.Search.{is_needed}
 use Rattle.muni_sched.proofs.search.still_needed.Given as goal
 
 abbrev pub invariant-loop-search : goal.invariant-loop-search

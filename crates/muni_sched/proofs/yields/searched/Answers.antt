@@ -1,6 +1,6 @@
 use Rattle.std.proofs.Common.{rules, arith, ◌≡◌, ◌+◌, ◌-◌, ◌<◌, ◌∙◌, sym, subst, false, true}
 use Rattle.muni_yield.specs.Places.{place_verdict}
-use Rattle.muni_sched.specs.Rounds.{rounds, is_over}
+use Rattle.muni_sched.specs.Search.{rounds, is_over}
 use Rattle.muni_sched.specs.SearchedOut.{AreSearchedOut}
 use Rattle.muni_sched.proofs.SearchLemmas.{round-few}
 use Rattle.muni_sched.proofs.StartLemmas.{started-final, next-final, searched-out, rounds-over, rounds-next}
@@ -53,7 +53,8 @@ loop-steps-preserved g c =
 
 pub returns : goal.returns
 returns g c =
-    let verdicts = place_verdict (g.E.Encloser.ends c.args.encloser.now) in
+    let ends = g.E.Encloser.ends c.args.encloser.now in
+    let verdicts = place_verdict ends in
     let list = c.args.list.now in
     let known = c.loop-steps.invariant in
     let steps = known.steps in
@@ -64,7 +65,7 @@ returns g c =
     let no_more : rounds (19 - round) verdicts last ≡ 0 = rounds-over verdicts (19 - round) last over in
     let counted = known.counted in
     record {
-      out = subst (AreSearchedOut verdicts c.args.price list) (sym c.outcomes.ensures) (searched-out verdicts c.args.price list round last over known.final);
+      out = subst (AreSearchedOut ends c.args.price list) (sym c.outcomes.ensures) (searched-out ends c.args.price list round last over known.final);
       rounds = record {
         search = c.start-search.result;
         started = c.start-search.ensures;

@@ -1,6 +1,6 @@
 use Rattle.std.proofs.Common.{◌≡◌, ◌≤◌, ◌+◌, ◌-◌}
 use Rattle.muni_yield.specs.Places.{place_verdict}
-use Rattle.muni_sched.specs.Rounds.{rounds}
+use Rattle.muni_sched.specs.Search.{rounds}
 use Rattle.muni_sched.proofs.StartLemmas.{IsFinal}
 use Rattle.muni_sched.proofs.yields.searched.Given as goal
 

@@ -1,5 +1,5 @@
 use Rattle.std.proofs.Common.{◌≡◌, take, length}
-use Rattle.muni_sched.specs.Rounds.{outcomes_of}
+use Rattle.muni_sched.specs.Search.{outcomes_of}
 use Rattle.muni_sched.proofs.search.Search.outcomes.Given as goal
 
 abbrev pub invariant-loop-known : goal.invariant-loop-known

@@ -2,7 +2,7 @@ use Rattle.std.proofs.Common.{◌≡◌, ◌∙◌, sym, subst, ap, All, length,
 use Rattle.std.specs.List.{refill, filter}
 use Rattle.muni_yield.specs.Places.{place_verdict}
 use Rattle.muni_sched.specs.declared.search.OpenSearch.{OpenSearch}
-use Rattle.muni_sched.specs.Rounds.{IsSearch, asked, is_needed, ceiling_after}
+use Rattle.muni_sched.specs.Search.{IsSearch, asked, is_needed, ceiling_after}
 use Rattle.muni_sched.proofs.RoundLemmas.{asked-now, asked-searches, asked-candidates, recorded-now, refined-now}
 use Rattle.muni_sched.proofs.search.Search.refine.Given as given
 use Rattle.muni_sched.proofs.search.Search.refine.Goals.{After-as_slice-searches}
