@@ -1,10 +1,14 @@
--- The count of days by 30/360 is not negative, and rises with the day that ends it.
+-- The count of days by each basis is not negative, rises with the day that ends it, and falls with the
+-- day that begins it.
 use Rattle.std.proofs.Common.{◌≡◌, ◌≢◌, ℕ, ◌+◌, ◌<◌, ◌≤◌, min, arith, inl, inr, pos, ◌≤ℤ◌, subst, sym}
 use Rattle.std.proofs.lemmas.Int.{ints}
 use Rattle.std.proofs.lemmas.Bool.{cases_eq, cases_lt}
 use Rattle.std.proofs.lemmas.Bool.Decides.{nat_tests}
-use Rattle.muni_rule.specs.Civil.{Civil, IsCivil, order_of}
-use Rattle.muni_rule.specs.DayCount.{days360, first_counted, last_counted, days_up_to}
+use Rattle.muni_rule.specs.Civil.{Civil, IsCivil, IsOfCalendar, order_of}
+use Rattle.muni_rule.specs.DayCount.{days360, days_by, first_counted, last_counted, days_up_to}
+use Rattle.muni_rule.specs.declared.basis.Basis.{Basis}
+use Rattle.muni_rule.specs.declared.basis.Basis.TheVariants.{Thirty360, Actual365}
+use Rattle.muni_rule.proofs.CivilDayLemmas.{days_in_month-most, days_before-up}
 
 last_counted-most : (first last : ℕ) → last_counted first last ≤ last
 last_counted-most first last = grind (arith, nat_tests)
@@ -68,3 +72,22 @@ pub days360-fall : (date later last : Civil) → IsCivil date → IsCivil later 
 days360-fall date later last civil later_civil order =
     let apart = days_up_to-apart date later last.day civil later_civil order in
     omega (arith, ints)
+
+-- by each basis
+pub of_calendar : (date : Civil) → IsOfCalendar date → IsCivil date
+of_calendar date is =
+    let to = is.day_to in
+    let most = days_in_month-most date.year date.month in
+    record { month_from = is.month_from; month_to = is.month_to; day_from = is.day_from; day_to = omega (arith, to, most) }
+
+pub days_by-not_negative : (basis : Basis) (date later : Civil) → IsOfCalendar date → IsOfCalendar later → order_of date ≤ order_of later → pos 0 ≤ℤ days_by basis date later
+days_by-not_negative Thirty360 date later is other order = days360-not_negative date later (of_calendar date is) (of_calendar later other) order
+days_by-not_negative Actual365 date later is other order = let up = days_before-up date later is other order in omega (arith, ints, up)
+
+pub days_by-rise : (basis : Basis) (first date later : Civil) → IsOfCalendar date → IsOfCalendar later → order_of date ≤ order_of later → days_by basis first date ≤ℤ days_by basis first later
+days_by-rise Thirty360 first date later is other order = days360-rise first date later (of_calendar date is) (of_calendar later other) order
+days_by-rise Actual365 first date later is other order = let up = days_before-up date later is other order in omega (arith, ints, up)
+
+pub days_by-fall : (basis : Basis) (date later last : Civil) → IsOfCalendar date → IsOfCalendar later → order_of date ≤ order_of later → days_by basis later last ≤ℤ days_by basis date last
+days_by-fall Thirty360 date later last is other order = days360-fall date later last (of_calendar date is) (of_calendar later other) order
+days_by-fall Actual365 date later last is other order = let up = days_before-up date later is other order in omega (arith, ints, up)

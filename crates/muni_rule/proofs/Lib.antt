@@ -4,6 +4,7 @@ pub mod FallLemmas
 pub mod RangeLemmas
 pub mod QuasiDateLemmas
 pub mod QuasiDateLawLemmas
+pub mod CivilDayLemmas
 pub mod DayCountLemmas
 pub mod PaymentLemmas
 pub mod PowerLemmas

@@ -1,57 +1,74 @@
 -- At every yield one price is printed, or the exact price is below zero.
-use Rattle.std.proofs.Common.{◌≡◌, ℕ, suc, ◌+◌, ◌-◌, ◌*◌, ◌^◌, ◌<◌, ◌≤◌, length, ◌⊎◌, ⊎_elim, inl, inr, ℤ, pos, negsuc, ◌+ℤ◌, ◌*ℤ◌, ◌≤ℤ◌, ◌<ℤ◌, subst, arith}
+use Rattle.std.proofs.Common.{◌≡◌, ℕ, suc, ◌+◌, ◌-◌, ◌*◌, ◌^◌, ◌<◌, ◌≤◌, length, ◌⊎◌, ⊎_elim, inl, inr, ℤ, pos, negsuc, ◌+ℤ◌, ◌*ℤ◌, ◌≤ℤ◌, ◌<ℤ◌, refl, sym, subst, arith}
 use Rattle.std.specs.Prelude.{unsigned_abs}
 use Rattle.std.proofs.Math.Nat.{mul-le-mul_left, mul-le-mul_right, one-le-pow, pow-suc}
 use Rattle.std.proofs.lemmas.Bool.{cases_lt}
 use Rattle.std.proofs.lemmas.Int.{ints}
-use Rattle.muni_rule.specs.Accuracy.{thousandths}
+use Rattle.muni_rule.specs.Accuracy.{thousandths, thousandths_by}
+use Rattle.muni_rule.specs.DayCount.{year_of}
+use Rattle.muni_rule.specs.declared.basis.Basis.{Basis}
+use Rattle.muni_rule.specs.declared.basis.Basis.TheVariants.{Thirty360, Actual365}
 use Rattle.muni_rule.specs.ManyPeriods as many
 use Rattle.muni_rule.specs.ManyPeriods.{PeriodicPayments, discount_divisor, worth_power}
 use Rattle.muni_rule.specs.PriceLaws.{OnePaymentHasOnePrice, ManyPeriodsHaveOnePrice}
-use Rattle.muni_rule.specs.Printed.{IsPrintedPrice, IsBelowZero, IsClosed, HasOnePrice}
-use Rattle.muni_rule.specs.SinglePayment.{SinglePayment, growth, AtLeast}
+use Rattle.muni_rule.specs.Printed.{IsPrintedPriceBy, IsBelowZero, IsClosed, HasOnePriceBy}
+use Rattle.muni_rule.specs.SinglePayment.{SinglePayment, no_growth, growth, AtLeast}
 use Rattle.muni_rule.proofs.AtLeastLemmas.{AtLeast-closed, many-closed}
 use Rattle.muni_rule.proofs.ManyPeriodFallLemmas.{at_least-decided}
 use Rattle.muni_rule.proofs.OutcomeLemmas.{Decided, stops}
 
+-- thousandths rise
+thousandths-rise : (basis : Basis) (s t : ℕ) → s ≤ t → thousandths_by basis s ≤ℤ thousandths_by basis t
+thousandths-rise Thirty360 s t order = omega (arith, ints)
+thousandths-rise Actual365 s t order = omega (arith, ints)
+
+thousandths-from : (basis : Basis) (t : ℕ) → pos 0 ≤ℤ thousandths_by basis t
+thousandths-from Thirty360 t = omega (arith, ints)
+thousandths-from Actual365 t = omega (arith, ints)
+
 -- at most one price is printed
-pub printed-one : (Reaches : ℤ → Type 0) (s t : ℕ) → IsClosed Reaches → IsPrintedPrice Reaches s → IsPrintedPrice Reaches t → s ≡ t
-printed-one Reaches s t closed is also =
+pub printed-one : (basis : Basis) (Reaches : ℤ → Type 0) (s t : ℕ) → IsClosed Reaches → IsPrintedPriceBy basis Reaches s → IsPrintedPriceBy basis Reaches t → s ≡ t
+printed-one basis Reaches s t closed is also =
     ⊎_elim
-    (λ (less : s < t). absurd (is.next_not_reached (closed (thousandths t) (thousandths (s + 1)) (omega (arith, ints)) also.reached)))
+    (λ (less : s < t). absurd (is.next_not_reached (closed (thousandths_by basis t) (thousandths_by basis (s + 1)) (thousandths-rise basis (s + 1) t (omega arith)) also.reached)))
     (λ (most : t ≤ s). ⊎_elim
-    (λ (more : t < s). absurd (also.next_not_reached (closed (thousandths s) (thousandths (t + 1)) (omega (arith, ints)) is.reached)))
+    (λ (more : t < s). absurd (also.next_not_reached (closed (thousandths_by basis s) (thousandths_by basis (t + 1)) (thousandths-rise basis (t + 1) s (omega arith)) is.reached)))
     (λ (least : s ≤ t). omega arith)
     (cases_lt t s))
     (cases_lt s t)
 
 -- and none where the exact price is below zero
-pub printed-not_below : (Reaches : ℤ → Type 0) (t : ℕ) → IsClosed Reaches → IsPrintedPrice Reaches t → ¬ (IsBelowZero Reaches)
-printed-not_below Reaches t closed printed = λ below.
-    below.zero_not_reached (closed (thousandths t) (pos 0) (omega (arith, ints)) printed.reached)
+pub printed-not_below : (basis : Basis) (Reaches : ℤ → Type 0) (t : ℕ) → IsClosed Reaches → IsPrintedPriceBy basis Reaches t → ¬ (IsBelowZero Reaches)
+printed-not_below basis Reaches t closed printed = λ below.
+    below.zero_not_reached (closed (thousandths_by basis t) (pos 0) (thousandths-from basis t) printed.reached)
+
+-- no thousandths are nothing
+thousandths-none : (basis : Basis) → thousandths_by basis 0 ≡ pos 0
+thousandths-none Thirty360 = refl
+thousandths-none Actual365 = refl
 
 -- where some amount is not reached, the thousandths that are reached end somewhere
-some-price : (Reaches : ℤ → Type 0) (m : ℕ) → ((amount : ℤ) → Decided (Reaches amount)) → ¬ (Reaches (thousandths m)) → IsBelowZero Reaches ⊎ ((t : ℕ) × IsPrintedPrice Reaches t)
-some-price Reaches m decided missed =
+some-price : (basis : Basis) (Reaches : ℤ → Type 0) (m : ℕ) → ((amount : ℤ) → Decided (Reaches amount)) → ¬ (Reaches (thousandths_by basis m)) → IsBelowZero Reaches ⊎ ((t : ℕ) × IsPrintedPriceBy basis Reaches t)
+some-price basis Reaches m decided missed =
     ⊎_elim
-    (λ (first : Reaches (thousandths 0)).
-    let stop = stops (λ t. Reaches (thousandths t)) (λ t. decided (thousandths t)) m first missed in
+    (λ (first : Reaches (thousandths_by basis 0)).
+    let stop = stops (λ t. Reaches (thousandths_by basis t)) (λ t. decided (thousandths_by basis t)) m first missed in
     let next : suc stop.0 ≡ stop.0 + 1 = omega arith in
     inr (
       stop.0,
       record {
         reached = stop.1.here;
-        next_not_reached = subst (λ t. ¬ (Reaches (thousandths t))) next stop.1.not_next;
+        next_not_reached = subst (λ t. ¬ (Reaches (thousandths_by basis t))) next stop.1.not_next;
       },
     ))
-    (λ (none : ¬ (Reaches (thousandths 0))). inl (record { zero_not_reached = none }))
-    (decided (thousandths 0))
+    (λ (none : ¬ (Reaches (thousandths_by basis 0))). inl (record { zero_not_reached = λ reached. none (subst Reaches (sym (thousandths-none basis)) reached) }))
+    (decided (thousandths_by basis 0))
 
-one_price : (Reaches : ℤ → Type 0) (m : ℕ) → IsClosed Reaches → ((amount : ℤ) → Decided (Reaches amount)) → ¬ (Reaches (thousandths m)) → HasOnePrice Reaches
-one_price Reaches m closed decided missed = record {
-  some = some-price Reaches m decided missed;
-  one_is_printed = λ s t is also. printed-one Reaches s t closed is also;
-  none_below_zero = λ t is. printed-not_below Reaches t closed is;
+one_price : (basis : Basis) (Reaches : ℤ → Type 0) (m : ℕ) → IsClosed Reaches → ((amount : ℤ) → Decided (Reaches amount)) → ¬ (Reaches (thousandths_by basis m)) → HasOnePriceBy basis Reaches
+one_price basis Reaches m closed decided missed = record {
+  some = some-price basis Reaches m decided missed;
+  one_is_printed = λ s t is also. printed-one basis Reaches s t closed is also;
+  none_below_zero = λ t is. printed-not_below basis Reaches t closed is;
 }
 
 -- ---- one payment to come
@@ -67,18 +84,34 @@ mul-from (pos x) (pos factor) from above = let times : x * 1 ≤ x * factor = mu
 mul-from (pos x) (negsuc factor) from above = absurd (omega (arith, ints, above))
 mul-from (negsuc x) factor from above = absurd (omega (arith, ints, from))
 
--- one payment does not reach a price past its amount
-single-missed : (payment : SinglePayment) (y : ℤ) → pos 0 <ℤ growth payment y → ¬ (AtLeast payment y (thousandths (unsigned_abs payment.due + unsigned_abs payment.accrued + 1)))
+-- a price that is past the amount of a payment, with its accrued interest
+abbrev past_due : Basis → ℤ → ℤ → ℤ
+past_due basis due accrued = thousandths_by basis (unsigned_abs due + unsigned_abs accrued + 1) +ℤ accrued
+
+past_due-more : (basis : Basis) (due accrued : ℤ) → (due *ℤ pos (year_of basis * 1000000)) <ℤ past_due basis due accrued
+past_due-more Thirty360 due accrued = omega (arith, ints)
+past_due-more Actual365 due accrued = omega (arith, ints)
+
+past_due-from : (basis : Basis) (due accrued : ℤ) → pos 0 ≤ℤ past_due basis due accrued
+past_due-from Thirty360 due accrued = omega (arith, ints)
+past_due-from Actual365 due accrued = omega (arith, ints)
+
+no_circle : (x y z : ℤ) → x ≤ℤ y → y ≤ℤ z → z <ℤ x → ⊥
+no_circle x y z one two three = omega (arith, ints)
+
+-- one payment does not reach it
+single-missed : (payment : SinglePayment) (y : ℤ) → pos 0 <ℤ growth payment y → ¬ (AtLeast payment y (thousandths_by payment.basis (unsigned_abs payment.due + unsigned_abs payment.accrued + 1)))
 single-missed payment y above reached =
-    let x : ℤ = thousandths (unsigned_abs payment.due + unsigned_abs payment.accrued + 1) +ℤ payment.accrued in
-    let from : pos 0 ≤ℤ x = omega (arith, ints) in
-    let times : x ≤ℤ (x *ℤ growth payment y) = mul-from x (growth payment y) from above in
-    omega (arith, ints, times, reached)
+    let x = past_due payment.basis payment.due payment.accrued in
+    no_circle x (x *ℤ growth payment y) (payment.due *ℤ no_growth payment)
+    (mul-from x (growth payment y) (past_due-from payment.basis payment.due payment.accrued) above)
+    reached
+    (past_due-more payment.basis payment.due payment.accrued)
 
 pub one_payment-price : OnePaymentHasOnePrice
 one_payment-price payment y above =
-    one_price (AtLeast payment y) (unsigned_abs payment.due + unsigned_abs payment.accrued + 1) (AtLeast-closed payment y above)
-    (λ amount. le-decided ((amount +ℤ payment.accrued) *ℤ growth payment y) (payment.due *ℤ pos 360000000))
+    one_price payment.basis (AtLeast payment y) (unsigned_abs payment.due + unsigned_abs payment.accrued + 1) (AtLeast-closed payment y above)
+    (λ amount. le-decided ((amount +ℤ payment.accrued) *ℤ growth payment y) (payment.due *ℤ no_growth payment))
     (single-missed payment y above)
 
 -- ---- many periods
@@ -99,4 +132,4 @@ many-missed bond y above reached =
 
 pub many_periods-price : ManyPeriodsHaveOnePrice
 many_periods-price bond y above =
-    one_price (many.AtLeast bond y) (worth_power bond y + 1) (many-closed bond y) (λ amount. at_least-decided bond y amount) (many-missed bond y above)
+    one_price Thirty360 (many.AtLeast bond y) (worth_power bond y + 1) (many-closed bond y) (λ amount. at_least-decided bond y amount) (many-missed bond y above)

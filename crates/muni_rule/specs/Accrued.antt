@@ -1,6 +1,7 @@
 -- Accrued interest (MSRB Rule G-33(a), and before an odd first coupon SIA, Standard Securities
 -- Calculation Methods): the days for which it has accrued, and its amount.
--- Amounts are whole numbers of 1/(360 * 10^9) dollars per 100 of par, coupons of 10^-7 dollars.
+-- Amounts are whole numbers of 1/(B * 10^9) dollars per 100 of par, where B is the days of a year, and
+-- coupons of 10^-7 dollars.
 use Rattle.std.specs.Prelude.{ℕ, ◌*◌, if◌then◌else◌, Option, Some, ℤ, unsigned_abs}
 use Rattle.muni_rule.specs.Civil.{Civil, is_before}
 use Rattle.muni_rule.specs.DayCount.{days360}

@@ -1,6 +1,9 @@
--- The 30/360 day count (MSRB Rule G-33(e)): a month counts 30 days and a year, the rule's B, 360.
+-- The day counts: 30/360 (MSRB Rule G-33(e)), where a month counts 30 days and a year, the rule's B, 360,
+-- and for notes also actual/365, the days of the calendar and a year of 365.
 use Rattle.std.specs.Prelude.{ℕ, ◌+◌, ◌*◌, ◌==◌, ◌&&◌, ◌||◌, if◌then◌else◌, ℤ, pos, ◌-ℤ◌}
-use Rattle.muni_rule.specs.Civil.{Civil}
+use Rattle.muni_rule.specs.Civil.{Civil, civil_days}
+use Rattle.muni_rule.specs.declared.basis.Basis.{Basis}
+use Rattle.muni_rule.specs.declared.basis.Basis.TheVariants.{Thirty360, Actual365}
 
 -- the day that begins a count: the 31st counts as the 30th
 abbrev pub first_counted : ℕ → ℕ
@@ -21,3 +24,13 @@ abbrev pub days360 : Civil → Civil → ℤ
 days360 first last =
     pos (days_up_to last (last_counted first.day last.day))
     -ℤ pos (days_up_to first (first_counted first.day))
+
+-- B, the days of a year
+abbrev pub year_of : Basis → ℕ
+year_of Thirty360 = 360
+year_of Actual365 = 365
+
+-- the days from one date to another
+abbrev pub days_by : Basis → Civil → Civil → ℤ
+days_by Thirty360 first last = days360 first last
+days_by Actual365 first last = civil_days first last

@@ -1,4 +1,5 @@
 pub mod Civil
+pub mod CivilDayLaws
 pub mod DayCount
 pub mod QuasiDates
 pub mod QuasiDateLaws

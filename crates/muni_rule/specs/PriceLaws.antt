@@ -1,6 +1,6 @@
 -- At every yield one price is printed, or the exact price is below zero.
 use Rattle.std.specs.Prelude.{◌<◌, ℤ, pos, ◌<ℤ◌}
-use Rattle.muni_rule.specs.Printed.{HasOnePrice}
+use Rattle.muni_rule.specs.Printed.{HasOnePrice, HasOnePriceBy}
 use Rattle.muni_rule.specs.SinglePayment as single
 use Rattle.muni_rule.specs.SinglePayment.{SinglePayment, growth}
 use Rattle.muni_rule.specs.ManyPeriods as many
@@ -10,7 +10,7 @@ use Rattle.muni_rule.specs.ManyPeriods.{PeriodicPayments, discount_divisor}
 abbrev pub OnePaymentHasOnePrice : Type 0
 OnePaymentHasOnePrice =
     (payment : SinglePayment) (y : ℤ) → pos 0 <ℤ growth payment y
-    → HasOnePrice (single.AtLeast payment y)
+    → HasOnePriceBy payment.basis (single.AtLeast payment y)
 
 -- of many periods, where one and half the yield are above zero
 abbrev pub ManyPeriodsHaveOnePrice : Type 0

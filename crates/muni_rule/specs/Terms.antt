@@ -1,9 +1,11 @@
 -- Which terms an issue may have at the desk, which is this desk's own choice.
-use Rattle.std.specs.Prelude.{ℕ, ◌&&◌, Bool, nat_le, nat_lt, int_le, List, length, pos}
+use Rattle.std.specs.Prelude.{ℕ, ◌&&◌, Bool, true, false, nat_le, nat_lt, int_le, List, length, pos}
 use Rattle.std.specs.List.{list_all}
 use Rattle.muni_rule.specs.Civil.{Civil, is_before, is_not_after}
-use Rattle.muni_rule.specs.DayCount.{days360}
+use Rattle.muni_rule.specs.DayCount.{days360, days_by}
 use Rattle.muni_rule.specs.QuasiDates.{quasi_count, is_quasi_date}
+use Rattle.muni_rule.specs.declared.basis.Basis.{Basis}
+use Rattle.muni_rule.specs.declared.basis.Basis.TheVariants.{Thirty360, Actual365}
 
 -- a byte from the space to the tilde
 abbrev pub is_printable : ℕ → Bool
@@ -29,9 +31,14 @@ is_first_interest_short dated first = int_le (days360 dated first) (pos 360)
 abbrev pub is_series_short : Civil → Civil → Civil → Bool
 is_series_short anchor dated maturity = nat_le (quasi_count anchor dated maturity) 100
 
--- a note runs 720 days at most
-abbrev pub is_note_short : Civil → Civil → Bool
-is_note_short dated maturity = int_le (days360 dated maturity) (pos 720)
+-- an issue counts days by 30/360, save notes, which may count them by actual/365
+abbrev pub is_basis_of_bonds : Basis → Bool
+is_basis_of_bonds Thirty360 = true
+is_basis_of_bonds Actual365 = false
+
+-- a note runs 720 days at most, counted by its basis
+abbrev pub is_note_short : Basis → Civil → Civil → Bool
+is_note_short basis dated maturity = int_le (days_by basis dated maturity) (pos 720)
 
 -- an issue with coupons is called on a quasi-coupon date from the first interest date on
 abbrev pub is_coupon_call_date : Civil → Civil → Civil → Bool

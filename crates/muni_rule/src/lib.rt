@@ -1,10 +1,13 @@
 //! The rules of the trade as definitions, which the contracts of the other crates cite.
 //!
 //! They stand in `specs/`, one file a subject, over plain numbers: a date is three numbers, an amount
-//! a whole number of 1/(360 * 10^9) dollars per 100 of par. Of the program's types they know two,
-//! which stand here: a verdict on a comparison and a range of yields.
+//! a whole number of 1/(B * 10^9) dollars per 100 of par, where B is the 360 or 365 days of a year. Of
+//! the program's types they know three, which stand here: a basis of day counts, a verdict on a
+//! comparison and a range of yields.
 #![tactic(auto)]
 
+mod basis;
+pub mod civil_days;
 pub mod many_periods;
 pub mod payments;
 pub mod printed;
@@ -13,5 +16,6 @@ pub mod ranges;
 mod verdict;
 pub mod yields;
 
+pub use basis::Basis;
 pub use ranges::YieldRange;
 pub use verdict::Verdict;
