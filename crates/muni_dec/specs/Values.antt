@@ -53,6 +53,13 @@ if_coupon units = if_amount 0 300_000_000 units
 unfoldable pub coupon_reading : List ℕ → Result ℕ DecFault
 coupon_reading text = amount_reading 7 0 300_000_000 text
 
+-- a commission: three decimals, from 0 to 10 dollars per 100 of par
+abbrev pub if_fee : ℕ → Option ℕ
+if_fee units = if_amount 0 10_000 units
+
+unfoldable pub fee_reading : List ℕ → Result ℕ DecFault
+fee_reading text = amount_reading 3 0 10_000 text
+
 -- money: from 0 to the greatest number of the widths of the desk
 abbrev pub if_money : ℕ → Option ℕ
 if_money units = if_amount 0 9_223_372_036_854_775_807 units

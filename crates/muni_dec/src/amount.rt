@@ -4,7 +4,7 @@ ghost use Rattle.std.specs.Prelude.{◌≡◌, ◌+◌, ◌≤◌};
 ghost use Rattle.arrayvec.specs.ArrayVec.{array_vec_len};
 ghost use Rattle.muni_dec.specs.Decimal.{decimal_text};
 ghost use Rattle.muni_dec.specs.Ranges.{IsAmount};
-ghost use Rattle.muni_dec.specs.Values.{amount_reading, if_amount, price_reading, if_price, coupon_reading, if_coupon, if_printed_price, if_money};
+ghost use Rattle.muni_dec.specs.Values.{amount_reading, if_amount, price_reading, if_price, coupon_reading, if_coupon, fee_reading, if_fee, if_printed_price, if_money};
 
 use crate::DecFault;
 use crate::decimal::{push_decimal, read_decimal};
@@ -26,6 +26,9 @@ pub type Price3 = Amount<3, 0, 9_223_372_036_854_775_807>;
 
 /// A coupon, from 0 to 30 percent a year, in 10^-7 dollars per 100 of par and year.
 pub type Coupon = Amount<7, 0, 300_000_000>;
+
+/// A commission, from 0 to 10 dollars per 100 of par, in 10^-3 dollars.
+pub type Fee = Amount<3, 0, 10_000>;
 
 /// An amount of money from 0 up, in cents.
 pub type Cents = Amount<2, 0, 9_223_372_036_854_775_807>;
@@ -134,6 +137,23 @@ impl Coupon {
         ensures { result ≡ if_coupon units }
     {
         Coupon::in_range(units)
+    }
+}
+
+impl Fee {
+    /// Reads a commission with at most three decimals, as `0.125`.
+    #[tactic(auto, unfolding(crate::specs::Values::fee_reading))]
+    pub fn read(text: &[u8]) -> Result<Fee, DecFault>
+        ensures { result ≡ fee_reading text.now }
+    {
+        Fee::read_places(text)
+    }
+
+    /// The commission of so many units, from 0 to 10,000.
+    pub fn of(units: u64) -> Option<Fee>
+        ensures { result ≡ if_fee units }
+    {
+        Fee::in_range(units)
     }
 }
 

@@ -12,7 +12,7 @@ mod percent;
 pub mod text;
 
 pub use accuracy::{accrued_cents, principal_cents, round_yield, trunc3};
-pub use amount::{Amount, Cents, Coupon, Price, Price3};
+pub use amount::{Amount, Cents, Coupon, Fee, Price, Price3};
 pub use fault::DecFault;
 pub use par::Par;
 pub use percent::{Percent, Yield, Yield3};

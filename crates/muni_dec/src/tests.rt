@@ -1,8 +1,8 @@
 use crate::digits::read_number;
 use crate::text::{push, push_line, push_number, push_number_line, push_part};
 use crate::{
-    Cents, Coupon, DecFault, Par, Price, Price3, Yield, Yield3, accrued_cents, principal_cents,
-    round_yield, trunc3,
+    Cents, Coupon, DecFault, Fee, Par, Price, Price3, Yield, Yield3, accrued_cents,
+    principal_cents, round_yield, trunc3,
 };
 use arrayvec::ArrayVec;
 use std::test::Fail;
@@ -17,6 +17,10 @@ fn texts_are_read_as_units(rt: HostRuntime) -> Result<(), Fail> {
     ] {
         let coupon = Coupon::read(text.as_bytes()).ok().ok_or("a coupon")?;
         assert_eq!(rt; coupon.units(), units, "{text}");
+    }
+    for (text, units) in [("0", 0), ("0.1", 100), ("0.125", 125), ("10.000", 10_000)] {
+        let fee = Fee::read(text.as_bytes()).ok().ok_or("a commission")?;
+        assert_eq!(rt; fee.units(), units, "{text}");
     }
     for (text, units) in [
         ("0", 0),
@@ -70,6 +74,13 @@ fn faults_tell_their_kind_and_place(rt: HostRuntime) -> Result<(), Fail> {
         Coupon::read(b"30.0000001").err(),
         Some(DecFault::OutOfRange)
     );
+    for (text, fault) in [
+        ("10.001", DecFault::OutOfRange),
+        ("0.1250", DecFault::TooManyDecimals { at: 5 }),
+        ("-0.1", DecFault::NotADigit { at: 0 }),
+    ] {
+        assert_eq!(rt; Fee::read(text.as_bytes()).err(), Some(fault), "{text}");
+    }
     Ok(())
 }
 
@@ -132,6 +143,8 @@ fn units_outside_a_range_are_no_value(rt: HostRuntime) -> Result<(), Fail> {
         Some(300_000_000)
     );
     assert_eq!(rt; Price::of(0).map(|p| p.units()), Some(0));
+    assert_eq!(rt; Fee::of(10_000).map(|fee| fee.units()), Some(10_000));
+    assert!(rt; Fee::of(10_001).is_none());
     assert_eq!(rt; Yield::of(-999_999).map(|y| y.units()), Some(-999_999));
     assert_eq!(rt; Price3::of(100_235).map(|p| p.units()), Some(100_235));
     assert_eq!(rt; Price::PAR.units(), 100_000_000);
@@ -167,6 +180,8 @@ fn values_are_printed_with_all_their_decimals(rt: HostRuntime) -> Result<(), Fai
         .ok_or("a coupon")?
         .print_into(&mut text);
     assert_eq!(rt; text.as_slice(), b"5.0000000".as_slice());
+    Fee::of(125).ok_or("a commission")?.print_into(&mut text);
+    assert_eq!(rt; text.as_slice(), b"0.125".as_slice());
     Cents::of(31_250).ok_or("money")?.print_into(&mut text);
     assert_eq!(rt; text.as_slice(), b"312.50".as_slice());
     Par::of(25_000).ok_or("a par")?.print_into(&mut text);

@@ -1,5 +1,5 @@
 -- What `==` says of what is asked.
-use Rattle.std.proofs.Common.{◌≡◌, ◌==◌, ℕ, ℤ, List, refl, ap}
+use Rattle.std.proofs.Common.{◌≡◌, ◌==◌, ℕ, List, refl, ap}
 use Rattle.std.specs.Bool.{Decides}
 use Rattle.std.specs.Prelude.{nat_eq}
 use Rattle.std.specs.Ordering.{int_eq}
@@ -51,16 +51,17 @@ numbers_decide xs ys = slice_eq-Decides Decides-eqb xs ys (pointwise nat_eq xs y
 pub asked_decides : (asked other : Asked) → Decides (asked_eq asked other) (asked ≡ other)
 asked_decides asked other =
     let amount = Decides-and _ _ (numbers_decide asked.cusip other.cusip) (Decides-eqb asked.par other.par) in
-    let trade = Decides-and _ _ (day_decides asked.settle other.settle) (given_decides asked.given other.given) in
+    let price = Decides-and _ _ (given_decides asked.given other.given) (Decides-eqb asked.fee other.fee) in
+    let settled = Decides-and _ _ (Decides-and _ _ amount price) (day_decides asked.settle other.settle) in
     Decides-like (asked_eq asked other)
-    (λ same. λ i. record { cusip = same.0.0 i; par = same.0.1 i; settle = same.1.0 i; given = same.1.1 i })
-    (λ same. ((ap (λ it. it.cusip) same, ap (λ it. it.par) same), (ap (λ it. it.settle) same, ap (λ it. it.given) same)))
-    (Decides-and _ _ amount trade)
+    (λ same. λ i. record { cusip = same.0.0.0.0 i; par = same.0.0.0.1 i; given = same.0.0.1.0 i; fee = same.0.0.1.1 i; settle = same.0.1 i; side = same.1 i })
+    (λ same. ((((ap (λ it. it.cusip) same, ap (λ it. it.par) same), (ap (λ it. it.given) same, ap (λ it. it.fee) same)), ap (λ it. it.settle) same), ap (λ it. it.side) same))
+    (Decides-and _ _ settled (side_decides asked.side other.side))
 
 -- and terms
 pub terms_decides : (terms other : Terms) → Decides (terms_eq terms other) (terms ≡ other)
 terms_decides terms other =
     Decides-like (terms_eq terms other)
-    (λ same. λ i. record { asked = same.0 i; side = same.1 i })
-    (λ same. (ap (λ it. it.asked) same, ap (λ it. it.side) same))
-    (Decides-and _ _ (asked_decides terms.asked other.asked) (side_decides terms.side other.side))
+    (λ same. λ i. record { asked = same i })
+    (ap (λ it. it.asked))
+    (asked_decides terms.asked other.asked)

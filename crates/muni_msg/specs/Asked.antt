@@ -35,13 +35,21 @@ side_key Sell = 1
 abbrev pub side_eq : Side → Side → Bool
 side_eq = on side_key nat_eq
 
+-- of two amounts of an issue
+abbrev pub amount_eq : Asked → Asked → Bool
+amount_eq = eq_of_both (on (λ asked. asked.cusip) (pointwise nat_eq)) (on (λ asked. asked.par) nat_eq)
+
+-- of two prices with their commissions
+abbrev pub price_eq : Asked → Asked → Bool
+price_eq = eq_of_both (on (λ asked. asked.given) given_eq) (on (λ asked. asked.fee) nat_eq)
+
 -- of two that are asked: all parts are equal
 abbrev pub asked_eq : Asked → Asked → Bool
 asked_eq =
     eq_of_both
-    (eq_of_both (on (λ asked. asked.cusip) (pointwise nat_eq)) (on (λ asked. asked.par) nat_eq))
-    (eq_of_both (on (λ asked. place_of asked.settle) nat_eq) (on (λ asked. asked.given) given_eq))
+    (eq_of_both (eq_of_both amount_eq price_eq) (on (λ asked. place_of asked.settle) nat_eq))
+    (on (λ asked. asked.side) side_eq)
 
--- and of two terms: both parts are
+-- and of two terms
 abbrev pub terms_eq : Terms → Terms → Bool
-terms_eq = eq_of_both (on (λ terms. terms.asked) asked_eq) (on (λ terms. terms.side) side_eq)
+terms_eq = on (λ terms. terms.asked) asked_eq

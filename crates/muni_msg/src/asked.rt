@@ -5,7 +5,7 @@ ghost use Rattle.std.specs.Cmp.Rules.{comparing};
 ghost use Rattle.std.proofs.Common.{rules};
 
 use muni_days::Day;
-use muni_dec::{Par, Price, Yield};
+use muni_dec::{Fee, Par, Price, Yield};
 
 /// On which basis a trade is done.
 #[derive(Clone, Copy, Debug)]
@@ -18,7 +18,7 @@ pub enum Given {
     AtRate(Yield),
 }
 
-/// The customer's side of a trade.
+/// The side of a trade of the party who is confirmed.
 #[derive(Clone, Copy, Debug)]
 pub enum Side {
     Buy,
@@ -33,13 +33,15 @@ pub struct Asked {
     /// The settlement date.
     pub settle: Day,
     pub given: Given,
+    pub side: Side,
+    /// The commission per 100 of par, on top of the given price for a buy and out of it for a sale.
+    pub fee: Fee,
 }
 
 /// The terms of a trade.
 #[derive(Clone, Copy, Debug)]
 pub struct Terms {
     pub asked: Asked,
-    pub side: Side,
 }
 
 impl PartialEq for Given {
@@ -96,7 +98,7 @@ impl PartialEq for Asked {
 
     ghost eq = { asked_eq };
 
-    ghost laws = { Prim.search (comparing, rules) depth 9 };
+    ghost laws = { Prim.search (comparing, rules) depth 12 };
 
     #[tactic(auto, using(crate::proofs::AskedLemmas::asked_decides))]
     fn eq(&self, other: &Asked) -> bool
@@ -104,12 +106,13 @@ impl PartialEq for Asked {
         ensures same { (result ≡ true) ↔ (self.now ≡ other.now) }
     {
         let same_amount = self.cusip == other.cusip && self.par == other.par;
-        same_amount && self.settle == other.settle && self.given == other.given
+        let same_price = self.given == other.given && self.fee == other.fee;
+        same_amount && same_price && self.settle == other.settle && self.side == other.side
     }
 }
 
 impl Eq for Asked {
-    ghost laws = { Prim.search (comparing, rules) depth 9 };
+    ghost laws = { Prim.search (comparing, rules) depth 12 };
 }
 
 impl PartialEq for Terms {
@@ -124,7 +127,7 @@ impl PartialEq for Terms {
         ensures value { result ≡ terms_eq self.now other.now }
         ensures same { (result ≡ true) ↔ (self.now ≡ other.now) }
     {
-        self.asked == other.asked && self.side == other.side
+        self.asked == other.asked
     }
 }
 

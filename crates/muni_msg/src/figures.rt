@@ -23,6 +23,9 @@ pub struct Figures {
     pub principal: Cents,
     /// The accrued interest.
     pub accrued: Cents,
-    /// Principal and accrued interest together.
+    /// The commission.
+    pub commission: Cents,
+    /// Principal and accrued interest together, with the commission added for a buy and taken off
+    /// for a sale.
     pub total: Cents,
 }

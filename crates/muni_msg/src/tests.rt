@@ -1,6 +1,6 @@
 use crate::{Asked, Given, Range, Refusal, Side, Terms, refusal_name};
 use muni_days::Day;
-use muni_dec::{Par, Price, Yield};
+use muni_dec::{Fee, Par, Price, Yield};
 use std::test::Fail;
 
 #[test]
@@ -12,25 +12,11 @@ fn terms_are_the_same_where_every_part_is(rt: HostRuntime) -> Result<(), Fail> {
         par: Par::of(25_000).ok_or("a par")?,
         settle: Day::of(2024, 4, 1).ok_or("a day")?,
         given: Given::AtYield(y),
-    };
-    let terms = Terms {
-        asked,
         side: Side::Buy,
+        fee: Fee::of(0).ok_or("a commission")?,
     };
-    assert!(rt;
-        terms
-            == Terms {
-                asked,
-                side: Side::Buy
-            }
-    );
-    assert!(rt;
-        terms
-            != Terms {
-                asked,
-                side: Side::Sell
-            }
-    );
+    let terms = Terms { asked };
+    assert!(rt; terms == Terms { asked });
     for other in [
         Asked {
             cusip: *b"123456AB1",
@@ -52,14 +38,16 @@ fn terms_are_the_same_where_every_part_is(rt: HostRuntime) -> Result<(), Fail> {
             given: Given::AtPrice(price),
             ..asked
         },
+        Asked {
+            side: Side::Sell,
+            ..asked
+        },
+        Asked {
+            fee: Fee::of(1).ok_or("a commission")?,
+            ..asked
+        },
     ] {
-        assert!(rt;
-            terms
-                != Terms {
-                    asked: other,
-                    side: Side::Buy
-                }
-        );
+        assert!(rt; terms != Terms { asked: other });
     }
     Ok(())
 }
