@@ -4,7 +4,7 @@ ghost use Rattle.std.specs.Prelude.{◌≡◌, ◌*◌, ◌/◌, ◌≤◌, ◌�
 ghost use Rattle.muni_rule.specs.Accuracy as rule;
 ghost use Rattle.muni_dec.specs.Ranges.{IsYield3};
 
-use crate::{Cents, Coupon, Par, Price, Price3, Yield, Yield3};
+use crate::{Cents, Coupon, Fee, Par, Price, Price3, Yield, Yield3};
 
 /// A given price as it is shown, truncated to thousandths of a dollar.
 pub fn trunc3(price: Price) -> Price3
@@ -58,4 +58,12 @@ pub fn principal_cents(par: Par, price: Price3) -> Cents
     ensures range { result ≤ 100_000_000_000_000 }
 {
     Cents::new((par.units() * price.units() + 500) / 1000)
+}
+
+/// The commission of a trade, rounded to cents.
+pub fn commission_cents(par: Par, fee: Fee) -> Cents
+    ensures value { result ≡ rule.commission_cents par fee }
+    ensures range { result ≤ 10_000_000_000 }
+{
+    Cents::new((par.units() * fee.units() + 500) / 1000)
 }

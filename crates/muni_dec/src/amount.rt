@@ -1,6 +1,6 @@
 //! Decimals from 0 up, each kind with its places and its range.
 
-ghost use Rattle.std.specs.Prelude.{◌≡◌, ◌+◌, ◌≤◌};
+ghost use Rattle.std.specs.Prelude.{◌≡◌, ◌+◌, ◌-◌, ◌≤◌};
 ghost use Rattle.arrayvec.specs.ArrayVec.{array_vec_len};
 ghost use Rattle.muni_dec.specs.Decimal.{decimal_text};
 ghost use Rattle.muni_dec.specs.Ranges.{IsAmount};
@@ -174,5 +174,13 @@ impl Cents {
         ensures { result ≡ self + other }
     {
         Cents::new(self.units + other.units)
+    }
+
+    /// What is left where another amount is taken off.
+    pub fn minus(self, other: Cents) -> Cents
+        requires { other ≤ self }
+        ensures { result ≡ self - other }
+    {
+        Cents::new(self.units - other.units)
     }
 }

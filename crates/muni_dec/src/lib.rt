@@ -11,7 +11,7 @@ mod par;
 mod percent;
 pub mod text;
 
-pub use accuracy::{accrued_cents, principal_cents, round_yield, trunc3};
+pub use accuracy::{accrued_cents, commission_cents, principal_cents, round_yield, trunc3};
 pub use amount::{Amount, Cents, Coupon, Fee, Price, Price3};
 pub use fault::DecFault;
 pub use par::Par;

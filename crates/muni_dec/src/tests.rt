@@ -2,7 +2,7 @@ use crate::digits::read_number;
 use crate::text::{push, push_line, push_number, push_number_line, push_part};
 use crate::{
     Cents, Coupon, DecFault, Fee, Par, Price, Price3, Yield, Yield3, accrued_cents,
-    principal_cents, round_yield, trunc3,
+    commission_cents, principal_cents, round_yield, trunc3,
 };
 use arrayvec::ArrayVec;
 use std::test::Fail;
@@ -149,6 +149,7 @@ fn units_outside_a_range_are_no_value(rt: HostRuntime) -> Result<(), Fail> {
     assert_eq!(rt; Price3::of(100_235).map(|p| p.units()), Some(100_235));
     assert_eq!(rt; Price::PAR.units(), 100_000_000);
     assert_eq!(rt; Cents::ZERO.plus(Cents::new(5)).units(), 5);
+    assert_eq!(rt; Cents::new(5).minus(Cents::new(5)), Cents::ZERO);
     Ok(())
 }
 
@@ -244,5 +245,15 @@ fn given_figures_are_shown_truncated_or_rounded(rt: HostRuntime) -> Result<(), F
     let par = Par::of(25_000).ok_or("a par")?;
     let price = Price3::of(100_725).ok_or("a price")?;
     assert_eq!(rt; principal_cents(par, price).units(), 2_518_125);
+    for (par, fee, cents) in [
+        (25_000, 100, 2_500),
+        (4, 124, 0),
+        (4, 125, 1),
+        (1_000_000_000, 10_000, 10_000_000_000),
+    ] {
+        let par = Par::of(par).ok_or("a par")?;
+        let fee = Fee::of(fee).ok_or("a commission")?;
+        assert_eq!(rt; commission_cents(par, fee).units(), cents);
+    }
     Ok(())
 }
