@@ -1,3 +1,5 @@
-pub mod Fields
-pub mod Refusal
 pub mod Asked
+pub mod Fields
+pub mod Names
+pub mod NameReading
+pub mod Refusal

@@ -4,6 +4,7 @@
 mod asked;
 mod fields;
 mod figures;
+mod names;
 mod refusal;
 #[cfg(test)]
 mod tests;
@@ -12,5 +13,6 @@ mod version;
 pub use asked::{Asked, Given, Side, Terms};
 pub use fields::{read_call, read_given, read_kind, read_side};
 pub use figures::Figures;
+pub use names::{DeskName, NameFault, Reference};
 pub use refusal::{Range, Refusal, refusal_name};
 pub use version::{Act, Kept, Version};
