@@ -45,7 +45,7 @@ pub side_decides : (side other : Side) → Decides (side_eq side other) (side �
 side_decides side other = Decides-like (side_eq side other) (same_side side other) (ap side_key) (Decides-eqb (side_key side) (side_key other))
 
 -- what is asked
-numbers_decide : (xs ys : List ℕ) → Decides (pointwise nat_eq xs ys) (xs ≡ ys)
+pub numbers_decide : (xs ys : List ℕ) → Decides (pointwise nat_eq xs ys) (xs ≡ ys)
 numbers_decide xs ys = slice_eq-Decides Decides-eqb xs ys (pointwise nat_eq xs ys) refl
 
 pub asked_decides : (asked other : Asked) → Decides (asked_eq asked other) (asked ≡ other)

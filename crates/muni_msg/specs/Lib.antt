@@ -1,5 +1,6 @@
 pub mod Asked
 pub mod Fields
+pub mod Key
 pub mod Names
 pub mod NameReading
 pub mod Refusal

@@ -2,6 +2,7 @@
 #![tactic(auto)]
 
 mod asked;
+mod command;
 mod fields;
 mod figures;
 mod names;
@@ -11,6 +12,7 @@ mod tests;
 mod version;
 
 pub use asked::{Asked, Given, Side, Terms};
+pub use command::{Command, Key, Line, Reply};
 pub use fields::{read_call, read_given, read_kind, read_side};
 pub use figures::Figures;
 pub use names::{DeskName, NameFault, Reference};

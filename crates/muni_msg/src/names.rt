@@ -217,3 +217,10 @@ impl Reference {
         self.0.bytes.as_slice()
     }
 }
+
+impl Default for Reference {
+    /// An empty slot of a list. No contract reads it.
+    fn default() -> Reference {
+        Reference(Letters::of(b"0"))
+    }
+}

@@ -1,7 +1,9 @@
 //! The versions of a trade, and what the desk keeps.
 
-use crate::{Figures, Terms};
-use muni_terms::Issue;
+use crate::{Asked, Figures, Given, Side, Terms};
+use muni_days::Day;
+use muni_dec::{Cents, Fee, Par, Price, Price3, Yield3};
+use muni_terms::{Issue, Label};
 
 /// What made a version of a trade.
 #[derive(Clone, Copy, Debug, PartialEq, Eq)]
@@ -24,4 +26,35 @@ pub struct Version {
 pub enum Kept {
     Issue(Issue),
     Version { number: u32, version: Version },
+}
+
+impl Default for Version {
+    /// An empty slot of a list. No contract reads it.
+    fn default() -> Version {
+        let asked = Asked {
+            cusip: *b"000000000",
+            par: Par::new(1),
+            settle: Day::FIRST,
+            given: Given::AtPrice(Price::new(0)),
+            side: Side::Buy,
+            fee: Fee::new(0),
+        };
+        let figures = Figures {
+            price: Price3::new(0),
+            yld: Yield3::new(0),
+            redemption: Day::FIRST,
+            at: Price::new(0),
+            label: Label::Maturity,
+            days: 0,
+            principal: Cents::ZERO,
+            accrued: Cents::ZERO,
+            commission: Cents::ZERO,
+            total: Cents::ZERO,
+        };
+        Version {
+            act: Act::Entered,
+            terms: Terms { asked },
+            figures,
+        }
+    }
 }

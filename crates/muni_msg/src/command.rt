@@ -1,0 +1,123 @@
+//! What the desk is asked and what it answers.
+
+ghost use Rattle.std.specs.Prelude.{◌≡◌, ◌↔◌, true};
+ghost use Rattle.std.specs.Cmp.Rules.{comparing};
+ghost use Rattle.std.proofs.Common.{rules};
+
+use crate::{Asked, DeskName, Figures, Reference, Refusal, Terms, Version};
+use arrayvec::ArrayVec;
+use muni_terms::{Issue, IssueRow};
+
+/// Which trade of which desk.
+#[derive(Debug, Drop)]
+pub struct Key {
+    pub desk: DeskName,
+    pub reference: Reference,
+}
+
+/// What the book of the desk is asked.
+#[derive(Drop)]
+pub enum Command {
+    /// To keep an issue.
+    AddIssue(IssueRow),
+    /// To enter a trade.
+    Enter {
+        key: Key,
+        terms: Terms,
+    },
+    /// To correct a trade by a version with this number.
+    Correct {
+        key: Key,
+        number: u32,
+        terms: Terms,
+    },
+    /// To cancel a trade by a version with this number.
+    Cancel {
+        key: Key,
+        number: u32,
+    },
+    /// To confirm the last version of a trade.
+    Confirm {
+        key: Key,
+    },
+    /// For figures, with nothing kept.
+    Quote(Asked),
+    /// For the trades of a desk, after a reference where one is given.
+    List {
+        desk: DeskName,
+        after: Option<Reference>,
+    },
+}
+
+/// A trade in a list, with its last version.
+#[derive(Debug, Drop)]
+pub struct Line {
+    pub reference: Reference,
+    /// The number of the version.
+    pub number: u32,
+    pub version: Version,
+}
+
+/// What the book answers.
+#[derive(Drop)]
+pub enum Reply {
+    /// The issue of this CUSIP is kept.
+    Added {
+        cusip: [u8; 9],
+    },
+    /// The figures that were asked for.
+    Quoted(Figures),
+    /// The first 50 trades, in the order of their references.
+    Listed(ArrayVec<Line, 50>),
+    /// The version with this number is kept.
+    Confirmed {
+        issue: Issue,
+        key: Key,
+        number: u32,
+        version: Version,
+    },
+    Refused(Refusal),
+}
+
+impl Key {
+    /// A key of equal value.
+    pub fn copy(&self) -> Key
+        ensures { result ≡ self.now }
+    {
+        Key {
+            desk: self.desk.copy(),
+            reference: self.reference.copy(),
+        }
+    }
+}
+
+impl PartialEq for Key {
+    ghost use Rattle.muni_msg.specs.Key.{key_eq};
+
+    ghost eq = { key_eq };
+
+    ghost laws = { Prim.search (comparing, rules) };
+
+    #[tactic(auto, using(crate::proofs::KeyLemmas::key_decides))]
+    fn eq(&self, other: &Key) -> bool
+        ensures value { result ≡ key_eq self.now other.now }
+        ensures same { (result ≡ true) ↔ (self.now ≡ other.now) }
+    {
+        self.desk == other.desk && self.reference == other.reference
+    }
+}
+
+impl Eq for Key {
+    ghost laws = { Prim.search (comparing, rules) };
+}
+
+impl Default for Line {
+    /// An empty slot of a list. No contract reads it.
+    fn default() -> Line {
+        Line {
+            reference: Reference::default(),
+            number: 0,
+            version: Version::default(),
+        }
+    }
+}
