@@ -12,9 +12,13 @@ pub record CallState : Type 0 where
 abbrev pub none_made : List ℕ → CallState
 none_made failing = record { failing = failing; made = 0; faults = 0 }
 
--- one more; a count stays at the last value of its type
+-- so many more; a count stays at the last value of its type
+abbrev pub raised : ℕ → ℕ → ℕ
+raised count more = min (count + more) (2 ^ 64 - 1)
+
+-- one more
 abbrev pub one_more : ℕ → ℕ
-one_more count = min (count + 1) (2 ^ 64 - 1)
+one_more count = raised count 1
 
 -- the next call is one of those that fail
 abbrev pub is_listed : CallState → Bool

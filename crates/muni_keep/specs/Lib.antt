@@ -1,0 +1,3 @@
+pub mod History
+pub mod Tables
+pub mod Trades

@@ -1,0 +1,57 @@
+-- The tables of the desk: two finite maps, of its issues and of its trades.
+use Rattle.std.specs.Prelude.{ℕ, ◌-◌, ◌^◌, min, List, map, take, Option}
+use Rattle.std.specs.Option.{option_map, option_and_then}
+use Rattle.std.specs.FinMap.{FinMap, empty, get, insert, len}
+use Rattle.muni_terms.specs.declared.row.IssueRow.{IssueRow}
+use Rattle.muni_msg.specs.declared.command.Key.{Key}
+use Rattle.muni_msg.specs.declared.command.Line.{Line}
+use Rattle.muni_msg.specs.declared.version.Version.{Version}
+use Rattle.muni_keep.specs.History.{History, count, version_in}
+use Rattle.muni_keep.specs.Trades.{by_bytes, Desks, own, trades_past, put}
+
+-- the issues by CUSIP, and the versions of trades by desk, reference and number
+pub record Tables : Type 0 where
+  pub issues : FinMap by_bytes IssueRow
+  pub desks : Desks Version
+
+-- nothing is kept
+abbrev pub no_tables : Tables
+no_tables = record { issues = empty; desks = empty }
+
+-- the issue of a CUSIP, if it is kept
+abbrev pub issue_at : Tables → List ℕ → Option IssueRow
+issue_at tables cusip = get tables.issues cusip
+
+-- the versions of a trade, if any is kept
+abbrev pub trade_at : Tables → Key → Option (History Version)
+trade_at tables key = get (own key.desk tables.desks) key.reference
+
+-- the version of a trade with this number, if it is kept
+abbrev pub version_at : Tables → Key → ℕ → Option Version
+version_at tables key number =
+    option_and_then (λ history. version_in history number) (trade_at tables key)
+
+-- the last version of a trade, with its number, if any is kept
+abbrev pub last_at : Tables → Key → Option (ℕ × Version)
+last_at tables key = option_map (λ history. (count history, history.last)) (trade_at tables key)
+
+-- how many trades a desk has, as far as 32 bits count
+abbrev pub trade_count : Tables → List ℕ → ℕ
+trade_count tables desk = min (len (own desk tables.desks)) (2 ^ 32 - 1)
+
+-- a trade with its last version
+abbrev pub line : List ℕ × History Version → Line
+line trade = record { reference = trade.0; number = count trade.1; version = trade.1.last }
+
+-- the first 50 trades of a desk after a reference, if one is given
+abbrev pub page_at : Tables → List ℕ → Option (List ℕ) → List Line
+page_at tables desk after = map line (take 50 (trades_past after (own desk tables.desks)))
+
+-- with one issue more
+abbrev pub with_issue : IssueRow → Tables → Tables
+with_issue issue tables = record tables { issues = insert tables.issues issue.cusip issue }
+
+-- with the next version of a trade
+abbrev pub with_version : Key → Version → Tables → Tables
+with_version key version tables =
+    record tables { desks = put key.desk key.reference version tables.desks }
