@@ -65,7 +65,8 @@ impl Rounding {
 
     /// The product of an amount and a fraction in units of 2^-60.
     ///
-    /// No number is wider than 128 bits: the upper half of the amount gives whole units alone.
+    /// No number is wider than 128 bits: the upper half of the amount gives whole units alone, and
+    /// is mostly 0.
     pub fn scale(self, amount: u128, factor: u64) -> u128
         requires { amount * factor < 2 ^ 127 * 2 ^ 60 }
         ensures { result ≡ (amount * factor + carry_of self) / 2 ^ 60 }
@@ -73,6 +74,11 @@ impl Rounding {
         let factor = factor as u128;
         let upper = amount >> 64;
         let lower = amount % (1 << 64);
-        upper * factor * 16 + ((lower * factor + self.carry() as u128) >> 60)
+        let of_lower = (lower * factor + self.carry() as u128) >> 60;
+        if upper == 0 {
+            of_lower
+        } else {
+            upper * factor * 16 + of_lower
+        }
     }
 }

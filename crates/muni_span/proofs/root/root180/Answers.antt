@@ -5,11 +5,11 @@ use Rattle.muni_span.proofs.RootLaws.{IsRootSpan, root_span_of}
 use Rattle.muni_span.proofs.RootReach.{reach_up, reach_down}
 use Rattle.muni_span.proofs.root.root180.Goals as goal
 
-pub end_near-lo-requires-clause-within : goal.end_near-lo-requires-clause-within
-end_near-lo-requires-clause-within c = reach_up c.lo-2.result (omega arith) (omega arith)
+pub end_near-lo-requires : goal.end_near-lo-requires
+end_near-lo-requires c = reach_up c.lo-2.result (omega arith) (omega arith)
 
-pub end_near-below_hi-requires-clause-within : goal.end_near-below_hi-requires-clause-within
-end_near-below_hi-requires-clause-within c = reach_down (c.hi.result - 1) (omega arith) (omega arith)
+pub end_near-below_hi-requires : goal.end_near-below_hi-requires
+end_near-below_hi-requires c = reach_down (c.hi.result - 1) (omega arith) (omega arith)
 
 pub new-requires : goal.new-requires
 new-requires c =
