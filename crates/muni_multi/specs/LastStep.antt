@@ -15,14 +15,19 @@ discount_low y = 2_000_000 * 2 ^ 60 / discount_divisor y
 abbrev pub discount_high : ℤ → ℕ
 discount_high y = (2_000_000 * 2 ^ 60 + (discount_divisor y - 1)) / discount_divisor y
 
--- A sum on the day of the first payment, discounted by the 180 - A days up to it: by a power of the
--- root of that factor, rounded outward.
+-- the ends of the factor of the 180 - A days up to the first payment: a power of the root of that one
+abbrev pub part_low : ℤ → ℕ → ℕ
+part_low y a = power_low (root_low (discount_low y)) (180 - a)
+
+abbrev pub part_high : ℤ → ℕ → ℕ
+part_high y a = power_high (root_high (discount_high y)) (180 - a)
+
+-- a sum on the day of the first payment, discounted by those days and rounded outward
 abbrev pub settled_low : ℕ → ℤ → ℕ → ℕ
-settled_low sum y a = sum * power_low (root_low (discount_low y)) (180 - a) / 2 ^ 60
+settled_low sum y a = sum * part_low y a / 2 ^ 60
 
 abbrev pub settled_high : ℕ → ℤ → ℕ → ℕ
-settled_high sum y a =
-    (sum * power_high (root_high (discount_high y)) (180 - a) + (2 ^ 60 - 1)) / 2 ^ 60
+settled_high sum y a = (sum * part_high y a + (2 ^ 60 - 1)) / 2 ^ 60
 
 -- what the payments are worth on the day of the first lies between two ends
 pub record HoldsSum (bond : PeriodicPayments) (y : ℤ) (lo hi : ℕ) : Type 0 where

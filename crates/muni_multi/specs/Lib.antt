@@ -1,5 +1,6 @@
 pub mod Bounds
 pub mod LastStep
+pub mod Discount
 pub mod Horner
 pub mod HornerLaws
 pub mod Prices

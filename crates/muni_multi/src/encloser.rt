@@ -6,6 +6,7 @@ ghost use Rattle.muni_rule.specs.Payments.{PaymentSeries, IsSeries};
 ghost use Rattle.muni_rule.specs.Ranges.{IsManyPeriodsBoundary};
 ghost use Rattle.muni_rule.specs.WorthEnds.{WorthEnds, HoldsWorth, IsNarrow, enclosure_ends};
 
+use crate::Discount;
 use muni_span::worth::Worth;
 use muni_terms::Flows;
 
@@ -20,6 +21,15 @@ pub trait Encloser {
         requires many { 2 ≤ flows.now.n }
         requires y { IsManyPeriodsBoundary y }
         ensures { enclosure_ends result.lo result.hi ≡ ends self.now flows.now y };
+
+    /// The same ends, where the discount factors on the day of the settlement are known.
+    fn pv_at(&self, flows: &Flows, discount: &Discount) -> Worth
+        requires many { 2 ≤ flows.now.n }
+        requires days { discount.now.a ≡ flows.now.a }
+        ensures { enclosure_ends result.lo result.hi ≡ ends self.now flows.now discount.now.y }
+    {
+        self.pv(flows, discount.y())
+    }
 
     // The worth lies between the ends: all three are raised to the power 180.
     ghost encloses: { (e : Self) (series : PaymentSeries) (y : ℤ)

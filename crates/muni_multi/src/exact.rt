@@ -8,22 +8,24 @@ ghost use Rattle.muni_rule.specs.Ranges.{IsManyPeriodsBoundary};
 ghost use Rattle.muni_rule.specs.WorthEnds as rule;
 ghost use Rattle.muni_rule.specs.WorthEnds.{more_half_years, ends_of};
 
-use crate::Encloser;
 use crate::ends::Ends;
 use crate::payments::payment_at;
+use crate::{Discount, Encloser};
 use muni_terms::Flows;
 
 /// The ends that verdicts are read off: the worth itself in an exact case, and else an enclosure.
-pub(crate) fn ends<E: Encloser>(encloser: &E, flows: &Flows, y: i32) -> Ends
+pub(crate) fn ends<E: Encloser>(encloser: &E, flows: &Flows, discount: &Discount) -> Ends
     requires many { 2 ≤ flows.now.n }
-    requires y { IsManyPeriodsBoundary y }
-    ensures value { result ≡ ends_of flows.now y (E.ends encloser.now flows.now y) }
+    requires days { discount.now.a ≡ flows.now.a }
+    ensures value { result ≡ ends_of flows.now discount.now.y
+        (E.ends encloser.now flows.now discount.now.y) }
+    ensures y { IsManyPeriodsBoundary discount.now.y }
     ensures unit { result.unit ≤ 2 ^ 66 }
 {
-    if let Some(exact) = exact_worth(flows, divisor_of(y)) {
+    if let Some(exact) = exact_worth(flows, divisor_of(discount.y())) {
         return exact;
     }
-    let worth = encloser.pv(flows, y);
+    let worth = encloser.pv_at(flows, discount);
     Ends {
         lo: worth.lo(),
         hi: worth.hi(),

@@ -6,15 +6,14 @@ ghost use Rattle.muni_multi.specs.Horner.{sum_low, sum_high, horner_ends, AreDis
 ghost use Rattle.muni_multi.specs.HornerLaws.{horner-encloses, horner-narrow};
 ghost use Rattle.muni_multi.specs.LastStep.{LastStepEncloses};
 
-use crate::Encloser;
 use crate::payments::payment_at;
-use muni_span::root::root180;
-use muni_span::span::{Span, recip};
+use crate::{Discount, Encloser};
+use muni_span::span::Span;
 use muni_span::worth::{Worth, of};
 use muni_terms::Flows;
 
 /// Encloses a worth by one sum from the last payment to the first.
-// A call takes one discount factor, its root, one power of it and a step for each payment.
+// A step for each payment.
 #[derive(Clone, Copy, Debug, PartialEq, Eq)]
 pub struct Horner;
 
@@ -22,10 +21,11 @@ impl Encloser for Horner {
     ghost ends = { λ _ series y. horner_ends series y };
 
     fn pv(&self, flows: &Flows, y: i32) -> Worth {
-        let discount = recip(y);
-        let sum = discounted_sum(flows, discount);
-        let part = root180(discount).power(180 - flows.a());
-        sum.scale(part)
+        self.pv_at(flows, &Discount::at(y, flows.a()))
+    }
+
+    fn pv_at(&self, flows: &Flows, discount: &Discount) -> Worth {
+        discounted_sum(flows, discount.half_year()).scale(discount.part())
     }
 
     ghost encloses = { λ _ series y is many within. horner-encloses series y is many within };

@@ -1,6 +1,7 @@
 //! The price with more than six months left, from enclosures of the worth of the payments to come.
 #![tactic(auto)]
 
+mod discount;
 mod encloser;
 mod ends;
 mod exact;
@@ -9,11 +10,12 @@ mod payments;
 mod price;
 mod verdicts;
 
+pub use discount::Discount;
 pub use encloser::Encloser;
 pub use horner::{Horner, sums_are_narrow};
 pub use muni_rule::Verdict;
-pub use price::{PriceAnswer, at_most_one_price_is_right, printed_price};
-pub use verdicts::{at_least, more};
+pub use price::{PriceAnswer, at_most_one_price_is_right, printed_price, printed_price_at};
+pub use verdicts::{at_least, at_least_at, more, more_at};
 
 #[cfg(test)]
 mod tests;

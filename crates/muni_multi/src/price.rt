@@ -7,8 +7,8 @@ ghost use Rattle.muni_rule.specs.Verdicts.{at_least_verdict, dirty_thousandths};
 ghost use Rattle.muni_rule.specs.WorthEnds.{ends_of};
 ghost use Rattle.muni_multi.specs.Prices.{figure, whole_verdict, IsPriceOutcome, IsPriceAnswer, IsDoubtfulAnswer, OnePriceIsRight};
 
-use crate::Encloser;
 use crate::exact::ends;
+use crate::{Discount, Encloser};
 use muni_dec::{Price3, Yield};
 use muni_terms::Flows;
 
@@ -37,8 +37,26 @@ pub fn printed_price<E: Encloser>(encloser: &E, flows: &Flows, y: Yield) -> Pric
         (dirty_thousandths flows.now.accrued t)) result }
     ensures small { figure result ≤ 100_000_000 }
 {
+    printed_price_at(encloser, flows, &Discount::at(y.units() as i32, flows.a()))
+}
+
+/// The same at the yield of a discount on the day of the settlement.
+pub fn printed_price_at<E: Encloser>(
+    encloser: &E,
+    flows: &Flows,
+    discount: &Discount,
+) -> PriceAnswer
+    requires many { 2 ≤ flows.now.n }
+    requires days { discount.now.a ≡ flows.now.a }
+    ensures exact { IsPriceAnswer (AtLeast (to_come flows.now) discount.now.y) result }
+    ensures undecided { IsDoubtfulAnswer flows.now discount.now.y result }
+    ensures outcome { IsPriceOutcome (λ t. at_least_verdict
+        (ends_of flows.now discount.now.y (E.ends encloser.now flows.now discount.now.y))
+        (dirty_thousandths flows.now.accrued t)) result }
+    ensures small { figure result ≤ 100_000_000 }
+{
     let accrued = flows.accrued();
-    let worth = ends(encloser, flows, y.units() as i32);
+    let worth = ends(encloser, flows, discount);
     price_between(worth.whole_low(), worth.whole_high(), accrued)
 }
 

@@ -7,9 +7,9 @@ ghost use Rattle.muni_rule.specs.Ranges.{IsManyPeriodsBoundary};
 ghost use Rattle.muni_rule.specs.Verdicts.{at_least_verdict, more_verdict};
 ghost use Rattle.muni_rule.specs.WorthEnds.{ends_of};
 
-use crate::Encloser;
 use crate::ends::Ends;
 use crate::exact::ends;
+use crate::{Discount, Encloser};
 use muni_dec::Price;
 use muni_rule::Verdict;
 use muni_terms::Flows;
@@ -31,8 +31,7 @@ pub fn at_least<E: Encloser>(encloser: &E, flows: &Flows, y: i32, price: Price) 
     ensures unsure { result ≡ Verdict.Unsure →
         IsDoubtful flows.now y (pos (360_000 * price)) }
 {
-    let dirty = 360_000 * price.units() + flows.accrued();
-    at_least_at(&ends(encloser, flows, y), dirty)
+    at_least_at(encloser, flows, &Discount::at(y, flows.a()), price)
 }
 
 /// Whether the exact price at a yield is more than a price, and else as `at_least`.
@@ -47,11 +46,44 @@ pub fn more<E: Encloser>(encloser: &E, flows: &Flows, y: i32, price: Price) -> V
     ensures unsure { result ≡ Verdict.Unsure →
         IsDoubtful flows.now y (pos (360_000 * price)) }
 {
-    let dirty = 360_000 * price.units() + flows.accrued();
-    more_at(&ends(encloser, flows, y), dirty)
+    more_at(encloser, flows, &Discount::at(y, flows.a()), price)
 }
 
-fn at_least_at(ends: &Ends, amount: u64) -> Verdict
+/// What `at_least` tells at the yield of a discount on the day of the settlement.
+pub fn at_least_at<E: Encloser>(
+    encloser: &E,
+    flows: &Flows,
+    discount: &Discount,
+    price: Price,
+) -> Verdict
+    requires many { 2 ≤ flows.now.n }
+    requires days { discount.now.a ≡ flows.now.a }
+    ensures { result ≡ at_least_verdict
+        (ends_of flows.now discount.now.y (E.ends encloser.now flows.now discount.now.y))
+        (360_000 * price + flows.now.accrued) }
+{
+    let dirty = 360_000 * price.units() + flows.accrued();
+    at_least_between(&ends(encloser, flows, discount), dirty)
+}
+
+/// What `more` tells at the yield of a discount on the day of the settlement.
+pub fn more_at<E: Encloser>(
+    encloser: &E,
+    flows: &Flows,
+    discount: &Discount,
+    price: Price,
+) -> Verdict
+    requires many { 2 ≤ flows.now.n }
+    requires days { discount.now.a ≡ flows.now.a }
+    ensures { result ≡ more_verdict
+        (ends_of flows.now discount.now.y (E.ends encloser.now flows.now discount.now.y))
+        (360_000 * price + flows.now.accrued) }
+{
+    let dirty = 360_000 * price.units() + flows.accrued();
+    more_between(&ends(encloser, flows, discount), dirty)
+}
+
+fn at_least_between(ends: &Ends, amount: u64) -> Verdict
     requires amount { amount < 2 ^ 50 }
     requires unit { ends.now.unit ≤ 2 ^ 66 }
     ensures { result ≡ at_least_verdict ends.now amount }
@@ -66,7 +98,7 @@ fn at_least_at(ends: &Ends, amount: u64) -> Verdict
     }
 }
 
-fn more_at(ends: &Ends, amount: u64) -> Verdict
+fn more_between(ends: &Ends, amount: u64) -> Verdict
     requires amount { amount < 2 ^ 50 }
     requires unit { ends.now.unit ≤ 2 ^ 66 }
     ensures { result ≡ more_verdict ends.now amount }

@@ -1,28 +1,25 @@
-use Rattle.std.proofs.Common.{◌≡◌, subst, arith, ℤ, w32, w64, to_z, of_z}
-use Rattle.std.proofs.lemmas.Int.{ints}
+use Rattle.std.proofs.Common.{◌≡◌, arith}
 use Rattle.muni_rule.specs.WorthEnds.{ends_of}
 use Rattle.muni_rule.proofs.EnclosedLemmas.{IsEnclosed, enclosed}
 use Rattle.muni_multi.specs.Bounds.{AreBounded}
 use Rattle.muni_multi.proofs.BoundLemmas.{are-bounded, low-fits, high-small, quotients-ordered}
 use Rattle.muni_multi.proofs.PriceLemmas.{ends-outcome, outcome-exact, outcome-doubtful}
-use Rattle.muni_multi.proofs.price.printed_price.Given as given
-use Rattle.muni_multi.proofs.price.printed_price.Goals.{After-ends-worth}
-use Rattle.muni_multi.proofs.price.printed_price.Goals as goal
+use Rattle.muni_multi.proofs.price.printed_price_at.Given as given
+use Rattle.muni_multi.proofs.price.printed_price_at.Goals.{After-ends-worth}
+use Rattle.muni_multi.proofs.price.printed_price_at.Goals as goal
 
-law : (g : given.Over) (c : After-ends-worth g) → IsEnclosed c.args.flows.now c.args.y (g.E.Encloser.ends c.args.encloser.now c.args.flows.now c.args.y)
+law : (g : given.Over) (c : After-ends-worth g) → IsEnclosed c.args.flows.now c.args.discount.now.y (g.E.Encloser.ends c.args.encloser.now c.args.flows.now c.args.discount.now.y)
 law g c =
     let series = c.accrued-accrued.ensures.bounds in
-    enclosed c.args.flows.now c.args.y (g.E.Encloser.ends c.args.encloser.now c.args.flows.now c.args.y) series c.requires.y
-    (g.met.E.Encloser.encloses c.args.encloser.now c.args.flows.now c.args.y series c.requires.many c.requires.y)
-    (g.met.E.Encloser.narrow c.args.encloser.now c.args.flows.now c.args.y series c.requires.many c.requires.y)
+    enclosed c.args.flows.now c.args.discount.now.y (g.E.Encloser.ends c.args.encloser.now c.args.flows.now c.args.discount.now.y) series c.ends-worth.ensures.y
+    (g.met.E.Encloser.encloses c.args.encloser.now c.args.flows.now c.args.discount.now.y series c.requires.many c.ends-worth.ensures.y)
+    (g.met.E.Encloser.narrow c.args.encloser.now c.args.flows.now c.args.discount.now.y series c.requires.many c.ends-worth.ensures.y)
 
-value : (g : given.Over) (c : After-ends-worth g) → c.ends-worth.result ≡ ends_of c.args.flows.now c.args.y (g.E.Encloser.ends c.args.encloser.now c.args.flows.now c.args.y)
-value g c =
-    let same : to_z w32 (of_z w32 (to_z w64 (of_z w64 c.units.result))) ≡ c.args.y = omega (arith, ints, c.units.ensures.value, c.requires.y) in
-    subst (λ (y : ℤ). c.ends-worth.result ≡ ends_of c.args.flows.now y (g.E.Encloser.ends c.args.encloser.now c.args.flows.now y)) same c.ends-worth.ensures.value
+value : (g : given.Over) (c : After-ends-worth g) → c.ends-worth.result ≡ ends_of c.args.flows.now c.args.discount.now.y (g.E.Encloser.ends c.args.encloser.now c.args.flows.now c.args.discount.now.y)
+value g c = c.ends-worth.ensures.value
 
 bounded : (g : given.Over) (c : After-ends-worth g) → AreBounded c.ends-worth.result
-bounded g c = are-bounded c.args.flows.now c.args.y (g.E.Encloser.ends c.args.encloser.now c.args.flows.now c.args.y) c.ends-worth.result (value g c) c.requires.y (law g c)
+bounded g c = are-bounded c.args.flows.now c.args.discount.now.y (g.E.Encloser.ends c.args.encloser.now c.args.flows.now c.args.discount.now.y) c.ends-worth.result (value g c) c.ends-worth.ensures.y (law g c)
 
 pub whole_low-requires : goal.whole_low-requires
 whole_low-requires g c =
@@ -48,13 +45,13 @@ price_between-requires g c =
 pub returns-clause-outcome : goal.returns-clause-outcome
 returns-clause-outcome g c =
     let place = (goal.at.returns-clause-outcome g c).After-ends-worth in
-    ends-outcome c.args.flows.now c.args.y (g.E.Encloser.ends c.args.encloser.now c.args.flows.now c.args.y) c.ends-worth.result c.whole_low.result c.whole_high.result c.accrued-accrued.result c.price_between.result
+    ends-outcome c.args.flows.now c.args.discount.now.y (g.E.Encloser.ends c.args.encloser.now c.args.flows.now c.args.discount.now.y) c.ends-worth.result c.whole_low.result c.whole_high.result c.accrued-accrued.result c.price_between.result
     (value g place) (bounded g place).some c.whole_low.ensures c.whole_high.ensures c.accrued-accrued.ensures.value c.price_between.ensures.outcome
 
 pub returns-clause-exact : goal.returns-clause-exact
 returns-clause-exact g c =
-    outcome-exact c.args.flows.now c.args.y _ c.price_between.result (law g (goal.at.returns-clause-exact g c).After-ends-worth) (returns-clause-outcome g c)
+    outcome-exact c.args.flows.now c.args.discount.now.y _ c.price_between.result (law g (goal.at.returns-clause-exact g c).After-ends-worth) (returns-clause-outcome g c)
 
 pub returns-clause-undecided : goal.returns-clause-undecided
 returns-clause-undecided g c =
-    outcome-doubtful c.args.flows.now c.args.y _ c.price_between.result (law g (goal.at.returns-clause-undecided g c).After-ends-worth) (returns-clause-outcome g c)
+    outcome-doubtful c.args.flows.now c.args.discount.now.y _ c.price_between.result (law g (goal.at.returns-clause-undecided g c).After-ends-worth) (returns-clause-outcome g c)

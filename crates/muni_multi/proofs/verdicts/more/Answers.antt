@@ -7,7 +7,7 @@ use Rattle.muni_multi.proofs.verdicts.more.Goals as goal
 
 law : (g : given.Over) (c : goal.After-more_at g) → IsEnclosed c.args.flows.now c.args.y (g.E.Encloser.ends c.args.encloser.now c.args.flows.now c.args.y)
 law g c =
-    let series = c.accrued.ensures.bounds in
+    let series = c.a.ensures.bounds in
     enclosed c.args.flows.now c.args.y (g.E.Encloser.ends c.args.encloser.now c.args.flows.now c.args.y) series c.requires.y
     (g.met.E.Encloser.encloses c.args.encloser.now c.args.flows.now c.args.y series c.requires.many c.requires.y)
     (g.met.E.Encloser.narrow c.args.encloser.now c.args.flows.now c.args.y series c.requires.many c.requires.y)
