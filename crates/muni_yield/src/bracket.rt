@@ -3,14 +3,14 @@
 ghost use Rattle.std.specs.Prelude.{◌≡◌, ◌+◌, ◌<◌, ◌≤◌, true, false, ℕ, ℤ};
 ghost use Rattle.muni_rule.specs.declared.verdict.Verdict.{Verdict};
 ghost use Rattle.muni_yield.specs.Bracket as spec;
-ghost use Rattle.muni_yield.specs.Bracket.{IsAnswered, IsQuestion};
+ghost use Rattle.muni_yield.specs.Bracket.{IsAnswered, IsBracket, IsQuestion};
 ghost use Rattle.muni_yield.specs.Places.{place_verdict, yield_at};
 ghost use Rattle.muni_yield.specs.Settled.{settled_as, outcome_at};
 
 use crate::Outcome;
-use crate::place::{ask, printed_at, yield_at};
+use crate::place::{ask, boundary_at, printed_at, yield_at};
 use muni_dec::Price;
-use muni_multi::{Encloser, Verdict};
+use muni_multi::{Discount, Encloser, Verdict};
 use muni_terms::Flows;
 use std::marker::Model;
 
@@ -124,8 +124,32 @@ impl Bracket {
             → IsAnswered (place_verdict (E.ends encloser.now)
             self.old.series self.old.price) self.new }
     {
+        let discount = self.discount();
+        self.halve_at(encloser, &discount);
+    }
+
+    /// The discount of the next question. Searches that began together ask at the same yield as
+    /// long as their answers are the same.
+    pub fn discount(&self) -> Discount
+        requires { spec.is_settled self.now ≡ false }
+    {
+        Discount::at(boundary_at(self.question()), self.flows.a())
+    }
+
+    /// The same, with a discount at hand. Where it is not that of the question, that one is
+    /// computed.
+    pub fn halve_at<E: Encloser>(&mut self, encloser: &E, discount: &Discount)
+        requires open { spec.is_settled self.old ≡ false }
+        ensures halved { self.new
+            ≡ spec.halved (place_verdict (E.ends encloser.now)) self.old }
+        ensures count { self.new.halvings ≡ self.old.halvings + 1 }
+        ensures answered { IsAnswered (place_verdict (E.ends encloser.now)
+            self.old.series self.old.price) self.old
+            → IsAnswered (place_verdict (E.ends encloser.now)
+            self.old.series self.old.price) self.new }
+    {
         let place = self.question();
-        let verdict = ask(encloser, &self.flows, self.price, place);
+        let verdict = ask(encloser, &self.flows, self.price, place, discount);
         *self = self.answered(place, verdict);
     }
 
@@ -166,6 +190,13 @@ impl Bracket {
             },
         }
     }
+}
+
+/// What holds of every search.
+pub fn searches_are_in_order(bracket: &Bracket)
+    ensures { IsBracket bracket.now }
+{
+    let _held = bracket.low;
 }
 
 // The outcome between a place and the next one.

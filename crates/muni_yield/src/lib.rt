@@ -6,7 +6,7 @@ mod outcome;
 mod place;
 mod printed;
 
-pub use bracket::Bracket;
+pub use bracket::{Bracket, searches_are_in_order};
 pub use outcome::{Outcome, at_most_one_yield_is_right};
 pub use printed::printed_yield;
 

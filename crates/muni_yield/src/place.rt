@@ -8,7 +8,7 @@ ghost use Rattle.muni_rule.specs.Ranges.{IsManyPeriodsBoundary};
 ghost use Rattle.muni_yield.specs.Places as spec;
 
 use muni_dec::{Price, Yield3};
-use muni_multi::{Encloser, Verdict, at_least, more};
+use muni_multi::{Discount, Encloser, Verdict, at_least_at, more_at};
 use muni_terms::Flows;
 
 /// The yield at a place, in thousandths of a percent.
@@ -27,8 +27,8 @@ pub(crate) fn printed_at(place: u32) -> Yield3
     Yield3::new(i64::from(yield_at(place)))
 }
 
-// Where the yields begin that are printed as the one at a place or above, in 10^-6.
-fn boundary_at(place: u32) -> i32
+/// Where the yields begin that are printed as the one at a place or above, in 10^-6.
+pub(crate) fn boundary_at(place: u32) -> i32
     requires some { 1 ≤ place }
     requires most { place ≤ 105_002 }
     ensures value { result ≡ rule.boundary (spec.yield_at place) }
@@ -37,17 +37,25 @@ fn boundary_at(place: u32) -> i32
     10 * yield_at(place) - 5
 }
 
-/// Whether the yield at a price is printed as the one at a place or above.
-pub(crate) fn ask<E: Encloser>(encloser: &E, flows: &Flows, price: Price, place: u32) -> Verdict
+/// Whether the yield at a price is printed as the one at a place or above. No discount is computed
+/// where the one at hand is that of the question.
+pub(crate) fn ask<E: Encloser>(
+    encloser: &E,
+    flows: &Flows,
+    price: Price,
+    place: u32,
+    discount: &Discount,
+) -> Verdict
     requires many { 2 ≤ flows.now.n }
     requires some { 1 ≤ place }
     requires most { place ≤ 105_002 }
     ensures { result ≡ spec.place_verdict (E.ends encloser.now) flows.now
         price place }
 {
+    let discount = Discount::kept_or_at(Some(discount), boundary_at(place), flows.a());
     if place > 5_001 {
-        at_least(encloser, flows, boundary_at(place), price)
+        at_least_at(encloser, flows, &discount, price)
     } else {
-        more(encloser, flows, boundary_at(place), price)
+        more_at(encloser, flows, &discount, price)
     }
 }
