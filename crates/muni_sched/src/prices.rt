@@ -18,7 +18,7 @@ use crate::lowest::{Outcome, lowest_of};
 use crate::{Candidate, LowAnswer, Shape};
 use arrayvec::ArrayVec;
 use muni_dec::Yield;
-use muni_multi::{Encloser, PriceAnswer, printed_price};
+use muni_multi::{Discount, Encloser, PriceAnswer, printed_price_at};
 use muni_simple::{Shape1, SimplePrice, single_price};
 
 /// The lowest dollar price at a yield over the redemption candidates of an issue (MSRB Rule
@@ -48,13 +48,20 @@ fn outcomes_at<E: Encloser>(encloser: &E, list: &[Candidate], y: Yield) -> Array
     ensures range { All (IsOf Price) result.items }
 {
     let mut outcomes = ArrayVec::new();
+    let mut discount = None;
     for candidate in list {
-        outcomes.push(price_outcome(encloser, candidate, y));
+        outcomes.push(price_outcome(encloser, candidate, y, &mut discount));
     }
     outcomes
 }
 
-fn price_outcome<E: Encloser>(encloser: &E, candidate: &Candidate, y: Yield) -> Outcome
+// The candidates after the first find the discount of the yield at hand.
+fn price_outcome<E: Encloser>(
+    encloser: &E,
+    candidate: &Candidate,
+    y: Yield,
+    discount: &mut Option<Discount>,
+) -> Outcome
     requires candidate { IsCandidate candidate.now }
     requires basis { IsAtYield candidate.now }
     requires in_range { IsGivenFor y candidate.now }
@@ -62,7 +69,11 @@ fn price_outcome<E: Encloser>(encloser: &E, candidate: &Candidate, y: Yield) -> 
     ensures range { IsOf Price result }
 {
     match &candidate.shape {
-        Shape::Many(flows) => many_price(printed_price(encloser, flows, y)),
+        Shape::Many(flows) => {
+            let at = Discount::kept_or_at(discount.as_ref(), y.units() as i32, flows.a());
+            *discount = Some(at);
+            many_price(printed_price_at(encloser, flows, &at))
+        }
         Shape::One(payment) => one_price(single_price(payment, Shape1::OnePeriod, y)),
         Shape::AtRedemption(payment) => one_price(single_price(payment, Shape1::AtRedemption, y)),
         Shape::Discount { .. } => unreachable!(),

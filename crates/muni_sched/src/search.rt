@@ -19,7 +19,7 @@ use arrayvec::ArrayVec;
 use muni_dec::Price;
 use muni_edge::Gate;
 use muni_multi::Encloser;
-use muni_yield::Bracket;
+use muni_yield::{Bracket, searches_are_in_order};
 use std::thread;
 use std::thread::Threads;
 
@@ -53,9 +53,9 @@ impl OpenSearch {
 
     // Whether the outcome is not known yet and may be the lowest.
     fn is_needed(&self, ceiling: Option<i32>) -> bool
-        requires { IsSearch self.now }
         ensures { result ≡ spec.is_needed ceiling self.now }
     {
+        searches_are_in_order(&self.bracket);
         self.bracket.settled().is_none() && !self.is_passed(ceiling)
     }
 
@@ -151,7 +151,7 @@ impl Search {
         let searches = self.searches.as_slice();
         record_settled(searches, self.known.as_mut_slice());
         self.ceiling = least_ceiling(searches, self.ceiling);
-        self.searches = still_needed(searches, self.ceiling);
+        keep_needed(&mut self.searches, self.ceiling);
     }
 }
 
@@ -231,6 +231,12 @@ fn ask_each<R: Threads + Sync, E: Encloser + Sync, G: Gate + Sync>(
     requires each { All IsOpen searches.old }
     ensures { searches.new ≡ map (asked (place_verdict (E.ends encloser.now))) searches.old }
 {
+    // All ask at the same yield in a round, so one discount serves them. A search that asked at
+    // another one would compute its own.
+    let Some(first) = searches.first() else {
+        return;
+    };
+    let discount = first.bracket.discount();
     thread::for_each_mut(
         rt,
         searches,
@@ -241,7 +247,7 @@ fn ask_each<R: Threads + Sync, E: Encloser + Sync, G: Gate + Sync>(
                 (place_verdict (E.ends encloser.entry.now)) search.entry.now }
         {
             gate.start(round, search.candidate);
-            search.bracket.halve(encloser);
+            search.bracket.halve_at(encloser, &discount);
         },
     );
 }
@@ -269,16 +275,13 @@ fn least_ceiling(searches: &[OpenSearch], before: Option<i32>) -> Option<i32>
     ceiling
 }
 
-fn still_needed(searches: &[OpenSearch], ceiling: Option<i32>) -> ArrayVec<OpenSearch, 41>
-    requires few { length searches.now ≤ 41 }
-    requires each { All IsSearch searches.now }
-    ensures { result.items ≡ filter (spec.is_needed ceiling) searches.now }
+fn keep_needed(searches: &mut ArrayVec<OpenSearch, 41>, ceiling: Option<i32>)
+    ensures { searches.new.items ≡ filter (spec.is_needed ceiling) searches.old.items }
 {
-    let mut needed = ArrayVec::new();
-    for search in searches {
-        if search.is_needed(ceiling) {
-            needed.push(*search);
-        }
-    }
-    needed
+    searches.retain(
+        |search: &mut OpenSearch| -> bool
+            ensures { (result ≡ spec.is_needed ceiling search.entry.now)
+                × (search.exit.now ≡ search.entry.now) }
+        { search.is_needed(ceiling) },
+    );
 }

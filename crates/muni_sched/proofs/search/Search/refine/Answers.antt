@@ -1,4 +1,4 @@
-use Rattle.std.proofs.Common.{◌≡◌, ◌∙◌, sym, subst, ap, All, length, map, ◌<◌}
+use Rattle.std.proofs.Common.{◌≡◌, ◌∙◌, refl, sym, subst, ap, All, length, map, ◌<◌}
 use Rattle.std.specs.List.{refill, filter}
 use Rattle.muni_yield.specs.Places.{place_verdict}
 use Rattle.muni_sched.specs.declared.search.OpenSearch.{OpenSearch}
@@ -30,15 +30,13 @@ record_settled-requires-clause-candidates g c =
 pub least_ceiling-self-requires : goal.least_ceiling-self-requires
 least_ceiling-self-requires g c = each g (goal.at.least_ceiling-self-requires g c).After-as_slice-searches
 
-pub still_needed-self-requires-clause-each : goal.still_needed-self-requires-clause-each
-still_needed-self-requires-clause-each g c = each g (goal.at.still_needed-self-requires-clause-each g c).After-as_slice-searches
-
 pub returns : goal.returns
 returns g c =
     let verdicts = place_verdict (g.E.Encloser.ends c.args.encloser.now) in
     let search = c.args.self.now in
     let same = now g (goal.at.returns g c).After-as_slice-searches in
-    refined-now verdicts search (refill (length search.known.items) search.known.items c.record_settled.new.known) c.still_needed-self.result.items c.least_ceiling-self.result
+    let kept = asked-now verdicts search.searches.items c.as_mut_slice.result.now c.ask_each.new.searches (refill (length search.searches.items) search.searches.items c.ask_each.new.searches) c.as_mut_slice.ensures.value c.ask_each.ensures refl in
+    refined-now verdicts search (refill (length search.known.items) search.known.items c.record_settled.new.known) c.keep_needed.new.searches.items c.least_ceiling-self.result
     (recorded-now (map (asked verdicts) search.searches.items) c.as_slice-searches.result.now search.known.items c.as_mut_slice-2.result.now c.record_settled.new.known same c.as_mut_slice-2.ensures.value c.record_settled.ensures)
-    (c.still_needed-self.ensures ∙ ap (filter (is_needed c.least_ceiling-self.result)) same)
+    (c.keep_needed.ensures ∙ ap (filter (is_needed c.least_ceiling-self.result)) kept)
     (c.least_ceiling-self.ensures ∙ ap (ceiling_after search.ceiling) same)
