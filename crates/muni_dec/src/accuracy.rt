@@ -1,6 +1,6 @@
 //! The accuracy of printed figures, which is this desk's own choice.
 
-ghost use Rattle.std.specs.Prelude.{◌≡◌, ◌*◌, ◌/◌, ◌≤◌, ◌≤ℤ◌, pos, unsigned_abs};
+ghost use Rattle.std.specs.Prelude.{◌≡◌, ◌⊎◌, ◌*◌, ◌/◌, ◌≤◌, ◌≤ℤ◌, pos, unsigned_abs};
 ghost use Rattle.muni_rule.specs.Accuracy as rule;
 ghost use Rattle.muni_dec.specs.Ranges.{IsYield3};
 
@@ -30,25 +30,29 @@ pub fn round_yield(y: Yield) -> Yield3
     Yield3::new(rounded)
 }
 
-/// The accrued interest of a trade for 0 to 720 days of 30/360: truncated to thousandths of a dollar
-/// and rounded to cents.
-pub fn accrued_cents(coupon: Coupon, par: Par, days: i32) -> Cents
-    requires { (pos 0 ≤ℤ days) × (days ≤ℤ pos 720) }
-    ensures value { result ≡ rule.accrued_cents coupon par (unsigned_abs days) }
+/// The accrued interest of a trade for 0 to 720 days, of a year of 360 or 365: truncated to thousandths
+/// of a dollar and rounded to cents.
+pub fn accrued_cents(coupon: Coupon, par: Par, days: i32, year: i32) -> Cents
+    requires days { (pos 0 ≤ℤ days) × (days ≤ℤ pos 720) }
+    requires year { (year ≡ pos 360) ⊎ (year ≡ pos 365) }
+    ensures value { result
+        ≡ rule.accrued_cents coupon par (unsigned_abs days) (unsigned_abs year) }
     ensures range { result ≤ 60_000_000_000 }
 {
-    let thousandths = accrued_thousandths(coupon.units(), par.units(), days as u64);
+    let thousandths = accrued_thousandths(coupon.units(), par.units(), days as u64, year as u64);
     Cents::new((thousandths + 5) / 10)
 }
 
-fn accrued_thousandths(coupon: u64, par: u64, days: u64) -> u64
+fn accrued_thousandths(coupon: u64, par: u64, days: u64, year: u64) -> u64
     requires coupon { coupon ≤ 300_000_000 }
     requires par { par ≤ 1_000_000_000 }
     requires days { days ≤ 720 }
-    ensures value { result ≡ rule.accrued_thousandths coupon par days }
+    requires year { (360 ≤ year) × (year ≤ 365) }
+    ensures value { result ≡ rule.accrued_thousandths coupon par days year }
     ensures range { result ≤ 600_000_000_000 }
 {
-    (u128::from(coupon) * u128::from(par) * u128::from(days) / 360_000_000) as u64
+    let dividend = u128::from(coupon) * u128::from(par) * u128::from(days);
+    (dividend / (u128::from(year) * 1_000_000)) as u64
 }
 
 /// The principal of a trade, rounded to cents. The price is at most 100,000 dollars.

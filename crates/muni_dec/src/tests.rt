@@ -212,15 +212,19 @@ fn a_par_is_whole_dollars(rt: HostRuntime) -> Result<(), Fail> {
 // 5.5555.. and 171.354.. dollars
 #[test]
 fn accrued_interest_is_truncated_and_then_rounded(rt: HostRuntime) -> Result<(), Fail> {
-    for (coupon, par, days, cents) in [
-        ("4", 10_000, 5, 556),
-        ("5.25", 25_000, 47, 17_135),
-        ("30", 1_000_000_000, 720, 60_000_000_000),
-        ("0.0000001", 1, 1, 0),
+    for (coupon, par, days, year, cents) in [
+        ("4", 10_000, 5, 360, 556),
+        ("5.25", 25_000, 47, 360, 17_135),
+        ("30", 1_000_000_000, 720, 360, 60_000_000_000),
+        ("0.0000001", 1, 1, 360, 0),
+        ("4", 10_000, 182, 365, 19_945),
+        ("5.25", 25_000, 47, 365, 16_901),
+        ("30", 1_000_000_000, 720, 365, 59_178_082_192),
+        ("3.65", 100, 5, 365, 5),
     ] {
         let coupon = Coupon::read(coupon.as_bytes()).ok().ok_or("a coupon")?;
         let par = Par::of(par).ok_or("a par")?;
-        assert_eq!(rt; accrued_cents(coupon, par, days).units(), cents);
+        assert_eq!(rt; accrued_cents(coupon, par, days, year).units(), cents);
     }
     Ok(())
 }
