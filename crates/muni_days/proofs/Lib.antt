@@ -1,4 +1,5 @@
 pub mod CivilLemmas
+pub mod JiffLemmas
 pub mod OrderLemmas
 pub mod DayLemmas
 pub mod FormLemmas

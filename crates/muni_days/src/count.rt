@@ -1,10 +1,31 @@
-//! The 30/360 day count.
+//! The day counts.
 
 ghost use Rattle.std.specs.Prelude.{◌≡◌, ◌≤◌};
+ghost use Rattle.muni_rule.specs.Civil as calendar;
 ghost use Rattle.muni_rule.specs.DayCount as rule;
 ghost use Rattle.muni_days.specs.Day.{civil};
 
 use crate::Day;
+use muni_rule::Basis;
+
+/// The days from one day to another by a basis: those of 30/360, or those of the calendar.
+///
+/// The first day is counted and the last is not. The count is negative where the last is earlier.
+pub fn days_by(basis: Basis, first: Day, last: Day) -> i32
+    ensures { result ≡ rule.days_by basis (civil first) (civil last) }
+{
+    match basis {
+        Basis::Thirty360 => days360(first, last),
+        Basis::Actual365 => civil_days(first, last),
+    }
+}
+
+fn civil_days(first: Day, last: Day) -> i32
+    ensures { result ≡ calendar.civil_days (civil first) (civil last) }
+{
+    let apart = first.date().duration_until(last.date());
+    (apart.as_hours() / 24) as i32
+}
 
 /// The days from one day to another, with months of 30 days and years of 360 (MSRB Rule G-33(e)).
 ///

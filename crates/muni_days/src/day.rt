@@ -4,6 +4,7 @@ ghost use Rattle.std.specs.Cmp.Rules.{comparing};
 ghost use Rattle.std.specs.Ordering.{on, nat_cmp, as_partial_cmp};
 ghost use Rattle.std.proofs.Common.{rules};
 ghost use Rattle.arrayvec.specs.ArrayVec.{array_vec_len};
+ghost use Rattle.jiff.specs.Words.{IsYmd};
 ghost use Rattle.muni_days.specs.Calendar as calendar;
 ghost use Rattle.muni_days.specs.Form.{digits_reading, numbers_reading};
 
@@ -140,6 +141,16 @@ impl Day {
         push_last_digits(text, self.month() as u64, 2);
         text.push(b'-');
         push_last_digits(text, self.day() as u64, 2);
+    }
+
+    /// The date as `jiff` counts the days between dates.
+    pub(crate) fn date(&self) -> civil::Date
+        ensures { IsYmd (pos (civil self.now).year) (pos (civil self.now).month)
+            (pos (civil self.now).day) result }
+    {
+        civil::Date::new(self.year as i16, self.month as i8, self.day as i8).unwrap_or(
+            civil::Date::ZERO,
+        )
     }
 
     fn place(&self) -> u32

@@ -1,4 +1,4 @@
-//! The desk's days, the 30/360 count between them, and steps of whole months.
+//! The desk's days, the counts of days between them, and steps of whole months.
 #![tactic(auto)]
 
 mod count;
@@ -6,9 +6,10 @@ mod day;
 pub mod laws;
 mod months;
 
-pub use count::days360;
+pub use count::{days_by, days360};
 pub use day::{Day, DayFault};
 pub use months::months_on;
+pub use muni_rule::Basis;
 
 #[cfg(test)]
 mod tests;
