@@ -1,7 +1,7 @@
 //! Failures of calls on what stands outside, and the calls in memory that are to fail.
 
 ghost use Rattle.std.specs.Prelude.{◌≡◌, ◌≤◌, IfOk, is_ok, not};
-ghost use Rattle.muni_edge.specs.Calls.{none_made, is_listed, after_call, after_fault};
+ghost use Rattle.muni_edge.specs.Calls.{none_made, is_listed, after_call, after_fault, raised};
 
 use std::alloc::{AllocError, Global};
 use std::marker::Model;
@@ -22,7 +22,7 @@ impl From<AllocError> for NoMemory {
 
 /// The calls of an object in memory, numbered from 0: which of them fail, and the count of faults.
 #[derive(Drop)]
-pub(crate) struct Calls {
+pub struct Calls {
     failing: Vec<u64>,
     made: u64,
     faults: u64,
@@ -37,7 +37,8 @@ impl Model for Calls {
 }
 
 impl Calls {
-    pub(crate) fn new(alloc: Global, failing: &[u64]) -> Result<Calls, NoMemory>
+    /// No call was made yet, and no fault counted. The calls with the listed numbers are to fail.
+    pub fn new(alloc: Global, failing: &[u64]) -> Result<Calls, NoMemory>
         ensures { IfOk result (λ calls. calls ≡ none_made failing.now) }
     {
         Ok(Calls {
@@ -48,7 +49,7 @@ impl Calls {
     }
 
     /// Makes the next call, which fails where it is listed.
-    pub(crate) fn make(&mut self) -> Result<(), Failed>
+    pub fn make(&mut self) -> Result<(), Failed>
         ensures listed { is_ok result ≡ not (is_listed self.old) }
         ensures counted { self.new ≡ after_call self.old }
         ensures later { self.old.faults ≤ self.new.faults }
@@ -62,11 +63,31 @@ impl Calls {
     }
 
     /// Counts a fault.
-    pub(crate) fn fail(&mut self) -> Failed
+    pub fn fail(&mut self) -> Failed
         ensures counted { self.new ≡ after_fault self.old }
         ensures later { self.old.faults ≤ self.new.faults }
     {
         self.faults = self.faults.saturating_add(1);
         Failed
+    }
+    /// The count of faults.
+    pub fn faults(&self) -> u64
+        ensures { result ≡ self.now.faults }
+    {
+        self.faults
+    }
+
+    /// Adds to the count of faults, which stays at the last value of its type.
+    pub fn add_faults(&mut self, faults: u64)
+        ensures { self.new ≡ record self.old { faults = raised self.old.faults faults } }
+    {
+        self.faults = self.faults.saturating_add(faults);
+    }
+
+    /// The same calls with no fault counted.
+    pub fn uncounted(self) -> Calls
+        ensures { result ≡ record self { faults = 0 } }
+    {
+        Calls { faults: 0, ..self }
     }
 }

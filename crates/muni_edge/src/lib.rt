@@ -11,7 +11,7 @@ mod source;
 mod steps;
 
 pub use door::{Door, MemDoor};
-pub use fault::{Failed, NoMemory};
+pub use fault::{Calls, Failed, NoMemory};
 pub use gate::{Gate, NoGate};
 pub use link::{Link, MemLink};
 pub use sink::{MemSink, Sink};
