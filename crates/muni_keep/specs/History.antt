@@ -1,11 +1,17 @@
 -- The versions of one trade.
-use Rattle.std.specs.Prelude.{ℕ, ◌+◌, ◌-◌, ◌==◌, List, [], ◌∷◌, ◌++◌, length, if◌then◌else◌, Option, Some, None, slice_get}
+use Rattle.std.specs.Prelude.{ℕ, ◌+◌, ◌-◌, ◌==◌, List, [], ◌∷◌, ◌++◌, length, if◌then◌else◌, Option, Some, None, slice_get, refl}
+use Rattle.std.specs.Coded.{Coded, code_by, coded×, coded_list}
 
 -- The last version, and those before it in order. So there is at least one, and their numbers are
 -- 1 to the number of the last.
 pub record History (V : Type 0) : Type 0 where
   pub earlier : List V
   pub last : V
+
+-- it is stored as the pair of its fields
+abbrev pub history_code : {V : Type 0} → Coded V → Coded (History V)
+history_code {V} code =
+    code_by (List V × V) (coded× (coded_list code) code) (λ history. (history.earlier, history.last)) (λ pair. record { earlier = pair.0; last = pair.1 }) (λ _. refl)
 
 -- all of them, the first one first
 abbrev pub versions : {V : Type 0} → History V → List V

@@ -1,3 +1,4 @@
 pub mod History
+pub mod MemKeeper
 pub mod Tables
 pub mod Trades

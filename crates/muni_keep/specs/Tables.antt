@@ -1,18 +1,33 @@
 -- The tables of the desk: two finite maps, of its issues and of its trades.
-use Rattle.std.specs.Prelude.{ℕ, ◌-◌, ◌^◌, min, List, map, take, Option}
+use Rattle.std.specs.Prelude.{ℕ, ◌-◌, ◌^◌, min, List, map, take, Option, refl}
 use Rattle.std.specs.Option.{option_map, option_and_then}
-use Rattle.std.specs.FinMap.{FinMap, empty, get, insert, len}
+use Rattle.std.specs.Coded.{Coded, code_by, coded×, coded_ℕ, coded_list}
+use Rattle.std.specs.FinMap.{FinMap, empty, get, insert, len, code as map_code}
+use Rattle.muni_terms.specs.contracts.issue.Issue.{the_row as issue_row}
 use Rattle.muni_terms.specs.declared.row.IssueRow.{IssueRow}
 use Rattle.muni_msg.specs.declared.command.Key.{Key}
 use Rattle.muni_msg.specs.declared.command.Line.{Line}
 use Rattle.muni_msg.specs.declared.version.Version.{Version}
+use Rattle.muni_msg.specs.contracts.version.Version.{the_row as version_row}
 use Rattle.muni_keep.specs.History.{History, count, version_in}
-use Rattle.muni_keep.specs.Trades.{by_bytes, Desks, own, trades_past, put}
+use Rattle.muni_keep.specs.Trades.{by_bytes, Desks, desks_code, own, trades_past, put}
+
+-- the issues by CUSIP
+abbrev pub Issues : Type 0
+Issues = FinMap by_bytes IssueRow
 
 -- the issues by CUSIP, and the versions of trades by desk, reference and number
 pub record Tables : Type 0 where
-  pub issues : FinMap by_bytes IssueRow
+  pub issues : Issues
   pub desks : Desks Version
+
+-- how these are stored
+abbrev pub issues_code : Coded Issues
+issues_code = map_code (coded_list coded_ℕ) issue_row.coded
+
+abbrev pub tables_code : Coded Tables
+tables_code =
+    code_by (Issues × Desks Version) (coded× issues_code (desks_code version_row.coded)) (λ tables. (tables.issues, tables.desks)) (λ pair. record { issues = pair.0; desks = pair.1 }) (λ _. refl)
 
 -- nothing is kept
 abbrev pub no_tables : Tables

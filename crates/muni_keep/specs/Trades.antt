@@ -4,9 +4,12 @@ use Rattle.std.specs.Option.{unwrap_or}
 use Rattle.std.specs.List.{filter}
 use Rattle.std.specs.Ordering.{nat_cmp, is_lt}
 use Rattle.std.specs.declared.cmp.Ordering.{Ordering}
+use Rattle.std.specs.declared.ops.Bound.{Bound}
+use Rattle.std.specs.declared.ops.Bound.TheVariants.{Excluded, Unbounded}
 use Rattle.std.specs.Cmp.Lexicographic.{slice_cmp}
-use Rattle.std.specs.FinMap.{FinMap, empty, get, insert, entries}
-use Rattle.muni_keep.specs.History.{History, grown}
+use Rattle.std.specs.Coded.{Coded, coded_ℕ, coded_list}
+use Rattle.std.specs.FinMap.{FinMap, empty, get, insert, entries, code as map_code}
+use Rattle.muni_keep.specs.History.{History, history_code, grown}
 
 -- the order of names, references and CUSIPs: that of their bytes
 abbrev pub by_bytes : List ℕ → List ℕ → Ordering
@@ -20,6 +23,13 @@ Trades V = FinMap by_bytes (History V)
 abbrev pub Desks : Type 0 → Type 0
 Desks V = FinMap by_bytes (Trades V)
 
+-- maps are stored as lists of their entries
+abbrev pub trades_code : {V : Type 0} → Coded V → Coded (Trades V)
+trades_code code = map_code (coded_list coded_ℕ) (history_code code)
+
+abbrev pub desks_code : {V : Type 0} → Coded V → Coded (Desks V)
+desks_code code = map_code (coded_list coded_ℕ) (trades_code code)
+
 -- a desk's own trades, of which there may be none
 abbrev pub own : {V : Type 0} → List ℕ → Desks V → Trades V
 own desk desks = unwrap_or (get desks desk) empty
@@ -32,6 +42,11 @@ is_past (Some other) reference = is_lt (by_bytes other reference)
 -- the trades after a reference, if one is given, in the order of their references
 abbrev pub trades_past : {V : Type 0} → Option (List ℕ) → Trades V → List (List ℕ × History V)
 trades_past after trades = filter (λ trade. is_past after trade.0) (entries trades)
+
+-- where those after a reference begin
+abbrev pub bound_past : Option (List ℕ) → Bound (List ℕ)
+bound_past None = Unbounded
+bound_past (Some after) = Excluded after
 
 -- with the next version of a trade
 abbrev pub put_own : {V : Type 0} → List ℕ → V → Trades V → Trades V

@@ -1,0 +1,3 @@
+mod MapLemmas
+mod PageLemmas
+mod PastLemmas

@@ -1,0 +1,151 @@
+//! A keeper in memory.
+
+ghost use Rattle.std.specs.Prelude.{◌≡◌, ◌≤◌, ◌↔◌, true, Some, None, IfOk, OnOk, OnErr, IsErrOf};
+ghost use Rattle.std.specs.Result.{result_map_both};
+ghost use Rattle.muni_edge.specs.Calls.{is_listed, after_call};
+ghost use Rattle.muni_keep.specs.History.{next_number};
+ghost use Rattle.muni_keep.specs.Tables.{issue_at, trade_at, version_at, last_at, trade_count, page_at, with_issue, with_version};
+ghost use Rattle.muni_keep.specs.MemKeeper.{new_keeper, after_reading, unless_listed};
+
+use crate::desks::Desks;
+use crate::fault::KeepFault;
+use crate::issues::Issues;
+use crate::keeper::Keeper;
+use crate::page::page;
+use arrayvec::ArrayVec;
+use muni_edge::{Calls, NoMemory};
+use muni_msg::{DeskName, Key, Line, Reference, Version};
+use muni_terms::Issue;
+use std::alloc::Global;
+use std::marker::Model;
+
+/// A keeper in memory. The calls of the listed numbers fail, counted together from 0.
+#[derive(Drop)]
+pub struct MemKeeper {
+    issues: Issues,
+    desks: Desks<Version>,
+    calls: Calls,
+}
+
+impl Model for MemKeeper {
+    ghost use Rattle.muni_keep.specs.MemKeeper.{KeeperState, keeper_code};
+
+    ghost Value = { KeeperState };
+
+    ghost coded = { keeper_code };
+
+    ghost view = { λ keeper. record {
+      tables = record { issues = keeper.issues; desks = keeper.desks };
+      calls = keeper.calls;
+    } };
+}
+
+impl MemKeeper {
+    /// A keeper with empty tables.
+    pub fn new(alloc: Global, failing: &[u64]) -> Result<MemKeeper, NoMemory>
+        ensures { IfOk result (λ keeper. keeper ≡ new_keeper failing.now) }
+    {
+        Ok(MemKeeper {
+            issues: Issues::new(alloc),
+            desks: Desks::new(alloc),
+            calls: Calls::new(alloc, failing)?,
+        })
+    }
+}
+
+impl Keeper for MemKeeper {
+    ghost tables = { λ keeper. Some keeper.tables };
+
+    ghost faults = { λ keeper. keeper.calls.faults };
+
+    ghost mark = { λ _. 0 };
+
+    fn issue(&mut self, cusip: &[u8; 9]) -> Result<Option<Issue>, KeepFault>
+        ensures found { result ≡ unless_listed self.old (issue_at self.old.tables cusip.now) }
+        ensures after { self.new ≡ after_reading self.old }
+        ensures later { self.old.calls.faults ≤ self.new.calls.faults }
+    {
+        self.calls.make()?;
+        match self.issues.get(cusip) {
+            Some(issue) => Ok(Some(issue.copy())),
+            None => Ok(None),
+        }
+    }
+
+    fn put_issue(&mut self, issue: &Issue) -> Result<(), KeepFault>
+        requires { issue_at self.old.tables issue.now.cusip ≡ None }
+
+        ensures kept { OnOk result (self.new.tables ≡ with_issue issue.now self.old.tables) }
+        ensures unchanged { OnErr result (self.new.tables ≡ self.old.tables) }
+        ensures failed { IsErrOf result KeepFault.Failed ↔ (is_listed self.old.calls ≡ true) }
+        ensures calls { self.new.calls ≡ after_call self.old.calls }
+        ensures later { self.old.calls.faults ≤ self.new.calls.faults }
+    {
+        self.calls.make()?;
+        self.issues.put(issue)?;
+        Ok(())
+    }
+
+    fn version(&mut self, key: &Key, number: u32) -> Result<Option<Version>, KeepFault>
+        ensures found { result ≡ unless_listed self.old (version_at self.old.tables key.now number) }
+        ensures after { self.new ≡ after_reading self.old }
+        ensures later { self.old.calls.faults ≤ self.new.calls.faults }
+    {
+        self.calls.make()?;
+        match self.desks.trade(&key.desk, &key.reference) {
+            Some(trade) => Ok(trade.version(number)),
+            None => Ok(None),
+        }
+    }
+
+    fn last(&mut self, key: &Key) -> Result<Option<(u32, Version)>, KeepFault>
+        ensures found { result ≡ unless_listed self.old (last_at self.old.tables key.now) }
+        ensures after { self.new ≡ after_reading self.old }
+        ensures later { self.old.calls.faults ≤ self.new.calls.faults }
+    {
+        self.calls.make()?;
+        match self.desks.trade(&key.desk, &key.reference) {
+            Some(trade) => Ok(Some((trade.count(), trade.last()))),
+            None => Ok(None),
+        }
+    }
+
+    fn put_version(&mut self, key: &Key, number: u32, version: &Version) -> Result<(), KeepFault>
+        requires { number ≡ next_number (trade_at self.old.tables key.now) }
+
+        ensures kept { OnOk result
+            (self.new.tables ≡ with_version key.now version.now self.old.tables) }
+        ensures unchanged { OnErr result (self.new.tables ≡ self.old.tables) }
+        ensures failed { IsErrOf result KeepFault.Failed ↔ (is_listed self.old.calls ≡ true) }
+        ensures calls { self.new.calls ≡ after_call self.old.calls }
+        ensures later { self.old.calls.faults ≤ self.new.calls.faults }
+    {
+        let _fits = number;
+        self.calls.make()?;
+        self.desks.put(&key.desk, &key.reference, *version)?;
+        Ok(())
+    }
+
+    fn trades(&mut self, desk: &DeskName) -> Result<u32, KeepFault>
+        ensures found { result ≡ unless_listed self.old (trade_count self.old.tables desk.now) }
+        ensures after { self.new ≡ after_reading self.old }
+        ensures later { self.old.calls.faults ≤ self.new.calls.faults }
+    {
+        self.calls.make()?;
+        Ok(self.desks.count(desk).min(u32::MAX as usize) as u32)
+    }
+
+    fn page(
+        &mut self,
+        desk: &DeskName,
+        after: &Option<Reference>,
+    ) -> Result<ArrayVec<Line, 50>, KeepFault>
+        ensures found { result_map_both (λ lines. lines.items) (λ fault. fault) result
+            ≡ unless_listed self.old (page_at self.old.tables desk.now after.now) }
+        ensures after { self.new ≡ after_reading self.old }
+        ensures later { self.old.calls.faults ≤ self.new.calls.faults }
+    {
+        self.calls.make()?;
+        Ok(page(&self.desks, desk, after))
+    }
+}
