@@ -1,5 +1,6 @@
 pub mod Asked
 pub mod Fields
+pub mod IssueFields
 pub mod Key
 pub mod Names
 pub mod NameReading

@@ -5,6 +5,7 @@ mod asked;
 mod command;
 mod fields;
 mod figures;
+mod issue_fields;
 mod names;
 mod refusal;
 #[cfg(test)]
@@ -15,6 +16,7 @@ pub use asked::{Asked, Given, Side, Terms};
 pub use command::{Command, Key, Line, Reply};
 pub use fields::{read_call, read_given, read_kind, read_side};
 pub use figures::Figures;
+pub use issue_fields::{read_coupon, read_cusip, read_issue_name};
 pub use names::{DeskName, NameFault, Reference};
 pub use refusal::{Range, Refusal, refusal_name};
 pub use version::{Act, Kept, Version};
