@@ -2,7 +2,7 @@
 use Rattle.std.proofs.Common.{◌≡◌, true, ℕ, ◌≤◌, ℤ, pos, arith}
 use Rattle.std.proofs.lemmas.Bool.Decides.{nat_tests}
 use Rattle.jiff.specs.Words.{days_in_month}
-use Rattle.muni_rule.specs.Civil.{Civil, IsCivil}
+use Rattle.muni_rule.specs.Civil.{Civil, IsCivil, IsOfCalendar}
 use Rattle.muni_days.specs.Calendar.{is_day}
 use Rattle.muni_days.specs.Day.{civil}
 use Rattle.muni_days.specs.declared.day.Day.{Day}
@@ -31,3 +31,10 @@ is_of_desk day = of_desk (civil day) day.real
 
 pub is_civil : (day : Day) → IsCivil (civil day)
 is_civil day = (is_of_desk day).civil
+
+-- and the calendar has it
+of_calendar : (date : Civil) → is_day date ≡ true → IsOfCalendar date
+of_calendar date real = record { month_from = grind (arith, nat_tests); month_to = grind (arith, nat_tests); day_from = grind (arith, nat_tests); day_to = grind (arith, nat_tests) }
+
+pub is_of_calendar : (day : Day) → IsOfCalendar (civil day)
+is_of_calendar day = of_calendar (civil day) day.real

@@ -4,16 +4,17 @@ use Rattle.std.specs.Prelude.{Contains, slice_index_or, int_le}
 use Rattle.std.proofs.lemmas.Int.{ints}
 use Rattle.std.proofs.lemmas.Bool.{and_parts, ltb-true, leb-true}
 use Rattle.muni_rule.specs.Civil.{Civil, IsCivil, order_of, is_before, is_not_after}
-use Rattle.muni_rule.specs.DayCount.{days360}
+use Rattle.muni_rule.specs.DayCount.{days360, days_by}
+use Rattle.muni_rule.specs.declared.basis.Basis.{Basis}
 use Rattle.muni_rule.specs.QuasiDates.{is_quasi_date, quasi_count}
 use Rattle.muni_rule.specs.PaymentLaws.{IsSettlementDate, IsRedeemedAfter, IsCouponRedemption}
 use Rattle.muni_rule.specs.Cusip.{is_cusip}
 use Rattle.muni_rule.specs.Terms.{is_name, is_dated_date, is_interest_day, is_call_price}
-use Rattle.muni_rule.proofs.DayCountLemmas.{days360-not_negative, days360-rise}
+use Rattle.muni_rule.proofs.DayCountLemmas.{days_by-not_negative, days_by-rise}
 use Rattle.muni_rule.proofs.PaymentLemmas.{quasi_count-within, first-own}
 use Rattle.muni_days.specs.Day.{civil}
 use Rattle.muni_days.specs.declared.day.Day.{Day}
-use Rattle.muni_days.proofs.CivilLemmas.{is_civil, is_of_desk}
+use Rattle.muni_days.proofs.CivilLemmas.{is_civil, is_of_calendar, is_of_desk}
 use Rattle.muni_terms.specs.Check as Check
 use Rattle.muni_terms.specs.Issue.{IsRedemption, settles, anchor_by, anchor_of}
 use Rattle.muni_terms.specs.declared.row.Call.{Call}
@@ -21,7 +22,7 @@ use Rattle.muni_terms.specs.declared.row.Kind.{Kind}
 use Rattle.muni_terms.specs.declared.row.Kind.TheVariants.{Periodic, Zero, AtRedemption, Discount}
 use Rattle.muni_terms.specs.declared.row.IssueRow.{IssueRow}
 use Rattle.muni_terms.specs.declared.row.TermsFault.{TermsFault}
-use Rattle.muni_terms.specs.declared.row.TermsFault.TheVariants.{BadCusip, BadOrder, BadDay, BadCoupon, FirstTooLong, CallOffCalendar, CallsNotRising, BadCallPrice, TooLong, BadName}
+use Rattle.muni_terms.specs.declared.row.TermsFault.TheVariants.{BadCusip, BadOrder, BadDay, BadCoupon, FirstTooLong, CallOffCalendar, CallsNotRising, BadCallPrice, TooLong, BadName, BadBasis}
 
 -- a test that does not fail, and what comes behind it
 pub passed : {X : Type 0} (test : Bool) (fault : X) (behind : Option X) → cond (not test) (Some fault) behind ≡ None → (test ≡ true) × (behind ≡ None)
@@ -48,7 +49,8 @@ early-passed row none =
     let order = passed (Check.has_order row) BadOrder _ name.1 in
     let day = passed (Check.has_day row) BadDay _ order.1 in
     let coupon = passed (Check.has_coupon row) BadCoupon _ day.1 in
-    let start = passed (Check.has_short_start row) FirstTooLong _ coupon.1 in
+    let basis = passed (Check.has_basis row) BadBasis _ coupon.1 in
+    let start = passed (Check.has_short_start row) FirstTooLong _ basis.1 in
     let term = passed (Check.has_short_term row) TooLong _ start.1 in
     (order.0, day.0, start.0, term.0)
 
@@ -92,8 +94,8 @@ pub record IsAnchor (dated maturity anchor : Civil) : Type 0 where
   pub quasi : is_quasi_date anchor maturity ≡ true
   pub count : quasi_count anchor dated maturity ≤ 100
 
-anchor-by_kind : (kind : Kind) (dated maturity : Day) (anchor : Civil) → anchor_by kind (civil maturity) ≡ Some anchor → Check.falls_on_day kind (civil maturity) ≡ true → Check.ends_soon kind (civil dated) (civil maturity) ≡ true → IsAnchor (civil dated) (civil maturity) anchor
-anchor-by_kind (Periodic first) dated maturity anchor is_anchor day term =
+anchor-by_kind : (kind : Kind) (basis : Basis) (dated maturity : Day) (anchor : Civil) → anchor_by kind (civil maturity) ≡ Some anchor → Check.falls_on_day kind (civil maturity) ≡ true → Check.ends_soon kind basis (civil dated) (civil maturity) ≡ true → IsAnchor (civil dated) (civil maturity) anchor
+anchor-by_kind (Periodic first) basis dated maturity anchor is_anchor day term =
     let same : civil first ≡ anchor = cc in
     let Is : Civil → Type 0 = λ it. IsAnchor (civil dated) (civil maturity) it in
     let parts = and_parts (is_interest_day (civil first)) (is_quasi_date (civil first) (civil maturity)) day in
@@ -103,7 +105,7 @@ anchor-by_kind (Periodic first) dated maturity anchor is_anchor day term =
       quasi = parts.1;
       count = leb-true (quasi_count (civil first) (civil dated) (civil maturity)) 100 term;
     })
-anchor-by_kind Zero dated maturity anchor is_anchor day term =
+anchor-by_kind Zero basis dated maturity anchor is_anchor day term =
     let same : civil maturity ≡ anchor = cc in
     let Is : Civil → Type 0 = λ it. IsAnchor (civil dated) (civil maturity) it in
     subst Is same (record {
@@ -112,11 +114,11 @@ anchor-by_kind Zero dated maturity anchor is_anchor day term =
       quasi = first-own (civil maturity);
       count = leb-true (quasi_count (civil maturity) (civil dated) (civil maturity)) 100 term;
     })
-anchor-by_kind AtRedemption dated maturity anchor is_anchor day term = absurd (cc)
-anchor-by_kind Discount dated maturity anchor is_anchor day term = absurd (cc)
+anchor-by_kind AtRedemption basis dated maturity anchor is_anchor day term = absurd (cc)
+anchor-by_kind Discount basis dated maturity anchor is_anchor day term = absurd (cc)
 
 pub is_anchor : (row : IssueRow) (anchor : Civil) → IsIssue row → anchor_of row ≡ Some anchor → IsAnchor (civil row.dated) (civil row.maturity) anchor
-is_anchor row anchor issue there = anchor-by_kind row.kind row.dated row.maturity anchor there issue.day issue.term
+is_anchor row anchor issue there = anchor-by_kind row.kind row.basis row.dated row.maturity anchor there issue.day issue.term
 
 call-by_kind : (kind : Kind) (dated maturity anchor date : Civil) → anchor_by kind maturity ≡ Some anchor → Check.is_call_date kind dated maturity date ≡ true → (is_quasi_date anchor date ≡ true) × (is_before date maturity ≡ true)
 call-by_kind (Periodic first) dated maturity anchor date is_anchor on_calendar =
@@ -285,13 +287,16 @@ coupon_redemption row given first settlement redemption price same none is_perio
     let settled = (coupon_settled row given first settlement same none is_periodic settles_given).settled in
     has_coupon_payments row first settlement redemption price (is_issue row none) is_periodic settled (subst Redeems (sym same) redeemed_given) payments
 
+at_most_by : {x y : ℤ} {most : ℤ} → x ≤ℤ y → y ≤ℤ most → x ≤ℤ most
+at_most_by less most = omega (arith, ints, less, most)
+
 -- a note accrues for two years at most
 pub note_accrued : (row given : IssueRow) (settlement : Day) → row ≡ given → Check.fault_of row ≡ None → row.kind ≡ AtRedemption → settles given settlement ≡ true →
-    (pos 0 ≤ℤ days360 (civil row.dated) (civil settlement)) × (days360 (civil row.dated) (civil settlement) ≤ℤ pos 720)
+    (pos 0 ≤ℤ days_by row.basis (civil row.dated) (civil settlement)) × (days_by row.basis (civil row.dated) (civil settlement) ≤ℤ pos 720)
 note_accrued row given settlement same none is_note settles_given =
     let Settles : IssueRow → Type 0 = λ it. settles it settlement ≡ true in
     let issue = is_issue row none in
     let settled = is_settled row settlement issue (subst Settles (sym same) settles_given) in
-    let short = int_le-true (days360 (civil row.dated) (civil row.maturity)) (pos 720) (rw is_note at issue.term) in
-    let rise = days360-rise (civil row.dated) (civil settlement) (civil row.maturity) (is_civil settlement) (is_civil row.maturity) (let below = settled.below in omega arith) in
-    (days360-not_negative (civil row.dated) (civil settlement) (is_civil row.dated) (is_civil settlement) settled.from, omega (arith, ints))
+    let short = int_le-true (days_by row.basis (civil row.dated) (civil row.maturity)) (pos 720) (rw is_note at issue.term) in
+    let rise = days_by-rise row.basis (civil row.dated) (civil settlement) (civil row.maturity) (is_of_calendar settlement) (is_of_calendar row.maturity) (let below = settled.below in omega arith) in
+    (days_by-not_negative row.basis (civil row.dated) (civil settlement) (is_of_calendar row.dated) (is_of_calendar settlement) settled.from, at_most_by rise short)

@@ -3,7 +3,8 @@ use Rattle.std.specs.Prelude.{not, ◌&&◌, ◌==◌, Bool, true, false, nat_lt
 use Rattle.muni_rule.specs.Civil.{Civil, is_before, is_not_after}
 use Rattle.muni_rule.specs.QuasiDates.{is_quasi_date}
 use Rattle.muni_rule.specs.Cusip.{is_cusip}
-use Rattle.muni_rule.specs.Terms.{is_name, is_dated_date, is_interest_day, is_first_interest_short, is_series_short, is_note_short, is_coupon_call_date, is_zero_call_date, is_call_price}
+use Rattle.muni_rule.specs.declared.basis.Basis.{Basis}
+use Rattle.muni_rule.specs.Terms.{is_name, is_dated_date, is_interest_day, is_basis_of_bonds, is_first_interest_short, is_series_short, is_note_short, is_coupon_call_date, is_zero_call_date, is_call_price}
 use Rattle.muni_days.specs.Day.{civil}
 use Rattle.muni_days.specs.declared.day.Day.{Day}
 use Rattle.muni_terms.specs.declared.row.Call.{Call}
@@ -11,7 +12,7 @@ use Rattle.muni_terms.specs.declared.row.Kind.{Kind}
 use Rattle.muni_terms.specs.declared.row.Kind.TheVariants.{Periodic, Zero, AtRedemption, Discount}
 use Rattle.muni_terms.specs.declared.row.IssueRow.{IssueRow}
 use Rattle.muni_terms.specs.declared.row.TermsFault.{TermsFault}
-use Rattle.muni_terms.specs.declared.row.TermsFault.TheVariants.{BadCusip, BadOrder, BadDay, BadCoupon, FirstTooLong, CallOffCalendar, CallsNotRising, BadCallPrice, TooLong, BadName}
+use Rattle.muni_terms.specs.declared.row.TermsFault.TheVariants.{BadCusip, BadOrder, BadDay, BadCoupon, FirstTooLong, CallOffCalendar, CallsNotRising, BadCallPrice, TooLong, BadName, BadBasis}
 
 -- interest is first paid after the dated date and up to maturity, which is after the dated date
 abbrev pub are_in_order : Kind → Civil → Civil → Bool
@@ -47,6 +48,16 @@ pays_interest Discount = false
 abbrev pub has_coupon : IssueRow → Bool
 has_coupon row = if pays_interest row.kind then nat_lt 0 row.coupon else row.coupon == 0
 
+-- only notes count days by actual/365
+abbrev pub counts_by : Kind → Basis → Bool
+counts_by (Periodic first) basis = is_basis_of_bonds basis
+counts_by Zero basis = is_basis_of_bonds basis
+counts_by AtRedemption basis = true
+counts_by Discount basis = true
+
+abbrev pub has_basis : IssueRow → Bool
+has_basis row = counts_by row.kind row.basis
+
 -- the first interest is for 360 days at most
 abbrev pub starts_soon : Kind → Civil → Bool
 starts_soon (Periodic first) dated = is_first_interest_short dated (civil first)
@@ -58,14 +69,14 @@ abbrev pub has_short_start : IssueRow → Bool
 has_short_start row = starts_soon row.kind (civil row.dated)
 
 -- the quasi-coupon dates are 100 at most, and a note runs 720 days at most
-abbrev pub ends_soon : Kind → Civil → Civil → Bool
-ends_soon (Periodic first) dated maturity = is_series_short (civil first) dated maturity
-ends_soon Zero dated maturity = is_series_short maturity dated maturity
-ends_soon AtRedemption dated maturity = is_note_short dated maturity
-ends_soon Discount dated maturity = is_note_short dated maturity
+abbrev pub ends_soon : Kind → Basis → Civil → Civil → Bool
+ends_soon (Periodic first) basis dated maturity = is_series_short (civil first) dated maturity
+ends_soon Zero basis dated maturity = is_series_short maturity dated maturity
+ends_soon AtRedemption basis dated maturity = is_note_short basis dated maturity
+ends_soon Discount basis dated maturity = is_note_short basis dated maturity
 
 abbrev pub has_short_term : IssueRow → Bool
-has_short_term row = ends_soon row.kind (civil row.dated) (civil row.maturity)
+has_short_term row = ends_soon row.kind row.basis (civil row.dated) (civil row.maturity)
 
 -- an issue of this kind can be called on a date; notes cannot be called
 abbrev pub is_call_date : Kind → Civil → Civil → Civil → Bool
@@ -107,9 +118,10 @@ early_fault row =
     else (if not (has_order row) then Some BadOrder
     else (if not (has_day row) then Some BadDay
     else (if not (has_coupon row) then Some BadCoupon
+    else (if not (has_basis row) then Some BadBasis
     else (if not (has_short_start row) then Some FirstTooLong
     else (if not (has_short_term row) then Some TooLong
-    else None))))))
+    else None)))))))
 
 -- what is wrong with a row: the fault of the first test that fails
 unfoldable pub fault_of : IssueRow → Option TermsFault

@@ -1,8 +1,9 @@
 -- What an issue is at a settlement and a redemption.
 use Rattle.std.specs.Prelude.{◌≡◌, ℕ, ◌&&◌, ◌⊎◌, Bool, List, [], Option, Some, None, ℤ, pos, Contains}
 use Rattle.muni_rule.specs.Civil.{Civil, is_before, is_not_after}
-use Rattle.muni_rule.specs.DayCount.{days360}
+use Rattle.muni_rule.specs.DayCount.{days_by}
 use Rattle.muni_rule.specs.Accrued.{coupon_accrued_days}
+use Rattle.muni_rule.specs.declared.basis.Basis.{Basis}
 use Rattle.muni_rule.specs.Payments.{PaymentSeries, coupon_payments, zero_payments, coupon_series, zero_series}
 use Rattle.muni_days.specs.Day.{civil}
 use Rattle.muni_days.specs.declared.day.Day.{Day}
@@ -17,14 +18,15 @@ settles row settlement =
     && is_before (civil settlement) (civil row.maturity)
 
 -- the days for which interest has accrued, by the kind of the issue
-abbrev pub accrued_by : Kind → Civil → Civil → Option ℤ
-accrued_by (Periodic first) dated settlement = coupon_accrued_days dated (civil first) settlement
-accrued_by Zero dated settlement = Some (pos 0)
-accrued_by AtRedemption dated settlement = Some (days360 dated settlement)
-accrued_by Discount dated settlement = Some (pos 0)
+abbrev pub accrued_by : Kind → Basis → Civil → Civil → Option ℤ
+accrued_by (Periodic first) basis dated settlement =
+    coupon_accrued_days dated (civil first) settlement
+accrued_by Zero basis dated settlement = Some (pos 0)
+accrued_by AtRedemption basis dated settlement = Some (days_by basis dated settlement)
+accrued_by Discount basis dated settlement = Some (pos 0)
 
 abbrev pub accrued_days : IssueRow → Day → Option ℤ
-accrued_days row settlement = accrued_by row.kind (civil row.dated) (civil settlement)
+accrued_days row settlement = accrued_by row.kind row.basis (civil row.dated) (civil settlement)
 
 -- the anchor of the quasi-coupon dates, which notes do not have
 abbrev pub anchor_by : Kind → Civil → Option Civil

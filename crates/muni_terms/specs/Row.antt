@@ -2,6 +2,7 @@
 use Rattle.std.specs.Prelude.{ℕ, Bool, nat_eq, List, [], ◌∷◌}
 use Rattle.std.specs.Ordering.{on, eq_of_both}
 use lib.Pointwise.{pointwise}
+use Rattle.muni_rule.specs.DayCount.{year_of}
 use Rattle.muni_days.specs.Day.{place_of}
 use Rattle.muni_terms.specs.declared.row.Call.{Call}
 use Rattle.muni_terms.specs.declared.row.Kind.{Kind}
@@ -36,4 +37,5 @@ row_eq =
     (on (λ row. row.name.items) (pointwise nat_eq)))
     (eq_of_both (on (λ row. row.coupon) nat_eq)
     (eq_of_both (on (λ row. row.kind) kind_eq)
-    (on (λ row. row.calls.items) (pointwise call_eq)))))
+    (eq_of_both (on (λ row. year_of row.basis) nat_eq)
+    (on (λ row. row.calls.items) (pointwise call_eq))))))

@@ -7,15 +7,15 @@ ghost use Rattle.muni_rule.specs.DayCount as count;
 ghost use Rattle.muni_days.specs.Day.{civil};
 
 use crate::quasi_dates::days_into_period;
-use muni_days::{Day, days360};
+use muni_days::{Basis, Day, days_by};
 use muni_dec::Coupon;
 
-/// The days of 30/360 from one day to another that is not earlier.
-pub fn days_to(first: Day, last: Day) -> u32
+/// The days by a basis from one day to another that is not earlier.
+pub fn days_to(basis: Basis, first: Day, last: Day) -> u32
     requires { order_of (civil first) ≤ order_of (civil last) }
-    ensures { pos result ≡ count.days360 (civil first) (civil last) }
+    ensures { pos result ≡ count.days_by basis (civil first) (civil last) }
 {
-    days360(first, last) as u32
+    days_by(basis, first, last) as u32
 }
 
 /// The days for which a coupon has accrued at a settlement.
@@ -29,7 +29,7 @@ pub fn coupon_accrued_days(dated: Day, first: Day, settlement: Day) -> u32
     ensures range { result ≤ 360 }
 {
     if settlement < first {
-        days_to(dated, settlement)
+        days_to(Basis::Thirty360, dated, settlement)
     } else {
         days_into_period(first, settlement)
     }
@@ -42,7 +42,8 @@ fn coupon_units(coupon: Coupon) -> u64
     coupon.units()
 }
 
-/// The interest for up to 720 days, in 1/(360 * 10^9) dollars per 100 of par.
+/// The interest for up to 720 days, in 1/(B * 10^9) dollars per 100 of par, where B is the days of a
+/// year.
 #[tactic(auto, using(muni_rule::proofs::PaymentLemmas::interest_at_most))]
 pub fn interest(coupon: Coupon, days: u32) -> u64
     requires { days ≤ 720 }

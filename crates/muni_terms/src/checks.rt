@@ -9,7 +9,7 @@ ghost use Rattle.muni_terms.specs.Check as spec;
 use crate::cusip::is_cusip;
 use crate::quasi_dates::{is_quasi_date, quasi_count};
 use crate::row::{Call, IssueRow, Kind, TermsFault};
-use muni_days::{Day, days360};
+use muni_days::{Basis, Day, days_by, days360};
 
 fn is_printable(byte: u8) -> bool
     ensures { result ≡ rule.is_printable byte }
@@ -58,6 +58,15 @@ fn has_coupon(row: &IssueRow) -> bool
     }
 }
 
+fn has_basis(row: &IssueRow) -> bool
+    ensures { result ≡ spec.has_basis row.now }
+{
+    match row.kind {
+        Kind::Periodic { .. } | Kind::Zero => row.basis == Basis::Thirty360,
+        Kind::AtRedemption | Kind::Discount => true,
+    }
+}
+
 fn has_short_start(row: &IssueRow) -> bool
     ensures { result ≡ spec.has_short_start row.now }
 {
@@ -75,7 +84,9 @@ fn has_short_term(row: &IssueRow) -> bool
     match row.kind {
         Kind::Periodic { first } => quasi_count(first, row.dated, row.maturity) <= 100,
         Kind::Zero => quasi_count(row.maturity, row.dated, row.maturity) <= 100,
-        Kind::AtRedemption | Kind::Discount => days360(row.dated, row.maturity) <= 720,
+        Kind::AtRedemption | Kind::Discount => {
+            days_by(row.basis, row.dated, row.maturity) <= 720
+        }
     }
 }
 
@@ -97,6 +108,9 @@ fn early_fault(row: &IssueRow) -> Option<TermsFault>
     }
     if !has_coupon(row) {
         return Some(TermsFault::BadCoupon);
+    }
+    if !has_basis(row) {
+        return Some(TermsFault::BadBasis);
     }
     if !has_short_start(row) {
         return Some(TermsFault::FirstTooLong);

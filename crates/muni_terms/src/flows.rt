@@ -11,7 +11,7 @@ ghost use Rattle.muni_days.specs.Day.{civil};
 
 use crate::accrued::{coupon_accrued_days, days_to, half_year_interest, interest};
 use crate::quasi_dates::{days_into_period, quasi_count};
-use muni_days::Day;
+use muni_days::{Basis, Day};
 use muni_dec::{Coupon, Price};
 use std::marker::Model;
 
@@ -178,7 +178,7 @@ fn first_interest(dated: Day, first: Day, coupon: Coupon, settlement: Day) -> u6
     ensures range { result ≤ 10_800_000_000_000 }
 {
     if settlement < first {
-        interest(coupon, days_to(dated, first))
+        interest(coupon, days_to(Basis::Thirty360, dated, first))
     } else {
         half_year_interest(coupon)
     }

@@ -14,7 +14,7 @@ use crate::accrued::coupon_accrued_days;
 use crate::checks::fault_of;
 use crate::flows::{Flows, coupon_flows, zero_flows};
 use crate::row::{IssueRow, Kind, TermsFault};
-use muni_days::{Day, days360};
+use muni_days::{Day, days_by};
 use muni_dec::Price;
 use std::marker::Model;
 
@@ -39,7 +39,7 @@ impl Model for Issue {
 /// The issue with the terms of a row, or the fault of the first test that the row fails.
 ///
 /// The tests are, in this order: the CUSIP, the name, the order of the dates, the day of the month
-/// on which interest falls, the coupon, the length of the first interest and that of the issue. Then
+/// on which interest falls, the coupon, the basis, the length of the first interest and that of the issue. Then
 /// each call in turn is tested: its date, that it rises, and its price.
 pub fn check(row: IssueRow) -> Result<Issue, TermsFault>
     ensures { result ≡ checked row }
@@ -104,7 +104,7 @@ impl Issue {
             Kind::Periodic { first } => {
                 coupon_accrued_days(self.row.dated, first, settlement) as i32
             }
-            Kind::AtRedemption => days360(self.row.dated, settlement),
+            Kind::AtRedemption => days_by(self.row.basis, self.row.dated, settlement),
             Kind::Zero | Kind::Discount => 0,
         }
     }

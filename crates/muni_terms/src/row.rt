@@ -6,7 +6,7 @@ ghost use Rattle.std.proofs.Common.{rules};
 ghost use Rattle.muni_terms.specs.Fault.{fault_number};
 
 use arrayvec::ArrayVec;
-use muni_days::Day;
+use muni_days::{Basis, Day};
 use muni_dec::{Coupon, Price};
 
 /// A pricing call: the issuer may redeem the whole issue on this day at this price.
@@ -47,6 +47,8 @@ pub struct IssueRow {
     /// The name, of printable ASCII.
     pub name: ArrayVec<u8, 60>,
     pub kind: Kind,
+    /// How days are counted, which is 30/360 save for notes.
+    pub basis: Basis,
     /// The day from which interest accrues.
     pub dated: Day,
     pub maturity: Day,
@@ -76,14 +78,16 @@ pub enum TermsFault {
     CallsNotRising { date: Day },
     /// This call's price is not from 1 to 200.
     BadCallPrice { date: Day },
-    /// More than 100 quasi-coupon dates, or a note of more than 720 days of 30/360.
+    /// More than 100 quasi-coupon dates, or a note of more than 720 days by its basis.
     TooLong,
     /// The name is empty, or not of printable ASCII.
     BadName,
+    /// Days are counted by actual/365, and the issue is no note.
+    BadBasis,
 }
 
 impl TermsFault {
-    /// The number of the fault, from 1 to 10.
+    /// The number of the fault, from 1 to 11.
     pub fn number(&self) -> u32
         ensures { result ≡ fault_number self.now }
     {
@@ -98,6 +102,7 @@ impl TermsFault {
             TermsFault::BadCallPrice { .. } => 8,
             TermsFault::TooLong => 9,
             TermsFault::BadName => 10,
+            TermsFault::BadBasis => 11,
         }
     }
 }
@@ -161,6 +166,7 @@ impl PartialEq for IssueRow {
             && same_texts
             && self.coupon == other.coupon
             && self.kind == other.kind
+            && self.basis == other.basis
             && self.calls == other.calls
     }
 }
@@ -178,6 +184,7 @@ impl IssueRow {
             cusip: self.cusip,
             name: copy_name(&self.name),
             kind: self.kind,
+            basis: self.basis,
             dated: self.dated,
             maturity: self.maturity,
             coupon: self.coupon,

@@ -2,7 +2,7 @@ mod payment_cases;
 
 use crate::{Call, Flows, IssueRow, Kind, TermsFault, check};
 use arrayvec::ArrayVec;
-use muni_days::Day;
+use muni_days::{Basis, Day};
 use muni_dec::{Coupon, Price};
 use payment_cases::{WITH_COUPONS, WITHOUT_COUPONS};
 use std::test::Fail;
@@ -30,6 +30,7 @@ fn with_coupons(dated: &str, first: &str, maturity: &str, rate: &str) -> Result<
         cusip: *b"123456AA3",
         name: name(),
         kind: Kind::Periodic { first: day(first)? },
+        basis: Basis::Thirty360,
         dated: day(dated)?,
         maturity: day(maturity)?,
         coupon: coupon(rate)?,
@@ -42,6 +43,7 @@ fn without_coupons(kind: Kind, dated: &str, maturity: &str) -> Result<IssueRow, 
         cusip: *b"123456AA3",
         name: name(),
         kind,
+        basis: Basis::Thirty360,
         dated: day(dated)?,
         maturity: day(maturity)?,
         coupon: coupon("0")?,
@@ -125,6 +127,24 @@ fn a_coupon_stands_exactly_where_there_is_interest(rt: HostRuntime) -> Result<()
     }
     let row = without_coupons(Kind::AtRedemption, "2022-01-01", "2144-01-01")?;
     assert_eq!(rt; check(row).err(), Some(TermsFault::BadCoupon));
+    Ok(())
+}
+
+#[test]
+fn actual_365_is_for_notes_alone(rt: HostRuntime) -> Result<(), Fail> {
+    let mut row = with_coupons("2022-01-01", "2023-01-02", "2144-01-02", "4")?;
+    row.basis = Basis::Actual365;
+    assert_eq!(rt; check(row).err(), Some(TermsFault::BadBasis));
+    let mut row = without_coupons(Kind::Zero, "2022-01-01", "2144-01-01")?;
+    row.basis = Basis::Actual365;
+    assert_eq!(rt; check(row.copy()).err(), Some(TermsFault::BadBasis));
+    row.coupon = coupon("4")?;
+    assert_eq!(rt; check(row).err(), Some(TermsFault::BadCoupon));
+    for (maturity, too_long) in [("2025-12-21", false), ("2025-12-22", true)] {
+        let mut row = without_coupons(Kind::Discount, "2024-01-01", maturity)?;
+        row.basis = Basis::Actual365;
+        assert_eq!(rt; check(row).is_err(), too_long, "{maturity}");
+    }
     Ok(())
 }
 
@@ -308,6 +328,11 @@ fn notes_accrue_from_the_dated_date_and_discounts_not_at_all(rt: HostRuntime) ->
     let note = check(row).ok().ok_or("an issue")?;
     assert!(rt; note.settles(settlement), "settles");
     assert_eq!(rt; note.accrued_days(settlement), 180);
+    let mut row = note.row().copy();
+    row.basis = Basis::Actual365;
+    let note = check(row).ok().ok_or("an issue")?;
+    assert!(rt; note.settles(settlement), "settles");
+    assert_eq!(rt; note.accrued_days(settlement), 182);
     let row = without_coupons(Kind::Discount, "2024-01-31", "2025-01-01")?;
     let discount = check(row).ok().ok_or("an issue")?;
     assert!(rt; discount.settles(settlement), "settles");
@@ -330,6 +355,7 @@ fn faults_are_numbered_in_the_order_of_their_list(rt: HostRuntime) -> Result<(),
         TermsFault::BadCallPrice { date },
         TermsFault::TooLong,
         TermsFault::BadName,
+        TermsFault::BadBasis,
     ];
     for (i, fault) in faults.iter().enumerate() {
         assert_eq!(rt; fault.number() as usize, i + 1);

@@ -12,5 +12,5 @@ coupon_accrued_days-requires c =
 pub returns-in-AtRedemption-clause-range : goal.returns-in-AtRedemption-clause-range
 returns-in-AtRedemption-clause-range c =
     let accrued = note_accrued c.self.inside.row c.args.self.now c.args.settlement c.self.view_is c.self.invariant c.in-AtRedemption.is c.requires in
-    let same : to_z w32 (of_z w32 c.days360.result) ≡ c.days360.result = omega (arith, ints) in
-    rw (same, c.days360.ensures) accrued
+    let same : to_z w32 (of_z w32 c.days_by.result) ≡ c.days_by.result = omega (arith, ints) in
+    rw (same, c.days_by.ensures) accrued
