@@ -2,4 +2,5 @@ pub mod AnswerLemmas
 pub mod DiscountLemmas
 pub mod GrowthLemmas
 pub mod OneAnswer
+pub mod PriceLemmas
 pub mod ShownLemmas

@@ -1,5 +1,6 @@
 -- The answer for a truncated yield, as the code finds it in whole numbers from 0 up.
 use Rattle.std.specs.Prelude.{ℕ, ◌+◌, ◌/◌, nat_le, if◌then◌else◌, pos, neg_ℤ}
+use Rattle.muni_rule.specs.declared.basis.Basis.{Basis}
 use Rattle.muni_rule.specs.Ranges.{one_period_prints}
 use Rattle.muni_rule.specs.SinglePayment.{SinglePayment}
 use Rattle.muni_rule.specs.declared.ranges.YieldRange.{YieldRange}
@@ -7,9 +8,9 @@ use Rattle.muni_simple.specs.declared.yields.SimpleYield.{SimpleYield}
 use Rattle.muni_simple.specs.declared.yields.SimpleYield.TheVariants.{Print, Below, Above}
 
 -- a payment of amounts from 0 up
-abbrev pub natural_payment : ℕ → ℕ → ℕ → SinglePayment
-natural_payment due accrued left =
-    record { due = pos due; accrued = pos accrued; left = pos left }
+abbrev pub natural_payment : ℕ → ℕ → ℕ → Basis → SinglePayment
+natural_payment due accrued left basis =
+    record { due = pos due; accrued = pos accrued; left = pos left; basis = basis }
 
 -- the yields that are printed, from the least one, which is given by its magnitude
 abbrev pub printed_from : ℕ → YieldRange

@@ -4,6 +4,7 @@
 mod discount;
 mod price;
 mod single;
+mod units;
 mod yields;
 
 pub use discount::{discount_return, rate_price, rate_return};

@@ -1,10 +1,11 @@
 //! The dollar price at a yield.
 
 ghost use Rattle.std.specs.Prelude.{◌≡◌, ◌↔◌, ◌+◌, ◌*◌, ◌<◌, ◌≤◌, ◌≤ℤ◌, pos, MatchOption, IfSome};
-ghost use Rattle.muni_rule.specs.Printed.{IsPrintedPrice, IsBelowZero};
+ghost use Rattle.muni_rule.specs.Printed.{IsPrintedPriceBy, IsBelowZero};
 ghost use Rattle.muni_rule.specs.SinglePayment as rule;
 ghost use Rattle.muni_simple.specs.Single.{IsSingle, IsGivenYield, IsPriceAnswer, PrintsAtMost, payment_of};
 
+use crate::units::no_growth;
 use crate::{Shape1, Single};
 use muni_dec::{Price3, Yield};
 
@@ -17,17 +18,15 @@ pub enum SimplePrice {
     BelowZero,
 }
 
-// One year, in units of 10^-6 and days of 30/360.
-const YEAR: u128 = 360_000_000;
-
 /// The dollar price at a yield of one payment to come (MSRB Rule G-33(b)(i)), without accrued
-/// interest. The yield is simple interest over 30/360.
+/// interest. The yield is simple interest over the days left, by the basis.
 ///
 /// A yield is from -90 to 999.999 percent, and from -45 with interest at redemption.
 pub fn single_price(single: &Single, shape: Shape1, y: Yield) -> SimplePrice
     requires single { IsSingle shape single.now }
     requires y { IsGivenYield shape y }
-    ensures exact { IsPriceAnswer (rule.AtLeast (payment_of single.now) y) result }
+    ensures exact { IsPriceAnswer single.now.basis (rule.AtLeast (payment_of single.now) y)
+        result }
     ensures below_zero { (result ≡ SimplePrice.BelowZero)
         ↔ IsBelowZero (rule.AtLeast (payment_of single.now) y) }
     ensures range { PrintsAtMost 100_000_000 result }
@@ -44,12 +43,13 @@ fn thousandths_reached(single: &Single, shape: Shape1, y: Yield) -> Option<u64>
     requires y { IsGivenYield shape y }
     ensures small { IfSome result (λ t. t ≤ 100_000_000) }
     ensures exact { MatchOption result (IsBelowZero (rule.AtLeast (payment_of single.now) y))
-        (IsPrintedPrice (rule.AtLeast (payment_of single.now) y)) }
+        (IsPrintedPriceBy single.now.basis (rule.AtLeast (payment_of single.now) y)) }
 {
     truncated(
         single.due as u64,
         single.accrued as u64,
         growth(single, shape, y),
+        no_growth(single.basis),
     )
 }
 
@@ -59,23 +59,24 @@ fn growth(single: &Single, shape: Shape1, y: Yield) -> u64
     ensures value { pos result ≡ rule.growth (payment_of single.now) y }
     ensures range { (36_000_000 ≤ result) × (result ≤ 7_600_000_000) }
 {
-    (YEAR as i64 + i64::from(single.left) * y.units()) as u64
+    (no_growth(single.basis) as i64 + i64::from(single.left) * y.units()) as u64
 }
 
-// due / growth - accrued in thousandths, if it is not below zero.
-fn truncated(due: u64, accrued: u64, growth: u64) -> Option<u64>
+// due / growth - accrued in thousandths, if it is not below zero, where one is no growth.
+fn truncated(due: u64, accrued: u64, growth: u64, one: u64) -> Option<u64>
     requires due { due ≤ 1_000_000_000_000_000 }
     requires accrued { accrued ≤ 1_000_000_000_000_000 }
     requires growth { (36_000_000 ≤ growth) × (growth ≤ 7_600_000_000) }
+    requires one { (360_000_000 ≤ one) × (one ≤ 365_000_000) }
     ensures small { IfSome result (λ t. t ≤ 100_000_000) }
-    ensures exact { MatchOption result (due * 360_000_000 < accrued * growth)
-        (λ t. ((360_000_000 * t + accrued) * growth ≤ due * 360_000_000)
-        × (due * 360_000_000 < (360_000_000 * (t + 1) + accrued) * growth)) }
+    ensures exact { MatchOption result (due * one < accrued * growth)
+        (λ t. ((one * t + accrued) * growth ≤ due * one)
+        × (due * one < (one * (t + 1) + accrued) * growth)) }
 {
-    let worth = u128::from(due) * YEAR;
+    let worth = u128::from(due) * u128::from(one);
     let taken_off = u128::from(accrued) * u128::from(growth);
     if worth < taken_off {
         return None;
     }
-    Some(((worth - taken_off) / (u128::from(growth) * YEAR)) as u64)
+    Some(((worth - taken_off) / (u128::from(growth) * u128::from(one))) as u64)
 }
