@@ -4,7 +4,7 @@ ghost use Rattle.std.specs.Prelude.{◌≤◌, IfSome};
 
 use crate::Sample;
 use arrayvec::ArrayVec;
-use muni_days::Day;
+use muni_days::{Basis, Day};
 use muni_dec::{Coupon, Price};
 use muni_terms::{Call, Flows, Issue, IssueRow, Kind, check};
 
@@ -17,6 +17,7 @@ impl<'a> Sample<'a> {
             cusip: *b"123456AA3",
             name,
             kind: self.kind()?,
+            basis: self.basis(),
             dated: self.day("dated=")?,
             maturity: self.day("maturity=")?,
             coupon: self.coupon("coupon=").unwrap_or(Coupon::new(0)),
@@ -57,6 +58,14 @@ impl<'a> Sample<'a> {
             return Some(Kind::Discount);
         }
         None
+    }
+
+    fn basis(&self) -> Basis {
+        if self.has("actual/365") {
+            Basis::Actual365
+        } else {
+            Basis::Thirty360
+        }
     }
 
     fn calls(&self) -> Option<ArrayVec<Call, 40>> {

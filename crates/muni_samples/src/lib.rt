@@ -3,7 +3,8 @@
 //! A line is words with blanks between them. A line `base ..` is no case: its words go before those
 //! of each line behind it, up to the next `base`, which may have none. A line `# ..` is a comment. An
 //! issue is its kind (`periodic`, `zero`, `at-redemption` or `discount`), `dated=`, `first=`,
-//! `maturity=`, `coupon=` and `call=DATE:PRICE`, once for each call; `settle=` is a settlement.
+//! `maturity=`, `coupon=` and `call=DATE:PRICE`, once for each call, and for a note of that basis
+//! `actual/365`; `settle=` is a settlement.
 #![tactic(auto)]
 
 mod issue;
