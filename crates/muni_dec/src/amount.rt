@@ -141,6 +141,9 @@ impl Coupon {
 }
 
 impl Fee {
+    /// No commission.
+    pub const ZERO: Fee = Amount { units: 0 };
+
     /// Reads a commission with at most three decimals, as `0.125`.
     #[tactic(auto, unfolding(crate::specs::Values::fee_reading))]
     pub fn read(text: &[u8]) -> Result<Fee, DecFault>
