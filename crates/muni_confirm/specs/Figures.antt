@@ -1,5 +1,5 @@
 -- The lines that show the figures of a trade.
-use Rattle.std.specs.Prelude.{ℕ, List, [], ◌∷◌, ◌++◌, codes}
+use Rattle.std.specs.Prelude.{ℕ, nat_lt, if◌then◌else◌, List, [], ◌∷◌, ◌++◌, codes}
 use Rattle.std.specs.Fmt.{signed_decimal}
 use Rattle.muni_dec.specs.Decimal.{decimal_text, signed_text}
 use Rattle.muni_days.specs.Day.{civil, day_text}
@@ -51,14 +51,21 @@ redemption_line figures =
 abbrev pub days_line : Figures → List ℕ
 days_line figures = line (codes "ACCRUED DAYS" ∷ signed_decimal figures.days ∷ [])
 
+-- a commission has a line where one is asked
+abbrev pub commission_line : Figures → ℕ → List ℕ
+commission_line figures fee =
+    if nat_lt 0 fee then line (codes "COMMISSION" ∷ decimal_text 2 figures.commission ∷ []) else []
+
 -- the money, in dollars
-abbrev pub money_lines : Figures → List ℕ
-money_lines figures =
+abbrev pub money_lines : Figures → ℕ → List ℕ
+money_lines figures fee =
     line (codes "PRINCIPAL" ∷ decimal_text 2 figures.principal ∷ [])
     ++ line (codes "ACCRUED" ∷ decimal_text 2 figures.accrued ∷ [])
+    ++ commission_line figures fee
     ++ line (codes "TOTAL" ∷ decimal_text 2 figures.total ∷ [])
 
 -- the lines of the figures, in their order
-unfoldable pub figure_text : Figures → Given → List ℕ
-figure_text figures given =
-    price_lines figures given ++ redemption_line figures ++ days_line figures ++ money_lines figures
+unfoldable pub figure_text : Figures → Given → ℕ → List ℕ
+figure_text figures given fee =
+    price_lines figures given ++ redemption_line figures ++ days_line figures
+    ++ money_lines figures fee

@@ -3,9 +3,10 @@
 ghost use Rattle.std.specs.Prelude.{◌≡◌, ◌+◌, ◌≤◌, ◌++◌, [], ◌∷◌, length};
 ghost use Rattle.arrayvec.specs.ArrayVec.{array_vec_len};
 ghost use Rattle.muni_dec.specs.Line.{line};
-ghost use Rattle.muni_confirm.specs.Figures.{price_source, yield_source, rate_line, price_lines, label_text, redemption_line, money_lines, figure_text};
+ghost use Rattle.muni_confirm.specs.Figures.{price_source, yield_source, rate_line, price_lines, label_text, redemption_line, commission_line, money_lines, figure_text};
 
 use arrayvec::ArrayVec;
+use muni_dec::Fee;
 use muni_dec::text::{push, push_line, push_number_line, push_part};
 use muni_msg::{Figures, Given};
 use muni_terms::Label;
@@ -95,33 +96,47 @@ fn push_redemption_line(text: &mut ArrayVec<u8, 512>, figures: &Figures)
     text.push(b'\n');
 }
 
-fn push_money_lines(text: &mut ArrayVec<u8, 512>, figures: &Figures)
+fn push_commission_line(text: &mut ArrayVec<u8, 512>, figures: &Figures, fee: Fee)
+    requires { array_vec_len text.old ≤ 450 }
+    ensures items { text.new.items ≡ text.old.items ++ commission_line figures.now fee }
+    ensures len { array_vec_len text.new ≤ array_vec_len text.old + 41 }
+{
+    if fee.units() > 0 {
+        let mut value = ArrayVec::new();
+        figures.commission.print_into(&mut value);
+        push_line(text, b"COMMISSION", &value);
+    }
+}
+
+fn push_money_lines(text: &mut ArrayVec<u8, 512>, figures: &Figures, fee: Fee)
     requires { array_vec_len text.old ≤ 350 }
-    ensures items { text.new.items ≡ text.old.items ++ money_lines figures.now }
-    ensures len { array_vec_len text.new ≤ array_vec_len text.old + 114 }
+    ensures items { text.new.items ≡ text.old.items ++ money_lines figures.now fee }
+    ensures len { array_vec_len text.new ≤ array_vec_len text.old + 155 }
 {
     let mut value = ArrayVec::new();
     figures.principal.print_into(&mut value);
     push_line(text, b"PRINCIPAL", &value);
     figures.accrued.print_into(&mut value);
     push_line(text, b"ACCRUED", &value);
+    push_commission_line(text, figures, fee);
     figures.total.print_into(&mut value);
     push_line(text, b"TOTAL", &value);
 }
 
 /// Replaces the text by the lines of the figures, each with its line end: the price, the yield, a
-/// given discount rate, the disclosed redemption, the days of accrued interest, and the money.
+/// given discount rate, the disclosed redemption, the days of accrued interest, and the money. The
+/// commission has a line where the fee is above 0.
 ///
 /// A price or a yield is shown with three decimals, a rate with four, a redemption price with six,
 /// and money in dollars with two.
 #[tactic(auto, unfolding(crate::specs::Figures::figure_text))]
-pub fn figure_lines(figures: &Figures, given: &Given, text: &mut ArrayVec<u8, 512>)
-    ensures items { text.new.items ≡ figure_text figures.now given.now }
-    ensures len { array_vec_len text.new ≤ 333 }
+pub fn figure_lines(figures: &Figures, given: &Given, fee: Fee, text: &mut ArrayVec<u8, 512>)
+    ensures items { text.new.items ≡ figure_text figures.now given.now fee }
+    ensures len { array_vec_len text.new ≤ 374 }
 {
     text.clear();
     push_price_lines(text, figures, given);
     push_redemption_line(text, figures);
     push_number_line(text, b"ACCRUED DAYS", figures.days);
-    push_money_lines(text, figures);
+    push_money_lines(text, figures, fee);
 }

@@ -1,7 +1,7 @@
 use crate::{figure_lines, refusal_line};
 use arrayvec::ArrayVec;
 use muni_days::Day;
-use muni_dec::{Cents, Coupon, Par, Price, Price3, Yield, Yield3};
+use muni_dec::{Cents, Coupon, Fee, Par, Price, Price3, Yield, Yield3};
 use muni_msg::{Act, Asked, Figures, Given, Kept, Range, Refusal, Side, Terms, Version};
 use muni_terms::{Boundary, Issue, IssueRow, Kind, Label, TermsFault, check};
 use std::test::Fail;
@@ -25,6 +25,7 @@ fn figures() -> Result<Figures, Fail> {
         days: 90,
         principal: Cents::of(10_073).ok_or("cents")?,
         accrued: Cents::of(125).ok_or("cents")?,
+        commission: Cents::ZERO,
         total: Cents::of(10_198).ok_or("cents")?,
     })
 }
@@ -35,13 +36,12 @@ fn version() -> Result<Version, Fail> {
         par: Par::of(100).ok_or("a par")?,
         settle: day("2024-04-01")?,
         given: Given::AtYield(yld("4")?),
+        side: Side::Buy,
+        fee: Fee::ZERO,
     };
     Ok(Version {
         act: Act::Entered,
-        terms: Terms {
-            asked,
-            side: Side::Buy,
-        },
+        terms: Terms { asked },
         figures: figures()?,
     })
 }
@@ -65,7 +65,12 @@ fn issue() -> Result<Issue, Fail> {
 fn figures_at_a_yield_have_seven_lines(rt: HostRuntime) -> Result<(), Fail> {
     let mut text = ArrayVec::new();
     text.push(b'x');
-    figure_lines(&figures()?, &Given::AtYield(yld("4")?), &mut text);
+    figure_lines(
+        &figures()?,
+        &Given::AtYield(yld("4")?),
+        Fee::ZERO,
+        &mut text,
+    );
     assert_eq!(rt;
         text.as_slice(),
         b"PRICE 100.725 COMPUTED
@@ -95,7 +100,7 @@ fn figures_at_a_discount_rate_have_a_line_for_it(rt: HostRuntime) -> Result<(), 
         ..figures()?
     };
     let mut text = ArrayVec::new();
-    figure_lines(&note, &Given::AtRate(yld("3")?), &mut text);
+    figure_lines(&note, &Given::AtRate(yld("3")?), Fee::ZERO, &mut text);
     assert_eq!(rt;
         text.as_slice(),
         b"PRICE 99.250 COMPUTED
@@ -122,7 +127,7 @@ fn a_given_price_and_a_call_are_named(rt: HostRuntime) -> Result<(), Fail> {
     };
     let price = Price::of(100_725_000).ok_or("a price")?;
     let mut text = ArrayVec::new();
-    figure_lines(&called, &Given::AtPrice(price), &mut text);
+    figure_lines(&called, &Given::AtPrice(price), Fee::ZERO, &mut text);
     assert_eq!(rt;
         text.as_slice(),
         b"PRICE 100.725 GIVEN
@@ -132,6 +137,37 @@ ACCRUED DAYS 90
 PRINCIPAL 100.73
 ACCRUED 1.25
 TOTAL 101.98
+"
+            .as_slice()
+    );
+    Ok(())
+}
+
+// Par of 25,000 of the bond, bought at 100.625 with a commission of 0.001.
+#[test]
+fn a_commission_has_a_line_behind_accrued_interest(rt: HostRuntime) -> Result<(), Fail> {
+    let bought = Figures {
+        price: Price3::of(100_625).ok_or("a price")?,
+        yld: Yield3::of(4_135).ok_or("a yield")?,
+        principal: Cents::of(2_515_625).ok_or("cents")?,
+        accrued: Cents::of(31_250).ok_or("cents")?,
+        commission: Cents::of(25).ok_or("cents")?,
+        total: Cents::of(2_546_900).ok_or("cents")?,
+        ..figures()?
+    };
+    let price = Price::of(100_625_000).ok_or("a price")?;
+    let mut text = ArrayVec::new();
+    figure_lines(&bought, &Given::AtPrice(price), Fee::new(1), &mut text);
+    assert_eq!(rt;
+        text.as_slice(),
+        b"PRICE 100.625 GIVEN
+YIELD 4.135 COMPUTED
+REDEMPTION 2025-01-01 100.000000 MATURITY
+ACCRUED DAYS 90
+PRINCIPAL 25156.25
+ACCRUED 312.50
+COMMISSION 0.25
+TOTAL 25469.00
 "
             .as_slice()
     );
@@ -150,10 +186,16 @@ fn the_longest_figures_have_room(rt: HostRuntime) -> Result<(), Fail> {
         days: i32::MIN,
         principal: greatest,
         accrued: greatest,
+        commission: greatest,
         total: greatest,
     };
     let mut text = ArrayVec::new();
-    figure_lines(&longest, &Given::AtRate(yld("-99.9999")?), &mut text);
+    figure_lines(
+        &longest,
+        &Given::AtRate(yld("-99.9999")?),
+        Fee::new(10_000),
+        &mut text,
+    );
     assert_eq!(rt;
         text.as_slice(),
         b"PRICE 9223372036854775.807 COMPUTED
@@ -163,6 +205,7 @@ REDEMPTION 2199-12-31 999.999999 PAR OPTION
 ACCRUED DAYS -2147483648
 PRINCIPAL 92233720368547758.07
 ACCRUED 92233720368547758.07
+COMMISSION 92233720368547758.07
 TOTAL 92233720368547758.07
 "
             .as_slice()
