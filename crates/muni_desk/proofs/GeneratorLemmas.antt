@@ -1,5 +1,5 @@
 -- The dates and the calls of a generated security, and the states of the generator.
-use Rattle.std.proofs.Common.{◌≡◌, ℕ, ◌+◌, ◌*◌, ◌++◌, ◌∙◌, ◌≤◌, List, [], ◌∷◌, map, refl, ap, sym, arith, ℤ, pos, ◌+ℤ◌, unsigned_abs}
+use Rattle.std.proofs.Common.{◌≡◌, ℕ, ◌+◌, ◌*◌, ◌++◌, ◌∙◌, ◌≤◌, List, [], ◌∷◌, map, refl, ap, sym, add-one, arith, ℤ, pos, ◌+ℤ◌, unsigned_abs}
 use native.Mathlib.Numerals.{add_seven}
 use Rattle.std.proofs.lemmas.Int.{ints}
 use Rattle.std.proofs.lemmas.List.FromFn.{filter_of_map_range_with_len_more}
@@ -12,7 +12,7 @@ use Rattle.muni_terms.specs.declared.row.IssueRow.{IssueRow}
 use Rattle.muni_terms.specs.declared.row.Kind.TheVariants.{Periodic}
 use Rattle.muni_sched.specs.Candidates.{call_redemption}
 use Rattle.muni_msg.specs.declared.asked.Asked.{Asked}
-use Rattle.muni_desk.specs.Generator.{state_after, day_in_2020, interest_date, call_at, if_before, calls_before, IsGenerated, IsGeneratedRow, IsGeneratedAsked}
+use Rattle.muni_desk.specs.Generator.{next_state, state_after, day_in_2020, interest_date, call_at, if_before, calls_before, IsGenerated, IsGeneratedRow, IsGeneratedAsked}
 use Rattle.muni_desk.specs.declared.request.QuoteRequest.{QuoteRequest}
 
 -- no calls, and one call more
@@ -29,6 +29,10 @@ pub state-later : (seed place : ℕ) → state_after (state_after seed (7 * plac
 state-later seed place =
     let more : 7 * place + 7 ≡ 7 * (place + 1) = omega arith in
     ap (state_after seed) (sym (add_seven (7 * place)) ∙ more)
+
+-- and one draw more
+pub one-draw : (seed draws now next : ℕ) → now ≡ state_after seed draws → next ≡ next_state now → next ≡ state_after seed (draws + 1)
+one-draw seed draws now next so_far more = more ∙ ap next_state so_far ∙ ap (state_after seed) (sym (add-one draws))
 
 -- ---- one request is generated
 calls-same : (calls others : List Call) → map call_redemption calls ≡ map call_redemption others → calls ≡ others

@@ -94,6 +94,16 @@ pub record HaveAnswer (before : Sums) (maturity : Civil) (answer : Result Figure
   pub accrued : sums.accrued ≡ before.accrued + accrued_of answer
   pub called : sums.called ≡ before.called + cond (is_called maturity answer) 1 0
 
+-- these are two sums together
+pub record AreTogether (one other sums : Sums) : Type 0 where
+  pub trades : sums.trades ≡ one.trades + other.trades
+  pub printed : sums.printed ≡ one.printed + other.printed
+  pub undecided : sums.undecided ≡ one.undecided + other.undecided
+  pub outside : sums.outside ≡ one.outside + other.outside
+  pub yields : sums.yields ≡ one.yields +ℤ other.yields
+  pub accrued : sums.accrued ≡ one.accrued + other.accrued
+  pub called : sums.called ≡ one.called + other.called
+
 -- the sums are as small as the number of trades makes them
 pub record AreSmall (sums : Sums) : Type 0 where
   pub printed : sums.printed ≤ sums.trades

@@ -159,7 +159,7 @@ fn the_lowest_figure_over_the_schedule_is_disclosed(rt: HostRuntime) -> Result<(
 
 #[test]
 fn sums_of_generated_books_are_the_exact_ones(rt: HostRuntime) -> Result<(), Fail> {
-    answers_are_right(&rt, rt.alloc(), drill_cases::CASES, 39)
+    answers_are_right(&rt, rt.alloc(), drill_cases::CASES, 46)
 }
 
 #[test]

@@ -43,6 +43,18 @@ impl Generator {
         Generator { state: seed }
     }
 
+    /// A generator that has made so many trades from a seed.
+    pub fn behind(seed: u64, trades: u64) -> Generator
+        requires { trades ≤ 1_000 }
+        ensures { result ≡ spec.state_after seed (7 * trades) }
+    {
+        let mut generator = Generator::new(seed);
+        for draws in 0..7 * trades {
+            let _ = generator.draw();
+        }
+        generator
+    }
+
     #[tactic(auto, unfolding(crate::specs::Generator::next_state, crate::specs::Generator::drawn))]
     fn draw(&mut self) -> u64
         ensures state { self.new ≡ spec.next_state self.old }

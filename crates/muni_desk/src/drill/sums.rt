@@ -1,9 +1,9 @@
 //! The sums over a book of trades and the answers to them.
 
-ghost use Rattle.std.specs.Prelude.{◌≡◌, ◌<◌, ◌≤◌, [], IfOk};
+ghost use Rattle.std.specs.Prelude.{◌≡◌, ◌+◌, ◌<◌, ◌≤◌, [], IfOk};
 ghost use Rattle.muni_days.specs.Day.{civil};
 ghost use Rattle.muni_desk.specs.Sums as spec;
-ghost use Rattle.muni_desk.specs.Sums.{AreSums, HaveAnswer, AreSmall};
+ghost use Rattle.muni_desk.specs.Sums.{AreSums, HaveAnswer, AreTogether, AreSmall};
 
 use arrayvec::ArrayVec;
 use muni_days::Day;
@@ -66,6 +66,24 @@ impl Sums {
             Err(Refusal::Undecided { .. }) => self.undecided += 1,
             Err(Refusal::YieldBelow { .. } | Refusal::YieldAbove) => self.outside += 1,
             Err(_) => {}
+        }
+    }
+
+    /// The sums over these trades and others.
+    pub fn plus(&self, other: &Sums) -> Sums
+        requires few { self.now.trades + other.now.trades ≤ 1_000 }
+        requires small { AreSmall self.now }
+        requires others_small { AreSmall other.now }
+        ensures { AreTogether self.now other.now result }
+    {
+        Sums {
+            trades: self.trades + other.trades,
+            printed: self.printed + other.printed,
+            undecided: self.undecided + other.undecided,
+            outside: self.outside + other.outside,
+            yields: self.yields + other.yields,
+            accrued: self.accrued.plus(other.accrued),
+            called: self.called + other.called,
         }
     }
 

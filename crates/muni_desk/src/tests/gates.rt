@@ -229,3 +229,14 @@ fn the_gate_is_told_of_the_searches_of_a_drill(rt: HostRuntime) -> Result<(), Fa
     assert!(rt; watching.starts.load(Ordering::SeqCst) > 0);
     Ok(())
 }
+
+#[test]
+fn trades_of_a_drill_are_answered_side_by_side(rt: HostRuntime) -> Result<(), Fail> {
+    let gate = meeting_of(2, 100_000_000);
+    let mut output = sink(rt.alloc(), 512, &[])?;
+    let words = words_of(rt.alloc(), "drill --count=2 --seed=7 --workers=2")?;
+    let status = desk(&rt, words.as_slice(), &mut output, &Horner, &gate);
+    assert_eq!(rt; status, Status::Done);
+    assert_eq!(rt; gate.most.load(Ordering::SeqCst), 2);
+    Ok(())
+}
