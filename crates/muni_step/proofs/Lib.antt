@@ -1,0 +1,3 @@
+pub mod OutcomeLemmas
+pub mod PlanLemmas
+pub mod ReadyLemmas
