@@ -1,0 +1,57 @@
+//! The calls of an issue in one field.
+
+ghost use Rattle.std.specs.Prelude.{◌≡◌, ◌==◌, ◌<◌, ◌∷◌, length, position, IfSome};
+ghost use Rattle.std.specs.Option.{option_map};
+ghost use Rattle.muni_import.specs.Calls as spec;
+
+use arrayvec::ArrayVec;
+use muni_msg::read_call;
+use muni_terms::Call;
+
+/// At most 40 calls, as `2027-01-01:102 2028-01-01:100`. An empty text names none.
+#[tactic(auto, unfolding(crate::specs::Calls::calls_field))]
+pub(crate) fn read_calls(text: &[u8]) -> Option<ArrayVec<Call, 40>>
+    ensures { option_map (λ calls. calls.items) result ≡ spec.calls_field text.now }
+{
+    if text.is_empty() {
+        return Some(ArrayVec::new());
+    }
+    read_some_calls(text)
+}
+
+fn read_some_calls(text: &[u8]) -> Option<ArrayVec<Call, 40>>
+    ensures { option_map (λ calls. calls.items) result
+        ≡ spec.few_calls (spec.cut_at_blanks text.now) }
+{
+    let mut calls = ArrayVec::new();
+    let mut rest = text;
+    for count in 0..40usize {
+        let _count = count;
+        let (call, behind) = split_at_blank(rest);
+        calls.push(read_call(call)?);
+        let Some(behind) = behind else {
+            return Some(calls);
+        };
+        rest = behind;
+    }
+    None
+}
+
+// What stands before the first blank, and behind it where there is one.
+#[tactic(auto, using(crate::proofs::BlankLemmas::cut_at, crate::proofs::BlankLemmas::uncut))]
+fn split_at_blank(text: &[u8]) -> (&[u8], Option<&[u8]>)
+    ensures { spec.cut_at_blanks text.now
+        ≡ result.0.now ∷ spec.cut_behind (option_map (λ behind. behind.now) result.1) }
+{
+    match find_blank(text) {
+        Some(blank) => (&text[..blank], Some(&text[blank + 1..])),
+        None => (text, None),
+    }
+}
+
+fn find_blank(text: &[u8]) -> Option<usize>
+    ensures value { result ≡ position (λ b. b == 32) text.now }
+    ensures inside { IfSome result (λ blank. blank < length text.now) }
+{
+    text.iter().position(|b| *b == b' ')
+}

@@ -1,0 +1,247 @@
+//! What a row asks for.
+
+ghost use Rattle.std.specs.Prelude.{◌≡◌, ◌≤◌};
+ghost use Rattle.std.specs.Option.{option_map};
+ghost use Rattle.csv.specs.Records.{fields_of};
+ghost use Rattle.muni_import.specs.Fault.{fault_number};
+ghost use Rattle.muni_import.specs.Row as spec;
+
+use crate::calls::read_calls;
+use csv::ByteRecord;
+use muni_days::Day;
+use muni_dec::digits::read_number;
+use muni_dec::{Fee, Par};
+use muni_msg::{Asked, Command, DeskName, Given, Key, Reference, Terms};
+use muni_msg::{read_coupon, read_cusip, read_given, read_issue_name, read_kind, read_side};
+use muni_terms::{IssueRow, Kind};
+
+/// Why a row is no command.
+#[derive(Clone, Copy, Debug, PartialEq, Eq)]
+pub enum RowFault {
+    /// It has another number of fields than its name asks for.
+    FieldCount,
+    /// This is the first column, counted from 1, that does not read. It is the first of all where
+    /// the row has no name.
+    BadField { column: u32 },
+}
+
+impl RowFault {
+    /// The number of the fault, 1 or 2.
+    pub fn number(&self) -> u32
+        ensures { result ≡ fault_number self.now }
+    {
+        match self {
+            RowFault::FieldCount => 1,
+            RowFault::BadField { .. } => 2,
+        }
+    }
+}
+
+/// What the first field of a row names.
+#[derive(Clone, Copy, Debug, PartialEq, Eq)]
+pub(crate) enum RowName {
+    Issue,
+    Trade,
+    Correction,
+    Cancellation,
+}
+
+impl RowName {
+    fn read(text: &[u8]) -> Option<RowName>
+        ensures { result ≡ spec.name_of text.now }
+    {
+        if text == b"issue".as_slice() {
+            return Some(RowName::Issue);
+        }
+        if text == b"trade".as_slice() {
+            return Some(RowName::Trade);
+        }
+        if text == b"correct".as_slice() {
+            return Some(RowName::Correction);
+        }
+        if text == b"cancel".as_slice() {
+            return Some(RowName::Cancellation);
+        }
+        None
+    }
+
+    /// Whether such a row has so many fields. The last field of an issue, of a trade and of a
+    /// correction may be left out.
+    fn has_count(self, count: usize) -> bool
+        ensures { result ≡ spec.has_count self count }
+    {
+        match self {
+            RowName::Issue | RowName::Trade => count == 9 || count == 10,
+            RowName::Correction => count == 10 || count == 11,
+            RowName::Cancellation => count == 4,
+        }
+    }
+}
+
+/// What the fields of a row ask for.
+#[tactic(auto, unfolding(crate::specs::Row::row_of, crate::specs::Row::command_in))]
+pub(crate) fn read_row(row: &ByteRecord) -> Result<Command, RowFault>
+    ensures { result ≡ spec.row_of (fields_of row.now) }
+{
+    let Some(name) = RowName::read(field(row, 1)) else {
+        return Err(RowFault::BadField { column: 1 });
+    };
+    if !name.has_count(row.len()) {
+        return Err(RowFault::FieldCount);
+    }
+    match name {
+        RowName::Issue => Ok(Command::AddIssue(issue(row)?)),
+        RowName::Trade => Ok(Command::Enter {
+            key: key(row)?,
+            terms: terms(row, 4)?,
+        }),
+        RowName::Correction => Ok(Command::Correct {
+            key: key(row)?,
+            number: number(row)?,
+            terms: terms(row, 5)?,
+        }),
+        RowName::Cancellation => Ok(Command::Cancel {
+            key: key(row)?,
+            number: number(row)?,
+        }),
+    }
+}
+
+// The field of a column, counted from 1. Behind the last one each is empty.
+fn field(row: &ByteRecord, column: u32) -> &[u8]
+    requires { 1 ≤ column }
+    ensures { result.now ≡ spec.field column (fields_of row.now) }
+{
+    match row.get(column as usize - 1) {
+        Some(field) => field,
+        None => b"",
+    }
+}
+
+// What a column reads as, or that it does not.
+fn in_column<T>(column: u32, reading: Option<T>) -> Result<T, RowFault>
+    ensures { result ≡ spec.in_column column reading }
+{
+    reading.ok_or(RowFault::BadField { column })
+}
+
+fn key(row: &ByteRecord) -> Result<Key, RowFault>
+    ensures { result ≡ spec.key_in (fields_of row.now) }
+{
+    Ok(Key {
+        desk: in_column(2, DeskName::read(field(row, 2)).ok())?,
+        reference: in_column(3, Reference::read(field(row, 3)).ok())?,
+    })
+}
+
+// The number of a version.
+fn number(row: &ByteRecord) -> Result<u32, RowFault>
+    ensures { result ≡ spec.number_in (fields_of row.now) }
+{
+    let number = in_column(4, read_number(field(row, 4), 9, 0, 999_999_999))?;
+    Ok(number as u32)
+}
+
+// The terms of a trade, which begin in a column.
+#[tactic(auto, unfolding(crate::specs::Row::terms_in))]
+fn terms(row: &ByteRecord, first: u32) -> Result<Terms, RowFault>
+    requires { (1 ≤ first) × (first ≤ 5) }
+    ensures { result ≡ spec.terms_in first (fields_of row.now) }
+{
+    Ok(Terms {
+        asked: Asked {
+            cusip: in_column(first, read_cusip(field(row, first)))?,
+            side: in_column(first + 1, read_side(field(row, first + 1)))?,
+            par: in_column(first + 2, Par::read(field(row, first + 2)).ok())?,
+            settle: in_column(first + 3, Day::read(field(row, first + 3)).ok())?,
+            given: given(row, first + 4)?,
+            fee: in_column(first + 6, read_fee(field(row, first + 6)))?,
+        },
+    })
+}
+
+// A basis, and in the column behind it a value.
+fn given(row: &ByteRecord, column: u32) -> Result<Given, RowFault>
+    requires { (1 ≤ column) × (column ≤ 9) }
+    ensures { result ≡ spec.given_in column (fields_of row.now) }
+{
+    let basis = field(row, column);
+    if !is_basis(basis) {
+        return Err(RowFault::BadField { column });
+    }
+    in_column(column + 1, read_given(basis, field(row, column + 1)))
+}
+
+fn is_basis(text: &[u8]) -> bool
+    ensures { result ≡ spec.is_basis text.now }
+{
+    text == b"yield".as_slice() || text == b"price".as_slice() || text == b"rate".as_slice()
+}
+
+// A commission, which may be left out.
+fn read_fee(text: &[u8]) -> Option<Fee>
+    ensures { result ≡ spec.fee_field text.now }
+{
+    if text.is_empty() {
+        return Some(Fee::new(0));
+    }
+    Fee::read(text).ok()
+}
+
+// The terms of an issue.
+#[tactic(auto, unfolding(crate::specs::Row::issue_in))]
+fn issue(row: &ByteRecord) -> Result<IssueRow, RowFault>
+    ensures { result ≡ spec.issue_in (fields_of row.now) }
+{
+    let cusip = in_column(2, read_cusip(field(row, 2)))?;
+    let name = in_column(3, read_issue_name(field(row, 3)))?;
+    let (kind, dated, maturity) = calendar(row)?;
+    let coupon = in_column(8, read_coupon(kind, field(row, 8)))?;
+    let calls = in_column(9, read_calls(field(row, 9)))?;
+    Ok(IssueRow {
+        cusip,
+        name,
+        kind,
+        dated,
+        maturity,
+        coupon,
+        calls,
+    })
+}
+
+// How an issue pays and when: its kind, its dated date and its maturity.
+#[tactic(auto, unfolding(crate::specs::Row::calendar_in))]
+fn calendar(row: &ByteRecord) -> Result<(Kind, Day, Day), RowFault>
+    ensures { result ≡ spec.calendar_in (fields_of row.now) }
+{
+    if !is_kind(field(row, 4)) {
+        return Err(RowFault::BadField { column: 4 });
+    }
+    let dated = in_column(5, Day::read(field(row, 5)).ok())?;
+    let kind = kind(row)?;
+    let maturity = in_column(7, Day::read(field(row, 7)).ok())?;
+    Ok((kind, dated, maturity))
+}
+
+fn is_kind(text: &[u8]) -> bool
+    ensures { result ≡ spec.is_kind text.now }
+{
+    text == b"periodic".as_slice()
+        || text == b"zero".as_slice()
+        || text == b"at-redemption".as_slice()
+        || text == b"discount".as_slice()
+}
+
+// A kind, with the first interest date in a column of its own.
+fn kind(row: &ByteRecord) -> Result<Kind, RowFault>
+    ensures { result ≡ spec.kind_in (fields_of row.now) }
+{
+    let first = not_empty(field(row, 6));
+    in_column(6, read_kind(field(row, 4), first))
+}
+
+fn not_empty(text: &[u8]) -> Option<&[u8]>
+    ensures { option_map (λ some. some.now) result ≡ spec.not_empty text.now }
+{
+    if text.is_empty() { None } else { Some(text) }
+}
