@@ -1,7 +1,10 @@
--- The texts that name a kind of security, a call, a side and a basis, in words, rows and messages.
+-- The texts that name a kind of security, a day count basis, a call, a side and what is given, in words,
+-- rows and messages.
 use Rattle.std.specs.Prelude.{ℕ, ◌+◌, ◌==◌, if◌then◌else◌, List, take, drop, position, codes, Option, Some, None, option_map, option_and_then}
 use Rattle.std.specs.Result.{result_ok}
 use Rattle.std.specs.Str.{bytes_eq}
+use Rattle.muni_rule.specs.declared.basis.Basis.{Basis}
+use Rattle.muni_rule.specs.declared.basis.Basis.TheVariants.{Thirty360, Actual365}
 use Rattle.muni_dec.specs.Values.{price_reading, yield_reading}
 use Rattle.muni_days.specs.Day.{day_reading}
 use Rattle.muni_days.specs.declared.day.Day.{Day}
@@ -45,6 +48,12 @@ call_reading_at text colon = do
 -- a text as a call: a date, a colon and a price, which may hold no colon more
 abbrev pub call_reading : List ℕ → Option Call
 call_reading text = position (λ b. b == 58) text >>= λ colon. call_reading_at text colon
+
+-- a text as a day count basis
+abbrev pub basis_reading : List ℕ → Option Basis
+basis_reading text =
+    if bytes_eq text (codes "30/360") then Some Thirty360
+    else (if bytes_eq text (codes "actual/365") then Some Actual365 else None)
 
 -- a text as a side
 abbrev pub side_reading : List ℕ → Option Side

@@ -5,9 +5,7 @@ use Rattle.std.specs.Result.{result_ok}
 use Rattle.arrayvec.specs.ArrayVec.{ArrayVec}
 use Rattle.muni_rule.specs.Cusip.{is_cusip_character}
 use Rattle.muni_dec.specs.Values.{coupon_reading}
-use Rattle.muni_terms.specs.Check.{pays_interest}
 use Rattle.muni_terms.specs.declared.row.Call.{Call}
-use Rattle.muni_terms.specs.declared.row.Kind.{Kind}
 use Rattle.muni_msg.specs.Fields.{call_reading, ◌>>=◌}
 
 -- nine digits and capital letters; the check digit is a test of the terms

@@ -1,5 +1,5 @@
 -- Names of desks and references of trades, as lists of bytes.
-use Rattle.std.specs.Prelude.{ℕ, ◌≡◌, ◌≤◌, ◌||◌, Bool, not, List, length, position, Option, None}
+use Rattle.std.specs.Prelude.{ℕ, ◌≡◌, ◌≤◌, ◌||◌, Bool, not, List, length, position, None}
 use Rattle.std.specs.Char.{is_ascii_digit, is_ascii_uppercase}
 
 -- what the name of a desk is made of

@@ -5,7 +5,7 @@ ghost use Rattle.std.specs.Option.{option_map};
 ghost use Rattle.muni_msg.specs.Fields as spec;
 
 use crate::{Given, Side};
-use muni_days::Day;
+use muni_days::{Basis, Day};
 use muni_dec::{Price, Yield};
 use muni_terms::{Call, Kind};
 
@@ -55,6 +55,19 @@ fn find_colon(text: &[u8]) -> Option<usize>
     ensures inside { IfSome result (λ colon. colon < length text.now) }
 {
     text.iter().position(|b| *b == b':')
+}
+
+/// The day count basis that a text names: `30/360` or `actual/365`.
+pub fn read_basis(text: &[u8]) -> Option<Basis>
+    ensures { result ≡ spec.basis_reading text.now }
+{
+    if text == b"30/360".as_slice() {
+        return Some(Basis::Thirty360);
+    }
+    if text == b"actual/365".as_slice() {
+        return Some(Basis::Actual365);
+    }
+    None
 }
 
 /// The side that a text names: `buy` or `sell`.
