@@ -1,5 +1,7 @@
 -- The confirmation of a version of a trade.
 use Rattle.std.specs.Prelude.{ℕ, List, [], ◌∷◌, ◌++◌, codes, decimal}
+use Rattle.muni_rule.specs.declared.basis.Basis.{Basis}
+use Rattle.muni_rule.specs.declared.basis.Basis.TheVariants.{Thirty360, Actual365}
 use Rattle.muni_dec.specs.Decimal.{decimal_text}
 use Rattle.muni_dec.specs.Line.{line}
 use Rattle.muni_days.specs.Day.{civil, day_text}
@@ -45,12 +47,18 @@ unfoldable pub name_lines : IssueRow → List ℕ
 name_lines issue =
     line (codes "CUSIP" ∷ issue.cusip ∷ []) ++ line (codes "ISSUE" ∷ issue.name.items ∷ [])
 
+-- the day count of the issue, where it is not 30/360
+abbrev pub basis_line : Basis → List ℕ
+basis_line Thirty360 = []
+basis_line Actual365 = line (codes "BASIS" ∷ codes "ACTUAL/365" ∷ [])
+
 -- the terms of the issue
 unfoldable pub terms_lines : IssueRow → List ℕ
 terms_lines issue =
     line (codes "COUPON" ∷ decimal_text 7 issue.coupon ∷ [])
     ++ day_line (codes "DATED") issue.dated
     ++ day_line (codes "MATURITY") issue.maturity
+    ++ basis_line issue.basis
 
 -- the confirmation: the trade, what was bought or sold, the issue, the settlement and the figures
 abbrev pub confirmation_text : IssueRow → Key → ℕ → Version → List ℕ

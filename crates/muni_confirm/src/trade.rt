@@ -6,7 +6,7 @@ ghost use Rattle.muni_confirm.specs.Confirmation as spec;
 
 use crate::figure_lines;
 use arrayvec::ArrayVec;
-use muni_days::Day;
+use muni_days::{Basis, Day};
 use muni_dec::text::{push, push_line, push_number_line};
 use muni_msg::{Act, Asked, Key, Side, Version};
 use muni_terms::{Issue, IssueRow};
@@ -77,13 +77,25 @@ fn push_name_lines(text: &mut ArrayVec<u8, 1024>, issue: &IssueRow)
 fn push_terms_lines(text: &mut ArrayVec<u8, 1024>, issue: &IssueRow)
     requires { array_vec_len text.old ≤ 500 }
     ensures items { text.new.items ≡ text.old.items ++ spec.terms_lines issue.now }
-    ensures len { array_vec_len text.new ≤ array_vec_len text.old + 74 }
+    ensures len { array_vec_len text.new ≤ array_vec_len text.old + 91 }
 {
     let mut coupon = ArrayVec::new();
     issue.coupon.print_into(&mut coupon);
     push_line(text, b"COUPON", &coupon);
     push_day_line(text, b"DATED", &issue.dated);
     push_day_line(text, b"MATURITY", &issue.maturity);
+    push_basis_line(text, issue.basis);
+}
+
+fn push_basis_line(text: &mut ArrayVec<u8, 1024>, basis: Basis)
+    requires { array_vec_len text.old ≤ 600 }
+    ensures items { text.new.items ≡ text.old.items ++ spec.basis_line basis }
+    ensures len { array_vec_len text.new ≤ array_vec_len text.old + 17 }
+{
+    match basis {
+        Basis::Thirty360 => {}
+        Basis::Actual365 => push_line(text, b"BASIS", b"ACTUAL/365"),
+    }
 }
 
 /// Replaces the text by the confirmation of a version of a trade, which has this number, in the
@@ -101,7 +113,7 @@ pub fn confirmation(
 )
     ensures items { text.new.items
         ≡ spec.confirmation_text issue.now key.now number version.now }
-    ensures len { array_vec_len text.new ≤ 627 }
+    ensures len { array_vec_len text.new ≤ 644 }
 {
     let asked = &version.terms.asked;
     text.clear();

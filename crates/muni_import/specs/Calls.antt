@@ -1,5 +1,5 @@
 -- The calls of an issue in one field.
-use Rattle.std.specs.Prelude.{ℕ, ◌==◌, Bool, nat_le, if◌then◌else◌, List, [], ◌∷◌, length, Option, Some, None}
+use Rattle.std.specs.Prelude.{ℕ, ◌==◌, nat_le, if◌then◌else◌, List, [], ◌∷◌, length, Option, Some, None}
 use Rattle.muni_terms.specs.declared.row.Call.{Call}
 use Rattle.muni_msg.specs.IssueFields.{calls_reading}
 

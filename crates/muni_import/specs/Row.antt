@@ -1,16 +1,18 @@
 -- What a row asks for, by its fields. Columns are counted from 1.
-use Rattle.std.specs.Prelude.{ℕ, ◌+◌, ◌-◌, ◌==◌, ◌||◌, Bool, if◌then◌else◌, List, [], length, codes, Option, Some, None, unwrap_or, ok_or, option_map, Result, Ok, Err}
+use Rattle.std.specs.Prelude.{ℕ, ◌+◌, ◌-◌, ◌==◌, ◌||◌, Bool, if◌then◌else◌, List, [], length, codes, Option, Some, None, unwrap_or, ok_or, Result, Ok, Err}
 use Rattle.std.specs.Char.{is_ascii_alphanumeric}
 use Rattle.std.specs.Result.{result_ok}
 use Rattle.std.specs.Str.{bytes_eq}
 use Rattle.csv.specs.Records.{field_at}
 use Rattle.muni_dec.specs.Digits.{number_reading}
 use Rattle.muni_dec.specs.Values.{par_reading, fee_reading}
+use Rattle.muni_rule.specs.declared.basis.Basis.{Basis}
+use Rattle.muni_rule.specs.declared.basis.Basis.TheVariants.{Thirty360}
 use Rattle.muni_days.specs.declared.day.Day.{Day}
 use Rattle.muni_terms.specs.Check.{pays_interest}
 use Rattle.muni_terms.specs.declared.row.IssueRow.{IssueRow}
 use Rattle.muni_terms.specs.declared.row.Kind.{Kind}
-use Rattle.muni_msg.specs.Fields.{day_in, kind_reading, side_reading, given_reading}
+use Rattle.muni_msg.specs.Fields.{day_in, kind_reading, basis_reading, side_reading, given_reading}
 use Rattle.muni_msg.specs.IssueFields.{cusip_reading, issue_name_reading, coupon_by}
 use Rattle.muni_msg.specs.Names.{is_desk_letter}
 use Rattle.muni_msg.specs.NameReading.{name_reading}
@@ -106,6 +108,10 @@ dates_in fields = do
 unfoldable pub calendar_in : List (List ℕ) → Result (Kind × Day × Day) RowFault
 calendar_in fields = if is_kind (field 4 fields) then dates_in fields else Err (BadField 4)
 
+-- a day count basis, which may be left out for 30/360
+abbrev pub basis_field : List ℕ → Option Basis
+basis_field text = if length text == 0 then Some Thirty360 else basis_reading text
+
 -- the terms of an issue
 unfoldable pub issue_in : List (List ℕ) → Result IssueRow RowFault
 issue_in fields = do
@@ -114,7 +120,8 @@ issue_in fields = do
   calendar ← calendar_in fields
   coupon ← in_column 8 (coupon_by (pays_interest calendar.0) (field 8 fields))
   calls ← in_column 9 (calls_field (field 9 fields))
-  Ok (record { cusip = cusip; name = name; kind = calendar.0; dated = calendar.1; maturity = calendar.2; coupon = coupon; calls = record { items = calls } })
+  basis ← in_column 10 (basis_field (field 10 fields))
+  Ok (record { cusip = cusip; name = name; kind = calendar.0; basis = basis; dated = calendar.1; maturity = calendar.2; coupon = coupon; calls = record { items = calls } })
 
 -- the name of a row
 abbrev pub name_of : List ℕ → Option RowName

@@ -8,11 +8,13 @@ ghost use Rattle.muni_import.specs.Row as spec;
 
 use crate::calls::read_calls;
 use csv::ByteRecord;
-use muni_days::Day;
+use muni_days::{Basis, Day};
 use muni_dec::digits::read_number;
 use muni_dec::{Fee, Par};
-use muni_msg::{Asked, Command, DeskName, Given, Key, Reference, Terms};
-use muni_msg::{read_coupon, read_cusip, read_given, read_issue_name, read_kind, read_side};
+use muni_msg::{
+    Asked, Command, DeskName, Given, Key, Reference, Terms, read_basis, read_coupon, read_cusip,
+    read_given, read_issue_name, read_kind, read_side,
+};
 use muni_terms::{IssueRow, Kind};
 
 /// Why a row is no command.
@@ -198,15 +200,27 @@ fn issue(row: &ByteRecord) -> Result<IssueRow, RowFault>
     let (kind, dated, maturity) = calendar(row)?;
     let coupon = in_column(8, read_coupon(kind, field(row, 8)))?;
     let calls = in_column(9, read_calls(field(row, 9)))?;
+    let basis = in_column(10, read_basis_or_default(field(row, 10)))?;
     Ok(IssueRow {
         cusip,
         name,
         kind,
+        basis,
         dated,
         maturity,
         coupon,
         calls,
     })
+}
+
+// A day count basis, which may be left out for 30/360.
+fn read_basis_or_default(text: &[u8]) -> Option<Basis>
+    ensures { result ≡ spec.basis_field text.now }
+{
+    if text.is_empty() {
+        return Some(Basis::Thirty360);
+    }
+    read_basis(text)
 }
 
 // How an issue pays and when: its kind, its dated date and its maturity.

@@ -1,4 +1,4 @@
-use Rattle.std.proofs.Common.{◌≡◌, ◌<◌, length, sym, arith}
+use Rattle.std.proofs.Common.{◌<◌, length, sym, arith}
 use Rattle.muni_import.specs.Calls.{cut_at_blanks}
 use Rattle.muni_import.proofs.BlankLemmas.{some_piece, many_calls}
 use Rattle.muni_import.proofs.calls.read_some_calls.Goals as goal
