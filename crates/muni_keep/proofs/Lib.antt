@@ -1,3 +1,4 @@
+mod KeeperLemmas
 mod MapLemmas
 mod PageLemmas
 mod PastLemmas

@@ -1,4 +1,5 @@
 pub mod History
+pub mod MemCabinet
 pub mod MemKeeper
 pub mod Tables
 pub mod Trades

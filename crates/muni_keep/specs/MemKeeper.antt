@@ -21,6 +21,10 @@ keeper_code =
 abbrev pub new_keeper : List ℕ → KeeperState
 new_keeper failing = record { tables = no_tables; calls = none_made failing }
 
+-- with no fault counted
+abbrev pub uncounted : KeeperState → KeeperState
+uncounted keeper = record keeper { calls = record keeper.calls { faults = 0 } }
+
 -- after a call that reads
 abbrev pub after_reading : KeeperState → KeeperState
 after_reading keeper = record keeper { calls = after_call keeper.calls }

@@ -6,12 +6,15 @@ mod desks;
 mod fault;
 mod issues;
 mod keeper;
+mod mem_cabinet;
 mod mem_keeper;
 mod page;
+mod store_name;
 mod trade;
 mod trades;
 
 pub use cabinet::Cabinet;
 pub use fault::KeepFault;
 pub use keeper::Keeper;
+pub use mem_cabinet::MemCabinet;
 pub use mem_keeper::MemKeeper;

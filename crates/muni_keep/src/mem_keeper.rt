@@ -53,6 +53,27 @@ impl MemKeeper {
     }
 }
 
+impl MemKeeper {
+    ghost use Rattle.muni_keep.specs.MemKeeper.{uncounted};
+
+    /// The count of faults.
+    pub(crate) fn faults(&self) -> u64
+        ensures { result ≡ self.now.calls.faults }
+    {
+        self.calls.faults()
+    }
+
+    /// The same keeper with no fault counted.
+    pub(crate) fn uncounted(self) -> MemKeeper
+        ensures { result ≡ uncounted self }
+    {
+        MemKeeper {
+            calls: self.calls.uncounted(),
+            ..self
+        }
+    }
+}
+
 impl Keeper for MemKeeper {
     ghost tables = { λ keeper. Some keeper.tables };
 
@@ -120,7 +141,6 @@ impl Keeper for MemKeeper {
         ensures calls { self.new.calls ≡ after_call self.old.calls }
         ensures later { self.old.calls.faults ≤ self.new.calls.faults }
     {
-        let _fits = number;
         self.calls.make()?;
         self.desks.put(&key.desk, &key.reference, *version)?;
         Ok(())
