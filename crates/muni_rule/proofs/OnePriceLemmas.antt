@@ -22,7 +22,7 @@ thousandths-rise : (basis : Basis) (s t : ℕ) → s ≤ t → thousandths_by ba
 thousandths-rise Thirty360 s t order = omega (arith, ints)
 thousandths-rise Actual365 s t order = omega (arith, ints)
 
-thousandths-from : (basis : Basis) (t : ℕ) → pos 0 ≤ℤ thousandths_by basis t
+pub thousandths-from : (basis : Basis) (t : ℕ) → pos 0 ≤ℤ thousandths_by basis t
 thousandths-from Thirty360 t = omega (arith, ints)
 thousandths-from Actual365 t = omega (arith, ints)
 

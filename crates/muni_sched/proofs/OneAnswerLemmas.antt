@@ -3,9 +3,10 @@ use Rattle.std.proofs.Common.{◌≡◌, ◌<◌, ◌≤◌, ◌+◌, ◌*◌, �
 use Rattle.std.proofs.Math.Nat.{mul-le-mul_right}
 use Rattle.std.proofs.lemmas.Bool.{cases_lt}
 use Rattle.std.proofs.lemmas.Int.{ints}
+use Rattle.muni_rule.specs.Accuracy.{price_amount}
 use Rattle.muni_rule.specs.Payments.{PaymentSeries}
-use Rattle.muni_rule.specs.Printed.{HasOnePrice}
-use Rattle.muni_rule.specs.SinglePayment.{AtLeast}
+use Rattle.muni_rule.specs.Printed.{HasOnePriceBy}
+use Rattle.muni_rule.specs.SinglePayment.{SinglePayment, AtLeast}
 use Rattle.muni_rule.specs.Verdicts.{at_least_verdict, dirty_thousandths, IsUndecidedAt}
 use Rattle.muni_rule.specs.WorthEnds.{WorthEnds, ends_of}
 use Rattle.muni_rule.specs.declared.verdict.Verdict.{Verdict}
@@ -33,23 +34,23 @@ use Rattle.muni_sched.specs.YieldOutcome.{one_yield, IsYieldOutcomeFor}
 use Rattle.muni_sched.proofs.AllSoundLemmas.{IsAskable, all-askable, some-same}
 use Rattle.muni_sched.proofs.PriceSoundLemmas.{IsPriced}
 use Rattle.muni_sched.proofs.SameLemmas.{lowest-same}
-use Rattle.muni_sched.proofs.YieldSoundLemmas.{IsBounded, bounds}
+use Rattle.muni_sched.proofs.YieldSoundLemmas.{IsBounded, bounds, price-above}
 use Rattle.muni_sched.proofs.ZipLemmas.{zip-same}
 
 -- ---- yields
 yield-same : (verdicts : PaymentSeries → ℕ → ℕ → Verdict) (price : ℕ) (to_be : ToCome) (x z : Outcome) → IsBounded to_be → 0 < price → IsYieldOutcomeFor verdicts price to_be x → IsYieldOutcomeFor verdicts price to_be z → x ≡ z
 yield-same verdicts price (many series) x z range some is also = is ∙ sym also
 yield-same verdicts price (one least payment) x z range some is also =
-    let above : pos 0 <ℤ (pos (360000 * price) +ℤ payment.accrued) = let accrued = range.2 in omega (arith, ints, accrued, some) in
+    let above = price-above payment price range.2 some in
     let order : least ≤ℤ greatest_printed = let most = range.1 in omega (arith, ints, most) in
-    is.2 ∙ ap one_yield (answer-same least payment (pos (360000 * price)) is.0 also.0 order above is.1 also.1) ∙ sym also.2
+    is.2 ∙ ap one_yield (answer-same least payment (price_amount payment.basis price) is.0 also.0 order above is.1 also.1) ∙ sym also.2
 
 -- ---- prices
-simple-same : (Reaches : ℤ → Type 0) (said other : SimplePrice) → HasOnePrice Reaches → simple.IsPriceAnswer Reaches said → simple.IsPriceAnswer Reaches other → said ≡ other
-simple-same Reaches (exact.Price s) (exact.Price t) has is also = ap exact.Price (has.one_is_printed s t is also)
-simple-same Reaches (exact.Price s) exact.BelowZero has is also = absurd (has.none_below_zero s is also)
-simple-same Reaches exact.BelowZero (exact.Price t) has is also = absurd (has.none_below_zero t also is)
-simple-same Reaches exact.BelowZero exact.BelowZero has is also = refl
+simple-same : (payment : SinglePayment) (Reaches : ℤ → Type 0) (said other : SimplePrice) → HasOnePriceBy payment.basis Reaches → simple.IsPriceAnswer payment.basis Reaches said → simple.IsPriceAnswer payment.basis Reaches other → said ≡ other
+simple-same payment Reaches (exact.Price s) (exact.Price t) has is also = ap exact.Price (has.one_is_printed s t is also)
+simple-same payment Reaches (exact.Price s) exact.BelowZero has is also = absurd (has.none_below_zero s is also)
+simple-same payment Reaches exact.BelowZero (exact.Price t) has is also = absurd (has.none_below_zero t also is)
+simple-same payment Reaches exact.BelowZero exact.BelowZero has is also = refl
 
 -- what is not reached by a verdict is reached by none at a higher amount
 abbrev IsFalling : (ℕ → Verdict) → Type 0
@@ -101,7 +102,7 @@ price-same ends y (many series) x z range is also =
     ∙ sym also.2
 price-same ends y (one least payment) x z range is also =
     is.2
-    ∙ ap one_price (simple-same (AtLeast payment y) is.0 also.0 (one_payment-price payment y range) is.1 also.1)
+    ∙ ap one_price (simple-same payment (AtLeast payment y) is.0 also.0 (one_payment-price payment y range) is.1 also.1)
     ∙ sym also.2
 
 -- ---- each candidate, and the answer over all

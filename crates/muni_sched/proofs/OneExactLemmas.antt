@@ -2,12 +2,15 @@
 use Rattle.std.proofs.Common.{◌≡◌, ◌<◌, ◌*◌, ℕ, [], ◌∷◌, refl, arith, ◌⊎◌, ⊎_elim, inl, inr, ℤ, pos, ◌+ℤ◌, ◌*ℤ◌, ◌≤ℤ◌, ◌<ℤ◌}
 use Rattle.std.proofs.lemmas.Int.{ints}
 use Rattle.std.proofs.lemmas.List.Elements.{All-head}
+use Rattle.muni_rule.specs.Accuracy.{price_amount}
+use Rattle.muni_rule.specs.declared.basis.Basis as rule
+use Rattle.muni_rule.specs.declared.basis.Basis.TheVariants.{Thirty360}
 use Rattle.muni_rule.specs.ManyPeriods as periods
 use Rattle.muni_rule.specs.ManyPeriods.{to_come, discount_divisor, asked_power, worth_power}
 use Rattle.muni_rule.specs.Outcomes.{IsBelow, IsAbove, IsPrint, HasOneOutcome}
-use Rattle.muni_rule.specs.Printed.{IsPrintedPrice, IsBelowZero, IsClosed, HasOnePrice}
+use Rattle.muni_rule.specs.Printed.{IsPrintedPriceBy, IsBelowZero, IsClosed, HasOnePriceBy}
 use Rattle.muni_rule.specs.Schedule.{prints, is_below, is_above, no_time}
-use Rattle.muni_rule.specs.SinglePayment.{SinglePayment, growth, AtLeast, More}
+use Rattle.muni_rule.specs.SinglePayment.{SinglePayment, no_growth, growth, AtLeast, More}
 use Rattle.muni_rule.proofs.AtLeastLemmas.{AtLeast-closed, many-closed}
 use Rattle.muni_rule.proofs.EnclosedLemmas.{divisor-least}
 use Rattle.muni_rule.proofs.FallLemmas.{price_falls}
@@ -23,7 +26,7 @@ use Rattle.muni_sched.specs.ToCome.{ToCome, many, one, to_come_of}
 use Rattle.muni_sched.proofs.AllSoundLemmas.{IsAskable, all-askable}
 use Rattle.muni_sched.proofs.IntLemmas.{less_or_not}
 use Rattle.muni_sched.proofs.PriceSoundLemmas.{IsPriced, printed-same, below-same}
-use Rattle.muni_sched.proofs.YieldSoundLemmas.{IsTimed, AtPrice, MoreThan, many-outcome, in-print, in-below, in-above}
+use Rattle.muni_sched.proofs.YieldSoundLemmas.{IsTimed, AtPrice, MoreThan, many-outcome, in-print, in-below, in-above, price-above}
 use Rattle.muni_sched.proofs.ZipLemmas.{zip-has_one}
 
 -- ---- yields
@@ -55,8 +58,8 @@ lt-decided x y =
 single-outcome : (least : ℤ) (payment : SinglePayment) (amount : ℤ) → least ≤ℤ greatest_printed → pos 0 <ℤ payment.left → pos 0 <ℤ (amount +ℤ payment.accrued) → HasOneOutcome least greatest_printed (λ y. AtLeast payment y amount) (λ y. More payment y amount)
 single-outcome least payment amount order left above =
     one_outcome least greatest_printed (λ y. AtLeast payment y amount) (λ y. More payment y amount) (price_falls payment amount left above)
-    (λ y. le-decided ((amount +ℤ payment.accrued) *ℤ growth payment y) (payment.due *ℤ pos 360000000))
-    (λ y. lt-decided ((amount +ℤ payment.accrued) *ℤ growth payment y) (payment.due *ℤ pos 360000000))
+    (λ y. le-decided ((amount +ℤ payment.accrued) *ℤ growth payment y) (payment.due *ℤ no_growth payment))
+    (λ y. lt-decided ((amount +ℤ payment.accrued) *ℤ growth payment y) (payment.due *ℤ no_growth payment))
     order
 
 -- with no day left there is no yield, and with some there is one outcome
@@ -91,25 +94,25 @@ single-one least payment amount order from above =
 yield-one : (price : ℕ) (to_be : ToCome) → 0 < price → IsTimed to_be → HasOne (IsExactYieldOf price to_be)
 yield-one price (many series) some is = in-one search.least_printed search.greatest_printed (AtPrice series price) (MoreThan series price) (many-outcome series price is.0 is.1)
 yield-one price (one least payment) some is =
-    let above : pos 0 <ℤ (pos (360000 * price) +ℤ payment.accrued) = let accrued = is.0.2 in omega (arith, ints, accrued, some) in
+    let above = price-above payment price is.0.2 some in
     let order : least ≤ℤ greatest_printed = let most = is.0.1 in omega (arith, ints, most) in
-    single-one least payment (pos (360000 * price)) order is.1 above
+    single-one least payment (price_amount payment.basis price) order is.1 above
 
 -- ---- prices
 -- a printed price is the exact outcome, and so is none
-price-has_one : (Reaches : ℤ → Type 0) → IsClosed Reaches → HasOnePrice Reaches → HasOne (IsExactPriceBy Reaches)
-price-has_one Reaches closed has =
+price-has_one : (basis : rule.Basis) (Reaches : ℤ → Type 0) → IsClosed Reaches → HasOnePriceBy basis Reaches → HasOne (IsExactPriceBy basis Reaches)
+price-has_one basis Reaches closed has =
     ⊎_elim
-    (λ (below : IsBelowZero Reaches). record { value = is_below; such = below; only = λ exact is. below-same Reaches exact closed below is })
-    (λ (print : (t : ℕ) × IsPrintedPrice Reaches t). record { value = prints (pos print.0); such = print.1; only = λ exact is. printed-same Reaches print.0 exact closed print.1 is })
+    (λ (below : IsBelowZero Reaches). record { value = is_below; such = below; only = λ exact is. below-same basis Reaches exact closed below is })
+    (λ (print : (t : ℕ) × IsPrintedPriceBy basis Reaches t). record { value = prints (pos print.0); such = print.1; only = λ exact is. printed-same basis Reaches print.0 exact closed print.1 is })
     has.some
 
 price-one : (y : ℤ) (to_be : ToCome) → IsPriced y to_be → HasOne (IsExactPriceOf y to_be)
 price-one y (many series) range =
     let divisor = divisor-least y range.2 in
-    price-has_one (periods.AtLeast (to_come series) y) (many-closed (to_come series) y) (many_periods-price (to_come series) y (omega (arith, divisor)))
+    price-has_one Thirty360 (periods.AtLeast (to_come series) y) (many-closed (to_come series) y) (many_periods-price (to_come series) y (omega (arith, divisor)))
 price-one y (one least payment) range =
-    price-has_one (AtLeast payment y) (AtLeast-closed payment y range) (one_payment-price payment y range)
+    price-has_one payment.basis (AtLeast payment y) (AtLeast-closed payment y range) (one_payment-price payment y range)
 
 -- ---- either
 exact-one : (basis : Basis) (candidate : Candidate) → IsAskable basis (to_come_of candidate.shape) → HasOne (IsExact basis candidate)

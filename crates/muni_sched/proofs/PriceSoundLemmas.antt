@@ -3,12 +3,14 @@ use Rattle.std.proofs.Common.{◌≡◌, ◌<◌, ◌≤◌, ◌+◌, ◌-◌, �
 use Rattle.std.specs.List.{AllZip}
 use Rattle.std.proofs.lemmas.Bool.{cases_lt}
 use Rattle.std.proofs.lemmas.Int.{ints}
-use Rattle.muni_rule.specs.Accuracy.{thousandths}
+use Rattle.muni_rule.specs.declared.basis.Basis.{Basis}
+use Rattle.muni_rule.specs.declared.basis.Basis.TheVariants.{Thirty360}
+use Rattle.muni_rule.specs.Accuracy.{thousandths, thousandths_by}
 use Rattle.muni_rule.specs.Doubt.{IsDoubtful}
 use Rattle.muni_rule.specs.ManyPeriods as periods
 use Rattle.muni_rule.specs.ManyPeriods.{to_come}
 use Rattle.muni_rule.specs.Payments.{PaymentSeries, IsSeries}
-use Rattle.muni_rule.specs.Printed.{IsPrintedPrice, IsBelowZero, IsClosed}
+use Rattle.muni_rule.specs.Printed.{IsPrintedPriceBy, IsBelowZero, IsClosed}
 use Rattle.muni_rule.specs.Ranges.{IsWithin, IsManyPeriodsBoundary}
 use Rattle.muni_rule.specs.Schedule.{ExactOutcome, prints, is_below, is_above, no_time, IsFrom}
 use Rattle.muni_rule.specs.SinglePayment.{SinglePayment, growth, AtLeast}
@@ -18,7 +20,7 @@ use Rattle.muni_rule.specs.declared.verdict.Verdict.{Verdict}
 use Rattle.muni_rule.specs.declared.verdict.Verdict.TheVariants as verdict
 use Rattle.muni_rule.proofs.AtLeastLemmas.{AtLeast-closed, many-closed}
 use Rattle.muni_rule.proofs.EnclosedLemmas.{IsEnclosed, at_least-true}
-use Rattle.muni_rule.proofs.OnePriceLemmas.{printed-one}
+use Rattle.muni_rule.proofs.OnePriceLemmas.{printed-one, thousandths-from}
 use Rattle.muni_multi.specs.Prices as multi
 use Rattle.muni_multi.specs.declared.price.PriceAnswer.{PriceAnswer}
 use Rattle.muni_multi.specs.declared.price.PriceAnswer.TheVariants as found
@@ -50,32 +52,32 @@ IsPriced y (one least payment) = pos 0 <ℤ growth payment y
 
 shape-priced : (y : ℤ) (shape : Shape) → IsPriceable shape → IsShapeAtYield shape → IsWithin (given_range shape) y → IsPriced y (to_come_of shape)
 shape-priced y (Many series) is basis given = (is.0, is.1, (let least = given.0 in omega (arith, ints, least), let most = given.1 in omega (arith, ints, most)))
-shape-priced y (One payment) is basis given = let within = (growth-within single.OnePeriod payment.left y is.left.0 is.left.1 given).0 in omega (arith, ints, within)
-shape-priced y (AtRedemption payment) is basis given = let within = (growth-within single.AtRedemption payment.left y is.left.0 is.left.1 given).0 in omega (arith, ints, within)
-shape-priced y (Discount days) is basis given = absurd basis
+shape-priced y (One payment) is basis given = let within = (growth-within payment.basis single.OnePeriod payment.left y is.left.0 is.left.1 given).0 in omega (arith, ints, within)
+shape-priced y (AtRedemption payment) is basis given = let within = (growth-within payment.basis single.AtRedemption payment.left y is.left.0 is.left.1 given).0 in omega (arith, ints, within)
+shape-priced y (Discount days year) is basis given = absurd basis
 
 pub priced : (y : ℤ) (candidate : Candidate) → IsCandidate candidate → IsAtYield candidate → IsGivenFor y candidate → IsPriced y (to_come_of candidate.shape)
 priced y candidate is basis given = shape-priced y candidate.shape is basis given
 
 -- ---- an answer as an exact outcome
-pub printed-same : (Reaches : ℤ → Type 0) (t : ℕ) (exactly : ExactOutcome) → IsClosed Reaches → IsPrintedPrice Reaches t → IsExactPriceBy Reaches exactly → exactly ≡ prints (pos t)
-printed-same Reaches t (prints (pos u)) closed print is = let same = printed-one Reaches t u closed print is in ap (λ v. prints (pos v)) (sym same)
-printed-same Reaches t (prints (negsuc u)) closed print is = absurd is
-printed-same Reaches t is_below closed print is = absurd (is.zero_not_reached (closed (thousandths t) (pos 0) (omega (arith, ints)) print.reached))
-printed-same Reaches t is_above closed print is = absurd is
-printed-same Reaches t no_time closed print is = absurd is
+pub printed-same : (basis : Basis) (Reaches : ℤ → Type 0) (t : ℕ) (exactly : ExactOutcome) → IsClosed Reaches → IsPrintedPriceBy basis Reaches t → IsExactPriceBy basis Reaches exactly → exactly ≡ prints (pos t)
+printed-same basis Reaches t (prints (pos u)) closed print is = let same = printed-one basis Reaches t u closed print is in ap (λ v. prints (pos v)) (sym same)
+printed-same basis Reaches t (prints (negsuc u)) closed print is = absurd is
+printed-same basis Reaches t is_below closed print is = absurd (is.zero_not_reached (closed (thousandths_by basis t) (pos 0) (thousandths-from basis t) print.reached))
+printed-same basis Reaches t is_above closed print is = absurd is
+printed-same basis Reaches t no_time closed print is = absurd is
 
-pub below-same : (Reaches : ℤ → Type 0) (exactly : ExactOutcome) → IsClosed Reaches → IsBelowZero Reaches → IsExactPriceBy Reaches exactly → exactly ≡ is_below
-below-same Reaches (prints (pos u)) closed below is = absurd (below.zero_not_reached (closed (thousandths u) (pos 0) (omega (arith, ints)) is.reached))
-below-same Reaches (prints (negsuc u)) closed below is = absurd is
-below-same Reaches is_below closed below is = refl
-below-same Reaches is_above closed below is = absurd is
-below-same Reaches no_time closed below is = absurd is
+pub below-same : (basis : Basis) (Reaches : ℤ → Type 0) (exactly : ExactOutcome) → IsClosed Reaches → IsBelowZero Reaches → IsExactPriceBy basis Reaches exactly → exactly ≡ is_below
+below-same basis Reaches (prints (pos u)) closed below is = absurd (below.zero_not_reached (closed (thousandths_by basis u) (pos 0) (thousandths-from basis u) is.reached))
+below-same basis Reaches (prints (negsuc u)) closed below is = absurd is
+below-same basis Reaches is_below closed below is = refl
+below-same basis Reaches is_above closed below is = absurd is
+below-same basis Reaches no_time closed below is = absurd is
 
-price-timed : (Reaches : ℤ → Type 0) (exactly : ExactOutcome) → IsExactPriceBy Reaches exactly → ¬ (exactly ≡ no_time)
-price-timed Reaches exactly is never = subst (IsExactPriceBy Reaches) never is
+price-timed : (Reaches : ℤ → Type 0) (exactly : ExactOutcome) → IsExactPriceBy Thirty360 Reaches exactly → ¬ (exactly ≡ no_time)
+price-timed Reaches exactly is never = subst (IsExactPriceBy Thirty360 Reaches) never is
 
-price-from : (Reaches : ℤ → Type 0) (t : ℕ) (exactly : ExactOutcome) → IsClosed Reaches → Reaches (thousandths t) → IsExactPriceBy Reaches exactly → IsFrom (pos t) exactly
+price-from : (Reaches : ℤ → Type 0) (t : ℕ) (exactly : ExactOutcome) → IsClosed Reaches → Reaches (thousandths t) → IsExactPriceBy Thirty360 Reaches exactly → IsFrom (pos t) exactly
 price-from Reaches t (prints (pos u)) closed reached is =
     ⊎_elim
     (λ (less : u < t). absurd (is.next_not_reached (closed (thousandths t) (thousandths (u + 1)) (omega (arith, ints)) reached)))
@@ -120,18 +122,18 @@ many-unsure series y enclosure b exactly given is doubt exact_is = record {
 many-sound : (series : PaymentSeries) (y : ℤ) (enclosure : WorthEnds) (answer : PriceAnswer) (exactly : ExactOutcome) → IsEnclosed series y enclosure → multi.IsPriceOutcome (λ t. at_least_verdict (ends_of series y enclosure) (dirty_thousandths series.accrued t)) answer → IsExactPriceOf y (many series) exactly
     → IsSound (negsuc 0) (IsFigureInDoubt (at_yield y) (many series)) (many_price answer) exactly
 many-sound series y enclosure (found.Price t) exactly given is exact_is =
-    printed-same (periods.AtLeast (to_come series) y) t exactly (many-closed (to_come series) y) (outcome-exact series y enclosure (found.Price t) given is) exact_is
+    printed-same Thirty360 (periods.AtLeast (to_come series) y) t exactly (many-closed (to_come series) y) (outcome-exact series y enclosure (found.Price t) given is) exact_is
 many-sound series y enclosure found.BelowZero exactly given is exact_is =
-    below-same (periods.AtLeast (to_come series) y) exactly (many-closed (to_come series) y) (outcome-exact series y enclosure found.BelowZero given is) exact_is
+    below-same Thirty360 (periods.AtLeast (to_come series) y) exactly (many-closed (to_come series) y) (outcome-exact series y enclosure found.BelowZero given is) exact_is
 many-sound series y enclosure (found.Undecided b) exactly given is exact_is =
     many-unsure series y enclosure b exactly given is (outcome-doubtful series y enclosure (found.Undecided b) given is) exact_is
 
 -- ---- one payment
-single-sound : (payment : SinglePayment) (y : ℤ) (answer : SimplePrice) (IsDoubtfulAt : ℤ → Type 0) (exactly : ExactOutcome) → pos 0 <ℤ growth payment y → simple.IsPriceAnswer (AtLeast payment y) answer → IsExactPriceBy (AtLeast payment y) exactly → IsSound (negsuc 0) IsDoubtfulAt (one_price answer) exactly
+single-sound : (payment : SinglePayment) (y : ℤ) (answer : SimplePrice) (IsDoubtfulAt : ℤ → Type 0) (exactly : ExactOutcome) → pos 0 <ℤ growth payment y → simple.IsPriceAnswer payment.basis (AtLeast payment y) answer → IsExactPriceBy payment.basis (AtLeast payment y) exactly → IsSound (negsuc 0) IsDoubtfulAt (one_price answer) exactly
 single-sound payment y (exact.Price t) D exactly above is exact_is =
-    printed-same (AtLeast payment y) t exactly (AtLeast-closed payment y above) is exact_is
+    printed-same payment.basis (AtLeast payment y) t exactly (AtLeast-closed payment y above) is exact_is
 single-sound payment y exact.BelowZero D exactly above is exact_is =
-    below-same (AtLeast payment y) exactly (AtLeast-closed payment y above) is exact_is
+    below-same payment.basis (AtLeast payment y) exactly (AtLeast-closed payment y above) is exact_is
 
 -- ---- each candidate
 -- two ends enclose the worth of every series at this yield

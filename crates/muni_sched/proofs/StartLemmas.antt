@@ -42,7 +42,7 @@ may_be : (shape : Shape) → IsPriceable shape → MayBeSearched (to_come_of sha
 may_be (Many series) is = is.1
 may_be (One payment) is = tt
 may_be (AtRedemption payment) is = tt
-may_be (Discount days) is = tt
+may_be (Discount days basis) is = tt
 
 -- The outcome that a candidate comes to: that of its search, or the one that is known.
 abbrev final-for : (verdicts : PaymentSeries → ℕ → ℕ → Verdict) (price : ℕ) → ToCome → Option Outcome → Outcome

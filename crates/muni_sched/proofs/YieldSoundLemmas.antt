@@ -1,6 +1,9 @@
 -- The outcome of a candidate is true of its exact yield, and unsure only in doubt.
 use Rattle.std.proofs.Common.{◌≡◌, ◌≢◌, ◌<◌, ◌≤◌, ◌*◌, ℕ, refl, ap, sym, subst, ⊎_elim, arith, ◌∙◌, ℤ, pos, negsuc, ◌+ℤ◌, ◌≤ℤ◌, ◌<ℤ◌}
 use Rattle.std.proofs.lemmas.Int.{ints}
+use Rattle.muni_rule.specs.Accuracy.{price_amount}
+use Rattle.muni_rule.specs.declared.basis.Basis.{Basis}
+use Rattle.muni_rule.specs.declared.basis.Basis.TheVariants.{Thirty360, Actual365}
 use Rattle.muni_rule.specs.ManyPeriods as periods
 use Rattle.muni_rule.specs.ManyPeriods.{to_come}
 use Rattle.muni_rule.specs.Outcomes.{IsBelow, IsAbove, IsPrint, HasOneOutcome}
@@ -47,7 +50,7 @@ pub bounded : (shape : Shape) → IsPriceable shape → IsBounded (to_come_of sh
 bounded (Many series) is = is
 bounded (One payment) is = (omega (arith, ints), omega (arith, ints), is.accrued.0)
 bounded (AtRedemption payment) is = (omega (arith, ints), omega (arith, ints), is.accrued.0)
-bounded (Discount days) is = (omega (arith, ints), omega (arith, ints), omega (arith, ints))
+bounded (Discount days basis) is = (omega (arith, ints), omega (arith, ints), omega (arith, ints))
 
 -- and the days left are counted from 0 up
 abbrev pub IsTimed : ToCome → Type 0
@@ -58,7 +61,7 @@ pub timed : (shape : Shape) → IsPriceable shape → IsTimed (to_come_of shape)
 timed (Many series) is = bounded (Many series) is
 timed (One payment) is = (bounded (One payment) is, is.left.0)
 timed (AtRedemption payment) is = (bounded (AtRedemption payment) is, is.left.0)
-timed (Discount days) is = (bounded (Discount days) is, is.0)
+timed (Discount days basis) is = (bounded (Discount days basis) is, is.0)
 
 pub bounds : (to_be : ToCome) → IsTimed to_be → IsBounded to_be
 bounds (many series) is = is
@@ -174,12 +177,20 @@ simple-sound is_below D = refl
 simple-sound is_above D = refl
 simple-sound no_time D = refl
 
-single-sound : (least : ℤ) (payment : SinglePayment) (price : ℕ) (outcome : Outcome) (IsDoubtfulAt : ℤ → Type 0) (exact : ExactOutcome) → IsBounded (one least payment) → 0 < price → IsOneOutcome price least payment outcome → IsExactSingle least payment (pos (360000 * price)) exact → IsSound (negsuc 5000) IsDoubtfulAt outcome exact
+-- a price above 0 is some amount, with the accrued interest
+amount-above : (basis : Basis) (accrued : ℤ) (price : ℕ) → pos 0 ≤ℤ accrued → 0 < price → pos 0 <ℤ (price_amount basis price +ℤ accrued)
+amount-above Thirty360 accrued price from some = omega (arith, ints, from, some)
+amount-above Actual365 accrued price from some = omega (arith, ints, from, some)
+
+pub price-above : (payment : SinglePayment) (price : ℕ) → pos 0 ≤ℤ payment.accrued → 0 < price → pos 0 <ℤ (price_amount payment.basis price +ℤ payment.accrued)
+price-above payment price accrued some = amount-above payment.basis payment.accrued price accrued some
+
+single-sound : (least : ℤ) (payment : SinglePayment) (price : ℕ) (outcome : Outcome) (IsDoubtfulAt : ℤ → Type 0) (exact : ExactOutcome) → IsBounded (one least payment) → 0 < price → IsOneOutcome price least payment outcome → IsExactSingle least payment (price_amount payment.basis price) exact → IsSound (negsuc 5000) IsDoubtfulAt outcome exact
 single-sound least payment price outcome D exact range some told exactly =
-    let above : pos 0 <ℤ (pos (360000 * price) +ℤ payment.accrued) = let accrued = range.2 in omega (arith, ints, accrued, some) in
-    let wanted = exact-answer least payment (pos (360000 * price)) exact exactly in
+    let above = price-above payment price range.2 some in
+    let wanted = exact-answer least payment (price_amount payment.basis price) exact exactly in
     let least_order : least ≤ℤ greatest_printed = let most = range.1 in omega (arith, ints, most) in
-    let same = answer-same least payment (pos (360000 * price)) told.0 (simple-of exact) least_order above told.1 wanted in
+    let same = answer-same least payment (price_amount payment.basis price) told.0 (simple-of exact) least_order above told.1 wanted in
     subst (λ x. IsSound (negsuc 5000) D x exact) (sym (told.2 ∙ ap one_yield same)) (simple-sound exact D)
 
 -- ---- what is to come of a candidate

@@ -1,9 +1,12 @@
 -- The exact outcome of a candidate for a price or for a yield.
 use Rattle.std.specs.Prelude.{◌≡◌, ℕ, ◌*◌, ◌⊎◌, ℤ, pos, negsuc, ◌<ℤ◌}
+use Rattle.muni_rule.specs.Accuracy.{price_amount}
+use Rattle.muni_rule.specs.declared.basis.Basis.{Basis}
+use Rattle.muni_rule.specs.declared.basis.Basis.TheVariants.{Thirty360}
 use Rattle.muni_rule.specs.ManyPeriods as periods
 use Rattle.muni_rule.specs.ManyPeriods.{to_come}
 use Rattle.muni_rule.specs.Outcomes.{IsBelow, IsAbove, IsPrint}
-use Rattle.muni_rule.specs.Printed.{IsPrintedPrice, IsBelowZero}
+use Rattle.muni_rule.specs.Printed.{IsPrintedPriceBy, IsBelowZero}
 use Rattle.muni_rule.specs.Schedule.{ExactOutcome, prints, is_below, is_above, no_time}
 use Rattle.muni_rule.specs.SinglePayment.{SinglePayment, AtLeast, More}
 use Rattle.muni_simple.specs.Yields.{greatest_printed}
@@ -33,23 +36,25 @@ IsExactYieldOf price (many series) exact =
     (λ y. periods.AtLeast (to_come series) y (pos (360_000 * price)))
     (λ y. periods.More (to_come series) y (pos (360_000 * price))) exact
 IsExactYieldOf price (one least payment) exact =
-    IsExactSingle least payment (pos (360_000 * price)) exact
+    IsExactSingle least payment (price_amount payment.basis price) exact
 
 abbrev pub IsExactYield : ℕ → Candidate → ExactOutcome → Type 0
 IsExactYield price candidate exact = IsExactYieldOf price (to_come_of candidate.shape) exact
 
 -- the price, by the amounts that it reaches: it is printed, or below zero
-abbrev pub IsExactPriceBy : (ℤ → Type 0) → ExactOutcome → Type 0
-IsExactPriceBy AtLeast (prints (pos t)) = IsPrintedPrice AtLeast t
-IsExactPriceBy AtLeast (prints (negsuc t)) = ⊥
-IsExactPriceBy AtLeast is_below = IsBelowZero AtLeast
-IsExactPriceBy AtLeast is_above = ⊥
-IsExactPriceBy AtLeast no_time = ⊥
+abbrev pub IsExactPriceBy : Basis → (ℤ → Type 0) → ExactOutcome → Type 0
+IsExactPriceBy basis AtLeast (prints (pos t)) = IsPrintedPriceBy basis AtLeast t
+IsExactPriceBy basis AtLeast (prints (negsuc t)) = ⊥
+IsExactPriceBy basis AtLeast is_below = IsBelowZero AtLeast
+IsExactPriceBy basis AtLeast is_above = ⊥
+IsExactPriceBy basis AtLeast no_time = ⊥
 
 -- the price of what is to come, at a yield
 abbrev pub IsExactPriceOf : ℤ → ToCome → ExactOutcome → Type 0
-IsExactPriceOf y (many series) exact = IsExactPriceBy (periods.AtLeast (to_come series) y) exact
-IsExactPriceOf y (one least payment) exact = IsExactPriceBy (AtLeast payment y) exact
+IsExactPriceOf y (many series) exact =
+    IsExactPriceBy Thirty360 (periods.AtLeast (to_come series) y) exact
+IsExactPriceOf y (one least payment) exact =
+    IsExactPriceBy payment.basis (AtLeast payment y) exact
 
 abbrev pub IsExactPrice : ℤ → Candidate → ExactOutcome → Type 0
 IsExactPrice y candidate exact = IsExactPriceOf y (to_come_of candidate.shape) exact

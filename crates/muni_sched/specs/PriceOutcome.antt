@@ -22,7 +22,7 @@ abbrev pub IsShapeAtYield : Shape → Type 0
 IsShapeAtYield (Many series) = ⊤
 IsShapeAtYield (One payment) = ⊤
 IsShapeAtYield (AtRedemption payment) = ⊤
-IsShapeAtYield (Discount days) = ⊥
+IsShapeAtYield (Discount days basis) = ⊥
 
 abbrev pub IsAtYield : Candidate → Type 0
 IsAtYield candidate = IsShapeAtYield candidate.shape
@@ -52,7 +52,7 @@ abbrev pub IsPriceOutcomeFor : (ends : PaymentSeries → ℤ → WorthEnds) → 
 IsPriceOutcomeFor ends y (many series) outcome =
     (answer : PriceAnswer) × IsManyOutcome ends y series answer × (outcome ≡ many_price answer)
 IsPriceOutcomeFor ends y (one least payment) outcome =
-    (answer : SimplePrice) × simple.IsPriceAnswer (AtLeast payment y) answer
+    (answer : SimplePrice) × simple.IsPriceAnswer payment.basis (AtLeast payment y) answer
     × (outcome ≡ one_price answer)
 
 abbrev pub IsPriceOutcome : (ends : PaymentSeries → ℤ → WorthEnds) → ℤ → Candidate → Outcome

@@ -12,7 +12,7 @@ abbrev pub given_range : Shape → YieldRange
 given_range (Many series) = many_periods_yields
 given_range (One payment) = one_period_yields
 given_range (AtRedemption payment) = at_redemption_yields
-given_range (Discount days) = discount_rates
+given_range (Discount days basis) = discount_rates
 
 -- a yield may be given for a candidate
 abbrev pub IsGivenFor : ℤ → Candidate → Type 0

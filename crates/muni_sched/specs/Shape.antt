@@ -1,6 +1,6 @@
 -- How a redemption is priced.
 use Rattle.std.specs.Prelude.{ℕ, ◌≤◌, if◌then◌else◌, Option, Some, option_map, pos, ◌≤ℤ◌}
-use Rattle.muni_rule.specs.DayCount.{days360}
+use Rattle.muni_rule.specs.DayCount.{days_by}
 use Rattle.muni_rule.specs.LastPayment.{is_last_period, last_payment, note_payment}
 use Rattle.muni_rule.specs.Payments.{PaymentSeries, IsSeries}
 use Rattle.muni_rule.specs.SinglePayment.{SinglePayment}
@@ -18,7 +18,12 @@ use Rattle.muni_sched.specs.declared.candidate.Shape.TheVariants.{Many, One, AtR
 
 -- a payment to come as the calculators take it
 abbrev pub single : SinglePayment → Single
-single payment = record { due = payment.due; accrued = payment.accrued; left = payment.left }
+single payment = record {
+  due = payment.due;
+  accrued = payment.accrued;
+  left = payment.left;
+  basis = payment.basis;
+}
 
 -- in the last six months the one payment counts, and before them all that are to come
 abbrev pub series_shape : PaymentSeries → Shape
@@ -32,10 +37,10 @@ shape_by (kind.Periodic first) row settlement date price =
 shape_by kind.Zero row settlement date price =
     option_map series_shape (series_of row settlement date price)
 shape_by kind.AtRedemption row settlement date price =
-    Some (AtRedemption (single (note_payment row.coupon (civil row.dated) (civil row.maturity)
-    (civil settlement))))
+    Some (AtRedemption (single (note_payment row.basis row.coupon (civil row.dated)
+    (civil row.maturity) (civil settlement))))
 shape_by kind.Discount row settlement date price =
-    Some (Discount (days360 (civil settlement) (civil row.maturity)))
+    Some (Discount (days_by row.basis (civil settlement) (civil row.maturity)) row.basis)
 
 abbrev pub shape_at : IssueRow → Day → Day → ℕ → Option Shape
 shape_at row settlement date price = shape_by row.kind row settlement date price
@@ -45,4 +50,4 @@ abbrev pub IsPriceable : Shape → Type 0
 IsPriceable (Many series) = IsSeries series × (2 ≤ series.n)
 IsPriceable (One payment) = IsSingle single_shape.OnePeriod payment
 IsPriceable (AtRedemption payment) = IsSingle single_shape.AtRedemption payment
-IsPriceable (Discount days) = (pos 0 ≤ℤ days) × (days ≤ℤ pos 720)
+IsPriceable (Discount days basis) = (pos 0 ≤ℤ days) × (days ≤ℤ pos 720)

@@ -19,4 +19,5 @@ abbrev pub to_come_of : Shape → ToCome
 to_come_of (Many series) = many series
 to_come_of (One payment) = one (least_printed single.OnePeriod) (payment_of payment)
 to_come_of (AtRedemption payment) = one (least_printed single.AtRedemption) (payment_of payment)
-to_come_of (Discount days) = one (least_printed single.AtRedemption) (discounted days)
+to_come_of (Discount days basis) =
+    one (least_printed single.AtRedemption) (discounted basis days)

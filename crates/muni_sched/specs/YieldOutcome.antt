@@ -1,5 +1,6 @@
 -- What is known of the yield of a candidate at a price.
 use Rattle.std.specs.Prelude.{◌≡◌, ℕ, ◌*◌, ⊤, Option, Some, None, ℤ, pos, negsuc, ◌≤ℤ◌}
+use Rattle.muni_rule.specs.Accuracy.{price_amount}
 use Rattle.muni_rule.specs.Payments.{PaymentSeries}
 use Rattle.muni_rule.specs.SinglePayment.{SinglePayment}
 use Rattle.muni_rule.specs.declared.verdict.Verdict.{Verdict}
@@ -38,7 +39,8 @@ one_yield simple.NoTime = NoTime
 -- one payment to come has its exact outcome
 abbrev pub IsOneOutcome : ℕ → ℤ → SinglePayment → Outcome → Type 0
 IsOneOutcome price least payment outcome =
-    (answer : SimpleYield) × IsYieldAnswer least payment (pos (360_000 * price)) answer
+    (answer : SimpleYield)
+    × IsYieldAnswer least payment (price_amount payment.basis price) answer
     × (outcome ≡ one_yield answer)
 
 -- many have that of a search by verdicts, when all questions were asked

@@ -1,6 +1,6 @@
 //! A redemption to which a figure may be computed, and how it is priced.
 
-use muni_days::Day;
+use muni_days::{Basis, Day};
 use muni_dec::Price;
 use muni_simple::Single;
 use muni_terms::{Flows, Label};
@@ -14,8 +14,8 @@ pub enum Shape {
     One(Single),
     /// By the one payment of a note, which pays its interest at redemption.
     AtRedemption(Single),
-    /// By the days of 30/360 up to the maturity of a discounted note, from 0 to 720.
-    Discount { days: i32 },
+    /// By the days up to the maturity of a discounted note, from 0 to 720 by its basis.
+    Discount { days: i32, basis: Basis },
 }
 
 /// A redemption candidate: a redemption of an issue after a settlement, and how it is priced.
@@ -34,7 +34,10 @@ impl Default for Candidate {
             date: Day::FIRST,
             price: Price::new(0),
             label: Label::Maturity,
-            shape: Shape::Discount { days: 0 },
+            shape: Shape::Discount {
+                days: 0,
+                basis: Basis::Thirty360,
+            },
         }
     }
 }

@@ -12,7 +12,7 @@ ghost use Rattle.muni_sched.specs.Shape.{IsPriceable};
 
 use crate::Shape;
 use crate::note::{days_left, note_payment};
-use muni_days::Day;
+use muni_days::{Basis, Day};
 use muni_dec::Price;
 use muni_simple::Single;
 use muni_terms::{Flows, Issue, Kind};
@@ -32,6 +32,7 @@ pub(crate) fn shape_at(issue: &Issue, settlement: Day, date: Day, price: Price) 
         Kind::AtRedemption => Shape::AtRedemption(note_payment(issue, settlement)),
         Kind::Discount => Shape::Discount {
             days: days_left(issue, settlement),
+            basis: issue.row().basis,
         },
     }
 }
@@ -56,5 +57,6 @@ fn last_payment(flows: &Flows) -> Single
         due: (flows.first() + flows.redemption()) as i64,
         accrued: flows.accrued() as i64,
         left: 180 - flows.a() as i32,
+        basis: Basis::Thirty360,
     }
 }

@@ -50,7 +50,7 @@ pub(crate) fn known_first(candidate: &Candidate, price: Price) -> Option<Outcome
         Shape::Many(_) => return None,
         Shape::One(payment) => single_yield(payment, Shape1::OnePeriod, price),
         Shape::AtRedemption(payment) => single_yield(payment, Shape1::AtRedemption, price),
-        Shape::Discount { days } => discount_return(price, *days),
+        Shape::Discount { days, basis } => discount_return(price, *days, *basis),
     };
     Some(one_yield(answer))
 }

@@ -212,7 +212,7 @@ has_payments row anchor settlement redemption price issue there settled redeemed
       price_to = end.price_to;
     }
 
-int_le-true : (a b : ℤ) → int_le a b ≡ true → a ≤ℤ b
+pub int_le-true : (a b : ℤ) → int_le a b ≡ true → a ≤ℤ b
 int_le-true a b test = grind (arith, ints)
 
 -- the start of an issue with coupons

@@ -98,4 +98,9 @@ no=0 date=2025-03-31 at=100 MATURITY note due=37680000000000 accrued=16800000000
 base discount dated=2024-01-31 maturity=2025-03-31 settle=2024-02-29 candidates=1
 no=0 date=2025-03-31 at=100 MATURITY discounted days=392
 base discount dated=2024-01-31 maturity=2025-03-31 settle=2025-03-30 candidates=1
-no=0 date=2025-03-31 at=100 MATURITY discounted days=0";
+no=0 date=2025-03-31 at=100 MATURITY discounted days=0
+base at-redemption actual/365 dated=2024-01-31 maturity=2025-03-31 coupon=4 settle=2024-07-31 \
+     candidates=1
+no=0 date=2025-03-31 at=100 MATURITY note due=38200000000000 accrued=728000000000 left=243
+base discount actual/365 dated=2024-01-31 maturity=2025-03-31 settle=2024-02-29 candidates=1
+no=0 date=2025-03-31 at=100 MATURITY discounted days=396";

@@ -1,6 +1,6 @@
 use crate::tests::redemption_cases::CASES;
 use crate::{Candidate, Label, Shape, candidates};
-use muni_days::Day;
+use muni_days::{Basis, Day};
 use muni_dec::Price;
 use muni_samples::{Sample, Table};
 use muni_simple::Single;
@@ -15,10 +15,15 @@ fn name_of(label: Label) -> &'static str {
     }
 }
 
+fn is_basis(basis: Basis, case: &Sample<'_>) -> bool {
+    case.has("actual/365") == (basis == Basis::Actual365)
+}
+
 fn is_payment(payment: &Single, case: &Sample<'_>) -> bool {
     case.number("due=") == Some(payment.due)
         && case.number("accrued=") == Some(payment.accrued)
         && case.number("left=") == Some(i64::from(payment.left))
+        && is_basis(payment.basis, case)
 }
 
 fn is_shape(shape: &Shape, case: &Sample<'_>) -> bool {
@@ -32,8 +37,10 @@ fn is_shape(shape: &Shape, case: &Sample<'_>) -> bool {
         }
         Shape::One(payment) => case.has("one") && is_payment(payment, case),
         Shape::AtRedemption(payment) => case.has("note") && is_payment(payment, case),
-        Shape::Discount { days } => {
-            case.has("discounted") && case.number("days=") == Some(i64::from(*days))
+        Shape::Discount { days, basis } => {
+            case.has("discounted")
+                && case.number("days=") == Some(i64::from(*days))
+                && is_basis(*basis, case)
         }
     }
 }
@@ -68,7 +75,7 @@ fn candidates_are_those_computed_outside(rt: HostRuntime) -> Result<(), Fail> {
         assert!(rt; is_candidate(candidate, &case)?, "{line}");
         cases = cases.wrapping_add(1);
     }
-    assert_eq!(rt; cases, 46);
+    assert_eq!(rt; cases, 48);
     Ok(())
 }
 

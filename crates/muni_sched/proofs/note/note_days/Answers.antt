@@ -1,6 +1,6 @@
 use Rattle.std.proofs.Common.{◌≡◌, pos, arith}
 use Rattle.std.proofs.lemmas.Int.{ints}
-use Rattle.muni_rule.specs.DayCount.{days360}
+use Rattle.muni_rule.specs.DayCount.{days_by}
 use Rattle.muni_days.specs.Day.{civil}
 use Rattle.muni_sched.proofs.NoteLemmas.{has_note_days}
 use Rattle.muni_sched.proofs.note.note_days.Goals as goal
@@ -9,6 +9,6 @@ pub returns-clause-range : goal.returns-clause-range
 returns-clause-range c =
     let row = c.args.issue.now in
     let days = has_note_days row c.args.settlement c.row-row.ensures.passed c.requires.note c.requires.settled in
-    let whole : pos c.days_to.result ≡ days360 (civil row.dated) (civil row.maturity) = cc in
-    let accrued : pos c.days_to-2.result ≡ days360 (civil row.dated) (civil c.args.settlement) = cc in
+    let whole : pos c.days_to.result ≡ days_by row.basis (civil row.dated) (civil row.maturity) = cc in
+    let accrued : pos c.days_to-2.result ≡ days_by row.basis (civil row.dated) (civil c.args.settlement) = cc in
     (omega (arith, ints), omega (arith, ints))
