@@ -68,4 +68,4 @@ confirmation_text issue key number version =
     ++ name_lines issue
     ++ terms_lines issue
     ++ day_line (codes "SETTLEMENT") version.terms.asked.settle
-    ++ figure_text version.figures version.terms.asked.given
+    ++ figure_text version.figures version.terms.asked.given version.terms.asked.fee

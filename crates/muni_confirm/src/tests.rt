@@ -1,6 +1,6 @@
 use crate::{figure_lines, refusal_line};
 use arrayvec::ArrayVec;
-use muni_days::Day;
+use muni_days::{Basis, Day};
 use muni_dec::{Cents, Coupon, Fee, Par, Price, Price3, Yield, Yield3};
 use muni_msg::{Act, Asked, Figures, Given, Kept, Range, Refusal, Side, Terms, Version};
 use muni_terms::{Boundary, Issue, IssueRow, Kind, Label, TermsFault, check};
@@ -53,6 +53,7 @@ fn issue() -> Result<Issue, Fail> {
         cusip: *b"123456AA3",
         name,
         kind: Kind::Discount,
+        basis: Basis::Thirty360,
         dated: day("2024-01-01")?,
         maturity: day("2024-04-01")?,
         coupon: Coupon::of(0).ok_or("a coupon")?,
@@ -231,8 +232,8 @@ fn each_refusal_has_a_line(rt: HostRuntime) -> Result<(), Fail> {
         ),
         (Refusal::Conflict(kept), "REFUSED 3 Conflict version 99\n"),
         (
-            Refusal::BadTerms(TermsFault::BadName),
-            "REFUSED 4 BadTerms 10\n",
+            Refusal::BadTerms(TermsFault::BadBasis),
+            "REFUSED 4 BadTerms 11\n",
         ),
         (
             Refusal::BadTerms(TermsFault::CallsNotRising { date }),

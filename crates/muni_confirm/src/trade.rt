@@ -113,7 +113,7 @@ pub fn confirmation(
 )
     ensures items { text.new.items
         ≡ spec.confirmation_text issue.now key.now number version.now }
-    ensures len { array_vec_len text.new ≤ 644 }
+    ensures len { array_vec_len text.new ≤ 685 }
 {
     let asked = &version.terms.asked;
     text.clear();
@@ -123,6 +123,6 @@ pub fn confirmation(
     push_terms_lines(text, issue.row());
     push_day_line(text, b"SETTLEMENT", &asked.settle);
     let mut lines = ArrayVec::new();
-    figure_lines(&version.figures, &asked.given, &mut lines);
+    figure_lines(&version.figures, &asked.given, asked.fee, &mut lines);
     push(text, &lines);
 }
