@@ -1,6 +1,6 @@
 -- What the redemption candidates of an issue allow to be given.
 use Rattle.std.proofs.Common.{◌≡◌, ℕ, ◌<◌, true, false, Bool, Some, None, List, [], ◌∷◌, length, get_or, refl, sym, subst, arith, ℤ, pos, negsuc}
-use Rattle.std.specs.Prelude.{All, Option, option_map, if◌then◌else◌, IfSome}
+use Rattle.std.specs.Prelude.{All, Option, option_map, if◌then◌else◌, IfSome, nat_lt}
 use Rattle.std.specs.List.{slice_get}
 use Rattle.std.proofs.lemmas.List.Elements.{All-head, All-tail, All-cons, All-nil}
 use Rattle.std.proofs.lemmas.Int.{ints}
@@ -27,7 +27,8 @@ use Rattle.muni_sched.specs.declared.candidate.Shape.TheVariants as shape
 use Rattle.muni_msg.specs.declared.asked.Given.{Given}
 use Rattle.muni_msg.specs.declared.asked.Given.TheVariants.{AtYield, AtPrice, AtRate}
 use Rattle.muni_book.specs.GivenFor.{IsDiscounted, IsNote, IsOnBasis}
-use Rattle.muni_book.specs.Answers.{is_wrong_basis, IsReturn, found_at_rate, IsFoundAtRate}
+use Rattle.muni_book.specs.Trade.{is_wrong_basis}
+use Rattle.muni_book.specs.Answers.{IsReturn, found_at_rate, IsFoundAtRate}
 
 -- the shape of a series is that of one payment, or of many
 either-at_yield : (last : Bool) (series : PaymentSeries) → IsShapeAtYield (if last then shape.One (single (last_payment series)) else shape.Many series)
@@ -38,36 +39,52 @@ series-at_yield : (of : Shape) (series : Option PaymentSeries) → Some of ≡ o
 series-at_yield of (Some series) same = subst IsShapeAtYield (sym (same_Some of (series_shape series) same)) (either-at_yield (is_last_period series) series)
 series-at_yield of None same = absurd (let never : Some of ≡ None = same in cc)
 
-shape-at_yield : (kind : Kind) (y : ℤ) (row : IssueRow) (settlement date : Day) (price : ℕ) (of : Shape) → is_wrong_basis kind (AtYield y) ≡ false → Some of ≡ shape_by kind row settlement date price → IsShapeAtYield of
-shape-at_yield (Periodic first) y row settlement date price of basis same = series-at_yield of _ same
-shape-at_yield Zero y row settlement date price of basis same = series-at_yield of _ same
-shape-at_yield AtRedemption y row settlement date price of basis same = subst IsShapeAtYield (sym (same_Some of _ same)) tt
-shape-at_yield Discount y row settlement date price of basis same = absurd (let never : true ≡ false = basis in cc)
+shape-at_yield : (kind : Kind) (y : ℤ) (fee : ℕ) (row : IssueRow) (settlement date : Day) (price : ℕ) (of : Shape) → is_wrong_basis kind (AtYield y) fee ≡ false → Some of ≡ shape_by kind row settlement date price → IsShapeAtYield of
+shape-at_yield (Periodic first) y fee row settlement date price of basis same = series-at_yield of _ same
+shape-at_yield Zero y fee row settlement date price of basis same = series-at_yield of _ same
+shape-at_yield AtRedemption y fee row settlement date price of basis same = subst IsShapeAtYield (sym (same_Some of _ same)) tt
+shape-at_yield Discount y fee row settlement date price of basis same = absurd (let never : true ≡ false = basis in cc)
 
-shape-discounted : (kind : Kind) (rate : ℤ) (row : IssueRow) (settlement date : Day) (price : ℕ) (of : Shape) → is_wrong_basis kind (AtRate rate) ≡ false → Some of ≡ shape_by kind row settlement date price → IsDiscounted of
-shape-discounted (Periodic first) rate row settlement date price of basis same = absurd (let never : true ≡ false = basis in cc)
-shape-discounted Zero rate row settlement date price of basis same = absurd (let never : true ≡ false = basis in cc)
-shape-discounted AtRedemption rate row settlement date price of basis same = absurd (let never : true ≡ false = basis in cc)
-shape-discounted Discount rate row settlement date price of basis same = subst IsDiscounted (sym (same_Some of _ same)) tt
+shape-discounted : (kind : Kind) (rate : ℤ) (fee : ℕ) (row : IssueRow) (settlement date : Day) (price : ℕ) (of : Shape) → is_wrong_basis kind (AtRate rate) fee ≡ false → Some of ≡ shape_by kind row settlement date price → IsDiscounted of
+shape-discounted (Periodic first) rate fee row settlement date price of basis same = absurd (let never : true ≡ false = basis in cc)
+shape-discounted Zero rate fee row settlement date price of basis same = absurd (let never : true ≡ false = basis in cc)
+shape-discounted AtRedemption rate fee row settlement date price of basis same = absurd (let never : true ≡ false = basis in cc)
+shape-discounted Discount rate fee row settlement date price of basis same = subst IsDiscounted (sym (same_Some of _ same)) tt
 
-all-at_yield : (y : ℤ) (row : IssueRow) (settlement : Day) (list : List Candidate) → is_wrong_basis row.kind (AtYield y) ≡ false → All (HasShape row settlement) list → All IsAtYield list
-all-at_yield y row settlement [] basis all = All-nil IsAtYield
-all-at_yield y row settlement (candidate ∷ rest) basis all =
+all-at_yield : (y : ℤ) (fee : ℕ) (row : IssueRow) (settlement : Day) (list : List Candidate) → is_wrong_basis row.kind (AtYield y) fee ≡ false → All (HasShape row settlement) list → All IsAtYield list
+all-at_yield y fee row settlement [] basis all = All-nil IsAtYield
+all-at_yield y fee row settlement (candidate ∷ rest) basis all =
     All-cons IsAtYield candidate rest
-    (shape-at_yield row.kind y row settlement candidate.date candidate.price candidate.shape basis (All-head (HasShape row settlement) candidate rest all))
-    (all-at_yield y row settlement rest basis (All-tail (HasShape row settlement) candidate rest all))
+    (shape-at_yield row.kind y fee row settlement candidate.date candidate.price candidate.shape basis (All-head (HasShape row settlement) candidate rest all))
+    (all-at_yield y fee row settlement rest basis (All-tail (HasShape row settlement) candidate rest all))
 
-all-notes : (rate : ℤ) (row : IssueRow) (settlement : Day) (list : List Candidate) → is_wrong_basis row.kind (AtRate rate) ≡ false → All (HasShape row settlement) list → All IsNote list
-all-notes rate row settlement [] basis all = All-nil IsNote
-all-notes rate row settlement (candidate ∷ rest) basis all =
+all-notes : (rate : ℤ) (fee : ℕ) (row : IssueRow) (settlement : Day) (list : List Candidate) → is_wrong_basis row.kind (AtRate rate) fee ≡ false → All (HasShape row settlement) list → All IsNote list
+all-notes rate fee row settlement [] basis all = All-nil IsNote
+all-notes rate fee row settlement (candidate ∷ rest) basis all =
     All-cons IsNote candidate rest
-    (shape-discounted row.kind rate row settlement candidate.date candidate.price candidate.shape basis (All-head (HasShape row settlement) candidate rest all))
-    (all-notes rate row settlement rest basis (All-tail (HasShape row settlement) candidate rest all))
+    (shape-discounted row.kind rate fee row settlement candidate.date candidate.price candidate.shape basis (All-head (HasShape row settlement) candidate rest all))
+    (all-notes rate fee row settlement rest basis (All-tail (HasShape row settlement) candidate rest all))
 
-pub on-basis : (given : Given) (row : IssueRow) (settlement : Day) (list : List Candidate) → is_wrong_basis row.kind given ≡ false → All (HasShape row settlement) list → IsOnBasis given list
-on-basis (AtYield y) row settlement list basis all = all-at_yield y row settlement list basis all
-on-basis (AtPrice price) row settlement list basis all = tt
-on-basis (AtRate rate) row settlement list basis all = all-notes rate row settlement list basis all
+-- beside a yield or a rate there is no commission
+nothing : (fee : ℕ) → nat_lt 0 fee ≡ false → fee ≡ 0
+nothing fee none = grind arith
+
+yield-alone : (kind : Kind) (y : ℤ) (fee : ℕ) → is_wrong_basis kind (AtYield y) fee ≡ false → fee ≡ 0
+yield-alone (Periodic first) y fee basis = nothing fee basis
+yield-alone Zero y fee basis = nothing fee basis
+yield-alone AtRedemption y fee basis = nothing fee basis
+yield-alone Discount y fee basis = absurd (let never : true ≡ false = basis in cc)
+
+rate-alone : (kind : Kind) (rate : ℤ) (fee : ℕ) → is_wrong_basis kind (AtRate rate) fee ≡ false → fee ≡ 0
+rate-alone (Periodic first) rate fee basis = absurd (let never : true ≡ false = basis in cc)
+rate-alone Zero rate fee basis = absurd (let never : true ≡ false = basis in cc)
+rate-alone AtRedemption rate fee basis = absurd (let never : true ≡ false = basis in cc)
+rate-alone Discount rate fee basis = nothing fee basis
+
+pub on-basis : (given : Given) (fee : ℕ) (row : IssueRow) (settlement : Day) (list : List Candidate) → is_wrong_basis row.kind given fee ≡ false → All (HasShape row settlement) list → IsOnBasis given fee list
+on-basis (AtYield y) fee row settlement list basis all = (yield-alone row.kind y fee basis, all-at_yield y fee row settlement list basis all)
+on-basis (AtPrice price) fee row settlement list basis all = tt
+on-basis (AtRate rate) fee row settlement list basis all = (rate-alone row.kind rate fee basis, all-notes rate fee row settlement list basis all)
 
 -- a yield that may be given is shown in the printed range
 given-rounded : (y : ℤ) → IsOnePeriodYield y → IsYield3 (rounded_yield y)

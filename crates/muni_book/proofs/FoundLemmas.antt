@@ -1,6 +1,6 @@
 -- What is found over the candidates at what is given is unique.
-use Rattle.std.proofs.Common.{◌≡◌, ℕ, zero, suc, ◌*◌, ◌≤◌, ◌<◌, List, Option, Some, None, refl, sym, subst, ap, ◌∙◌, arith, ℤ, pos, negsuc, ◌+ℤ◌, ◌≤ℤ◌, ◌<ℤ◌, Result}
-use Rattle.std.specs.Prelude.{All, option_map, if◌then◌else◌, ◌==◌}
+use Rattle.std.proofs.Common.{◌≡◌, ℕ, ◌*◌, ◌≤◌, ◌<◌, List, Option, Some, None, refl, sym, subst, ap, ◌∙◌, arith, ℤ, pos, negsuc, ◌+ℤ◌, ◌≤ℤ◌, ◌<ℤ◌, Result}
+use Rattle.std.specs.Prelude.{All, option_map}
 use Rattle.std.proofs.Math.Nat.{mul-le-mul}
 use Rattle.std.proofs.lemmas.Int.{ints}
 use Rattle.muni_rule.specs.Accuracy.{TruncatesTo, Reaches}
@@ -24,10 +24,11 @@ use Rattle.std.proofs.lemmas.Option.{same_Some}
 use Rattle.muni_msg.specs.Refusal.{range_of}
 use Rattle.muni_msg.specs.declared.asked.Given.{Given}
 use Rattle.muni_msg.specs.declared.asked.Given.TheVariants.{AtYield, AtPrice, AtRate}
-use Rattle.muni_msg.specs.declared.refusal.Range.TheVariants as range
+use Rattle.muni_msg.specs.declared.asked.Side.{Side}
 use Rattle.muni_msg.specs.declared.refusal.Refusal.{Refusal}
 use Rattle.muni_book.specs.declared.answers.PriceAndYield.{PriceAndYield}
-use Rattle.muni_book.specs.Answers.{side_left, found_at_yield, found_at_price, found_at_rate, IsReturn, IsFound}
+use Rattle.muni_book.specs.Trade.{net_price, price_side, side_left}
+use Rattle.muni_book.specs.Answers.{found_at_yield, found_at_price, found_at_rate, IsReturn, IsFound}
 use Rattle.muni_book.specs.GivenFor.{IsInRange, IsOnBasis}
 use Rattle.muni_book.proofs.CandidateLemmas.{of-first, rate-in_range}
 
@@ -36,20 +37,19 @@ none-mapped : {X Y : Type 0} (f : X → Y) (side : Option X) → option_map f si
 none-mapped f None none = refl
 none-mapped f (Some side) none = absurd (let never : Some (f side) ≡ None = none in cc)
 
-some-price : (price : ℕ) → (if price == 0 then Some range.Below else None) ≡ None → 0 < price
-some-price zero none = absurd (let never : Some range.Below ≡ None = none in cc)
-some-price (suc price) none = omega arith
+net-inside : (price net : ℕ) → price_side price net ≡ None → (0 < net) × (net ≤ 999_999_999)
+net-inside price net none = (grind arith, grind arith)
 
-pub inside-range : (given : Given) (list : List Candidate) → side_left given list ≡ None → IsInRange given list
-inside-range (AtYield y) list none = all-given y list (none-mapped range_of (side_of_first y list) none)
-inside-range (AtPrice price) list none = some-price price none
-inside-range (AtRate rate) list none = all-given rate list (none-mapped range_of (side_of_first rate list) none)
+pub inside-range : (given : Given) (side : Side) (fee : ℕ) (list : List Candidate) → side_left given side fee list ≡ None → IsInRange given side fee list
+inside-range (AtYield y) side fee list none = all-given y list (none-mapped range_of (side_of_first y list) none)
+inside-range (AtPrice price) side fee list none = net-inside price (net_price side price fee) none
+inside-range (AtRate rate) side fee list none = all-given rate list (none-mapped range_of (side_of_first rate list) none)
 
 -- what is given may be given for the candidates
-pub record IsCase (given : Given) (list : List Candidate) : Type 0 where
+pub record IsCase (given : Given) (side : Side) (fee : ℕ) (list : List Candidate) : Type 0 where
   pub candidates : All IsCandidate list
-  pub basis : IsOnBasis given list
-  pub in_range : IsInRange given list
+  pub basis : IsOnBasis given fee list
+  pub in_range : IsInRange given side fee list
 
 -- ---- at a rate
 price-above : (rate days : ℤ) → IsDiscountRate rate → pos 0 ≤ℤ days → days ≤ℤ pos 720 → pos 0 <ℤ (discount_price rate days +ℤ pos 0)
@@ -70,15 +70,15 @@ at_most-closed : (price : ℤ) → IsClosed (Reaches price)
 at_most-closed price = λ amount smaller less reached. omega (arith, ints, less, reached)
 
 -- ---- at each basis
-pub found-unique : (ends : PaymentSeries → ℤ → WorthEnds) (given : Given) (list : List Candidate) (found other : Result PriceAndYield Refusal) → IsCase given list → IsFound ends given list found → IsFound ends given list other → found ≡ other
-found-unique ends (AtYield y) list found other case is also =
-    let askable : ArePriced y list = record { candidates = case.candidates; basis = case.basis; in_range = case.in_range } in
+pub found-unique : (ends : PaymentSeries → ℤ → WorthEnds) (given : Given) (side : Side) (fee : ℕ) (list : List Candidate) (found other : Result PriceAndYield Refusal) → IsCase given side fee list → IsFound ends given side fee list found → IsFound ends given side fee list other → found ≡ other
+found-unique ends (AtYield y) side fee list found other case is also =
+    let askable : ArePriced y list = record { candidates = case.candidates; basis = case.basis.1; in_range = case.in_range } in
     let low : is.0 ≡ also.0 = one-answer ends (at_yield y) list is.0 also.0 askable is.1.rule also.1.rule in
     same_Some found other (is.2 ∙ ap (found_at_yield y list) low ∙ sym also.2)
-found-unique ends (AtPrice price) list found other case is also =
-    let low : is.0 ≡ also.0 = one-answer ends (at_price price) list is.0 also.0 (case.in_range, case.candidates) is.1.rule also.1.rule in
+found-unique ends (AtPrice price) side fee list found other case is also =
+    let low : is.0 ≡ also.0 = one-answer ends (at_price (net_price side price fee)) list is.0 also.0 (case.in_range.0, case.candidates) is.1.rule also.1.rule in
     same_Some found other (is.2 ∙ ap (found_at_price price list) low ∙ sym also.2)
-found-unique ends (AtRate rate) list found other case is also =
+found-unique ends (AtRate rate) side fee list found other case is also =
     let note : is.note ≡ also.note = same_Some is.note also.note (sym is.there ∙ also.there) in
     let shapes : shape.Discount is.days ≡ shape.Discount also.days = sym is.shape ∙ ap (λ (c : Candidate). c.shape) note ∙ also.shape in
     let days : is.days ≡ also.days = cc in

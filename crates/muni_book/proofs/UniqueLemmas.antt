@@ -16,7 +16,8 @@ use Rattle.muni_msg.specs.declared.refusal.Refusal.{Refusal}
 use Rattle.muni_msg.specs.declared.refusal.Refusal.TheVariants as refusal
 use Rattle.muni_book.specs.declared.answers.PriceAndYield.{PriceAndYield}
 use Rattle.muni_book.specs.AnswerLaws.{AnswersAreUnique}
-use Rattle.muni_book.specs.Answers.{is_wrong_basis, side_left, figures_of, IsShown, IsComputed, IsSettledAnswer}
+use Rattle.muni_book.specs.Trade.{is_wrong_basis, side_left}
+use Rattle.muni_book.specs.Answers.{figures_of, IsShown, IsComputed, IsSettledAnswer}
 use Rattle.muni_book.proofs.CandidateLemmas.{on-basis}
 use Rattle.muni_book.proofs.FoundLemmas.{inside-range, found-unique}
 
@@ -27,12 +28,12 @@ shown-unique row asked (Ok found) answer other is also =
     is.2 ∙ ap (λ d. Ok (figures_of row asked d found)) days ∙ sym also.2
 shown-unique row asked (Err refused) answer other is also = is ∙ sym also
 
-computed-unique : (ends : PaymentSeries → ℤ → WorthEnds) (row : IssueRow) (asked : Asked) (list : List Candidate) (answer other : Result Figures Refusal) → is_wrong_basis row.kind asked.given ≡ false → AreCandidates row asked.settle list → side_left asked.given list ≡ None → IsComputed ends row asked list answer → IsComputed ends row asked list other → answer ≡ other
+computed-unique : (ends : PaymentSeries → ℤ → WorthEnds) (row : IssueRow) (asked : Asked) (list : List Candidate) (answer other : Result Figures Refusal) → is_wrong_basis row.kind asked.given asked.fee ≡ false → AreCandidates row asked.settle list → side_left asked.given asked.side asked.fee list ≡ None → IsComputed ends row asked list answer → IsComputed ends row asked list other → answer ≡ other
 computed-unique ends row asked list answer other basis are inside is also =
-    let found = found-unique ends asked.given list also.found is.found (record {
+    let found = found-unique ends asked.given asked.side asked.fee list also.found is.found (record {
       candidates = are.ranges;
-      basis = on-basis asked.given row asked.settle list basis are.shapes;
-      in_range = inside-range asked.given list inside;
+      basis = on-basis asked.given asked.fee row asked.settle list basis are.shapes;
+      in_range = inside-range asked.given asked.side asked.fee list inside;
     }) also.is_found is.is_found in
     shown-unique row asked is.found answer other is.is_shown (subst (λ it. IsShown row asked it other) found also.is_shown)
 
@@ -40,11 +41,11 @@ by-side : (side : Option Range) (Computed Too : Type 0) (answer other : Result F
 by-side None Computed Too answer other computed is also = computed refl is also
 by-side (Some side) Computed Too answer other computed is also = is ∙ sym also
 
-settled-unique : (ends : PaymentSeries → ℤ → WorthEnds) (row : IssueRow) (asked : Asked) (answer other : Result Figures Refusal) → is_wrong_basis row.kind asked.given ≡ false → IsSettledAnswer ends row asked answer → IsSettledAnswer ends row asked other → answer ≡ other
+settled-unique : (ends : PaymentSeries → ℤ → WorthEnds) (row : IssueRow) (asked : Asked) (answer other : Result Figures Refusal) → is_wrong_basis row.kind asked.given asked.fee ≡ false → IsSettledAnswer ends row asked answer → IsSettledAnswer ends row asked other → answer ≡ other
 settled-unique ends row asked answer other basis is also =
     let list : also.list ≡ is.list = one-list row asked.settle also.list is.list also.candidates is.candidates in
-    let too = subst (λ l. MatchOption (side_left asked.given l) (IsComputed ends row asked l other) (λ left. other ≡ Err (refusal.GivenOutOfRange left))) list also.answered in
-    by-side (side_left asked.given is.list) (IsComputed ends row asked is.list answer) (IsComputed ends row asked is.list other) answer other
+    let too = subst (λ l. MatchOption (side_left asked.given asked.side asked.fee l) (IsComputed ends row asked l other) (λ left. other ≡ Err (refusal.GivenOutOfRange left))) list also.answered in
+    by-side (side_left asked.given asked.side asked.fee is.list) (IsComputed ends row asked is.list answer) (IsComputed ends row asked is.list other) answer other
     (λ inside one two. computed-unique ends row asked is.list answer other basis is.candidates inside one two)
     is.answered too
 
@@ -55,6 +56,6 @@ by-tests false false Settled Too answer other late is also = is ∙ sym also
 
 pub answers-unique : AnswersAreUnique
 answers-unique ends row asked answer other is also =
-    by-tests (is_wrong_basis row.kind asked.given) (settles row asked.settle) (IsSettledAnswer ends row asked answer) (IsSettledAnswer ends row asked other) answer other
+    by-tests (is_wrong_basis row.kind asked.given asked.fee) (settles row asked.settle) (IsSettledAnswer ends row asked answer) (IsSettledAnswer ends row asked other) answer other
     (λ basis one two. settled-unique ends row asked answer other basis one two)
     is also

@@ -1,15 +1,13 @@
 -- The right answer to what is asked of an issue: the figures of a trade, or the refusal that applies.
 -- `ends` are those that the encloser gives to payments and a yield.
-use Rattle.std.specs.Prelude.{◌≡◌, ℕ, ◌+◌, ◌/◌, ◌==◌, Bool, true, false, if◌then◌else◌, MatchBool, MatchOption, List, Option, Some, None, option_map, Result, Ok, Err, ℤ, unsigned_abs}
+use Rattle.std.specs.Prelude.{◌≡◌, ℕ, ◌+◌, ◌/◌, MatchBool, MatchOption, List, Option, Some, None, option_map, Result, Ok, Err, ℤ, unsigned_abs}
 use Rattle.std.specs.List.{slice_get}
-use Rattle.muni_rule.specs.Accuracy.{TruncatesTo, Reaches, rounded_yield, accrued_cents, principal_cents}
+use Rattle.muni_rule.specs.Accuracy.{TruncatesTo, Reaches, rounded_yield, accrued_cents, principal_cents, commission_cents}
 use Rattle.muni_rule.specs.Discount.{discount_price, discounted}
 use Rattle.muni_rule.specs.Payments.{PaymentSeries}
 use Rattle.muni_rule.specs.WorthEnds.{WorthEnds}
 use Rattle.muni_terms.specs.Issue.{settles, accrued_days}
 use Rattle.muni_terms.specs.declared.row.IssueRow.{IssueRow}
-use Rattle.muni_terms.specs.declared.row.Kind.{Kind}
-use Rattle.muni_terms.specs.declared.row.Kind.TheVariants.{Periodic, Zero, AtRedemption, Discount}
 use Rattle.muni_simple.specs.Yields.{least_printed, IsYieldAnswer}
 use Rattle.muni_simple.specs.declared.single.Shape1.TheVariants as single
 use Rattle.muni_simple.specs.declared.yields.SimpleYield.{SimpleYield}
@@ -17,44 +15,21 @@ use Rattle.muni_simple.specs.declared.yields.SimpleYield.TheVariants as simple
 use Rattle.muni_sched.specs.Answer.{IsLowestAnswer}
 use Rattle.muni_sched.specs.Basis.{at_yield, at_price}
 use Rattle.muni_sched.specs.Candidates.{AreCandidates}
-use Rattle.muni_sched.specs.Range.{side_of_first}
 use Rattle.muni_sched.specs.declared.answer.Figure.TheVariants as figure
 use Rattle.muni_sched.specs.declared.answer.LowAnswer.{LowAnswer}
 use Rattle.muni_sched.specs.declared.answer.LowAnswer.TheVariants as answer
 use Rattle.muni_sched.specs.declared.candidate.Candidate.{Candidate}
 use Rattle.muni_sched.specs.declared.candidate.Shape.TheVariants as shape
-use Rattle.muni_msg.specs.Refusal.{range_of}
 use Rattle.muni_msg.specs.declared.asked.Asked.{Asked}
 use Rattle.muni_msg.specs.declared.asked.Given.{Given}
 use Rattle.muni_msg.specs.declared.asked.Given.TheVariants.{AtYield, AtPrice, AtRate}
+use Rattle.muni_msg.specs.declared.asked.Side.{Side}
 use Rattle.muni_msg.specs.declared.figures.Figures.{Figures}
-use Rattle.muni_msg.specs.declared.refusal.Range.{Range}
 use Rattle.muni_msg.specs.declared.refusal.Range.TheVariants as range
 use Rattle.muni_msg.specs.declared.refusal.Refusal.{Refusal}
 use Rattle.muni_msg.specs.declared.refusal.Refusal.TheVariants as refusal
+use Rattle.muni_book.specs.Trade.{is_wrong_basis, net_price, side_left, total}
 use Rattle.muni_book.specs.declared.answers.PriceAndYield.{PriceAndYield}
-
--- a yield for a discounted note, or a discount rate for another kind
-abbrev pub is_wrong_basis : Kind → Given → Bool
-is_wrong_basis Discount (AtYield y) = true
-is_wrong_basis Discount (AtPrice price) = false
-is_wrong_basis Discount (AtRate rate) = false
-is_wrong_basis (Periodic first) (AtYield y) = false
-is_wrong_basis (Periodic first) (AtPrice price) = false
-is_wrong_basis (Periodic first) (AtRate rate) = true
-is_wrong_basis Zero (AtYield y) = false
-is_wrong_basis Zero (AtPrice price) = false
-is_wrong_basis Zero (AtRate rate) = true
-is_wrong_basis AtRedemption (AtYield y) = false
-is_wrong_basis AtRedemption (AtPrice price) = false
-is_wrong_basis AtRedemption (AtRate rate) = true
-
--- the side on which what is given leaves its range: a yield or a rate that of the first candidate that
--- excludes it, and a price where it is nothing
-abbrev pub side_left : Given → List Candidate → Option Range
-side_left (AtYield y) list = option_map range_of (side_of_first y list)
-side_left (AtPrice price) list = if price == 0 then Some range.Below else None
-side_left (AtRate rate) list = option_map range_of (side_of_first rate list)
 
 -- at a yield: the lowest price, with the given yield rounded, or why there is none
 abbrev pub found_at_yield : ℤ → List Candidate → LowAnswer → Option (Result PriceAndYield Refusal)
@@ -70,7 +45,7 @@ found_at_yield y list (answer.Below date) = Some (Err (refusal.GivenOutOfRange r
 found_at_yield y list answer.Above = None
 found_at_yield y list (answer.NoTime date) = None
 
--- at a price: the given price truncated, with the lowest yield at the price in full, or why there is none
+-- at a price: the given price truncated, with the lowest yield at the net price, or why there is none
 abbrev pub found_at_price : ℕ → List Candidate → LowAnswer → Option (Result PriceAndYield Refusal)
 found_at_price price list (answer.Low (figure.Price other) c) = None
 found_at_price price list (answer.Low (figure.Yield yld) c) =
@@ -115,16 +90,32 @@ pub record IsFoundAtRate (rate : ℤ) (list : List Candidate) (found : Result Pr
   pub exact : IsReturn days (discount_price rate days) return
   pub is_found : found ≡ found_at_rate note price return
 
--- what is found over the candidates at what is given
-abbrev pub IsFound : (ends : PaymentSeries → ℤ → WorthEnds) → Given → List Candidate
+-- what is found over the candidates at a yield
+abbrev pub IsFoundAtYield : (ends : PaymentSeries → ℤ → WorthEnds) → ℤ → List Candidate
     → Result PriceAndYield Refusal → Type 0
-IsFound ends (AtYield y) list found =
+IsFoundAtYield ends y list found =
     (low : LowAnswer) × IsLowestAnswer ends (at_yield y) list low
     × (Some found ≡ found_at_yield y list low)
-IsFound ends (AtPrice price) list found =
-    (low : LowAnswer) × IsLowestAnswer ends (at_price price) list low
+
+-- at a given price, of which the net price counts in full
+abbrev pub IsFoundAtPrice : (ends : PaymentSeries → ℤ → WorthEnds) → ℕ → ℕ → List Candidate
+    → Result PriceAndYield Refusal → Type 0
+IsFoundAtPrice ends price net list found =
+    (low : LowAnswer) × IsLowestAnswer ends (at_price net) list low
     × (Some found ≡ found_at_price price list low)
-IsFound ends (AtRate rate) list found = IsFoundAtRate rate list found
+
+-- and at what is given
+abbrev pub IsFound : (ends : PaymentSeries → ℤ → WorthEnds) → Given → Side → ℕ → List Candidate
+    → Result PriceAndYield Refusal → Type 0
+IsFound ends (AtYield y) side fee list found = IsFoundAtYield ends y list found
+IsFound ends (AtPrice price) side fee list found =
+    IsFoundAtPrice ends price (net_price side price fee) list found
+IsFound ends (AtRate rate) side fee list found = IsFoundAtRate rate list found
+
+-- principal and accrued interest of a trade together, with so many days of it
+abbrev pub gross : IssueRow → Asked → ℤ → ℕ → ℕ
+gross row asked days price =
+    principal_cents asked.par price + accrued_cents row.coupon asked.par (unsigned_abs days)
 
 -- the figures of a trade, with the days of accrued interest, and the money for the whole par
 abbrev pub figures_of : IssueRow → Asked → ℤ → PriceAndYield → Figures
@@ -137,8 +128,9 @@ figures_of row asked days found = record {
   days = days;
   principal = principal_cents asked.par found.price;
   accrued = accrued_cents row.coupon asked.par (unsigned_abs days);
-  total = principal_cents asked.par found.price
-      + accrued_cents row.coupon asked.par (unsigned_abs days);
+  commission = commission_cents asked.par asked.fee;
+  total = total asked.side (gross row asked days found.price)
+      (commission_cents asked.par asked.fee);
 }
 
 -- what is found, as it is answered
@@ -151,14 +143,15 @@ IsShown row asked (Err refused) answer = answer ≡ Err refused
 -- the figures that are found, or the refusal
 pub record IsComputed (ends : PaymentSeries → ℤ → WorthEnds) (row : IssueRow) (asked : Asked) (list : List Candidate) (answer : Result Figures Refusal) : Type 0 where
   pub found : Result PriceAndYield Refusal
-  pub is_found : IsFound ends asked.given list found
+  pub is_found : IsFound ends asked.given asked.side asked.fee list found
   pub is_shown : IsShown row asked found answer
 
 -- on a day on which the issue settles: what is given may leave its range
 pub record IsSettledAnswer (ends : PaymentSeries → ℤ → WorthEnds) (row : IssueRow) (asked : Asked) (answer : Result Figures Refusal) : Type 0 where
   pub list : List Candidate
   pub candidates : AreCandidates row asked.settle list
-  pub answered : MatchOption (side_left asked.given list) (IsComputed ends row asked list answer)
+  pub answered : MatchOption (side_left asked.given asked.side asked.fee list)
+      (IsComputed ends row asked list answer)
       (λ side. answer ≡ Err (refusal.GivenOutOfRange side))
 
 -- The right answer: the refusal that applies first, of the basis, the settlement and what is given, and
@@ -166,6 +159,6 @@ pub record IsSettledAnswer (ends : PaymentSeries → ℤ → WorthEnds) (row : I
 abbrev pub IsRightAnswer : (ends : PaymentSeries → ℤ → WorthEnds) → IssueRow → Asked
     → Result Figures Refusal → Type 0
 IsRightAnswer ends row asked answer =
-    MatchBool (is_wrong_basis row.kind asked.given) (answer ≡ Err refusal.WrongBasis)
+    MatchBool (is_wrong_basis row.kind asked.given asked.fee) (answer ≡ Err refusal.WrongBasis)
     (MatchBool (settles row asked.settle) (IsSettledAnswer ends row asked answer)
     (answer ≡ Err refusal.SettleOutside))

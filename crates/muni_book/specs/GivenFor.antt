@@ -1,5 +1,5 @@
 -- What may be given for redemption candidates.
-use Rattle.std.specs.Prelude.{◌<◌, ⊤, List, All}
+use Rattle.std.specs.Prelude.{◌≡◌, ℕ, ◌<◌, ◌≤◌, ⊤, List, All}
 use Rattle.muni_sched.specs.PriceOutcome.{IsAtYield}
 use Rattle.muni_sched.specs.Range.{IsGivenFor}
 use Rattle.muni_sched.specs.declared.candidate.Candidate.{Candidate}
@@ -7,12 +7,16 @@ use Rattle.muni_sched.specs.declared.candidate.Shape.{Shape}
 use Rattle.muni_sched.specs.declared.candidate.Shape.TheVariants.{Many, One, AtRedemption, Discount}
 use Rattle.muni_msg.specs.declared.asked.Given.{Given}
 use Rattle.muni_msg.specs.declared.asked.Given.TheVariants.{AtYield, AtPrice, AtRate}
+use Rattle.muni_msg.specs.declared.asked.Side.{Side}
+use Rattle.muni_book.specs.Trade.{net_price}
 
--- a yield or a rate in the range of each candidate, or a price above nothing
-abbrev pub IsInRange : Given → List Candidate → Type 0
-IsInRange (AtYield y) list = All (IsGivenFor y) list
-IsInRange (AtPrice price) list = 0 < price
-IsInRange (AtRate rate) list = All (IsGivenFor rate) list
+-- a yield or a rate in the range of each candidate, or a price whose net price is above nothing and
+-- a price itself
+abbrev pub IsInRange : Given → Side → ℕ → List Candidate → Type 0
+IsInRange (AtYield y) side fee list = All (IsGivenFor y) list
+IsInRange (AtPrice price) side fee list =
+    (0 < net_price side price fee) × (net_price side price fee ≤ 999_999_999)
+IsInRange (AtRate rate) side fee list = All (IsGivenFor rate) list
 
 -- a candidate is a discounted note
 abbrev pub IsDiscounted : Shape → Type 0
@@ -24,8 +28,8 @@ IsDiscounted (Discount days) = ⊤
 abbrev pub IsNote : Candidate → Type 0
 IsNote candidate = IsDiscounted candidate.shape
 
--- a yield is given for no discounted note, and a rate for nothing else
-abbrev pub IsOnBasis : Given → List Candidate → Type 0
-IsOnBasis (AtYield y) list = All IsAtYield list
-IsOnBasis (AtPrice price) list = ⊤
-IsOnBasis (AtRate rate) list = All IsNote list
+-- a yield is given for no discounted note, and a rate for nothing else, both without a commission
+abbrev pub IsOnBasis : Given → ℕ → List Candidate → Type 0
+IsOnBasis (AtYield y) fee list = (fee ≡ 0) × All IsAtYield list
+IsOnBasis (AtPrice price) fee list = ⊤
+IsOnBasis (AtRate rate) fee list = (fee ≡ 0) × All IsNote list

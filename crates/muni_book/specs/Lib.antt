@@ -1,3 +1,4 @@
+pub mod Trade
 pub mod Answers
 pub mod AnswerLaws
 pub mod GivenFor

@@ -1,7 +1,7 @@
 //! The answer to what is asked of an issue: the figures of a trade, with the redemption that gives the
 //! lowest price or the lowest yield, or why there are none.
 
-ghost use Rattle.std.specs.Prelude.{◌≡◌, ◌<◌, ◌≤◌, ◌+◌, ◌≤ℤ◌, pos, true, None, Some, length, All, IfOk, IfSome};
+ghost use Rattle.std.specs.Prelude.{◌≡◌, ◌<◌, ◌≤◌, ◌/◌, ◌≤ℤ◌, pos, true, Some, length, All, IfOk, IfSome};
 ghost use Rattle.std.specs.List.{slice_get};
 ghost use Rattle.muni_terms.specs.Issue as issues;
 ghost use Rattle.muni_sched.specs.Candidates.{IsCandidate};
@@ -11,15 +11,17 @@ ghost use Rattle.muni_book.specs.GivenFor.{IsInRange, IsOnBasis, IsNote};
 ghost use Rattle.muni_book.specs.Answers as spec;
 ghost use Rattle.muni_book.specs.Answers.{IsRightAnswer, IsFound};
 
-use muni_dec::{Price, Price3, Yield, Yield3, accrued_cents, principal_cents, round_yield, trunc3};
-use muni_edge::{Gate, Steps};
-use muni_msg::{Asked, Figures, Given, Range, Refusal};
-use muni_multi::Encloser;
-use muni_sched::{
-    Candidate, Figure, LowAnswer, Shape, candidates, lowest_price, lowest_yield, out_of_range,
+use crate::trade::{is_wrong_basis, net_price, side_left, total};
+use muni_dec::{
+    Price, Price3, Yield, Yield3, accrued_cents, commission_cents, principal_cents, round_yield,
+    trunc3,
 };
+use muni_edge::{Gate, Steps};
+use muni_msg::{Asked, Figures, Given, Range, Refusal, Side};
+use muni_multi::Encloser;
+use muni_sched::{Candidate, Figure, LowAnswer, Shape, candidates, lowest_price, lowest_yield};
 use muni_simple::{SimpleYield, rate_price, rate_return};
-use muni_terms::{Issue, Kind};
+use muni_terms::Issue;
 use std::marker::Brand;
 use std::sync::ledger::{Blank, Ledger};
 use std::thread::Threads;
@@ -36,7 +38,8 @@ struct PriceAndYield {
 /// given, and then of the figure that is asked for.
 ///
 /// At a yield the redemption candidate with the lowest price is disclosed, and at a price that with
-/// the lowest yield (MSRB Rule G-15(a)). Up to `workers` threads, from 1 to 16, look for the yields.
+/// the lowest yield (MSRB Rule G-15(a)), which is computed from the net price in full. Up to
+/// `workers` threads, from 1 to 16, look for the yields.
 pub fn figures<R: Threads + Sync, E: Encloser + Sync, G: Gate + Sync>(
     rt: &R,
     issue: &Issue,
@@ -47,72 +50,51 @@ pub fn figures<R: Threads + Sync, E: Encloser + Sync, G: Gate + Sync>(
 ) -> Result<Figures, Refusal>
     requires { (1 ≤ workers) × (workers ≤ 16) }
     ensures right { IsRightAnswer (E.ends encloser.now) issue.now asked.now result }
+    ensures covered { IfOk result (λ figures. asked.now.side ≡ Side.Sell
+        → figures.commission ≤ figures.principal) }
     ensures accrued { IfOk result (λ figures. figures.accrued ≤ 60_000_000_000) }
 {
-    if is_wrong_basis(issue.row().kind, asked.given) {
+    if is_wrong_basis(issue.row().kind, asked.given, asked.fee) {
         return Err(Refusal::WrongBasis);
     }
     if !issue.settles(asked.settle) {
         return Err(Refusal::SettleOutside);
     }
     let list = candidates(issue, asked.settle);
-    if let Some(side) = side_left(asked.given, list.as_slice()) {
+    if let Some(side) = side_left(asked, list.as_slice()) {
         return Err(Refusal::GivenOutOfRange(side));
     }
-    let found = find(rt, asked.given, list.as_slice(), workers, encloser, gate)?;
+    let found = find(rt, asked, list.as_slice(), workers, encloser, gate)?;
     Ok(figures_of(issue, asked, found))
-}
-
-fn is_wrong_basis(kind: Kind, given: Given) -> bool
-    ensures { result ≡ spec.is_wrong_basis kind given }
-{
-    match (kind, given) {
-        (Kind::Discount, Given::AtYield(_)) => true,
-        (Kind::Discount, Given::AtPrice(_) | Given::AtRate(_)) => false,
-        (_, Given::AtRate(_)) => true,
-        (_, Given::AtYield(_) | Given::AtPrice(_)) => false,
-    }
-}
-
-fn side_left(given: Given, list: &[Candidate]) -> Option<Range>
-    ensures value { result ≡ spec.side_left given list.now }
-    ensures in_range { result ≡ None → IsInRange given list.now }
-{
-    match given {
-        Given::AtYield(y) | Given::AtRate(y) => Some(Range::of(out_of_range(list, y)?)),
-        Given::AtPrice(price) => {
-            if price.units() == 0 {
-                Some(Range::Below)
-            } else {
-                None
-            }
-        }
-    }
 }
 
 // At each basis one of the two figures is given or computed first, and the other from it.
 fn find<R: Threads + Sync, E: Encloser + Sync, G: Gate + Sync>(
     rt: &R,
-    given: Given,
+    asked: &Asked,
     list: &[Candidate],
     workers: u32,
     encloser: &E,
     gate: &G,
 ) -> Result<PriceAndYield, Refusal>
     requires ranges { All IsCandidate list.now }
-    requires basis { IsOnBasis given list.now }
-    requires in_range { IsInRange given list.now }
+    requires basis { IsOnBasis asked.now.given asked.now.fee list.now }
+    requires in_range { IsInRange asked.now.given asked.now.side asked.now.fee list.now }
     requires some { 0 < length list.now }
     requires few { length list.now ≤ 41 }
     requires workers { (1 ≤ workers) × (workers ≤ 16) }
-    ensures found { IsFound (E.ends encloser.now) given list.now result }
+    ensures found { IsFound (E.ends encloser.now) asked.now.given asked.now.side asked.now.fee
+        list.now result }
     ensures range { IfOk result (λ found. found.price ≤ 100_000_000) }
+    ensures covered { IfOk result (λ found. asked.now.side ≡ Side.Sell
+        → asked.now.fee ≤ found.price) }
 {
-    match given {
+    match asked.given {
         Given::AtYield(y) => at_yield(list, y, encloser),
         Given::AtPrice(price) => {
+            let net = Price::new(net_price(price, asked.side, asked.fee));
             let blank = Blank::new(1);
-            at_price::<R, E, G, Brand>(rt, list, price, workers, encloser, gate, blank)
+            at_price::<R, E, G, Brand>(rt, list, price, net, workers, encloser, gate, blank)
         }
         Given::AtRate(rate) => at_rate(list, rate),
     }
@@ -128,7 +110,7 @@ fn at_yield<E: Encloser>(
     requires in_range { All (IsGivenFor y) list.now }
     requires some { 0 < length list.now }
     requires few { length list.now ≤ 41 }
-    ensures found { IsFound (E.ends encloser.now) (Given.AtYield y) list.now result }
+    ensures found { spec.IsFoundAtYield (E.ends encloser.now) y list.now result }
     ensures range { IfOk result (λ found. found.price ≤ 100_000_000) }
 {
     match lowest_price(list, y, encloser) {
@@ -146,11 +128,13 @@ fn at_yield<E: Encloser>(
     }
 }
 
-// The count of rounds is of use to none.
+// The given price is shown, and the yield is that at the net price. The count of rounds is of use to
+// none.
 fn at_price<R: Threads + Sync, E: Encloser + Sync, G: Gate + Sync, L: Ledger>(
     rt: &R,
     list: &[Candidate],
     price: Price,
+    net: Price,
     workers: u32,
     encloser: &E,
     gate: &G,
@@ -158,16 +142,17 @@ fn at_price<R: Threads + Sync, E: Encloser + Sync, G: Gate + Sync, L: Ledger>(
 ) -> Result<PriceAndYield, Refusal>
     requires ranges { All IsCandidate list.now }
     requires few { length list.now ≤ 41 }
-    requires price { 0 < price }
+    requires net { 0 < net }
     requires workers { (1 ≤ workers) × (workers ≤ 16) }
     requires name { blank.name ≡ L.name }
     requires parts { blank.parts ≡ L.parts }
     requires blank { 0 < blank.parts }
-    ensures found { IsFound (E.ends encloser.now) (Given.AtPrice price) list.now result }
+    ensures found { spec.IsFoundAtPrice (E.ends encloser.now) price net list.now result }
+    ensures shown { IfOk result (λ found. found.price ≡ price / 1000) }
     ensures range { IfOk result (λ found. found.price ≤ 100_000_000) }
 {
     let mut steps = Steps::<L>::open(blank);
-    match lowest_yield(rt, list, price, workers, encloser, gate, &mut steps) {
+    match lowest_yield(rt, list, net, workers, encloser, gate, &mut steps) {
         LowAnswer::Low { figure, candidate } => match figure {
             Figure::Yield(yld) => Ok(PriceAndYield {
                 price: trunc3(price),
@@ -224,13 +209,16 @@ fn days_left(list: &[Candidate]) -> i32
 fn figures_of(issue: &Issue, asked: &Asked, found: PriceAndYield) -> Figures
     requires settled { issues.settles issue.now asked.now.settle ≡ true }
     requires range { found.price ≤ 100_000_000 }
+    requires covered { asked.now.side ≡ Side.Sell → asked.now.fee ≤ found.price }
     ensures days { Some result.days ≡ issues.accrued_days issue.now asked.now.settle }
     ensures figures { result ≡ spec.figures_of issue.now asked.now result.days found }
+    ensures covered { asked.now.side ≡ Side.Sell → result.commission ≤ result.principal }
     ensures accrued { result.accrued ≤ 60_000_000_000 }
 {
     let days = issue.accrued_days(asked.settle);
     let principal = principal_cents(asked.par, found.price);
     let accrued = accrued_cents(issue.row().coupon, asked.par, days);
+    let commission = commission_cents(asked.par, asked.fee);
     Figures {
         price: found.price,
         yld: found.yld,
@@ -240,6 +228,7 @@ fn figures_of(issue: &Issue, asked: &Asked, found: PriceAndYield) -> Figures
         days,
         principal,
         accrued,
-        total: principal.plus(accrued),
+        commission,
+        total: total(asked.side, principal.plus(accrued), commission),
     }
 }

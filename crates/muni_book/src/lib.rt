@@ -3,6 +3,9 @@
 
 mod answers;
 mod laws;
+#[cfg(test)]
+mod tests;
+mod trade;
 
 pub use answers::figures;
 pub use laws::the_answer_to_a_request_is_unique;
