@@ -11,5 +11,5 @@ use Rattle.muni_desk.specs.declared.status.Status.{Status}
 use Rattle.muni_desk.specs.declared.status.Status.TheVariants.{Done}
 
 -- the text of right figures
-pub figures-shown : (ends : PaymentSeries → ℤ → WorthEnds) (request : QuoteRequest) (status : Status) (text : List ℕ) (figures : Figures) → status ≡ Done → IsAnswered ends request.row request.asked (Ok figures) → text ≡ figure_text figures request.asked.given → IsQuoteText ends request status text
+pub figures-shown : (ends : PaymentSeries → ℤ → WorthEnds) (request : QuoteRequest) (status : Status) (text : List ℕ) (figures : Figures) → status ≡ Done → IsAnswered ends request.row request.asked (Ok figures) → text ≡ figure_text figures request.asked.given request.asked.fee → IsQuoteText ends request status text
 figures-shown ends request status text figures done right is = subst (λ s. IsQuoteText ends request s text) (sym done) (figures, right, is)

@@ -21,6 +21,7 @@ use Rattle.muni_msg.specs.Fields.{day_in, kind_reading, call_reading}
 use Rattle.muni_msg.specs.declared.asked.Asked.{Asked}
 use Rattle.muni_msg.specs.declared.asked.Given.{Given}
 use Rattle.muni_msg.specs.declared.asked.Given.TheVariants.{AtYield, AtPrice, AtRate}
+use Rattle.muni_msg.specs.declared.asked.Side.TheVariants.{Buy}
 use Rattle.muni_desk.specs.Words.{◌>>=◌, word, is_option, are_options, value_of, values_of}
 use Rattle.muni_desk.specs.QuoteOptions.{date_of, coupon_of, calls_reading, calls_of, par_of, one_given, given_of, workers_in, workers_of, row_of, asked_of, quote_of, options, single_options}
 use Rattle.muni_desk.specs.QuoteOptions as quote
@@ -271,7 +272,7 @@ row-read words row single said =
 
 -- ---- what is asked for
 abbrev asked_from : ℕ → Day → Given → Asked
-asked_from par settle given = record { cusip = codes "000000000"; par = par; settle = settle; given = given }
+asked_from par settle given = record { cusip = codes "000000000"; par = par; settle = settle; given = given; side = Buy; fee = 0 }
 
 read-par : (words : List (List ℕ)) (par : ℕ) (found : Option (List ℕ)) → value_of (codes "--par=") words ≡ found → par_of found ≡ Some par → ReadsOr words (codes "--par=") (λ text. par_reading text ≡ Ok par) (par ≡ 100)
 read-par words par None is read = inr (none-lacks (codes "--par=") words is, sym (same_Some 100 par read))
@@ -300,10 +301,12 @@ read-asked words asked is =
       settle = read-ok day_reading words (codes "--settle=") settle.0 settle.1;
       given = read-given words given.0 given.1;
       cusip = refl;
+      side = refl;
+      fee = refl;
     })
 
 asked-same : (words : List (List ℕ)) (asked : Asked) → SaysAsked words asked → Some (asked_from asked.par asked.settle asked.given) ≡ Some asked
-asked-same words asked said = λ i. Some (record { cusip = sym said.cusip i; par = asked.par; settle = asked.settle; given = asked.given })
+asked-same words asked said = λ i. Some (record { cusip = sym said.cusip i; par = asked.par; settle = asked.settle; given = asked.given; side = sym said.side i; fee = sym said.fee i })
 
 asked-read : (words : List (List ℕ)) (asked : Asked) → All (IsSingle words) single_options → SaysAsked words asked → asked_of words ≡ Some asked
 asked-read words asked single said =

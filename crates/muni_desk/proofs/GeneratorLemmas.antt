@@ -74,7 +74,9 @@ asked-unique x4 x5 x6 x7 asked other is also =
     let par = is.par ∙ sym also.par in
     let settle = same_date asked.settle other.settle (is.settlement ∙ sym also.settlement) in
     let given = is.given ∙ sym also.given in
-    λ i. record { cusip = cusip i; par = par i; settle = settle i; given = given i }
+    let side = is.side ∙ sym also.side in
+    let fee = is.fee ∙ sym also.fee in
+    λ i. record { cusip = cusip i; par = par i; settle = settle i; given = given i; side = side i; fee = fee i }
 
 pub generated-unique : (state : ℕ) (request other : QuoteRequest) → IsGenerated state request → IsGenerated state other → request ≡ other
 generated-unique state request other is also =

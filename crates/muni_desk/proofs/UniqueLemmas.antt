@@ -82,7 +82,7 @@ quote_one-same request status other text also next is so = absurd is
 quote-same : (ends : PaymentSeries → ℤ → WorthEnds) (request : QuoteRequest) (status other : Status) (text also : List ℕ) → IsQuoteText ends request status text → IsQuoteText ends request other also → IsSame status other text also
 quote-same ends request Done Done text also is so =
     let figures : is.0 ≡ so.0 = (let same : Ok is.0 ≡ Ok so.0 = answered-unique ends request.row request.asked (Ok is.0) (Ok so.0) is.1 so.1 in cc) in
-    record { ends = refl; writes = is.2 ∙ ap (λ it. figure_text it request.asked.given) figures ∙ sym so.2 }
+    record { ends = refl; writes = is.2 ∙ ap (λ it. figure_text it request.asked.given request.asked.fee) figures ∙ sym so.2 }
 quote-same ends request Done Refused text also is so = figures-either is.0 so.0 (answered-unique ends request.row request.asked (Ok is.0) (Err so.0) is.1 so.1)
 quote-same ends request Refused Done text also is so = figures-either so.0 is.0 (answered-unique ends request.row request.asked (Ok so.0) (Err is.0) so.1 is.1)
 quote-same ends request Refused Refused text also is so =

@@ -35,7 +35,7 @@ IsQuoteOneText request status text = ⊥
 abbrev pub IsQuoteText : (ends : PaymentSeries → ℤ → WorthEnds) → QuoteRequest → Status → List ℕ → Type 0
 IsQuoteText ends request Done text =
     (figures : Figures) × IsAnswered ends request.row request.asked (Ok figures)
-    × (text ≡ figure_text figures request.asked.given)
+    × (text ≡ figure_text figures request.asked.given request.asked.fee)
 IsQuoteText ends request Refused text =
     (refusal : Refusal) × IsAnswered ends request.row request.asked (Err refusal) × (text ≡ refusal_text refusal)
 IsQuoteText ends request status text = ⊥

@@ -10,6 +10,7 @@ use Rattle.muni_terms.specs.declared.row.Kind.TheVariants.{Periodic}
 use Rattle.muni_sched.specs.Candidates.{call_redemption}
 use Rattle.muni_msg.specs.declared.asked.Asked.{Asked}
 use Rattle.muni_msg.specs.declared.asked.Given.TheVariants.{AtPrice}
+use Rattle.muni_msg.specs.declared.asked.Side.TheVariants.{Buy}
 use Rattle.muni_desk.specs.declared.request.QuoteRequest.{QuoteRequest}
 
 -- one step of the generator, which is linear and congruential, with a state below 2^64
@@ -68,12 +69,15 @@ pub record IsGeneratedRow (x1 x2 x3 : ℕ) (row : IssueRow) : Type 0 where
   pub calls : map call_redemption row.calls.items
       ≡ calls_before (interest_date (1 + x1 % 60)) (x3 % 41)
 
--- The trade of four draws: it settles in the second half of 2020, at a price from 90 to 120 dollars.
+-- The trade of four draws: it is bought at a price from 90 to 120 dollars, without a commission, and
+-- settles in the second half of 2020.
 pub record IsGeneratedAsked (x4 x5 x6 x7 : ℕ) (asked : Asked) : Type 0 where
   pub cusip : asked.cusip ≡ codes "000000000"
   pub settlement : civil asked.settle ≡ day_in_2020 (7 + x4 % 6) (1 + x5 % 28)
   pub par : asked.par ≡ 5_000 * (1 + x6 % 200)
   pub given : asked.given ≡ AtPrice (90_000_000 + 1_000 * (x7 % 30_001))
+  pub side : asked.side ≡ Buy
+  pub fee : asked.fee ≡ 0
 
 -- the request that the seven draws after a state make
 pub record IsGenerated (state : ℕ) (request : QuoteRequest) : Type 0 where

@@ -10,6 +10,7 @@ use Rattle.muni_terms.specs.declared.row.IssueRow.{IssueRow}
 use Rattle.muni_msg.specs.Fields.{day_in, kind_reading, call_reading, given_reading}
 use Rattle.muni_msg.specs.declared.asked.Asked.{Asked}
 use Rattle.muni_msg.specs.declared.asked.Given.{Given}
+use Rattle.muni_msg.specs.declared.asked.Side.TheVariants.{Buy}
 use Rattle.muni_desk.specs.Words.{◌>>=◌, are_options, value_of, values_of}
 use Rattle.muni_desk.specs.declared.command.Command.TheVariants.{Quote}
 use Rattle.muni_desk.specs.declared.command.CommandLine.{CommandLine}
@@ -86,13 +87,13 @@ row_of words = do
   calls ← calls_of words
   Some (record { cusip = codes "000000000"; name = record { items = codes "QUOTE" }; kind = kind; dated = dated; maturity = maturity; coupon = coupon; calls = record { items = calls } })
 
--- what is asked for of it
+-- what is asked for of it, for a buyer and without a commission
 abbrev pub asked_of : List (List ℕ) → Option Asked
 asked_of words = do
   par ← par_of (value_of (codes "--par=") words)
   settle ← date_of (codes "--settle=") words
   given ← given_of words
-  Some (record { cusip = codes "000000000"; par = par; settle = settle; given = given })
+  Some (record { cusip = codes "000000000"; par = par; settle = settle; given = given; side = Buy; fee = 0 })
 
 -- a request, and how many workers may compute
 abbrev pub command_line : List (List ℕ) → Option CommandLine

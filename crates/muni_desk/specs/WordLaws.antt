@@ -11,6 +11,7 @@ use Rattle.muni_terms.specs.declared.row.IssueRow.{IssueRow}
 use Rattle.muni_msg.specs.declared.asked.Asked.{Asked}
 use Rattle.muni_msg.specs.declared.asked.Given.{Given}
 use Rattle.muni_msg.specs.declared.asked.Given.TheVariants.{AtYield, AtPrice, AtRate}
+use Rattle.muni_msg.specs.declared.asked.Side.TheVariants.{Buy}
 use Rattle.muni_desk.specs.Words.{word, is_option}
 use Rattle.muni_desk.specs.QuoteOptions.{options, single_options}
 use Rattle.muni_desk.specs.DrillOptions as drill
@@ -122,13 +123,15 @@ pub record SaysTerms (words : List (List ℕ)) (row : IssueRow) : Type 0 where
   pub cusip : row.cusip ≡ codes "000000000"
   pub name : row.name.items ≡ codes "QUOTE"
 
--- what is asked for of it: the par is 100 where none is given
+-- what is asked for of it, for a buyer and without a commission: the par is 100 where none is given
 pub record SaysAsked (words : List (List ℕ)) (asked : Asked) : Type 0 where
   pub par :
       ReadsOr words (codes "--par=") (λ text. par_reading text ≡ Ok asked.par) (asked.par ≡ 100)
   pub settle : Reads words (codes "--settle=") (λ text. day_reading text ≡ Ok asked.settle)
   pub given : SaysGiven words asked.given
   pub cusip : asked.cusip ≡ codes "000000000"
+  pub side : asked.side ≡ Buy
+  pub fee : asked.fee ≡ 0
 
 -- words behind `quote`: from 1 to 16 workers, and one where no number is given
 pub record IsQuote (words : List (List ℕ)) (request : QuoteRequest) (workers : ℕ) : Type 0 where

@@ -18,7 +18,7 @@ use muni_confirm::{figure_lines, refusal_line};
 use muni_dec::Price3;
 use muni_dec::text::push;
 use muni_edge::Gate;
-use muni_msg::{Figures, Given, Refusal};
+use muni_msg::{Asked, Figures, Refusal};
 use muni_multi::Encloser;
 use std::thread::Threads;
 
@@ -64,16 +64,16 @@ fn quote_answer<R: Threads + Sync, E: Encloser + Sync, G: Gate + Sync>(
 {
     let QuoteRequest { row, asked } = request;
     match answer_of(rt, row, &asked, workers, encloser, gate) {
-        Ok(figures) => done(figures_text(&figures, asked.given)),
+        Ok(figures) => done(figures_text(&figures, &asked)),
         Err(refusal) => refused(&refusal),
     }
 }
 
-fn figures_text(figures: &Figures, given: Given) -> ArrayVec<u8, 512>
-    ensures { result.items ≡ figure_text figures.now given }
+fn figures_text(figures: &Figures, asked: &Asked) -> ArrayVec<u8, 512>
+    ensures { result.items ≡ figure_text figures.now asked.now.given asked.now.fee }
 {
     let mut text = ArrayVec::new();
-    figure_lines(figures, &given, &mut text);
+    figure_lines(figures, &asked.given, asked.fee, &mut text);
     text
 }
 

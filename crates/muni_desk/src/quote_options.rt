@@ -13,8 +13,8 @@ use crate::words::{are_options, count_of, value_in, value_of};
 use arrayvec::ArrayVec;
 use muni_days::Day;
 use muni_dec::digits::read_number;
-use muni_dec::{Coupon, Par};
-use muni_msg::{Asked, Given, read_call, read_given, read_kind};
+use muni_dec::{Coupon, Fee, Par};
+use muni_msg::{Asked, Given, Side, read_call, read_given, read_kind};
 use muni_terms::{Call, IssueRow, Kind};
 
 const CALL: &[u8] = b"--call=";
@@ -83,6 +83,7 @@ fn read_row(words: &[String]) -> Option<IssueRow>
     })
 }
 
+// A quote is for a buyer, and without a commission.
 fn read_asked(words: &[String]) -> Option<Asked>
     ensures { result ≡ spec.asked_of (map string_bytes words.now) }
 {
@@ -94,6 +95,8 @@ fn read_asked(words: &[String]) -> Option<Asked>
         par,
         settle,
         given,
+        side: Side::Buy,
+        fee: Fee::ZERO,
     })
 }
 

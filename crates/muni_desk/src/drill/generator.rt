@@ -10,8 +10,8 @@ ghost use Rattle.muni_desk.specs.Generator.{IsGenerated};
 use crate::request::{NO_CUSIP, QuoteRequest, issue_name};
 use arrayvec::ArrayVec;
 use muni_days::{Day, months_on};
-use muni_dec::{Coupon, Par, Price};
-use muni_msg::{Asked, Given};
+use muni_dec::{Coupon, Fee, Par, Price};
+use muni_msg::{Asked, Given, Side};
 use muni_terms::{Call, IssueRow, Kind};
 use std::marker::Model;
 
@@ -109,6 +109,8 @@ impl Generator {
             par,
             settle: day_in_2020(month, day),
             given: Given::AtPrice(price),
+            side: Side::Buy,
+            fee: Fee::ZERO,
         }
     }
 }
