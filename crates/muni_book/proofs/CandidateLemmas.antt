@@ -5,7 +5,8 @@ use Rattle.std.specs.List.{slice_get}
 use Rattle.std.proofs.lemmas.List.Elements.{All-head, All-tail, All-cons, All-nil}
 use Rattle.std.proofs.lemmas.Int.{ints}
 use Rattle.std.proofs.lemmas.Option.{slice_get_read}
-use Rattle.muni_rule.specs.Accuracy.{TruncatesTo, Reaches, rounded_yield}
+use Rattle.muni_rule.specs.Accuracy.{TruncatesBy, Reaches, rounded_yield}
+use Rattle.muni_rule.specs.declared.basis.Basis.{Basis}
 use Rattle.muni_rule.specs.Discount.{discount_price}
 use Rattle.muni_rule.specs.LastPayment.{is_last_period, last_payment}
 use Rattle.muni_rule.specs.Payments.{PaymentSeries}
@@ -95,7 +96,7 @@ widest : (y : ℤ) (of : Shape) → IsShapeAtYield of → IsWithin (given_range 
 widest y (shape.Many series) at given = let least = given.0 in let most = given.1 in (omega (arith, ints, least), omega (arith, ints, most))
 widest y (shape.One payment) at given = given
 widest y (shape.AtRedemption payment) at given = let least = given.0 in let most = given.1 in (omega (arith, ints, least), most)
-widest y (shape.Discount days) at given = absurd at
+widest y (shape.Discount days basis) at given = absurd at
 
 pub first-rounded : (y : ℤ) (list : List Candidate) → 0 < length list → All IsAtYield list → All (IsGivenFor y) list → IsYield3 (rounded_yield y)
 first-rounded y [] some at given = absurd (omega (arith, some))
@@ -107,18 +108,19 @@ pub of-first : (Such : Candidate → Type 0) (list : List Candidate) (candidate 
 of-first Such [] candidate there all = absurd (let never : None ≡ Some candidate = there in cc)
 of-first Such (first ∷ rest) candidate there all = subst Such (same_Some first candidate there) (All-head Such first rest all)
 
-pub rate-in_range : (rate : ℤ) (days : ℤ) (of : Shape) → of ≡ shape.Discount days → IsWithin (given_range of) rate → IsDiscountRate rate
-rate-in_range rate days of is given = subst (λ s. IsWithin (given_range s) rate) is given
+pub rate-in_range : (rate : ℤ) (days : ℤ) (basis : Basis) (of : Shape) → of ≡ shape.Discount days basis → IsWithin (given_range of) rate → IsDiscountRate rate
+rate-in_range rate days basis of is given = subst (λ s. IsWithin (given_range s) rate) is given
 
 -- the first candidate, as it is read, is found at a rate with the days up to it
-pub found-at_rate : (rate days : ℤ) (list : List Candidate) (note : Candidate) (price : ℕ) (return : SimpleYield) → 0 < length list → note ≡ get_or list 0 note → IfSome (slice_get list 0) (λ first. first.shape ≡ shape.Discount days) → TruncatesTo (Reaches (discount_price rate days)) price → IsReturn days (discount_price rate days) return → IsFoundAtRate rate list (found_at_rate note price return)
-found-at_rate rate days list note price return some first is truncated exact =
+pub found-at_rate : (rate days : ℤ) (basis : Basis) (list : List Candidate) (note : Candidate) (price : ℕ) (return : SimpleYield) → 0 < length list → note ≡ get_or list 0 note → IfSome (slice_get list 0) (λ first. first.shape ≡ shape.Discount days basis) → TruncatesBy basis (Reaches (discount_price basis rate days)) price → IsReturn basis days (discount_price basis rate days) return → IsFoundAtRate rate list (found_at_rate note price return)
+found-at_rate rate days basis list note price return some first is truncated exact =
     let there : slice_get list 0 ≡ Some note = slice_get_read list (length list) 0 note refl some first in
     record {
       note = note;
       there = there;
       days = days;
-      shape = subst (λ found. IfSome found (λ candidate. candidate.shape ≡ shape.Discount days)) there is;
+      basis = basis;
+      shape = subst (λ found. IfSome found (λ candidate. candidate.shape ≡ shape.Discount days basis)) there is;
       price = price;
       truncated = truncated;
       return = return;

@@ -3,7 +3,10 @@ use Rattle.std.proofs.Common.{◌≡◌, ℕ, ◌*◌, ◌≤◌, ◌<◌, List,
 use Rattle.std.specs.Prelude.{All, option_map}
 use Rattle.std.proofs.Math.Nat.{mul-le-mul}
 use Rattle.std.proofs.lemmas.Int.{ints}
-use Rattle.muni_rule.specs.Accuracy.{TruncatesTo, Reaches}
+use Rattle.muni_rule.specs.Accuracy.{TruncatesBy, Reaches}
+use Rattle.muni_rule.specs.DayCount.{year_of}
+use Rattle.muni_rule.specs.declared.basis.Basis.{Basis}
+use Rattle.muni_rule.specs.declared.basis.Basis.TheVariants.{Thirty360, Actual365}
 use Rattle.muni_rule.specs.Discount.{discount_price, discounted}
 use Rattle.muni_rule.specs.Payments.{PaymentSeries}
 use Rattle.muni_rule.specs.Ranges.{IsDiscountRate}
@@ -52,19 +55,24 @@ pub record IsCase (given : Given) (side : Side) (fee : ℕ) (list : List Candida
   pub in_range : IsInRange given side fee list
 
 -- ---- at a rate
-price-above : (rate days : ℤ) → IsDiscountRate rate → pos 0 ≤ℤ days → days ≤ℤ pos 720 → pos 0 <ℤ (discount_price rate days +ℤ pos 0)
-price-above (negsuc r) days given from most = let least = given.0 in absurd (omega (arith, ints, least))
-price-above (pos rate) (negsuc d) given from most = absurd (omega (arith, ints, from))
-price-above (pos rate) (pos days) given from most =
+par-least : (basis : Basis) → 360 ≤ year_of basis
+par-least Thirty360 = omega arith
+par-least Actual365 = omega arith
+
+price-above : (basis : Basis) (rate days : ℤ) → IsDiscountRate rate → pos 0 ≤ℤ days → days ≤ℤ pos 720 → pos 0 <ℤ (discount_price basis rate days +ℤ pos 0)
+price-above basis (negsuc r) days given from most = let least = given.0 in absurd (omega (arith, ints, least))
+price-above basis (pos rate) (negsuc d) given from most = absurd (omega (arith, ints, from))
+price-above basis (pos rate) (pos days) given from most =
     let greatest = given.1 in
     let small : rate ≤ 300_000 = omega (arith, ints, greatest) in
     let few : days ≤ 720 = omega (arith, ints, most) in
     let discount : rate * days ≤ 300_000 * 720 = mul-le-mul small few in
-    omega (arith, ints, discount)
+    let par = par-least basis in
+    omega (arith, ints, discount, par)
 
-return-unique : (rate days : ℤ) (return other : SimpleYield) → IsDiscountRate rate → (pos 0 ≤ℤ days) × (days ≤ℤ pos 720) → IsReturn days (discount_price rate days) return → IsReturn days (discount_price rate days) other → return ≡ other
-return-unique rate days return other given range is also =
-    answer-same (negsuc 44_999) (discounted days) (discount_price rate days) return other (omega (arith, ints)) (price-above rate days given range.0 range.1) is also
+return-unique : (basis : Basis) (rate days : ℤ) (return other : SimpleYield) → IsDiscountRate rate → (pos 0 ≤ℤ days) × (days ≤ℤ pos 720) → IsReturn basis days (discount_price basis rate days) return → IsReturn basis days (discount_price basis rate days) other → return ≡ other
+return-unique basis rate days return other given range is also =
+    answer-same (negsuc 44_999) (discounted basis days) (discount_price basis rate days) return other (omega (arith, ints)) (price-above basis rate days given range.0 range.1) is also
 
 at_most-closed : (price : ℤ) → IsClosed (Reaches price)
 at_most-closed price = λ amount smaller less reached. omega (arith, ints, less, reached)
@@ -80,12 +88,13 @@ found-unique ends (AtPrice price) side fee list found other case is also =
     same_Some found other (is.2 ∙ ap (found_at_price price list) low ∙ sym also.2)
 found-unique ends (AtRate rate) side fee list found other case is also =
     let note : is.note ≡ also.note = same_Some is.note also.note (sym is.there ∙ also.there) in
-    let shapes : shape.Discount is.days ≡ shape.Discount also.days = sym is.shape ∙ ap (λ (c : Candidate). c.shape) note ∙ also.shape in
+    let shapes : shape.Discount is.days is.basis ≡ shape.Discount also.days also.basis = sym is.shape ∙ ap (λ (c : Candidate). c.shape) note ∙ also.shape in
     let days : is.days ≡ also.days = cc in
-    let given : IsDiscountRate rate = rate-in_range rate is.days is.note.shape is.shape (of-first (IsGivenFor rate) list is.note is.there case.in_range) in
-    let range : IsPriceable (shape.Discount is.days) = subst IsPriceable is.shape (of-first IsCandidate list is.note is.there case.candidates) in
-    let exact : IsReturn is.days (discount_price rate is.days) also.return = subst (λ d. IsReturn d (discount_price rate d) also.return) (sym days) also.exact in
-    let truncated : TruncatesTo (Reaches (discount_price rate is.days)) also.price = subst (λ d. TruncatesTo (Reaches (discount_price rate d)) also.price) (sym days) also.truncated in
-    let price : is.price ≡ also.price = printed-one (Reaches (discount_price rate is.days)) is.price also.price (at_most-closed (discount_price rate is.days)) is.truncated truncated in
-    let return : is.return ≡ also.return = return-unique rate is.days is.return also.return given range is.exact exact in
+    let basis : is.basis ≡ also.basis = cc in
+    let given : IsDiscountRate rate = rate-in_range rate is.days is.basis is.note.shape is.shape (of-first (IsGivenFor rate) list is.note is.there case.in_range) in
+    let range : IsPriceable (shape.Discount is.days is.basis) = subst IsPriceable is.shape (of-first IsCandidate list is.note is.there case.candidates) in
+    let exact : IsReturn is.basis is.days (discount_price is.basis rate is.days) also.return = rw (days, basis) also.exact in
+    let truncated : TruncatesBy is.basis (Reaches (discount_price is.basis rate is.days)) also.price = rw (days, basis) also.truncated in
+    let price : is.price ≡ also.price = printed-one is.basis (Reaches (discount_price is.basis rate is.days)) is.price also.price (at_most-closed (discount_price is.basis rate is.days)) is.truncated truncated in
+    let return : is.return ≡ also.return = return-unique is.basis rate is.days is.return also.return given range is.exact exact in
     is.is_found ∙ (λ i. found_at_rate (note i) (price i) (return i)) ∙ sym also.is_found

@@ -2,7 +2,9 @@
 -- `ends` are those that the encloser gives to payments and a yield.
 use Rattle.std.specs.Prelude.{◌≡◌, ℕ, ◌+◌, ◌/◌, MatchBool, MatchOption, List, Option, Some, None, option_map, Result, Ok, Err, ℤ, unsigned_abs}
 use Rattle.std.specs.List.{slice_get}
-use Rattle.muni_rule.specs.Accuracy.{TruncatesTo, Reaches, rounded_yield, accrued_cents, principal_cents, commission_cents}
+use Rattle.muni_rule.specs.Accuracy.{TruncatesBy, Reaches, rounded_yield, accrued_cents, principal_cents, commission_cents}
+use Rattle.muni_rule.specs.DayCount.{year_of}
+use Rattle.muni_rule.specs.declared.basis.Basis.{Basis}
 use Rattle.muni_rule.specs.Discount.{discount_price, discounted}
 use Rattle.muni_rule.specs.Payments.{PaymentSeries}
 use Rattle.muni_rule.specs.WorthEnds.{WorthEnds}
@@ -61,9 +63,9 @@ found_at_price price list answer.Above = Some (Err refusal.YieldAbove)
 found_at_price price list (answer.NoTime date) = Some (Err (refusal.NoTime date))
 
 -- the return on a discounted note, so many days before its maturity, at a price that is an amount
-abbrev pub IsReturn : ℤ → ℤ → SimpleYield → Type 0
-IsReturn days price return =
-    IsYieldAnswer (least_printed single.AtRedemption) (discounted days) price return
+abbrev pub IsReturn : Basis → ℤ → ℤ → SimpleYield → Type 0
+IsReturn basis days price return =
+    IsYieldAnswer (least_printed single.AtRedemption) (discounted basis days) price return
 
 -- at a rate: the price of a note with its return, or why there is none
 abbrev pub found_at_rate : Candidate → ℕ → SimpleYield → Result PriceAndYield Refusal
@@ -83,11 +85,12 @@ pub record IsFoundAtRate (rate : ℤ) (list : List Candidate) (found : Result Pr
   pub note : Candidate
   pub there : slice_get list 0 ≡ Some note
   pub days : ℤ
-  pub shape : note.shape ≡ shape.Discount days
+  pub basis : Basis
+  pub shape : note.shape ≡ shape.Discount days basis
   pub price : ℕ
-  pub truncated : TruncatesTo (Reaches (discount_price rate days)) price
+  pub truncated : TruncatesBy basis (Reaches (discount_price basis rate days)) price
   pub return : SimpleYield
-  pub exact : IsReturn days (discount_price rate days) return
+  pub exact : IsReturn basis days (discount_price basis rate days) return
   pub is_found : found ≡ found_at_rate note price return
 
 -- what is found over the candidates at a yield
@@ -115,7 +118,8 @@ IsFound ends (AtRate rate) side fee list found = IsFoundAtRate rate list found
 -- principal and accrued interest of a trade together, with so many days of it
 abbrev pub gross : IssueRow → Asked → ℤ → ℕ → ℕ
 gross row asked days price =
-    principal_cents asked.par price + accrued_cents row.coupon asked.par (unsigned_abs days)
+    principal_cents asked.par price
+    + accrued_cents row.coupon asked.par (unsigned_abs days) (year_of row.basis)
 
 -- the figures of a trade, with the days of accrued interest, and the money for the whole par
 abbrev pub figures_of : IssueRow → Asked → ℤ → PriceAndYield → Figures
@@ -127,7 +131,7 @@ figures_of row asked days found = record {
   label = found.redemption.label;
   days = days;
   principal = principal_cents asked.par found.price;
-  accrued = accrued_cents row.coupon asked.par (unsigned_abs days);
+  accrued = accrued_cents row.coupon asked.par (unsigned_abs days) (year_of row.basis);
   commission = commission_cents asked.par asked.fee;
   total = total asked.side (gross row asked days found.price)
       (commission_cents asked.par asked.fee);

@@ -23,7 +23,7 @@ abbrev pub IsDiscounted : Shape → Type 0
 IsDiscounted (Many series) = ⊥
 IsDiscounted (One payment) = ⊥
 IsDiscounted (AtRedemption payment) = ⊥
-IsDiscounted (Discount days) = ⊤
+IsDiscounted (Discount days basis) = ⊤
 
 abbrev pub IsNote : Candidate → Type 0
 IsNote candidate = IsDiscounted candidate.shape

@@ -12,6 +12,7 @@ ghost use Rattle.muni_book.specs.Answers as spec;
 ghost use Rattle.muni_book.specs.Answers.{IsRightAnswer, IsFound};
 
 use crate::trade::{is_wrong_basis, net_price, side_left, total};
+use muni_days::Basis;
 use muni_dec::{
     Price, Price3, Yield, Yield3, accrued_cents, commission_cents, principal_cents, round_yield,
     trunc3,
@@ -32,6 +33,13 @@ struct PriceAndYield {
     price: Price3,
     yld: Yield3,
     redemption: Candidate,
+}
+
+// The days up to the maturity of a note, by its basis.
+#[derive(Clone, Copy)]
+struct DaysLeft {
+    days: i32,
+    basis: Basis,
 }
 
 /// The figures of a trade, or the refusal that applies first: of the basis, the settlement, what is
@@ -178,9 +186,9 @@ fn at_rate(list: &[Candidate], rate: Yield) -> Result<PriceAndYield, Refusal>
     ensures range { IfOk result (λ found. found.price ≤ 100_000_000) }
 {
     let note = list[0];
-    let days = days_left(list);
-    let price = rate_price(rate, days);
-    match rate_return(rate, days) {
+    let DaysLeft { days, basis } = days_left(list);
+    let price = rate_price(rate, days, basis);
+    match rate_return(rate, days, basis) {
         SimpleYield::Print(yld) => Ok(PriceAndYield {
             price,
             yld,
@@ -192,16 +200,16 @@ fn at_rate(list: &[Candidate], rate: Yield) -> Result<PriceAndYield, Refusal>
     }
 }
 
-// The days up to the maturity of a note.
-fn days_left(list: &[Candidate]) -> i32
+fn days_left(list: &[Candidate]) -> DaysLeft
     requires ranges { All IsCandidate list.now }
     requires basis { All IsNote list.now }
     requires some { 0 < length list.now }
-    ensures shape { IfSome (slice_get list.now 0) (λ note. note.shape ≡ Shape.Discount result) }
-    ensures range { (pos 0 ≤ℤ result) × (result ≤ℤ pos 720) }
+    ensures shape { IfSome (slice_get list.now 0) (λ note. note.shape
+        ≡ Shape.Discount result.days result.basis) }
+    ensures range { (pos 0 ≤ℤ result.days) × (result.days ≤ℤ pos 720) }
 {
     match list[0].shape {
-        Shape::Discount { days } => days,
+        Shape::Discount { days, basis } => DaysLeft { days, basis },
         Shape::Many(_) | Shape::One(_) | Shape::AtRedemption(_) => unreachable!(),
     }
 }
@@ -217,7 +225,8 @@ fn figures_of(issue: &Issue, asked: &Asked, found: PriceAndYield) -> Figures
 {
     let days = issue.accrued_days(asked.settle);
     let principal = principal_cents(asked.par, found.price);
-    let accrued = accrued_cents(issue.row().coupon, asked.par, days);
+    let row = issue.row();
+    let accrued = accrued_cents(row.coupon, asked.par, days, row.basis.year());
     let commission = commission_cents(asked.par, asked.fee);
     Figures {
         price: found.price,

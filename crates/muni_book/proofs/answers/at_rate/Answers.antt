@@ -1,5 +1,5 @@
 use Rattle.std.proofs.Common.{rules}
-use Rattle.muni_rule.specs.Accuracy.{TruncatesTo, Reaches}
+use Rattle.muni_rule.specs.Accuracy.{TruncatesBy, Reaches}
 use Rattle.muni_rule.specs.Discount.{discount_price}
 use Rattle.muni_simple.specs.declared.yields.SimpleYield.TheVariants.{Print, NoTime}
 use Rattle.muni_book.specs.Answers.{IsReturn}
@@ -8,14 +8,16 @@ use Rattle.muni_book.proofs.answers.at_rate.Goals as goal
 
 pub returns-in-Print-clause-found : goal.returns-in-Print-clause-found
 returns-in-Print-clause-found c =
-    let days = c.days_left-days.result in
-    let exact : IsReturn days (discount_price c.args.rate days) (Print c.in-Print.yld) = search rules in
-    let truncated : TruncatesTo (Reaches (discount_price c.args.rate days)) c.rate_price-price.result = search rules in
-    found-at_rate c.args.rate days c.args.list.now c.index-list-0.result c.rate_price-price.result (Print c.in-Print.yld) c.requires.some c.index-list-0.is c.days_left-days.ensures.shape truncated exact
+    let days = c.days_left-days.result.days in
+    let basis = c.days_left-days.result.basis in
+    let exact : IsReturn basis days (discount_price basis c.args.rate days) (Print c.in-Print.yld) = search rules in
+    let truncated : TruncatesBy basis (Reaches (discount_price basis c.args.rate days)) c.rate_price-price.result = search rules in
+    found-at_rate c.args.rate days basis c.args.list.now c.index-list-0.result c.rate_price-price.result (Print c.in-Print.yld) c.requires.some c.index-list-0.is c.days_left-days.ensures.shape truncated exact
 
 pub returns-in-NoTime-clause-found : goal.returns-in-NoTime-clause-found
 returns-in-NoTime-clause-found c =
-    let days = c.days_left-days.result in
-    let exact : IsReturn days (discount_price c.args.rate days) NoTime = search rules in
-    let truncated : TruncatesTo (Reaches (discount_price c.args.rate days)) c.rate_price-price.result = search rules in
-    found-at_rate c.args.rate days c.args.list.now c.index-list-0.result c.rate_price-price.result NoTime c.requires.some c.index-list-0.is c.days_left-days.ensures.shape truncated exact
+    let days = c.days_left-days.result.days in
+    let basis = c.days_left-days.result.basis in
+    let exact : IsReturn basis days (discount_price basis c.args.rate days) NoTime = search rules in
+    let truncated : TruncatesBy basis (Reaches (discount_price basis c.args.rate days)) c.rate_price-price.result = search rules in
+    found-at_rate c.args.rate days basis c.args.list.now c.index-list-0.result c.rate_price-price.result NoTime c.requires.some c.index-list-0.is c.days_left-days.ensures.shape truncated exact
