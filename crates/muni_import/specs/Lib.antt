@@ -1,3 +1,6 @@
 pub mod Calls
 pub mod Fault
+pub mod Reader
 pub mod Row
+pub mod RowLaws
+pub mod Rows

@@ -2,6 +2,8 @@
 #![tactic(auto)]
 
 mod calls;
+mod reader;
 mod row;
 
+pub use reader::RowReader;
 pub use row::RowFault;

@@ -1,0 +1,70 @@
+//! The rows of a text, read one after another.
+
+ghost use Rattle.std.specs.Prelude.{◌≡◌, Some, None, IfOk, IfSome, OnErr};
+ghost use Rattle.muni_import.specs.Rows.{rows_of, IsNext};
+
+use crate::row::{RowFault, read_row};
+use csv::{ByteRecord, Reader, ReaderBuilder};
+use muni_edge::NoMemory;
+use muni_msg::Command;
+use std::alloc::Global;
+use std::marker::Model;
+
+/// The rows of a text, read one after another. Only one of them is in memory at a time. A contract
+/// sees those that are left.
+#[derive(Drop)]
+pub struct RowReader<'a> {
+    reader: Reader<&'a [u8]>,
+    record: ByteRecord,
+    ended: bool,
+}
+
+impl<'a> Model for RowReader<'a> {
+    ghost use Rattle.std.specs.Prelude.{◌≡◌, ◌⊎◌, true, List, Option};
+    ghost use Rattle.muni_import.specs.Reader.{rows_left, IsSound};
+    ghost use Rattle.muni_import.specs.Row.{Row};
+
+    ghost Value = { Option (List Row) };
+
+    ghost view = { λ r. rows_left r.ended r.reader };
+
+    ghost invariant = { λ r. (r.ended ≡ true) ⊎ IsSound r.reader };
+}
+
+impl<'a> RowReader<'a> {
+    /// A reader of the rows of a text.
+    #[tactic(auto, unfolding(crate::specs::Rows::rows_of, crate::specs::Rows::rows_from))]
+    pub fn new(alloc: Global, text: &'a [u8]) -> RowReader<'a>
+        ensures { result ≡ Some (rows_of text.now) }
+    {
+        RowReader {
+            reader: ReaderBuilder::new()
+                .has_headers(false)
+                .flexible(true)
+                .from_reader(alloc, text),
+            record: ByteRecord::new(alloc),
+            ended: false,
+        }
+    }
+
+    /// The next row: its command, or why it is none. `None` where no row is left.
+    ///
+    /// Want of memory is the only refusal, and no row is told after it.
+    pub fn next_row(&mut self) -> Result<Option<Result<Command, RowFault>>, NoMemory>
+        ensures next { IfOk result (λ row. IfSome self.old (λ left. IsNext left row self.new)) }
+        ensures refused { OnErr result (self.new ≡ None) }
+    {
+        if self.ended {
+            return Ok(None);
+        }
+        let found = match self.reader.read_byte_record(&mut self.record) {
+            Ok(found) => found,
+            Err(_) => return Err(NoMemory),
+        };
+        if !found {
+            self.ended = true;
+            return Ok(None);
+        }
+        Ok(Some(read_row(&self.record)))
+    }
+}
