@@ -1,14 +1,16 @@
 -- The rows of a text, from the first on.
-use Rattle.std.proofs.Common.{◌≡◌, ◌≤◌, ◌<◌, ◌+◌, ◌⊎◌, ℕ, zero, suc, List, [], ◌∷◌, length, map, Bool, true, false, Option, Some, None, IfSome, option_map, refl, sym, ap, inl, inr, arith}
+use Rattle.std.proofs.Common.{◌≡◌, ◌≤◌, ◌<◌, ◌+◌, ◌⊎◌, ◌∙◌, ℕ, zero, suc, List, [], ◌∷◌, ◌++◌, drop, length, map, slice_get, Bool, true, false, cond, Option, Some, None, IfSome, option_map, refl, sym, ap, inl, inr, arith}
 use Rattle.csv.specs.Machine.{Read, next_record}
+use Rattle.std.proofs.lemmas.List.{append_assoc, append-nil, length-append, length-map}
 use denote.Ref.{Bor}
-use Rattle.csv.specs.Reading.{default_config, records_from, records_next, source_of, pending_of, Ready, NextIs, ReadsNext, ReadRecord}
+use Rattle.csv.specs.Reading.{default_config, records_from, records_next, strip_bom, is_bom, source_of, pending_of, Ready, NextIs, ReadsNext, ReadRecord}
 use Rattle.csv.specs.declared.reader.Reader.{Reader}
 use Rattle.csv.specs.declared.reader.Trim.TheVariants as trim
 use Rattle.csv.specs.declared.parser.State.{State}
+use Rattle.csv.specs.declared.parser.State.TheVariants as st
 use Rattle.muni_import.specs.Reader.{bytes_of, rows_left, IsSound}
-use Rattle.muni_import.specs.Row.{row_of}
-use Rattle.muni_import.specs.Rows.{rows_from, IsNext}
+use Rattle.muni_import.specs.Row.{Row, row_of}
+use Rattle.muni_import.specs.Rows.{rows_from, rows_of, IsNext}
 use Rattle.muni_import.proofs.MachineLemmas.{IsBetween, behind-any, behind-byte, behind-between, none-between}
 
 -- turns past the bytes give no further record
@@ -99,3 +101,63 @@ left-none reader new fields (inr (untrimmed, ready, config, flexible)) reads =
 pub still-sound : (ended : Bool) (reader : Reader (Bor (List ℕ))) → ended ≡ false → (ended ≡ true) ⊎ IsSound reader → IsSound reader
 still-sound ended reader goes_on (inl ends) = absurd (cc (goes_on, ends))
 still-sound ended reader goes_on (inr sound) = sound
+
+-- there are no more records than bytes
+few-next : (n : ℕ) (s : State) (xs : List ℕ) (next : Option Read) → next_record default_config s [] [] xs ≡ next → IsBetween s
+    → ((s : State) (xs : List ℕ) → IsBetween s → length (records_from default_config n s xs) ≤ length xs)
+    → length (records_next (records_from default_config n) next) ≤ length xs
+few-next n s xs None is between more = omega arith
+few-next n s xs (Some next) is between more =
+    let left = behind-between s xs next between is in
+    omega (arith, left.1, more next.1 next.2 left.0)
+
+few-records : (n : ℕ) (s : State) (xs : List ℕ) → IsBetween s → length (records_from default_config n s xs) ≤ length xs
+unfolding records_from
+few-records zero s xs between = omega arith
+few-records (suc n) s xs between = few-next n s xs (next_record default_config s [] [] xs) refl between (few-records n)
+
+-- a mark of its byte order makes no text longer
+unmarked-by : (marked : Bool) (a b c : ℕ) (text : List ℕ) → length (cond marked text (a ∷ b ∷ c ∷ text)) ≤ length (a ∷ b ∷ c ∷ text)
+unmarked-by true a b c text = omega arith
+unmarked-by false a b c text = omega arith
+
+unmarked : (text : List ℕ) → length (strip_bom text) ≤ length text
+unfolding strip_bom
+unmarked [] = omega arith
+unmarked (a ∷ []) = omega arith
+unmarked (a ∷ b ∷ []) = omega arith
+unmarked (a ∷ b ∷ c ∷ text) = unmarked-by (is_bom a b c) a b c text
+
+pub few-rows : (text : List ℕ) → length (rows_of text) ≤ length text
+unfolding rows_of
+few-rows text =
+    let bytes = strip_bom text in
+    omega (arith, length-map (records_from default_config (length bytes + 1) st.StartRecord bytes) row_of, few-records (length bytes + 1) st.StartRecord bytes (inl refl), unmarked text)
+
+-- these rows were read, and a reader has the others left
+abbrev pub HasRead : List Row → Option (List Row) → List Row → Type 0
+HasRead rows reader all = (left : List Row) × (reader ≡ Some left) × (rows ++ left ≡ all)
+
+next-row : (left : List Row) (row : Row) → Some row ≡ slice_get left 0 → left ≡ row ∷ drop 1 left
+next-row [] row is = absurd (cc is)
+next-row (first ∷ rest) row is = ap (λ r. r ∷ rest) (cc is)
+
+-- then one more
+pub read-more : (rows : List Row) (row : Row) (old new : Option (List Row)) (all : List Row) → HasRead rows old all → IfSome old (λ left. IsNext left (Some row) new) → HasRead (rows ++ row ∷ []) new all
+read-more rows row old new all (left, is, read) next =
+    let then = rw is at next in
+    (drop 1 left, then.rest, append_assoc rows (row ∷ []) (drop 1 left) ∙ ap (λ l. rows ++ l) (sym (next-row left row then.first)) ∙ read)
+
+-- or all of them
+no-row : (left : List Row) → None ≡ slice_get left 0 → left ≡ []
+no-row [] is = refl
+no-row (first ∷ rest) is = absurd (cc is)
+
+pub read-all : (rows : List Row) (old new : Option (List Row)) (all : List Row) → HasRead rows old all → IfSome old (λ left. IsNext left None new) → rows ≡ all
+read-all rows old new all (left, is, read) next =
+    let then = rw is at next in
+    sym (append-nil rows) ∙ ap (λ l. rows ++ l) (sym (no-row left then.first)) ∙ read
+
+-- no more than there are
+pub read-few : (rows : List Row) (reader : Option (List Row)) (all : List Row) → HasRead rows reader all → length rows ≤ length all
+read-few rows reader all (left, is, read) = omega (arith, length-append rows left, ap length read)

@@ -1,6 +1,7 @@
 pub mod Calls
 pub mod Fault
 pub mod Reader
+pub mod Report
 pub mod Row
 pub mod RowLaws
 pub mod Rows

@@ -3,7 +3,11 @@
 
 mod calls;
 mod reader;
+mod report;
 mod row;
+mod rows;
 
 pub use reader::RowReader;
+pub use report::report_row;
 pub use row::RowFault;
+pub use rows::read_rows;

@@ -185,7 +185,7 @@ fn read_fee(text: &[u8]) -> Option<Fee>
     ensures { result ≡ spec.fee_field text.now }
 {
     if text.is_empty() {
-        return Some(Fee::new(0));
+        return Some(Fee::ZERO);
     }
     Fee::read(text).ok()
 }

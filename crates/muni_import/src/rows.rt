@@ -1,0 +1,29 @@
+//! All rows of a text.
+
+ghost use Rattle.std.specs.Prelude.{◌≡◌, IfOk};
+ghost use Rattle.muni_import.specs.Rows.{rows_of};
+
+use crate::reader::RowReader;
+use crate::row::RowFault;
+use muni_edge::NoMemory;
+use muni_msg::Command;
+use std::alloc::Global;
+
+/// Reads all rows of a text: the command of each, or why it is none. Want of memory is the only
+/// refusal.
+pub fn read_rows(alloc: Global, text: &[u8]) -> Result<Vec<Result<Command, RowFault>>, NoMemory>
+    ensures { IfOk result (λ rows. rows.items ≡ rows_of text.now) }
+{
+    let mut rows = Vec::new(alloc);
+    let mut reader = RowReader::new(alloc, text);
+    for count in 0..text.len() + 1 {
+        let _count = count;
+        let Some(row) = reader.next_row()? else {
+            return Ok(rows);
+        };
+        if rows.push(row).is_err() {
+            return Err(NoMemory);
+        }
+    }
+    unreachable!()
+}
