@@ -1,11 +1,12 @@
 -- The texts that name a kind of security, a day count basis, a call, a side and what is given, in words,
 -- rows and messages.
-use Rattle.std.specs.Prelude.{ℕ, ◌+◌, ◌==◌, if◌then◌else◌, List, take, drop, position, codes, Option, Some, None, option_map, option_and_then}
+use Rattle.std.specs.Prelude.{ℕ, ◌+◌, ◌==◌, if◌then◌else◌, List, length, take, drop, position, codes, Option, Some, None, option_map, option_and_then}
 use Rattle.std.specs.Result.{result_ok}
 use Rattle.std.specs.Str.{bytes_eq}
 use Rattle.muni_rule.specs.declared.basis.Basis.{Basis}
 use Rattle.muni_rule.specs.declared.basis.Basis.TheVariants.{Thirty360, Actual365}
-use Rattle.muni_dec.specs.Values.{price_reading, yield_reading}
+use Rattle.muni_dec.specs.Digits.{number_reading}
+use Rattle.muni_dec.specs.Values.{price_reading, yield_reading, fee_reading}
 use Rattle.muni_days.specs.Day.{day_reading}
 use Rattle.muni_days.specs.declared.day.Day.{Day}
 use Rattle.muni_terms.specs.declared.row.Call.{Call}
@@ -55,6 +56,10 @@ basis_reading text =
     if bytes_eq text (codes "30/360") then Some Thirty360
     else (if bytes_eq text (codes "actual/365") then Some Actual365 else None)
 
+-- the same, which may be left out for 30/360
+abbrev pub basis_field : List ℕ → Option Basis
+basis_field text = if length text == 0 then Some Thirty360 else basis_reading text
+
 -- a text as a side
 abbrev pub side_reading : List ℕ → Option Side
 side_reading text =
@@ -70,3 +75,11 @@ given_reading basis value =
     then option_map (λ price. AtPrice price) (result_ok (price_reading value))
     else (if bytes_eq basis (codes "rate")
     then option_map (λ rate. AtRate rate) (result_ok (yield_reading value)) else None))
+
+-- a text as a commission, which may be left out
+abbrev pub fee_field : List ℕ → Option ℕ
+fee_field text = if length text == 0 then Some 0 else result_ok (fee_reading text)
+
+-- a text as the number of a version, in one to nine digits
+abbrev pub version_number : List ℕ → Option ℕ
+version_number text = number_reading 9 0 999_999_999 text

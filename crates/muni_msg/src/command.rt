@@ -65,8 +65,11 @@ pub enum Reply {
     Added {
         cusip: [u8; 9],
     },
-    /// The figures that were asked for.
-    Quoted(Figures),
+    /// The figures, and what they were asked for.
+    Quoted {
+        asked: Asked,
+        figures: Figures,
+    },
     /// The first 50 trades, in the order of their references.
     Listed(ArrayVec<Line, 50>),
     /// The version with this number is kept.

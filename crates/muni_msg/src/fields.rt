@@ -6,7 +6,8 @@ ghost use Rattle.muni_msg.specs.Fields as spec;
 
 use crate::{Given, Side};
 use muni_days::{Basis, Day};
-use muni_dec::{Price, Yield};
+use muni_dec::digits::read_number;
+use muni_dec::{Fee, Price, Yield};
 use muni_terms::{Call, Kind};
 
 /// The kind of security that a text names: `periodic`, `zero`, `at-redemption` or `discount`.
@@ -70,6 +71,16 @@ pub fn read_basis(text: &[u8]) -> Option<Basis>
     None
 }
 
+/// The day count basis that a text names. An empty text is `30/360`.
+pub fn read_basis_field(text: &[u8]) -> Option<Basis>
+    ensures { result ≡ spec.basis_field text.now }
+{
+    if text.is_empty() {
+        return Some(Basis::Thirty360);
+    }
+    read_basis(text)
+}
+
 /// The side that a text names: `buy` or `sell`.
 pub fn read_side(text: &[u8]) -> Option<Side>
     ensures { result ≡ spec.side_reading text.now }
@@ -98,4 +109,22 @@ pub fn read_given(basis: &[u8], value: &[u8]) -> Option<Given>
         return Some(Given::AtRate(Yield::read(value).ok()?));
     }
     None
+}
+
+/// The commission that a text names, in dollars per 100 of par. An empty text is 0.
+pub fn read_fee_field(text: &[u8]) -> Option<Fee>
+    ensures { result ≡ spec.fee_field text.now }
+{
+    if text.is_empty() {
+        return Some(Fee::new(0));
+    }
+    Fee::read(text).ok()
+}
+
+/// The number of a version, in one to nine digits.
+pub fn read_version_number(text: &[u8]) -> Option<u32>
+    ensures { result ≡ spec.version_number text.now }
+{
+    let number = read_number(text, 9, 0, 999_999_999)?;
+    Some(number as u32)
 }

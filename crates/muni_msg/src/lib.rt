@@ -14,7 +14,10 @@ mod version;
 
 pub use asked::{Asked, Given, Side, Terms};
 pub use command::{Command, Key, Line, Reply};
-pub use fields::{read_basis, read_call, read_given, read_kind, read_side};
+pub use fields::{
+    read_basis, read_basis_field, read_call, read_fee_field, read_given, read_kind, read_side,
+    read_version_number,
+};
 pub use figures::Figures;
 pub use issue_fields::{read_coupon, read_cusip, read_issue_name};
 pub use names::{DeskName, NameFault, Reference};
