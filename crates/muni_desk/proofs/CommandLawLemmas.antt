@@ -8,6 +8,8 @@ use Rattle.std.proofs.lemmas.Bool.Decides.{nat_tests, Decides-eqb}
 use Rattle.std.proofs.lemmas.List.{append_cancel_left}
 use Rattle.std.proofs.lemmas.Option.{none-some, same_Some}
 use Rattle.std.proofs.lemmas.Slice.Eq.{bytes_eq-Decides}
+use Rattle.muni_rule.specs.declared.basis.Basis.{Basis}
+use Rattle.muni_rule.specs.declared.basis.Basis.TheVariants.{Thirty360, Actual365}
 use Rattle.muni_dec.specs.Digits.{number_reading}
 use Rattle.muni_dec.specs.Values.{coupon_reading, par_reading, price_reading, yield_reading}
 use Rattle.muni_days.specs.Day.{civil, day_reading}
@@ -23,7 +25,7 @@ use Rattle.muni_msg.specs.declared.asked.Given.{Given}
 use Rattle.muni_msg.specs.declared.asked.Given.TheVariants.{AtYield, AtPrice, AtRate}
 use Rattle.muni_msg.specs.declared.asked.Side.TheVariants.{Buy}
 use Rattle.muni_desk.specs.Words.{◌>>=◌, word, is_option, are_options, value_of, values_of}
-use Rattle.muni_desk.specs.QuoteOptions.{date_of, coupon_of, calls_reading, calls_of, par_of, one_given, given_of, workers_in, workers_of, row_of, asked_of, quote_of, options, single_options}
+use Rattle.muni_desk.specs.QuoteOptions.{date_of, bond_day_count, note_day_count, day_count_of, coupon_of, calls_reading, calls_of, par_of, one_given, given_of, workers_in, workers_of, row_of, asked_of, quote_of, options, single_options}
 use Rattle.muni_desk.specs.QuoteOptions as quote
 use Rattle.muni_desk.specs.DrillOptions as drill
 use Rattle.muni_desk.specs.DrillOptions.{drill_of}
@@ -35,7 +37,7 @@ use Rattle.muni_desk.specs.declared.command.CommandLine.{CommandLine}
 use Rattle.muni_desk.specs.declared.drill.options.DrillRequest.{DrillRequest}
 use Rattle.muni_desk.specs.declared.quote_one.QuoteOneRequest.{QuoteOneRequest}
 use Rattle.muni_desk.specs.declared.request.QuoteRequest.{QuoteRequest}
-use Rattle.muni_desk.specs.WordLaws.{IsCall, IsCommandLine, IsDrill, IsQuote, IsQuoteOne, IsSaid, IsSingle, SaysAsked, SaysTerms, Says, Reads, Lacks, ReadsOr, SaysKind, SaysCoupon, SaysCalls, SaysGiven}
+use Rattle.muni_desk.specs.WordLaws.{IsCall, IsCommandLine, IsDrill, IsQuote, IsQuoteOne, IsSaid, IsSingle, SaysAsked, SaysTerms, Says, Reads, Lacks, ReadsOr, SaysKind, SaysNoteDays, SaysDays, SaysCoupon, SaysCalls, SaysGiven}
 use Rattle.muni_desk.proofs.CallLawLemmas.{read-call, call-read}
 use Rattle.muni_desk.proofs.OptionalLemmas.{bind-some, some-bind, map-some, ok-some, if-some, when-true}
 use Rattle.muni_desk.proofs.WordLawLemmas.{both, option-joined, options-read, are-options, found-says, says-found, none-lacks, lacks-none}
@@ -100,6 +102,45 @@ kind-read words (Periodic date) single first said =
 kind-read words Zero single first said = kind-found words (codes "zero") None Zero single said.0 (lacks-none (codes "--first=") words said.1) refl
 kind-read words AtRedemption single first said = kind-found words (codes "at-redemption") None AtRedemption single said.0 (lacks-none (codes "--first=") words said.1) refl
 kind-read words Discount single first said = kind-found words (codes "discount") None Discount single said.0 (lacks-none (codes "--first=") words said.1) refl
+
+-- ---- the basis by which days are counted
+bond-days : (words : List (List ℕ)) (basis : Basis) (found : Option (List ℕ)) → value_of (codes "--days=") words ≡ found → bond_day_count found ≡ Some basis → Lacks words (codes "--days=") × (basis ≡ Thirty360)
+bond-days words basis None is read = (none-lacks (codes "--days=") words is, sym (same_Some Thirty360 basis read))
+bond-days words basis (Some text) is read = absurd (none-some basis read)
+
+days-by : (words : List (List ℕ)) (thirty actual : Bool) (basis : Basis) → (if thirty then Some Thirty360 else (if actual then Some Actual365 else None)) ≡ Some basis → ((thirty ≡ true) → Says words (codes "--days=") (codes "30/360")) → ((actual ≡ true) → Says words (codes "--days=") (codes "actual/365")) → SaysNoteDays words basis
+days-by words true actual basis is t a = subst (SaysNoteDays words) (same_Some Thirty360 basis is) (inl (t refl))
+days-by words false true basis is t a = subst (SaysNoteDays words) (same_Some Actual365 basis is) (a refl)
+days-by words false false basis is t a = absurd (none-some basis is)
+
+says-days : (words : List (List ℕ)) (text value : List ℕ) → Says words (codes "--days=") text → bytes_eq text value ≡ true → Says words (codes "--days=") value
+says-days words text value said test = subst (Says words (codes "--days=")) (same-text text value test) said
+
+note-days : (words : List (List ℕ)) (basis : Basis) (found : Option (List ℕ)) → value_of (codes "--days=") words ≡ found → note_day_count found ≡ Some basis → SaysNoteDays words basis
+note-days words basis None is read = subst (SaysNoteDays words) (same_Some Thirty360 basis read) (inr (none-lacks (codes "--days=") words is))
+note-days words basis (Some text) is read =
+    let said = found-says (codes "--days=") text words is in
+    days-by words (bytes_eq text (codes "30/360")) (bytes_eq text (codes "actual/365")) basis read (says-days words text (codes "30/360") said) (says-days words text (codes "actual/365") said)
+
+pub read-days : (words : List (List ℕ)) (kind : Kind) (basis : Basis) → day_count_of kind (value_of (codes "--days=") words) ≡ Some basis → SaysDays words kind basis
+read-days words (Periodic first) basis read = bond-days words basis (value_of (codes "--days=") words) refl read
+read-days words Zero basis read = bond-days words basis (value_of (codes "--days=") words) refl read
+read-days words AtRedemption basis read = note-days words basis (value_of (codes "--days=") words) refl read
+read-days words Discount basis read = note-days words basis (value_of (codes "--days=") words) refl read
+
+days-bond : (words : List (List ℕ)) (basis : Basis) → Lacks words (codes "--days=") × (basis ≡ Thirty360) → bond_day_count (value_of (codes "--days=") words) ≡ Some basis
+days-bond words basis none = ap bond_day_count (lacks-none (codes "--days=") words none.0) ∙ ap Some (sym none.1)
+
+days-note : (words : List (List ℕ)) (basis : Basis) → IsSingle words (codes "--days=") → SaysNoteDays words basis → note_day_count (value_of (codes "--days=") words) ≡ Some basis
+days-note words Thirty360 single (inl said) = ap note_day_count (says-found (codes "--days=") (codes "30/360") words single said)
+days-note words Thirty360 single (inr lacks) = ap note_day_count (lacks-none (codes "--days=") words lacks)
+days-note words Actual365 single said = ap note_day_count (says-found (codes "--days=") (codes "actual/365") words single said)
+
+pub days-read : (words : List (List ℕ)) (kind : Kind) (basis : Basis) → IsSingle words (codes "--days=") → SaysDays words kind basis → day_count_of kind (value_of (codes "--days=") words) ≡ Some basis
+days-read words (Periodic first) basis single said = days-bond words basis said
+days-read words Zero basis single said = days-bond words basis said
+days-read words AtRedemption basis single said = days-note words basis single said
+days-read words Discount basis single said = days-note words basis single said
 
 -- ---- the coupon
 coupon-here : (words : List (List ℕ)) (coupon : ℕ) (found : Option (List ℕ)) → value_of (codes "--coupon=") words ≡ found → coupon_of true found ≡ Some coupon → Reads words (codes "--coupon=") (λ text. coupon_reading text ≡ Ok coupon)
@@ -237,19 +278,21 @@ said_calls-read words calls said =
     ap calls_from same ∙ calls-few said.texts true few refl ∙ calls-read said.texts calls said.are_read
 
 -- ---- the terms
-abbrev row_from : Kind → Day → Day → ℕ → List Call → IssueRow
-row_from kind dated maturity coupon calls = record { cusip = codes "000000000"; name = record { items = codes "QUOTE" }; kind = kind; dated = dated; maturity = maturity; coupon = coupon; calls = record { items = calls } }
+abbrev row_from : Kind → Basis → Day → Day → ℕ → List Call → IssueRow
+row_from kind basis dated maturity coupon calls = record { cusip = codes "000000000"; name = record { items = codes "QUOTE" }; kind = kind; basis = basis; dated = dated; maturity = maturity; coupon = coupon; calls = record { items = calls } }
 
 read-row : (words : List (List ℕ)) (row : IssueRow) → row_of words ≡ Some row → SaysTerms words row
 read-row words row is =
     let kind = bind-some _ (kind_of words) row is in
-    let dated = bind-some _ (date_of (codes "--dated=") words) row kind.2 in
+    let days = bind-some _ (day_count_of kind.0 (value_of (codes "--days=") words)) row kind.2 in
+    let dated = bind-some _ (date_of (codes "--dated=") words) row days.2 in
     let maturity = bind-some _ (date_of (codes "--maturity=") words) row dated.2 in
     let coupon = bind-some _ (coupon_of (pays_interest kind.0) (value_of (codes "--coupon=") words)) row maturity.2 in
     let calls = bind-some _ (calls_of words) row coupon.2 in
-    subst (SaysTerms words) (same_Some (row_from kind.0 dated.0 maturity.0 coupon.0 calls.0) row calls.2)
+    subst (SaysTerms words) (same_Some (row_from kind.0 days.0 dated.0 maturity.0 coupon.0 calls.0) row calls.2)
     (record {
       kind = read-kind words kind.0 kind.1;
+      days = read-days words kind.0 days.0 days.1;
       dated = read-ok day_reading words (codes "--dated=") dated.0 dated.1;
       maturity = read-ok day_reading words (codes "--maturity=") maturity.0 maturity.1;
       coupon = read-coupon words kind.0 coupon.0 coupon.1;
@@ -258,17 +301,18 @@ read-row words row is =
       name = refl;
     })
 
-row-same : (words : List (List ℕ)) (row : IssueRow) → SaysTerms words row → Some (row_from row.kind row.dated row.maturity row.coupon row.calls.items) ≡ Some row
-row-same words row said = λ i. Some (record { cusip = sym said.cusip i; name = record { items = sym said.name i }; kind = row.kind; dated = row.dated; maturity = row.maturity; coupon = row.coupon; calls = row.calls })
+row-same : (words : List (List ℕ)) (row : IssueRow) → SaysTerms words row → Some (row_from row.kind row.basis row.dated row.maturity row.coupon row.calls.items) ≡ Some row
+row-same words row said = λ i. Some (record { cusip = sym said.cusip i; name = record { items = sym said.name i }; kind = row.kind; basis = row.basis; dated = row.dated; maturity = row.maturity; coupon = row.coupon; calls = row.calls })
 
 row-read : (words : List (List ℕ)) (row : IssueRow) → All (IsSingle words) single_options → SaysTerms words row → row_of words ≡ Some row
 row-read words row single said =
     some-bind _ (kind_of words) row.kind row (kind-read words row.kind (single 0 [] (omega arith)) (single 2 [] (omega arith)) said.kind)
+    (some-bind _ (day_count_of row.kind (value_of (codes "--days=") words)) row.basis row (days-read words row.kind row.basis (single 11 [] (omega arith)) said.days)
     (some-bind _ (date_of (codes "--dated=") words) row.dated row (ok-read day_reading words (codes "--dated=") row.dated (single 1 [] (omega arith)) said.dated)
     (some-bind _ (date_of (codes "--maturity=") words) row.maturity row (ok-read day_reading words (codes "--maturity=") row.maturity (single 3 [] (omega arith)) said.maturity)
     (some-bind _ (coupon_of (pays_interest row.kind) (value_of (codes "--coupon=") words)) row.coupon row (coupon-read words row.kind row.coupon (single 4 [] (omega arith)) said.coupon)
     (some-bind _ (calls_of words) row.calls.items row (said_calls-read words row.calls.items said.calls)
-    (row-same words row said)))))
+    (row-same words row said))))))
 
 -- ---- what is asked for
 abbrev asked_from : ℕ → Day → Given → Asked

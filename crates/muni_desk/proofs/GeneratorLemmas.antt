@@ -54,6 +54,7 @@ row-unique x1 x2 x3 row other is also =
     let named = is.named ∙ sym also.named in
     let first = same_date is.first also.first (is.first_interest ∙ sym also.first_interest) in
     let kind = is.kind ∙ ap Periodic first ∙ sym also.kind in
+    let basis = is.basis ∙ sym also.basis in
     let dated = same_date row.dated other.dated (is.dated ∙ sym also.dated) in
     let maturity = same_date row.maturity other.maturity (is.maturity ∙ sym also.maturity) in
     let coupon = is.coupon ∙ sym also.coupon in
@@ -62,6 +63,7 @@ row-unique x1 x2 x3 row other is also =
       cusip = cusip i;
       name = record { items = named i };
       kind = kind i;
+      basis = basis i;
       dated = dated i;
       maturity = maturity i;
       coupon = coupon i;

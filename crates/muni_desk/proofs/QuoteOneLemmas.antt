@@ -5,6 +5,7 @@ use Rattle.std.specs.declared.cmp.Ordering.{Ordering}
 use Rattle.std.proofs.lemmas.Int.{ints}
 use Rattle.muni_rule.specs.Printed.{HasOnePrice, IsBelowZero}
 use Rattle.muni_rule.specs.Ranges.{IsWithin, side_of, one_period_yields}
+use Rattle.muni_rule.specs.declared.basis.Basis.TheVariants.{Thirty360}
 use Rattle.muni_rule.specs.SinglePayment.{growth, AtLeast}
 use Rattle.muni_rule.proofs.OnePriceLemmas.{one_payment-price}
 use Rattle.muni_days.specs.Day.{civil}
@@ -37,7 +38,7 @@ growth-above request next none =
     let days = accrued_days-within request next early.0 in
     let from = days.0 in
     let to = days.1 in
-    let within = (growth-within OnePeriod (pos 180 -ℤ accrued_days request) request.yld (omega (arith, ints, to)) (omega (arith, ints, from)) given).0 in
+    let within = (growth-within Thirty360 OnePeriod (pos 180 -ℤ accrued_days request) request.yld (omega (arith, ints, to)) (omega (arith, ints, from)) given).0 in
     omega (arith, ints, within)
 
 one-price : (request : QuoteOneRequest) → is_next (civil request.next) ≡ true → early_refusal request ≡ None → HasOnePrice (AtLeast (payment_of request) request.yld)

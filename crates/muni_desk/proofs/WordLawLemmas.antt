@@ -212,7 +212,7 @@ abbrev IsNameIn : List ℕ → Type 0
 IsNameIn name = (value : List ℕ) → name_in (name ++ value) ≡ name
 
 names-found : All IsNameIn options
-names-found = All-from_recursion IsNameIn options (λ value. refl, (λ value. refl, (λ value. refl, (λ value. refl, (λ value. refl, (λ value. refl, (λ value. refl, (λ value. refl, (λ value. refl, (λ value. refl, (λ value. refl, (λ value. refl, tt))))))))))))
+names-found = All-from_recursion IsNameIn options (λ value. refl, (λ value. refl, (λ value. refl, (λ value. refl, (λ value. refl, (λ value. refl, (λ value. refl, (λ value. refl, (λ value. refl, (λ value. refl, (λ value. refl, (λ value. refl, (λ value. refl, tt)))))))))))))
 
 pub names-apart : (name other text : List ℕ) → Contains options name → Contains options other → IsOption name text → IsOption other text → name ≡ other
 names-apart name other text listed also is its =

@@ -3,6 +3,7 @@ use Rattle.std.specs.Prelude.{◌≡◌, ℕ, zero, suc, ◌+◌, ◌-◌, ◌*�
 use Rattle.std.specs.List.{range_with_len}
 use Rattle.muni_rule.specs.Civil.{Civil, is_before, months_on}
 use Rattle.muni_rule.specs.Redemptions.{Redemption, par_price}
+use Rattle.muni_rule.specs.declared.basis.Basis.TheVariants.{Thirty360}
 use Rattle.muni_days.specs.Day.{civil}
 use Rattle.muni_days.specs.declared.day.Day.{Day}
 use Rattle.muni_terms.specs.declared.row.IssueRow.{IssueRow}
@@ -62,6 +63,7 @@ pub record IsGeneratedRow (x1 x2 x3 : ℕ) (row : IssueRow) : Type 0 where
   pub named : row.name.items ≡ codes "DRILL"
   pub first : Day
   pub kind : row.kind ≡ Periodic first
+  pub basis : row.basis ≡ Thirty360
   pub first_interest : civil first ≡ day_in_2020 7 1
   pub dated : civil row.dated ≡ day_in_2020 1 1
   pub maturity : civil row.maturity ≡ interest_date (1 + x1 % 60)

@@ -7,6 +7,7 @@ use Rattle.muni_rule.specs.Accrued.{interest, half_year_interest}
 use Rattle.muni_rule.specs.Payments.{redemption_amount}
 use Rattle.muni_rule.specs.SinglePayment.{SinglePayment, AtLeast}
 use Rattle.muni_rule.specs.Printed.{IsPrintedPrice, IsBelowZero}
+use Rattle.muni_rule.specs.declared.basis.Basis.TheVariants.{Thirty360}
 use Rattle.muni_rule.specs.Ranges.{one_period_yields, side_of}
 use Rattle.muni_dec.specs.Values.{coupon_reading, price_reading, yield_reading}
 use Rattle.muni_days.specs.Day.{civil, day_reading}
@@ -67,6 +68,7 @@ payment_of request = record {
   due = pos (half_year_interest request.coupon + redemption_amount request.redemption);
   accrued = pos (interest request.coupon (accrued_days request));
   left = pos 180 -ℤ accrued_days request;
+  basis = Thirty360;
 }
 
 -- the side on which a yield leaves the range of those with six months or less to redemption

@@ -1,13 +1,17 @@
 -- The options of `quote`.
 use Rattle.std.specs.Prelude.{ℕ, Bool, true, false, nat_le, if◌then◌else◌, List, length, [], ◌∷◌, codes, Option, Some, None}
 use Rattle.std.specs.Result.{result_ok}
+use Rattle.muni_rule.specs.declared.basis.Basis.{Basis}
+use Rattle.muni_rule.specs.declared.basis.Basis.TheVariants.{Thirty360}
 use Rattle.muni_dec.specs.Digits.{number_reading}
 use Rattle.muni_dec.specs.Values.{coupon_reading, par_reading}
 use Rattle.muni_days.specs.declared.day.Day.{Day}
 use Rattle.muni_terms.specs.Check.{pays_interest}
 use Rattle.muni_terms.specs.declared.row.Call.{Call}
+use Rattle.muni_terms.specs.declared.row.Kind.{Kind}
+use Rattle.muni_terms.specs.declared.row.Kind.TheVariants.{Periodic, Zero, AtRedemption, Discount}
 use Rattle.muni_terms.specs.declared.row.IssueRow.{IssueRow}
-use Rattle.muni_msg.specs.Fields.{day_in, kind_reading, call_reading, given_reading}
+use Rattle.muni_msg.specs.Fields.{day_in, kind_reading, basis_reading, call_reading, given_reading}
 use Rattle.muni_msg.specs.declared.asked.Asked.{Asked}
 use Rattle.muni_msg.specs.declared.asked.Given.{Given}
 use Rattle.muni_msg.specs.declared.asked.Side.TheVariants.{Buy}
@@ -20,7 +24,7 @@ abbrev pub single_options : List (List ℕ)
 single_options =
     codes "--kind=" ∷ codes "--dated=" ∷ codes "--first=" ∷ codes "--maturity="
     ∷ codes "--coupon=" ∷ codes "--settle=" ∷ codes "--par=" ∷ codes "--yield="
-    ∷ codes "--price=" ∷ codes "--rate=" ∷ codes "--workers=" ∷ []
+    ∷ codes "--price=" ∷ codes "--rate=" ∷ codes "--workers=" ∷ codes "--days=" ∷ []
 
 -- all options
 abbrev pub options : List (List ℕ)
@@ -29,6 +33,21 @@ options = codes "--call=" ∷ single_options
 -- a date that an option gives
 abbrev pub date_of : List ℕ → List (List ℕ) → Option Day
 date_of name words = value_of name words >>= λ text. day_in text
+
+-- days are counted by 30/360 where no option says otherwise, and a note alone may say so
+abbrev pub bond_day_count : Option (List ℕ) → Option Basis
+bond_day_count (Some text) = None
+bond_day_count None = Some Thirty360
+
+abbrev pub note_day_count : Option (List ℕ) → Option Basis
+note_day_count (Some text) = basis_reading text
+note_day_count None = Some Thirty360
+
+abbrev pub day_count_of : Kind → Option (List ℕ) → Option Basis
+day_count_of (Periodic first) text = bond_day_count text
+day_count_of Zero text = bond_day_count text
+day_count_of AtRedemption text = note_day_count text
+day_count_of Discount text = note_day_count text
 
 -- the coupon, which is given exactly where there is interest
 abbrev pub coupon_of : Bool → Option (List ℕ) → Option ℕ
@@ -81,11 +100,12 @@ abbrev pub row_of : List (List ℕ) → Option IssueRow
 row_of words = do
   kind ← value_of (codes "--kind=") words
       >>= λ text. kind_reading text (value_of (codes "--first=") words)
+  basis ← day_count_of kind (value_of (codes "--days=") words)
   dated ← date_of (codes "--dated=") words
   maturity ← date_of (codes "--maturity=") words
   coupon ← coupon_of (pays_interest kind) (value_of (codes "--coupon=") words)
   calls ← calls_of words
-  Some (record { cusip = codes "000000000"; name = record { items = codes "QUOTE" }; kind = kind; dated = dated; maturity = maturity; coupon = coupon; calls = record { items = calls } })
+  Some (record { cusip = codes "000000000"; name = record { items = codes "QUOTE" }; kind = kind; basis = basis; dated = dated; maturity = maturity; coupon = coupon; calls = record { items = calls } })
 
 -- what is asked for of it, for a buyer and without a commission
 abbrev pub asked_of : List (List ℕ) → Option Asked

@@ -1,6 +1,8 @@
 -- What the words of a command line say, in the rule's own words.
 use Rattle.std.specs.Prelude.{◌≡◌, ◌≢◌, ◌<◌, ◌≤◌, ◌↔◌, ◌⊎◌, ℕ, List, [], ◌∷◌, ◌++◌, length, map, filter, All, Contains, codes, Some, None, Ok}
 use Rattle.std.specs.List.{AllZip}
+use Rattle.muni_rule.specs.declared.basis.Basis.{Basis}
+use Rattle.muni_rule.specs.declared.basis.Basis.TheVariants.{Thirty360, Actual365}
 use Rattle.muni_dec.specs.Digits.{number_reading}
 use Rattle.muni_dec.specs.Values.{coupon_reading, par_reading, price_reading, yield_reading}
 use Rattle.muni_days.specs.Day.{day_reading}
@@ -74,6 +76,18 @@ SaysKind words AtRedemption =
 SaysKind words Discount =
     Says words (codes "--kind=") (codes "discount") × Lacks words (codes "--first=")
 
+-- the basis by which days are counted: 30/360, or for a note what its option says
+abbrev pub SaysNoteDays : List (List ℕ) → Basis → Type 0
+SaysNoteDays words Thirty360 =
+    Says words (codes "--days=") (codes "30/360") ⊎ Lacks words (codes "--days=")
+SaysNoteDays words Actual365 = Says words (codes "--days=") (codes "actual/365")
+
+abbrev pub SaysDays : List (List ℕ) → Kind → Basis → Type 0
+SaysDays words (Periodic first) basis = Lacks words (codes "--days=") × (basis ≡ Thirty360)
+SaysDays words Zero basis = Lacks words (codes "--days=") × (basis ≡ Thirty360)
+SaysDays words AtRedemption basis = SaysNoteDays words basis
+SaysDays words Discount basis = SaysNoteDays words basis
+
 -- the coupon, exactly where securities of the kind pay interest
 abbrev pub SaysCoupon : List (List ℕ) → Kind → ℕ → Type 0
 SaysCoupon words (Periodic first) coupon =
@@ -116,6 +130,7 @@ SaysGiven words (AtRate rate) =
 -- the terms of the security, which has no number of its own
 pub record SaysTerms (words : List (List ℕ)) (row : IssueRow) : Type 0 where
   pub kind : SaysKind words row.kind
+  pub days : SaysDays words row.kind row.basis
   pub dated : Reads words (codes "--dated=") (λ text. day_reading text ≡ Ok row.dated)
   pub maturity : Reads words (codes "--maturity=") (λ text. day_reading text ≡ Ok row.maturity)
   pub coupon : SaysCoupon words row.kind row.coupon

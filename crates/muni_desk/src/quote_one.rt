@@ -11,7 +11,7 @@ ghost use Rattle.muni_desk.specs.QuoteOne.{IsPriced};
 
 use crate::command::{Command, CommandLine};
 use crate::words::word_at;
-use muni_days::{Day, days360, months_on};
+use muni_days::{Basis, Day, days360, months_on};
 use muni_dec::{Coupon, Price, Price3, Yield};
 use muni_msg::{Range, Refusal};
 use muni_rule::YieldRange;
@@ -143,6 +143,7 @@ fn payment_of(request: &QuoteOneRequest, start: Day) -> Single
     ensures due { result.due ≡ (spec.payment_of request.now).due }
     ensures accrued { result.accrued ≡ (spec.payment_of request.now).accrued }
     ensures left { result.left ≡ (spec.payment_of request.now).left }
+    ensures basis { result.basis ≡ (spec.payment_of request.now).basis }
 {
     let accrued_days = accrued_days(request, start);
     Single {
@@ -150,6 +151,7 @@ fn payment_of(request: &QuoteOneRequest, start: Day) -> Single
             + 360_000 * request.redemption.units() as i64,
         accrued: interest(request.coupon, accrued_days as u32) as i64,
         left: 180 - accrued_days,
+        basis: Basis::Thirty360,
     }
 }
 

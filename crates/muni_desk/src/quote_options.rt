@@ -11,10 +11,10 @@ use crate::command::{Command, CommandLine};
 use crate::request::{NO_CUSIP, QuoteRequest, issue_name};
 use crate::words::{are_options, count_of, value_in, value_of};
 use arrayvec::ArrayVec;
-use muni_days::Day;
+use muni_days::{Basis, Day};
 use muni_dec::digits::read_number;
 use muni_dec::{Coupon, Fee, Par};
-use muni_msg::{Asked, Given, Side, read_call, read_given, read_kind};
+use muni_msg::{Asked, Given, Side, read_basis, read_call, read_given, read_kind};
 use muni_terms::{Call, IssueRow, Kind};
 
 const CALL: &[u8] = b"--call=";
@@ -41,9 +41,11 @@ const RATE: &[u8] = b"--rate=";
 
 const WORKERS: &[u8] = b"--workers=";
 
+const DAYS: &[u8] = b"--days=";
+
 // All but the first stand once at most.
-const NAMES: [&[u8]; 12] = [
-    CALL, KIND, DATED, FIRST, MATURITY, COUPON, SETTLE, PAR, YIELD, PRICE, RATE, WORKERS,
+const NAMES: [&[u8]; 13] = [
+    CALL, KIND, DATED, FIRST, MATURITY, COUPON, SETTLE, PAR, YIELD, PRICE, RATE, WORKERS, DAYS,
 ];
 
 /// What words ask for, where they are options of `quote`, in any order.
@@ -68,6 +70,7 @@ fn read_row(words: &[String]) -> Option<IssueRow>
     ensures { result ≡ spec.row_of (map string_bytes words.now) }
 {
     let kind = read_kind(value_of(words, KIND)?, value_of(words, FIRST))?;
+    let basis = read_day_count(kind, value_of(words, DAYS))?;
     let dated = read_date(words, DATED)?;
     let maturity = read_date(words, MATURITY)?;
     let coupon = read_coupon(pays_interest(kind), value_of(words, COUPON))?;
@@ -76,6 +79,7 @@ fn read_row(words: &[String]) -> Option<IssueRow>
         cusip: NO_CUSIP,
         name: issue_name(b"QUOTE"),
         kind,
+        basis,
         dated,
         maturity,
         coupon,
@@ -104,6 +108,19 @@ fn read_date(words: &[String], name: &[u8]) -> Option<Day>
     ensures { result ≡ spec.date_of name.now (map string_bytes words.now) }
 {
     Day::read(value_of(words, name)?).ok()
+}
+
+// A note alone may say how it counts days.
+fn read_day_count(kind: Kind, text: Option<&[u8]>) -> Option<Basis>
+    ensures { result ≡ spec.day_count_of kind (option_map (λ t. t.now) text.entry) }
+{
+    let Some(text) = text else {
+        return Some(Basis::Thirty360);
+    };
+    match kind {
+        Kind::Periodic { .. } | Kind::Zero => None,
+        Kind::AtRedemption | Kind::Discount => read_basis(text),
+    }
 }
 
 fn pays_interest(kind: Kind) -> bool

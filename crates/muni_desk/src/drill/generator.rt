@@ -9,7 +9,7 @@ ghost use Rattle.muni_desk.specs.Generator.{IsGenerated};
 
 use crate::request::{NO_CUSIP, QuoteRequest, issue_name};
 use arrayvec::ArrayVec;
-use muni_days::{Day, months_on};
+use muni_days::{Basis, Day, months_on};
 use muni_dec::{Coupon, Fee, Par, Price};
 use muni_msg::{Asked, Given, Side};
 use muni_terms::{Call, IssueRow, Kind};
@@ -88,6 +88,7 @@ impl Generator {
             kind: Kind::Periodic {
                 first: day_in_2020(7, 1),
             },
+            basis: Basis::Thirty360,
             dated: day_in_2020(1, 1),
             maturity,
             coupon,

@@ -15,7 +15,7 @@ const WORDS: [&str; 8] = [
     "--yield=4",
 ];
 
-const OPTIONS: [(&str, &[u8]); 12] = [
+const OPTIONS: [(&str, &[u8]); 13] = [
     ("kind", b"--kind="),
     ("dated", b"--dated="),
     ("first", b"--first="),
@@ -28,6 +28,7 @@ const OPTIONS: [(&str, &[u8]); 12] = [
     ("price", b"--price="),
     ("rate", b"--rate="),
     ("workers", b"--workers="),
+    ("days", b"--days="),
 ];
 
 #[test]

@@ -1,4 +1,4 @@
-use Rattle.std.proofs.Common.{arith}
+use Rattle.std.proofs.Common.{arith, refl}
 use Rattle.std.proofs.lemmas.Int.{ints}
 use Rattle.muni_desk.proofs.quote_one.payment_of.Goals as goal
 
@@ -10,4 +10,5 @@ returns-clause-ranges c =
       due = (omega (arith, ints), omega (arith, ints));
       accrued = (omega (arith, ints), omega (arith, ints));
       left = (omega (arith, ints), omega (arith, ints));
+      basis = refl;
     }

@@ -15,6 +15,7 @@ returns-clause-row c =
       named = c.issue_name.ensures;
       first = c.day_in_2020.result;
       kind = refl;
+      basis = refl;
       first_interest = c.day_in_2020.ensures;
       dated = c.day_in_2020-2.ensures;
       maturity = maturity;
