@@ -1,3 +1,4 @@
 pub mod BlankLemmas
+pub mod LawLemmas
 pub mod MachineLemmas
 pub mod RowLemmas

@@ -1,5 +1,5 @@
 -- What holds of the rows of each text.
-use Rattle.std.specs.Prelude.{◌≡◌, ℕ, List, map}
+use Rattle.std.specs.Prelude.{◌≡◌, ℕ, List, [], ◌∷◌, ◌++◌, length, map}
 use Rattle.csv.specs.Reading.{AreRecords, default_config, strip_bom}
 use Rattle.csv.specs.declared.parser.State.TheVariants as st
 use Rattle.muni_import.specs.Row.{Row, row_of}
@@ -19,3 +19,8 @@ TextsHaveRows = (text : List ℕ) → AreRows text (rows_of text)
 -- and no others
 abbrev pub TextsHaveNoOtherRows : Type 0
 TextsHaveNoOtherRows = (text : List ℕ) (rows : List Row) → AreRows text rows → rows ≡ rows_of text
+
+-- behind a name and so many fields, an empty last field may be left out
+abbrev pub LastMayBeLeftOut : List ℕ → ℕ → Type 0
+LastMayBeLeftOut name count =
+    (fields : List (List ℕ)) → length fields ≡ count → row_of (name ∷ fields ++ [] ∷ []) ≡ row_of (name ∷ fields)

@@ -2,11 +2,13 @@
 #![tactic(auto)]
 
 mod calls;
+mod laws;
 mod reader;
 mod report;
 mod row;
 mod rows;
 
+pub use laws::{last_fields_may_be_left_out, texts_have_one_list_of_rows};
 pub use reader::RowReader;
 pub use report::report_row;
 pub use row::RowFault;

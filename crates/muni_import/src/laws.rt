@@ -1,0 +1,18 @@
+//! What holds of all rows.
+
+ghost use Rattle.std.specs.Prelude.{codes};
+ghost use Rattle.muni_import.specs.RowLaws.{TextsHaveRows, TextsHaveNoOtherRows, LastMayBeLeftOut};
+
+/// Every text has one list of rows, whatever its bytes.
+pub fn texts_have_one_list_of_rows()
+    ensures some { TextsHaveRows }
+    ensures no_other { TextsHaveNoOtherRows }
+{}
+
+/// The last field of an issue, of a trade and of a correction may be left out: the row says what it
+/// says with an empty one.
+pub fn last_fields_may_be_left_out()
+    ensures issues { LastMayBeLeftOut (codes "issue") 8 }
+    ensures trades { LastMayBeLeftOut (codes "trade") 8 }
+    ensures corrections { LastMayBeLeftOut (codes "correct") 9 }
+{}
