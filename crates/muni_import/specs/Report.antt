@@ -1,5 +1,5 @@
 -- The lines of a report on rows.
-use Rattle.std.specs.Prelude.{ℕ, List, [], ◌∷◌, ◌++◌, codes, decimal, Result, Ok, Err, ⊤}
+use Rattle.std.specs.Prelude.{ℕ, List, [], ◌∷◌, ◌++◌, codes, decimal, Result, Ok, Err}
 use Rattle.muni_dec.specs.Decimal.{decimal_text, signed_text}
 use Rattle.muni_days.specs.Day.{civil, day_text}
 use Rattle.muni_msg.specs.Refusal.{number_of, name_of}
@@ -15,15 +15,6 @@ use Rattle.muni_import.specs.declared.row.RowFault.TheVariants.{FieldCount, BadF
 -- what came of a row
 abbrev pub Said : Type 0
 Said = Result Reply RowFault
-
--- rows have commands that add an issue or keep a version; no other reply comes of them
-abbrev pub IsReported : Said → Type 0
-IsReported (Ok (Added cusip)) = ⊤
-IsReported (Ok (Quoted figures)) = ⊥
-IsReported (Ok (Listed lines)) = ⊥
-IsReported (Ok (Confirmed issue key number version)) = ⊤
-IsReported (Ok (Refused refusal)) = ⊤
-IsReported (Err fault) = ⊤
 
 -- fields with a comma before each
 abbrev pub behind_commas : List (List ℕ) → List ℕ
@@ -60,7 +51,7 @@ column_field (BadField column) = decimal column ∷ []
 unfoldable pub bad_fields : RowFault → List ℕ
 bad_fields fault = behind_commas (codes "bad" ∷ decimal (fault_number fault) ∷ column_field fault)
 
--- what is told of a reply
+-- what is told of a reply; no row asks for figures or for a list
 abbrev pub reply_fields : Reply → List ℕ
 reply_fields (Added cusip) = behind_commas (codes "added" ∷ cusip ∷ [])
 reply_fields (Quoted figures) = []

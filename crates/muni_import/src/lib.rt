@@ -7,6 +7,8 @@ mod reader;
 mod report;
 mod row;
 mod rows;
+#[cfg(test)]
+mod tests;
 
 pub use laws::{last_fields_may_be_left_out, texts_have_one_list_of_rows};
 pub use reader::RowReader;

@@ -4,7 +4,6 @@ ghost use Rattle.std.specs.Prelude.{◌≡◌, ◌+◌, ◌≤◌, ◌++◌, [],
 ghost use Rattle.arrayvec.specs.ArrayVec.{array_vec_len};
 ghost use Rattle.muni_days.specs.Day.{civil, day_text};
 ghost use Rattle.muni_import.specs.Report as spec;
-ghost use Rattle.muni_import.specs.Report.{IsReported};
 
 use crate::RowFault;
 use arrayvec::ArrayVec;
@@ -18,9 +17,9 @@ use muni_msg::{Figures, Key, Refusal, Reply, refusal_name};
 ///
 /// `place,added,CUSIP`, `place,confirmed,REFERENCE,NUMBER,PRICE,YIELD,REDEMPTION,TOTAL`,
 /// `place,refused,NUMBER,NAME`, `place,bad,1`, or `place,bad,2,COLUMN`. The price and the yield have
-/// three decimals, and the total is in dollars.
+/// three decimals, and the total is in dollars. Of figures and of a list, which no row asks for, only
+/// the place is told.
 pub fn report_row(place: u32, said: &Result<Reply, RowFault>, text: &mut ArrayVec<u8, 256>)
-    requires { IsReported said.now }
     ensures items { text.new.items ≡ spec.row_line place said.now }
     ensures len { array_vec_len text.new ≤ 154 }
 {
