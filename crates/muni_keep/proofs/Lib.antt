@@ -1,3 +1,4 @@
+mod HistoryLemmas
 mod KeeperLemmas
 mod MapLemmas
 mod PageLemmas
