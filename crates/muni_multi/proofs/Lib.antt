@@ -2,3 +2,4 @@ pub mod ExactSums
 pub mod HornerTurns
 pub mod BoundLemmas
 pub mod PriceLemmas
+pub mod DoublingTurns

@@ -254,6 +254,18 @@ sums-narrow series y is within =
     (subst (λ n. IsSum early_bound (tail_sum (payment_at series) 2000000 (discount_divisor y) n 0) (discount_divisor y) (series.n - 1) (sum_low (payment_at series) (discount_low y) n 0) (sum_high (payment_at series) (discount_high y) n 0)) count
     (early-sum series (discount_divisor y) (discount_low y) (discount_high y) is (discount-is y within) (series.n - 1) 0 (omega arith) (omega arith)))
 
+-- and their upper ends are well below that limit
+pub sums-limit : (series : PaymentSeries) (y : ℤ) → IsSeries series → IsManyPeriodsBoundary y → sum_high (payment_at series) (discount_high y) series.n 0 ≤ 14000000000000000000
+sums-limit series y is within =
+    let some = is.n_from in
+    let few = is.n_to in
+    let count : suc (series.n - 1) ≡ series.n = omega arith in
+    let sum = early-sum series (discount_divisor y) (discount_low y) (discount_high y) is (discount-is y within) (series.n - 1) 0 (omega arith) (omega arith) in
+    let hi = sum_high (payment_at series) (discount_high y) (suc (series.n - 1)) 0 in
+    let top : hi + 860700000000000000 ≤ 14000000000000000000 + 860700000000000000
+    = bound-end 10000 10257 early_bound (14000000000000000000 + 860700000000000000) (hi + 860700000000000000) (series.n - 1) 99 (lit< tt) (lit≤ tt) (omega arith) sum.bound (lit≤ tt) in
+    subst (λ n. sum_high (payment_at series) (discount_high y) n 0 ≤ 14000000000000000000) count (omega arith)
+
 -- ---- the last step
 settled-of : (series : PaymentSeries) (y : ℤ) (lo hi : ℕ) → factor.IsSettled (discount_divisor y) (whole_sum (to_come series) y) (length (payments_of series) - 1) (180 - series.a) lo hi → IsSettled series y lo hi
 settled-of series y lo hi settled = record {

@@ -2,6 +2,7 @@
 #![tactic(auto)]
 
 mod discount;
+mod doubling;
 mod encloser;
 mod ends;
 mod exact;
@@ -11,6 +12,7 @@ mod price;
 mod verdicts;
 
 pub use discount::Discount;
+pub use doubling::Doubling;
 pub use encloser::Encloser;
 pub use horner::{Horner, sums_are_narrow};
 pub use muni_rule::Verdict;

@@ -12,3 +12,4 @@ pub mod RootReach
 pub mod RootLaws
 pub mod SumSteps
 pub mod FactorSteps
+pub mod DoublingSteps

@@ -5,24 +5,25 @@ use Rattle.muni_span.specs.Powers.{product_end, power_from_half, power_by, power
 use Rattle.muni_span.proofs.Quotients.{quotient_grows}
 use Rattle.muni_span.proofs.Squaring.{even_or_odd, one_or_more, from_half-even, from_half-odd, power_by-first, power_by-none, power_by-more, power_end-some}
 
-product_end-grows : (carry a b c d : ℕ) → a ≤ c → b ≤ d → product_end carry a b ≤ product_end carry c d
-product_end-grows carry a b c d left right =
+product_end-grows : (carry more a b c d : ℕ) → carry ≤ more → a ≤ c → b ≤ d → product_end carry a b ≤ product_end more c d
+product_end-grows carry more a b c d up left right =
     let products : a * b ≤ c * d = mul-le-mul left right in
-    let quotients : (a * b + carry) / 2 ^ 60 ≤ (c * d + carry) / 2 ^ 60
-    = quotient_grows (a * b + carry) (c * d + carry) (2 ^ 60) (lit< tt) (omega arith) in
+    let quotients : (a * b + carry) / 2 ^ 60 ≤ (c * d + more) / 2 ^ 60
+    = quotient_grows (a * b + carry) (c * d + more) (2 ^ 60) (lit< tt) (omega arith) in
     omega arith
 
 at_equal : (a b c d : ℕ) → a ≡ c → b ≡ d → c ≤ d → a ≤ b
 at_equal a b c d left right less = rw (left, right) less
 
-from_half-grows : (carry x y k h i : ℕ) → x ≤ y → h ≤ i → power_from_half (product_end carry) x k h ≤ power_from_half (product_end carry) y k i
-from_half-grows carry x y k h i less halves =
+pub from_half-grows : (carry more x y k h i : ℕ) → carry ≤ more → x ≤ y → h ≤ i → power_from_half (product_end carry) x k h ≤ power_from_half (product_end more) y k i
+from_half-grows carry more x y k h i up less halves =
     let times = product_end carry in
-    let squares : product_end carry h h ≤ product_end carry i i = product_end-grows carry h h i i halves halves in
-    ⊎_elim (λ even. at_equal (power_from_half times x k h) (power_from_half times y k i) (times h h) (times i i)
-    (from_half-even times x k h even) (from_half-even times y k i even) squares)
-    (λ odd. at_equal (power_from_half times x k h) (power_from_half times y k i) (times (times h h) x) (times (times i i) y)
-    (from_half-odd times x k h odd) (from_half-odd times y k i odd) (product_end-grows carry (times h h) x (times i i) y squares less))
+    let over = product_end more in
+    let squares : product_end carry h h ≤ product_end more i i = product_end-grows carry more h h i i up halves halves in
+    ⊎_elim (λ even. at_equal (power_from_half times x k h) (power_from_half over y k i) (times h h) (over i i)
+    (from_half-even times x k h even) (from_half-even over y k i even) squares)
+    (λ odd. at_equal (power_from_half times x k h) (power_from_half over y k i) (times (times h h) x) (over (over i i) y)
+    (from_half-odd times x k h odd) (from_half-odd over y k i odd) (product_end-grows carry more (times h h) x (over i i) y up squares less))
     (even_or_odd k)
 
 power_by-grows : (carry x y : ℕ) → x ≤ y → (f k : ℕ) → power_by (product_end carry) x f k ≤ power_by (product_end carry) y f k
@@ -35,7 +36,7 @@ power_by-grows carry x y less (suc f) k =
     (λ more. at_equal (power_by times x (suc f) k) (power_by times y (suc f) k)
     (power_from_half times x k (power_by times x f (k / 2))) (power_from_half times y k (power_by times y f (k / 2)))
     (power_by-more times x f k more) (power_by-more times y f k more)
-    (from_half-grows carry x y k (power_by times x f (k / 2)) (power_by times y f (k / 2)) less (power_by-grows carry x y less f (k / 2))))
+    (from_half-grows carry carry x y k (power_by times x f (k / 2)) (power_by times y f (k / 2)) (omega arith) less (power_by-grows carry x y less f (k / 2))))
     (one_or_more k)
 
 pub power_end-grows : (carry x y k : ℕ) → 1 ≤ k → x ≤ y → power_end carry x k ≤ power_end carry y k

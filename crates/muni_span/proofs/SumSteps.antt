@@ -56,7 +56,7 @@ product-width u lo hi rl rh p q c e top near order up down =
     let times : (lo + (hi - lo)) * rl ≡ hi * rl = ap (λ n. n * rl) split in
     omega arith
 
-times-gap : (u p q c : ℕ) → q * u ≤ p * u + c → (q - p) * u ≤ c
+pub times-gap : (u p q c : ℕ) → q * u ≤ p * u + c → (q - p) * u ≤ c
 times-gap u p q c near =
     ⊎_elim (λ (less : q ≤ p). let none : q - p ≡ 0 = omega arith in rw none (omega arith))
     (λ (more : p ≤ q). let split : p + (q - p) ≡ q = omega arith in

@@ -52,7 +52,7 @@ impl Rounding {
     }
 
     /// A power from the power of half its exponent, rounded down to a whole number.
-    fn power_from_half(self, half: u64, base: u64, exponent: u32) -> u64
+    pub fn power_from_half(self, half: u64, base: u64, exponent: u32) -> u64
         ensures { result ≡ power_from_half (product_end (carry_of self)) base exponent half }
     {
         let square = self.product(half, half);

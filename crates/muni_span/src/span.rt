@@ -5,7 +5,7 @@ ghost use Rattle.muni_rule.specs.ManyPeriods.{discount_divisor};
 ghost use Rattle.muni_rule.specs.Ranges.{IsManyPeriodsBoundary};
 ghost use Rattle.muni_span.specs.Fractions.{IsAtMost};
 ghost use Rattle.muni_span.specs.Holding.{HoldsPower};
-ghost use Rattle.muni_span.specs.Powers.{power_low, power_high};
+ghost use Rattle.muni_span.specs.Powers.{product_end, power_from_half, power_low, power_high};
 ghost use Rattle.muni_span.specs.Widths.{whole_above};
 
 use crate::rounding::{ONE, Rounding};
@@ -85,6 +85,16 @@ impl Span {
     {
         let lo = Rounding::Down.power(self.lo, k);
         let hi = Rounding::Up.power(self.hi, k);
+        Span::new(lo, hi)
+    }
+
+    /// The k-th power, from that of half as high an exponent, rounded down to a whole number.
+    pub fn power_from_half(self, half: Span, k: u32) -> Span
+        ensures lo { result.lo ≡ power_from_half (product_end 0) self.lo k half.lo }
+        ensures hi { result.hi ≡ power_from_half (product_end (2 ^ 60 - 1)) self.hi k half.hi }
+    {
+        let lo = Rounding::Down.power_from_half(half.lo, self.lo, k);
+        let hi = Rounding::Up.power_from_half(half.hi, self.hi, k);
         Span::new(lo, hi)
     }
 }
