@@ -1,6 +1,7 @@
 mod bond_cases;
 mod call_cases;
 mod clap_words;
+mod day_count_cases;
 mod drill_cases;
 mod gates;
 mod price_cases;
@@ -104,6 +105,11 @@ fn prices_of_a_last_period_are_the_exact_ones(rt: HostRuntime) -> Result<(), Fai
 #[test]
 fn figures_of_notes_are_the_exact_ones(rt: HostRuntime) -> Result<(), Fail> {
     answers_are_right(&rt, rt.alloc(), quote_cases::CASES, 168)
+}
+
+#[test]
+fn notes_of_either_basis_have_the_exact_figures(rt: HostRuntime) -> Result<(), Fail> {
+    answers_are_right(&rt, rt.alloc(), day_count_cases::CASES, 86)
 }
 
 #[test]
