@@ -62,7 +62,8 @@ found_at_price price list (answer.Below date) = Some (Err (refusal.YieldBelow da
 found_at_price price list answer.Above = Some (Err refusal.YieldAbove)
 found_at_price price list (answer.NoTime date) = Some (Err (refusal.NoTime date))
 
--- the return on a discounted note, so many days before its maturity, at a price that is an amount
+-- the return on a discounted note, so many days by its basis before its maturity, at a price that is
+-- an amount
 abbrev pub IsReturn : Basis → ℤ → ℤ → SimpleYield → Type 0
 IsReturn basis days price return =
     IsYieldAnswer (least_printed single.AtRedemption) (discounted basis days) price return

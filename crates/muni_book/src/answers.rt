@@ -46,8 +46,10 @@ struct DaysLeft {
 /// given, and then of the figure that is asked for.
 ///
 /// At a yield the redemption candidate with the lowest price is disclosed, and at a price that with
-/// the lowest yield (MSRB Rule G-15(a)), which is computed from the net price in full. Up to
-/// `workers` threads, from 1 to 16, look for the yields.
+/// the lowest yield (MSRB Rule G-15(a)), which is computed from the net price in full: what a buyer
+/// pays with the commission, and what it leaves to a seller. The price that is shown, and the
+/// principal, are those of the given price.
+// Up to `workers` threads, from 1 to 16, look for the yields (tested).
 pub fn figures<R: Threads + Sync, E: Encloser + Sync, G: Gate + Sync>(
     rt: &R,
     issue: &Issue,

@@ -98,6 +98,6 @@ fn trades_with_commissions_have_the_exact_figures(rt: HostRuntime) -> Result<(),
         assert_eq!(rt; text.as_slice(), wanted.as_bytes(), "{line}");
         count = count.wrapping_add(1);
     }
-    assert_eq!(rt; count, 76);
+    assert_eq!(rt; count, 84);
     Ok(())
 }

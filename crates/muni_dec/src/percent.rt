@@ -22,7 +22,7 @@ pub struct Percent<const PLACES: usize, const BELOW: u32, const GREATEST: u32> {
 /// percent.
 ///
 /// A yield is compounded semi-annually with more than six months to redemption. It is simple
-/// interest over 30/360 with one payment to come, and a simple return for a discount.
+/// interest by the basis with one payment to come, and a simple return for a discount.
 pub type Yield = Percent<4, 999_999, 9_999_999>;
 
 /// A printed yield, from -90.000 to 999.999 percent a year, in units of 0.001 percent.

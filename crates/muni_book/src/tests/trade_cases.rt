@@ -96,4 +96,14 @@ settle=2024-01-01 par=100000 buy rate=3 fee=0.001|refused 15
 settle=2024-01-01 par=100000 sell rate=31 fee=0.001|refused 15
 settle=2024-01-01 par=100000 sell rate=30.0001 fee=0|refused 6 above
 settle=2024-01-01 par=100000 sell yield=3 fee=0|refused 15
-settle=2024-01-01 par=100000 sell price=0.1 fee=0.1|refused 6 below";
+settle=2024-01-01 par=100000 sell price=0.1 fee=0.1|refused 6 below
+base at-redemption actual/365 dated=2024-01-01 maturity=2024-12-31 coupon=4
+settle=2024-07-01 par=10000 buy yield=3 fee=0|100.464 3.000 2024-12-31 10046.40 199.45 0.00 10245.85
+settle=2024-07-01 par=10000 buy price=100.214 fee=0.25|100.214 3.001 2024-12-31 10021.40 199.45 25.00 10245.85
+settle=2024-07-01 par=10000 sell price=100.714 fee=0.25|100.714 3.001 2024-12-31 10071.40 199.45 25.00 10245.85
+settle=2024-07-01 par=10000 sell yield=3 fee=0.001|refused 15
+base discount actual/365 dated=2024-01-01 maturity=2024-04-01
+settle=2024-01-01 par=100000 buy rate=3 fee=0|99.252 3.023 2024-04-01 99252.00 0.00 0.00 99252.00
+settle=2024-01-01 par=100000 buy price=99.152 fee=0.1|99.152 3.023 2024-04-01 99152.00 0.00 100.00 99252.00
+settle=2024-01-01 par=100000 sell price=99.352 fee=0.1|99.352 3.023 2024-04-01 99352.00 0.00 100.00 99252.00
+settle=2024-01-01 par=100000 buy rate=3 fee=0.001|refused 15";
