@@ -1,5 +1,5 @@
 -- The next number of a trade, from its last version.
-use Rattle.std.proofs.Common.{◌≡◌, ℕ, ◌+◌, Option, Some, None, sym, ap}
+use Rattle.std.proofs.Common.{◌≡◌, ℕ, ◌+◌, Option, Some, None, ap}
 use Rattle.std.specs.Option.{option_map, unwrap_or}
 use Rattle.muni_keep.specs.History.{History, count, next_number}
 

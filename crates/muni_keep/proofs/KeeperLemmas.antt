@@ -1,5 +1,5 @@
 -- What stands under a name of a cabinet, after a keeper was put under it or another.
-use Rattle.std.proofs.Common.{◌≡◌, ◌≢◌, ℕ, Bool, true, false, List, [], ◌∷◌, ◌++◌, Some, Result, Ok, Err, cond, map, refl, sym, ap, subst, ◌∙◌}
+use Rattle.std.proofs.Common.{◌≡◌, ◌≢◌, ℕ, true, false, List, [], ◌∷◌, ◌++◌, Some, Result, Ok, Err, cond, map, refl, sym, ap, subst, ◌∙◌}
 use Rattle.std.specs.Prelude.{IsSome, OnErr}
 use Rattle.std.specs.Option.{unwrap_or}
 use Rattle.std.specs.Ordering.{eq_by_cmp}

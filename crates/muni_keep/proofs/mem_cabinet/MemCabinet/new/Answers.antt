@@ -1,4 +1,4 @@
-use Rattle.std.proofs.Common.{◌≡◌, ap, ◌∙◌, map}
+use Rattle.std.proofs.Common.{◌≡◌, ap, ◌∙◌}
 use Rattle.std.specs.FinMap as finmap
 use Rattle.muni_keep.proofs.KeeperLemmas.{put_all-empty, put_last}
 use Rattle.muni_keep.proofs.mem_cabinet.MemCabinet.new.Goals as goal

@@ -1,4 +1,4 @@
-use Rattle.std.proofs.Common.{◌≡◌, ap, ◌∙◌, []}
+use Rattle.std.proofs.Common.{ap, ◌∙◌, []}
 use Rattle.std.specs.FinMap.{insert}
 use Rattle.muni_keep.specs.MemKeeper.{new_keeper}
 use Rattle.muni_keep.specs.MemCabinet.{keeper_at}
