@@ -1,4 +1,6 @@
-use crate::{Asked, Given, Range, Refusal, Side, Terms, refusal_name};
+use crate::{
+    Asked, DeskName, Given, NameFault, Range, Reference, Refusal, Side, Terms, refusal_name,
+};
 use muni_days::Day;
 use muni_dec::{Fee, Par, Price, Yield};
 use std::test::Fail;
@@ -59,5 +61,49 @@ fn refusals_have_numbers_and_names(rt: HostRuntime) -> Result<(), Fail> {
     assert_eq!(rt; refusal_name(refusal.number()), "GivenOutOfRange");
     assert_eq!(rt; refusal_name(1), "UnknownIssue");
     assert_eq!(rt; refusal_name(15), "WrongBasis");
+    Ok(())
+}
+
+#[test]
+fn names_of_desks_are_read_to_the_ends_of_their_range(rt: HostRuntime) -> Result<(), Fail> {
+    let cases: [(&[u8], Option<NameFault>); 7] = [
+        (b"", Some(NameFault::Empty)),
+        (b"9", None),
+        (b"0123456789ABCDYZ", None),
+        (b"0123456789ABCDYZ-", Some(NameFault::TooLong)),
+        (b"ALPHa", Some(NameFault::BadByte { at: 4 })),
+        (b"-A-", Some(NameFault::BadByte { at: 0 })),
+        (b"A[", Some(NameFault::BadByte { at: 1 })),
+    ];
+    for (text, fault) in cases {
+        assert_eq!(rt; DeskName::read(text).err(), fault);
+    }
+    Ok(())
+}
+
+#[test]
+fn references_are_read_to_the_ends_of_their_range(rt: HostRuntime) -> Result<(), Fail> {
+    let cases: [(&[u8], Option<NameFault>); 6] = [
+        (b"", Some(NameFault::Empty)),
+        (b"z", None),
+        (b"0129ABYZabyzABYZabyz", None),
+        (b"0129ABYZabyzABYZabyz0", Some(NameFault::TooLong)),
+        (b"T 1", Some(NameFault::BadByte { at: 1 })),
+        (b"T1_", Some(NameFault::BadByte { at: 2 })),
+    ];
+    for (text, fault) in cases {
+        assert_eq!(rt; Reference::read(text).err(), fault);
+    }
+    Ok(())
+}
+
+#[test]
+fn references_are_in_the_order_of_their_bytes(rt: HostRuntime) -> Result<(), Fail> {
+    let texts = [b"0".as_slice(), b"T", b"T10", b"T2", b"a"];
+    for pair in texts.windows(2) {
+        let first = Reference::read(pair[0]).ok().ok_or("a reference")?;
+        let next = Reference::read(pair[1]).ok().ok_or("a reference")?;
+        assert!(rt; first < next);
+    }
     Ok(())
 }
