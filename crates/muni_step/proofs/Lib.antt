@@ -1,3 +1,4 @@
+pub mod CarriedOutLemmas
 pub mod OutcomeLemmas
 pub mod PlanLemmas
 pub mod ReadyLemmas

@@ -63,7 +63,7 @@ none-quoted : (answer : Result Figures Refusal) → (quoted answer).entry ≡ No
 none-quoted (Ok figures) = refl
 none-quoted (Err why) = refl
 
-refused-by : (P : Pricing) (plan : Plan) (outcome : Outcome) → IsOutcome P plan outcome → IsRefusal outcome.reply → outcome.entry ≡ None
+pub refused-by : (P : Pricing) (plan : Plan) (outcome : Outcome) → IsOutcome P plan outcome → IsRefusal outcome.reply → outcome.entry ≡ None
 refused-by P (Answer reply) outcome is refusal = ap (λ o. o.entry) is
 refused-by P (Quote issue asked) outcome is refusal = rw is.2 (none-quoted is.0)
 refused-by P (KeepIssue issue) outcome is refusal = absurd (subst (λ o. IsRefusal o.reply) is refusal)

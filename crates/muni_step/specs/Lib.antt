@@ -4,3 +4,4 @@ pub mod Reads
 pub mod Step
 pub mod Runs
 pub mod Sound
+pub mod CarriedOut
