@@ -1,3 +1,5 @@
 pub mod CandidateLemmas
 pub mod FoundLemmas
 pub mod UniqueLemmas
+pub mod RunLemmas
+pub mod RightLemmas

@@ -2,10 +2,16 @@
 #![tactic(auto)]
 
 mod answers;
+mod fault;
 mod laws;
+mod runs;
+mod steps;
 #[cfg(test)]
 mod tests;
 mod trade;
 
 pub use answers::figures;
-pub use laws::the_answer_to_a_request_is_unique;
+pub use fault::BookFault;
+pub use laws::{answered_figures_are_right, the_answer_to_a_request_is_unique};
+pub use runs::run;
+pub use steps::apply;

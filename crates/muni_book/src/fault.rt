@@ -1,0 +1,38 @@
+//! Why a command is not answered.
+
+use muni_keep::KeepFault;
+use std::alloc::AllocError;
+
+/// Why a command is not answered. Nothing was kept for it.
+#[derive(Clone, Copy, Debug, PartialEq, Eq)]
+pub enum BookFault {
+    /// What keeps the tables failed, and counted it.
+    Failed,
+    /// No memory was left.
+    NoMemory,
+}
+
+impl From<KeepFault> for BookFault {
+    ghost use Rattle.std.specs.Prelude.{◌≡◌};
+    ghost use Rattle.muni_book.specs.Fault.{fault_of};
+
+    ghost from_gives = { λ fault given. given ≡ fault_of fault };
+
+    fn from(fault: KeepFault) -> BookFault {
+        match fault {
+            KeepFault::Failed => BookFault::Failed,
+            KeepFault::NoMemory => BookFault::NoMemory,
+        }
+    }
+}
+
+impl From<AllocError> for BookFault {
+    ghost use Rattle.std.specs.Prelude.{◌≡◌};
+    ghost use Rattle.muni_book.specs.declared.fault.BookFault.{BookFault};
+
+    ghost from_gives = { λ _ fault. fault ≡ BookFault.NoMemory };
+
+    fn from(_: AllocError) -> BookFault {
+        BookFault::NoMemory
+    }
+}

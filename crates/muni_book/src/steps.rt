@@ -1,0 +1,139 @@
+//! The book: what each command is answered, and what is kept for it.
+
+ghost use Rattle.std.specs.Prelude.{◌≡◌, ◌≤◌, IfOk, IfSome, OnErr, IsErrOf};
+ghost use Rattle.std.specs.Option.{is_some};
+ghost use Rattle.muni_edge.specs.Sink.{Rose};
+ghost use Rattle.muni_keep.specs.History.{next_number};
+ghost use Rattle.muni_keep.specs.Tables.{issue_at, trade_at};
+ghost use Rattle.muni_step.specs.Runs.{StepsTo, IsRefusal};
+ghost use Rattle.muni_step.specs.Step.{CanKeep};
+ghost use Rattle.muni_step.specs.CarriedOut.{IsCarriedOut, KeepsIssue, KeepsVersion};
+ghost use Rattle.muni_book.specs.Answers.{IsRightAnswer};
+
+use crate::{BookFault, figures};
+use muni_edge::Gate;
+use muni_keep::{KeepFault, Keeper};
+use muni_msg::{Command, Key, Reply, Version};
+use muni_multi::Encloser;
+use muni_step::{Plan, plan_of};
+use muni_terms::Issue;
+use std::thread::Threads;
+
+/// Applies one command.
+///
+/// Up to `workers` threads, from 1 to 16, look for the yields.
+pub fn apply<R: Threads + Sync, K: Keeper, E: Encloser + Sync, G: Gate + Sync>(
+    rt: &R,
+    keeper: &mut K,
+    command: &Command,
+    workers: u32,
+    encloser: &E,
+    gate: &G,
+) -> Result<Reply, BookFault>
+    requires { (1 ≤ workers) × (workers ≤ 16) }
+
+    // Where the keeper tells its tables, a reply and the tables after it are those of one step.
+    ensures step { IfOk result (λ reply. IfSome (K.tables keeper.old) (λ t.
+        StepsTo (IsRightAnswer (E.ends encloser.now)) t command.now reply (K.tables keeper.new))) }
+    ensures refused { IfOk result (λ reply. IsRefusal reply → K.tables keeper.new ≡ K.tables keeper.old) }
+    ensures unchanged { OnErr result (K.tables keeper.new ≡ K.tables keeper.old) }
+
+    ensures tells { is_some (K.tables keeper.new) ≡ is_some (K.tables keeper.old) }
+    ensures later { K.faults keeper.old ≤ K.faults keeper.new }
+    ensures failed { IsErrOf result BookFault.Failed → Rose (K.faults keeper.old) (K.faults keeper.new) }
+    ensures mark { K.mark keeper.new ≡ K.mark keeper.old }
+{
+    let plan = plan_of(keeper, command)?;
+    Ok(carry_out(rt, keeper, plan, workers, encloser, gate)?)
+}
+
+fn carry_out<R: Threads + Sync, K: Keeper, E: Encloser + Sync, G: Gate + Sync>(
+    rt: &R,
+    keeper: &mut K,
+    plan: Plan,
+    workers: u32,
+    encloser: &E,
+    gate: &G,
+) -> Result<Reply, KeepFault>
+    requires workers { (1 ≤ workers) × (workers ≤ 16) }
+    requires can_keep { IfSome (K.tables keeper.old) (λ t. CanKeep t plan) }
+    ensures done { IfOk result (λ reply. IfSome (K.tables keeper.old) (λ t.
+        IsCarriedOut (IsRightAnswer (E.ends encloser.now)) plan t reply (K.tables keeper.new))) }
+    ensures unchanged { OnErr result (K.tables keeper.new ≡ K.tables keeper.old) }
+    ensures tells { is_some (K.tables keeper.new) ≡ is_some (K.tables keeper.old) }
+    ensures later { K.faults keeper.old ≤ K.faults keeper.new }
+    ensures failed { IsErrOf result KeepFault.Failed → Rose (K.faults keeper.old) (K.faults keeper.new) }
+    ensures mark { K.mark keeper.new ≡ K.mark keeper.old }
+{
+    match plan {
+        Plan::Answer(reply) => Ok(reply),
+        Plan::Quote { issue, asked } => {
+            match figures(rt, &issue, &asked, workers, encloser, gate) {
+                Ok(figures) => Ok(Reply::Quoted(figures)),
+                Err(why) => Ok(Reply::Refused(why)),
+            }
+        }
+        Plan::KeepIssue(issue) => keep_issue(keeper, &issue),
+        Plan::KeepVersion {
+            issue,
+            key,
+            number,
+            version,
+        } => keep_version(keeper, issue, key, number, version),
+        Plan::KeepPriced {
+            issue,
+            key,
+            number,
+            act,
+            terms,
+        } => match figures(rt, &issue, &terms.asked, workers, encloser, gate) {
+            Ok(figures) => {
+                let version = Version {
+                    act,
+                    terms,
+                    figures,
+                };
+                keep_version(keeper, issue, key, number, version)
+            }
+            Err(why) => Ok(Reply::Refused(why)),
+        },
+    }
+}
+
+fn keep_issue<K: Keeper>(keeper: &mut K, issue: &Issue) -> Result<Reply, KeepFault>
+    requires { IfSome (K.tables keeper.old) (λ t. issue_at t issue.now.cusip ≡ None) }
+    ensures kept { IfOk result (KeepsIssue issue.now (K.tables keeper.old) (K.tables keeper.new)) }
+    ensures unchanged { OnErr result (K.tables keeper.new ≡ K.tables keeper.old) }
+    ensures later { K.faults keeper.old ≤ K.faults keeper.new }
+    ensures failed { IsErrOf result KeepFault.Failed → Rose (K.faults keeper.old) (K.faults keeper.new) }
+    ensures mark { K.mark keeper.new ≡ K.mark keeper.old }
+{
+    keeper.put_issue(issue)?;
+    Ok(Reply::Added {
+        cusip: issue.row().cusip,
+    })
+}
+
+fn keep_version<K: Keeper>(
+    keeper: &mut K,
+    issue: Issue,
+    key: Key,
+    number: u32,
+    version: Version,
+) -> Result<Reply, KeepFault>
+    requires { IfSome (K.tables keeper.old) (λ t. number ≡ next_number (trade_at t key)) }
+    ensures kept { IfOk result
+        (KeepsVersion issue key number version (K.tables keeper.old) (K.tables keeper.new)) }
+    ensures unchanged { OnErr result (K.tables keeper.new ≡ K.tables keeper.old) }
+    ensures later { K.faults keeper.old ≤ K.faults keeper.new }
+    ensures failed { IsErrOf result KeepFault.Failed → Rose (K.faults keeper.old) (K.faults keeper.new) }
+    ensures mark { K.mark keeper.new ≡ K.mark keeper.old }
+{
+    keeper.put_version(&key, number, &version)?;
+    Ok(Reply::Confirmed {
+        issue,
+        key,
+        number,
+        version,
+    })
+}
