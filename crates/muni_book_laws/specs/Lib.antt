@@ -1,0 +1,5 @@
+pub mod Isolation
+pub mod Once
+pub mod Unique
+pub mod StaysSound
+pub mod Laws

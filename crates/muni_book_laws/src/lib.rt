@@ -1,0 +1,33 @@
+//! Laws of runs of the book, over every list of commands.
+#![tactic(auto)]
+
+ghost use Rattle.muni_book_laws.specs.Laws.{TablesAreSound, AcceptedCommandsActOnce, NothingKeptIsLost, EachDeskIsIsolated, RepliesAreUnique};
+
+/// A law of the definitions: the empty tables are sound, and a run leaves sound tables sound. So
+/// every figure that is ever kept is right by the rule's exact formulas.
+pub fn tables_are_sound()
+    ensures { TablesAreSound }
+{}
+
+/// A law of the definitions: a command that was accepted acts once. Sent again at any later time it
+/// adds nothing, and is answered by an equal reply.
+pub fn accepted_commands_act_once()
+    ensures { AcceptedCommandsActOnce }
+{}
+
+/// A law of the definitions: a run changes and removes nothing that is kept.
+pub fn nothing_kept_is_lost()
+    ensures { NothingKeptIsLost }
+{}
+
+/// A law of the definitions: with equal issues and equal trades of one desk, a run tells that desk
+/// the same over all tables, whatever other desks keep and send.
+pub fn each_desk_is_isolated()
+    ensures { EachDeskIsIsolated }
+{}
+
+/// A law of the definitions: the replies to a list of commands over given tables are unique. So they
+/// do not depend on how many workers compute.
+pub fn replies_are_unique()
+    ensures { RepliesAreUnique }
+{}
