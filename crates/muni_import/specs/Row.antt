@@ -12,7 +12,7 @@ use Rattle.muni_days.specs.declared.day.Day.{Day}
 use Rattle.muni_terms.specs.Check.{pays_interest}
 use Rattle.muni_terms.specs.declared.row.IssueRow.{IssueRow}
 use Rattle.muni_terms.specs.declared.row.Kind.{Kind}
-use Rattle.muni_msg.specs.Fields.{day_in, kind_reading, basis_reading, side_reading, given_reading}
+use Rattle.muni_msg.specs.Fields.{day_in, kind_reading, basis_field, side_reading, given_reading, fee_field, version_number}
 use Rattle.muni_msg.specs.IssueFields.{cusip_reading, issue_name_reading, coupon_by}
 use Rattle.muni_msg.specs.Names.{is_desk_letter}
 use Rattle.muni_msg.specs.NameReading.{name_reading}
@@ -51,9 +51,9 @@ key_in fields = do
   reference ← in_column 3 (result_ok (name_reading is_ascii_alphanumeric 20 (field 3 fields)))
   Ok (record { desk = desk; reference = reference })
 
--- the number of a version, in one to nine digits
+-- the number of a version
 abbrev pub number_in : List (List ℕ) → Result ℕ RowFault
-number_in fields = in_column 4 (number_reading 9 0 999_999_999 (field 4 fields))
+number_in fields = in_column 4 (version_number (field 4 fields))
 
 -- the texts that name a basis
 abbrev pub is_basis : List ℕ → Bool
@@ -66,10 +66,6 @@ given_in column fields =
     if is_basis (field column fields)
     then in_column (column + 1) (given_reading (field column fields) (field (column + 1) fields))
     else Err (BadField column)
-
--- a commission, which may be left out
-abbrev pub fee_field : List ℕ → Option ℕ
-fee_field text = if length text == 0 then Some 0 else result_ok (fee_reading text)
 
 -- the terms of a trade, which begin in a column
 unfoldable pub terms_in : ℕ → List (List ℕ) → Result Terms RowFault
@@ -107,10 +103,6 @@ dates_in fields = do
 -- how an issue pays and when
 unfoldable pub calendar_in : List (List ℕ) → Result (Kind × Day × Day) RowFault
 calendar_in fields = if is_kind (field 4 fields) then dates_in fields else Err (BadField 4)
-
--- a day count basis, which may be left out for 30/360
-abbrev pub basis_field : List ℕ → Option Basis
-basis_field text = if length text == 0 then Some Thirty360 else basis_reading text
 
 -- the terms of an issue
 unfoldable pub issue_in : List (List ℕ) → Result IssueRow RowFault

@@ -49,7 +49,7 @@ fn push_reply(text: &mut ArrayVec<u8, 256>, reply: &Reply)
             ..
         } => push_confirmed(text, key, *number, &version.figures),
         Reply::Refused(refusal) => push_refused(text, refusal),
-        Reply::Quoted(_) | Reply::Listed(_) => {}
+        Reply::Quoted { .. } | Reply::Listed(_) => {}
     }
 }
 

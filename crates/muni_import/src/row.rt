@@ -8,12 +8,12 @@ ghost use Rattle.muni_import.specs.Row as spec;
 
 use crate::calls::read_calls;
 use csv::ByteRecord;
-use muni_days::{Basis, Day};
-use muni_dec::digits::read_number;
-use muni_dec::{Fee, Par};
+use muni_days::Day;
+use muni_dec::Par;
 use muni_msg::{
-    Asked, Command, DeskName, Given, Key, Reference, Terms, read_basis, read_coupon, read_cusip,
-    read_given, read_issue_name, read_kind, read_side,
+    Asked, Command, DeskName, Given, Key, Reference, Terms, read_basis_field, read_coupon,
+    read_cusip, read_fee_field, read_given, read_issue_name, read_kind, read_side,
+    read_version_number,
 };
 use muni_terms::{IssueRow, Kind};
 
@@ -140,8 +140,7 @@ fn key(row: &ByteRecord) -> Result<Key, RowFault>
 fn number(row: &ByteRecord) -> Result<u32, RowFault>
     ensures { result ≡ spec.number_in (fields_of row.now) }
 {
-    let number = in_column(4, read_number(field(row, 4), 9, 0, 999_999_999))?;
-    Ok(number as u32)
+    in_column(4, read_version_number(field(row, 4)))
 }
 
 // The terms of a trade, which begin in a column.
@@ -157,7 +156,7 @@ fn terms(row: &ByteRecord, first: u32) -> Result<Terms, RowFault>
             par: in_column(first + 2, Par::read(field(row, first + 2)).ok())?,
             settle: in_column(first + 3, Day::read(field(row, first + 3)).ok())?,
             given: given(row, first + 4)?,
-            fee: in_column(first + 6, read_fee(field(row, first + 6)))?,
+            fee: in_column(first + 6, read_fee_field(field(row, first + 6)))?,
         },
     })
 }
@@ -180,16 +179,6 @@ fn is_basis(text: &[u8]) -> bool
     text == b"yield".as_slice() || text == b"price".as_slice() || text == b"rate".as_slice()
 }
 
-// A commission, which may be left out.
-fn read_fee(text: &[u8]) -> Option<Fee>
-    ensures { result ≡ spec.fee_field text.now }
-{
-    if text.is_empty() {
-        return Some(Fee::ZERO);
-    }
-    Fee::read(text).ok()
-}
-
 // The terms of an issue.
 #[tactic(auto, unfolding(crate::specs::Row::issue_in))]
 fn issue(row: &ByteRecord) -> Result<IssueRow, RowFault>
@@ -200,7 +189,7 @@ fn issue(row: &ByteRecord) -> Result<IssueRow, RowFault>
     let (kind, dated, maturity) = calendar(row)?;
     let coupon = in_column(8, read_coupon(kind, field(row, 8)))?;
     let calls = in_column(9, read_calls(field(row, 9)))?;
-    let basis = in_column(10, read_basis_or_default(field(row, 10)))?;
+    let basis = in_column(10, read_basis_field(field(row, 10)))?;
     Ok(IssueRow {
         cusip,
         name,
@@ -211,16 +200,6 @@ fn issue(row: &ByteRecord) -> Result<IssueRow, RowFault>
         coupon,
         calls,
     })
-}
-
-// A day count basis, which may be left out for 30/360.
-fn read_basis_or_default(text: &[u8]) -> Option<Basis>
-    ensures { result ≡ spec.basis_field text.now }
-{
-    if text.is_empty() {
-        return Some(Basis::Thirty360);
-    }
-    read_basis(text)
 }
 
 // How an issue pays and when: its kind, its dated date and its maturity.
