@@ -158,7 +158,7 @@ base quote --kind=at-redemption --dated=2024-01-01 --maturity=2025-01-01
 --settle=2024-07-01 --coupon=4 --yield=3 --first=2024-07-01|2|
 --settle=2024-07-01 --coupon=4 --yield=3 --call=2024-07-01:100|3|REFUSED 4 BadTerms 6 2024-07-01
 --settle=2024-07-01 --coupon=4 --yield=3 --workers=1|0|PRICE 100.463 COMPUTED/YIELD 3.000 GIVEN/REDEMPTION 2025-01-01 100.000000 MATURITY/ACCRUED DAYS 180/PRINCIPAL 100.46/ACCRUED 2.00/TOTAL 102.46
---settle=2024-07-01 --coupon=4 --yield=3 --days=30/360|2|
+--settle=2024-07-01 --coupon=4 --yield=3 --basis=30/360|2|
 --settle=2024-07-01 --coupon=4 --yield=3 --fee=0|2|
 --settle=2024-07-01 --coupon=4 --yield=3 --store=S|2|
 --settle=2024-07-01 --coupon=4 --yield=3 --par=0|2|
