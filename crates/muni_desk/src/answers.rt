@@ -23,7 +23,8 @@ use muni_multi::Encloser;
 use std::thread::Threads;
 
 /// The answer to a command: the price, the figures or the sums that it asks for, or the refusal that
-/// applies first. Yields are looked for by up to `workers` threads, and the gate is told when they begin.
+/// applies first.
+// Yields are looked for by up to `workers` threads, and the gate is told when they begin (tested).
 pub fn answer<R: Threads + Sync, E: Encloser + Sync, G: Gate + Sync>(
     rt: &R,
     command: Command,

@@ -17,8 +17,9 @@ use std::thread::Threads;
 /// `quote-one COUPON NEXT SETTLE REDEMPTION YIELD` is the price of a security with six months or less
 /// to redemption. `quote` and options in any order give the figures of a security, whose worth with more
 /// than six months left comes from the encloser. `drill` and options in any order price a generated book
-/// of trades, and give the sums. Yields are looked for by as many threads as the words name workers, and
-/// the gate is told when they begin. It takes no memory.
+/// of trades, and give the sums. It takes no memory.
+// Yields are looked for by as many threads as the words name workers, and the gate is told when they
+// begin (tested).
 pub fn desk<O: Sink, R: Threads + Sync, E: Encloser + Sync, G: Gate + Sync>(
     rt: &R,
     words: &[String],
