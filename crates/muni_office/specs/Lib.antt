@@ -1,0 +1,3 @@
+pub mod Confirm
+pub mod End
+pub mod Input

@@ -1,0 +1,10 @@
+//! What the desk does over a store: imports, and confirmations of kept trades.
+#![tactic(auto)]
+
+mod confirmations;
+mod end;
+mod input;
+
+pub use confirmations::confirm;
+pub use end::End;
+pub use input::{InputFault, LIMIT, read_input};
