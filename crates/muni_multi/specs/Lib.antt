@@ -6,3 +6,4 @@ pub mod HornerLaws
 pub mod Doubling
 pub mod DoublingLaws
 pub mod Prices
+pub mod Agreement

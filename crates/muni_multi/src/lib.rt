@@ -13,7 +13,7 @@ mod verdicts;
 
 pub use discount::Discount;
 pub use doubling::Doubling;
-pub use encloser::Encloser;
+pub use encloser::{Encloser, enclosures_agree};
 pub use horner::{Horner, sums_are_narrow};
 pub use muni_rule::Verdict;
 pub use price::{PriceAnswer, at_most_one_price_is_right, printed_price, printed_price_at};

@@ -5,7 +5,7 @@ ghost use Rattle.muni_multi.specs.HornerLaws.{horner-encloses, horner-narrow};
 
 mod price_cases;
 
-use crate::{Encloser, Horner, PriceAnswer, Verdict, at_least, more, printed_price};
+use crate::{Doubling, Encloser, Horner, PriceAnswer, Verdict, at_least, more, printed_price};
 use arrayvec::ArrayVec;
 use muni_dec::{Price, Yield};
 use muni_samples::{Sample, Table};
@@ -50,10 +50,10 @@ fn said(answer: &PriceAnswer) -> ArrayVec<u8, 32> {
     text
 }
 
-fn priced(case: &Sample<'_>) -> Result<ArrayVec<u8, 32>, Fail> {
+fn priced<E: Encloser>(encloser: &E, case: &Sample<'_>) -> Result<ArrayVec<u8, 32>, Fail> {
     let flows = case.flows().ok_or("payments")?;
     let y = yield_of(case.yld("yield=").ok_or("a yield")?.units())?;
-    Ok(said(&printed_price(&Horner, &flows, y)))
+    Ok(said(&printed_price(encloser, &flows, y)))
 }
 
 #[test]
@@ -63,7 +63,8 @@ fn prices_are_those_computed_outside(rt: HostRuntime) -> Result<(), Fail> {
     for line in CASES.lines() {
         if let Some(case) = table.sample(line) {
             let wanted = case.text("price=").ok_or("a price")?;
-            assert_eq!(rt; priced(&case)?.as_slice(), wanted, "{line}");
+            assert_eq!(rt; priced(&Horner, &case)?.as_slice(), wanted, "{line}");
+            assert_eq!(rt; priced(&Doubling, &case)?.as_slice(), wanted, "{line}");
             cases = cases.wrapping_add(1);
         }
     }
@@ -164,9 +165,10 @@ fn a_price_takes_one_call_of_the_encloser_and_none_in_an_exact_case(
 #[test]
 fn a_worth_is_less_than_a_billionth_of_a_dollar_wide(rt: HostRuntime) -> Result<(), Fail> {
     let flows = flows_of(ZERO_OF_FIFTY_YEARS)?;
-    let worth = Horner.pv(&flows, -50_000);
-    assert!(rt; worth.lo() < worth.hi());
-    assert!(rt; worth.hi() - worth.lo() < 360 * 4096);
+    for worth in [Horner.pv(&flows, -50_000), Doubling.pv(&flows, -50_000)] {
+        assert!(rt; worth.lo() < worth.hi());
+        assert!(rt; worth.hi() - worth.lo() < 360 * 4096);
+    }
     Ok(())
 }
 
@@ -175,5 +177,6 @@ fn is_shared<T: Send + Sync>(_shared: &T) {}
 #[test]
 fn threads_can_share_an_encloser(rt: HostRuntime) -> Result<(), Fail> {
     is_shared(&Horner);
+    is_shared(&Doubling);
     Ok(())
 }

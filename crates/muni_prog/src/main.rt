@@ -5,7 +5,7 @@ mod output;
 
 use muni_desk::{Status, desk};
 use muni_edge::NoGate;
-use muni_multi::Horner;
+use muni_multi::Doubling;
 use output::Output;
 use std::process::ExitCode;
 use std::{env, io};
@@ -14,7 +14,7 @@ fn main(rt: HostRuntime) -> ExitCode {
     let status = match words(&rt) {
         Ok(words) => {
             let mut output = Output::new(io::writer(&rt));
-            desk(&rt, words.as_slice(), &mut output, &Horner, &NoGate)
+            desk(&rt, words.as_slice(), &mut output, &Doubling, &NoGate)
         }
         Err(status) => status,
     };

@@ -53,7 +53,7 @@ impl Model for Bracket {
 }
 
 impl Default for Bracket {
-    /// The search at a price of 100 for the default payments.
+    /// An empty slot of a list. No contract reads it.
     fn default() -> Bracket {
         Bracket::start(Flows::default(), Price::PAR)
     }

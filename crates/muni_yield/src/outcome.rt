@@ -9,9 +9,9 @@ use muni_dec::Yield3;
 pub enum Outcome {
     /// The exact yield, truncated to four decimals of the percentage and rounded to three.
     Print(Yield3),
-    /// The yield is printed below the range.
+    /// The yield would be printed below the range.
     Below,
-    /// The yield is printed above the range.
+    /// The yield would be printed above the range.
     Above,
     /// The exact price at the boundary between `lower` and the next printed yield is too near the
     /// given one. Both are in thousandths of a percent, and `lower` is from -5,001 to 100,000.

@@ -7,7 +7,7 @@ mod yield_cases;
 use crate::{Bracket, Outcome, printed_yield};
 use muni_dec::Price;
 use muni_edge::Steps;
-use muni_multi::{Encloser, Horner};
+use muni_multi::{Doubling, Encloser, Horner};
 use muni_samples::{Sample, Table};
 use muni_span::worth::Worth;
 use muni_terms::Flows;
@@ -122,6 +122,17 @@ fn are_right(rt: &impl Abort, cases: &str, wanted: u32) -> Result<(), Fail> {
 #[test]
 fn yields_are_the_exact_ones_after_nineteen_calls_at_most(rt: HostRuntime) -> Result<(), Fail> {
     are_right(&rt, CASES, 244)
+}
+
+#[test]
+fn yields_by_doubling_are_the_exact_ones(rt: HostRuntime) -> Result<(), Fail> {
+    let mut table = Table::new();
+    for line in CASES.lines() {
+        if let Some(case) = table.sample(line) {
+            assert!(rt; is_expected(outcome_of(&Doubling, &case)?, &case), "{line}");
+        }
+    }
+    Ok(())
 }
 
 #[test]
