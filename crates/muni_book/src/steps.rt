@@ -69,7 +69,7 @@ fn carry_out<R: Threads + Sync, K: Keeper, E: Encloser + Sync, G: Gate + Sync>(
         Plan::Answer(reply) => Ok(reply),
         Plan::Quote { issue, asked } => {
             match figures(rt, &issue, &asked, workers, encloser, gate) {
-                Ok(figures) => Ok(Reply::Quoted(figures)),
+                Ok(figures) => Ok(Reply::Quoted { asked, figures }),
                 Err(why) => Ok(Reply::Refused(why)),
             }
         }

@@ -24,7 +24,7 @@ AsksToKeep (command.List desk after) = ⊥
 -- it is accepted by this reply
 abbrev pub IsAccepted : Reply → Type 0
 IsAccepted (Added cusip) = ⊤
-IsAccepted (Quoted figures) = ⊥
+IsAccepted (Quoted asked figures) = ⊥
 IsAccepted (Listed lines) = ⊥
 IsAccepted (Confirmed issue key number version) = ⊤
 IsAccepted (Refused why) = ⊥

@@ -34,7 +34,7 @@ RunsFirst Prices old commands told =
 -- a reply that refuses the command
 abbrev pub IsRefusal : Reply → Type 0
 IsRefusal (Added cusip) = ⊥
-IsRefusal (Quoted figures) = ⊥
+IsRefusal (Quoted asked figures) = ⊥
 IsRefusal (Listed lines) = ⊥
 IsRefusal (Confirmed issue key number version) = ⊥
 IsRefusal (Refused why) = ⊤

@@ -38,9 +38,10 @@ Pricing = IssueRow → Asked → Result Figures Refusal → Type 0
 abbrev pub answered : Reply → Outcome
 answered reply = record { reply = reply; entry = None }
 
-abbrev pub quoted : Result Figures Refusal → Outcome
-quoted (Ok figures) = answered (Quoted figures)
-quoted (Err why) = answered (Refused why)
+-- the figures of a quote are answered with what was asked
+abbrev pub quoted : Asked → Result Figures Refusal → Outcome
+quoted asked (Ok figures) = answered (Quoted asked figures)
+quoted asked (Err why) = answered (Refused why)
 
 -- a version is kept and confirmed
 abbrev pub kept : IssueRow → Key → ℕ → Version → Outcome
@@ -57,7 +58,7 @@ priced issue key number act terms (Err why) = answered (Refused why)
 abbrev pub IsOutcome : Pricing → Plan → Outcome → Type 0
 IsOutcome Prices (Answer reply) outcome = outcome ≡ answered reply
 IsOutcome Prices (Quote issue asked) outcome =
-    (answer : Result Figures Refusal) × Prices issue asked answer × (outcome ≡ quoted answer)
+    (answer : Result Figures Refusal) × Prices issue asked answer × (outcome ≡ quoted asked answer)
 IsOutcome Prices (KeepIssue issue) outcome =
     outcome ≡ record { reply = Added issue.cusip; entry = Some (NewIssue issue) }
 IsOutcome Prices (KeepVersion issue key number version) outcome =
