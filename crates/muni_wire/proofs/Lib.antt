@@ -1,0 +1,13 @@
+pub mod CutLemmas
+pub mod HeadLemmas
+pub mod TakenLemmas
+pub mod BodyLemmas
+pub mod ReadingLemmas
+pub mod FieldCountLemmas
+pub mod UniqueLemmas
+pub mod StatusLemmas
+pub mod CallLemmas
+pub mod RouteLemmas
+pub mod ListLemmas
+pub mod LeftOutLemmas
+pub mod AnswerLemmas

@@ -1,0 +1,38 @@
+use Rattle.std.proofs.Common.{arith, ◌≡◌, ◌≤◌, ◌+◌, length, []}
+use Rattle.muni_wire.proofs.ReadingLemmas.{refused, asked, no-head, large-head, told-body}
+use Rattle.muni_wire.proofs.request.read_by_head.Goals as goal
+
+pub returns-in-Never-clause-allowed : goal.returns-in-Never-clause-allowed
+returns-in-Never-clause-allowed g c =
+    let said = rw c.in-Never.is at c.in_ok-head.ensures in
+    no-head (g.L.Source.left c.args.link.now) (g.L.Source.left c.read_head.new.link) c.in_ok-head.bytes.items said.taken said.head
+
+pub returns-in-TooLarge-clause-allowed : goal.returns-in-TooLarge-clause-allowed
+returns-in-TooLarge-clause-allowed g c =
+    let said = rw c.in-TooLarge.is at c.in_ok-head.ensures in
+    large-head (g.L.Source.left c.args.link.now) (g.L.Source.left c.read_head.new.link) c.in_ok-head.bytes.items said.taken said.head
+
+pub returns-in-Refuse-clause-allowed : goal.returns-in-Refuse-clause-allowed
+returns-in-Refuse-clause-allowed g c =
+    let said = rw (c.in-Whole.is, c.in-Refuse.is) at c.in_ok-head.ensures in
+    refused (g.L.Source.left c.args.link.now) (g.L.Source.left c.read_head.new.link) c.in_ok-head.bytes.items c.in-Whole.end c.in-Refuse.bad said.taken said.head.0
+
+pub returns-in-Ask-clause-allowed : goal.returns-in-Ask-clause-allowed
+returns-in-Ask-clause-allowed g c =
+    let said = rw (c.in-Whole.is, c.in-Ask.is) at c.in_ok-head.ensures in
+    asked (g.L.Source.left c.args.link.now) (g.L.Source.left c.read_head.new.link) c.in_ok-head.bytes.items c.in-Whole.end c.in-Ask.command said.taken said.head.0
+
+pub take_body-requires-clause-inside : goal.take_body-requires-clause-inside
+take_body-requires-clause-inside g c =
+    let said = rw (c.in-Whole.is, c.in-Read.is) at c.in_ok-head.ensures in
+    omega (arith, (said.head.0 []).0)
+
+pub take_body-requires-clause-head : goal.take_body-requires-clause-head
+take_body-requires-clause-head g c =
+    let said = rw (c.in-Whole.is, c.in-Read.is) at c.in_ok-head.ensures in
+    omega (arith, (said.head.0 []).0, said.limit)
+
+pub returns-clause-allowed : goal.returns-clause-allowed
+returns-clause-allowed g c =
+    let said = rw (c.in-Whole.is, c.in-Read.is) at c.in_ok-head.ensures in
+    told-body (g.L.Source.left c.args.link.now) (g.L.Source.left c.read_head.new.link) c.in_ok-head.bytes.items c.in-Whole.end c.in-Read.size c.in-Read.form c.take_body.result said.taken said.head.0 c.take_body.ensures.answer

@@ -1,0 +1,44 @@
+-- That the bytes of a connection are read in one way.
+use Rattle.std.specs.Prelude.{◌≡◌, ◌⊎◌, List, ℕ, take, Result, Ok, Err, ⊤}
+use Rattle.httparse.specs.Grammar.{EndsInTarget}
+use Rattle.httparse.specs.Spans.{RequestExceeds}
+use Rattle.muni_msg.specs.declared.command.Command.{Command}
+use Rattle.muni_wire.specs.Head.{head_limit, field_limit}
+use Rattle.muni_wire.specs.Reading.{Reading, Whole, Faulty, Short, HeadAsks, Reads}
+use Rattle.muni_wire.specs.declared.fault.WireFault.{WireFault}
+use Rattle.muni_wire.specs.declared.fault.WireFault.TheVariants as fault
+
+-- the bytes of a head end within a target, or hold too many header fields: two answers may be right
+abbrev pub IsAmbiguous : List ℕ → Type 0
+IsAmbiguous bytes =
+    EndsInTarget (take head_limit bytes) ⊎ RequestExceeds field_limit (take head_limit bytes)
+
+-- two readings of the same bytes are equal, unless these are ambiguous
+abbrev pub AreReadOnce : Type 0
+AreReadOnce =
+    (bytes : List ℕ) (a b : Reading) → Reads bytes a → Reads bytes b → IsAmbiguous bytes ⊎ (a ≡ b)
+
+-- bytes that begin with a head within the limits have one reading, without exception
+abbrev pub HeadsAreReadOnce : Type 0
+HeadsAreReadOnce = (bytes : List ℕ) (a b : Reading) → HeadAsks bytes a → Reads bytes b → a ≡ b
+
+-- the answer that a reading is
+abbrev pub answer_to : Reading → Result Command WireFault
+answer_to (Whole command) = Ok command
+answer_to (Faulty kind) = Err (fault.Bad kind)
+answer_to Short = Err fault.Gone
+
+-- the link failed, or memory was wanting
+abbrev pub IsCutOff : Result Command WireFault → Type 0
+IsCutOff (Ok command) = ⊥
+IsCutOff (Err (fault.Bad kind)) = ⊥
+IsCutOff (Err fault.Gone) = ⊥
+IsCutOff (Err fault.LinkFault) = ⊤
+IsCutOff (Err fault.NoMemory) = ⊤
+
+-- where the bytes have one reading, it is answered, unless that was cut off
+pub record IsTheAnswer (bytes : List ℕ) (result : Result Command WireFault) : Type 0 where
+  pub whole : (reading : Reading) → HeadAsks bytes reading
+      → IsCutOff result ⊎ (result ≡ answer_to reading)
+  pub one : (reading : Reading) → Reads bytes reading
+      → IsAmbiguous bytes ⊎ IsCutOff result ⊎ (result ≡ answer_to reading)

@@ -1,0 +1,15 @@
+pub mod Routes
+pub mod BodyLength
+pub mod Members
+pub mod Calls
+pub mod Body
+pub mod Head
+pub mod Plan
+pub mod Faults
+pub mod Reading
+pub mod Taken
+pub mod Laws
+pub mod LeftOut
+pub mod List
+pub mod Status
+pub mod Answer

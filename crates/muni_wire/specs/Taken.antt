@@ -1,0 +1,43 @@
+-- What a head says of the bytes that were taken, whatever is left behind them.
+use Rattle.std.specs.Prelude.{◌≡◌, ◌≤◌, ℕ, List, Option, drop, length, ◌++◌, Result, Ok, Err, ⊤}
+use Rattle.std.specs.Io.KnownBytes.{IsAtEnd}
+use Rattle.httparse.specs.Grammar.{RequestHead}
+use Rattle.muni_msg.specs.declared.command.Command.{Command}
+use Rattle.muni_wire.specs.BodyLength.{body_limit}
+use Rattle.muni_wire.specs.Head.{HasHead, IsNoHead, IsHeadTooLarge, EndsInHead}
+use Rattle.muni_wire.specs.Plan.{plan_of}
+use Rattle.muni_wire.specs.Reading.{Whole, Faulty, Short, carried_out}
+use Rattle.muni_wire.specs.declared.fault.WireFault.{WireFault}
+use Rattle.muni_wire.specs.declared.fault.WireFault.TheVariants as fault
+use Rattle.muni_wire.specs.declared.routes.Form.{Form}
+use Rattle.muni_wire.specs.declared.head.Plan.{Plan}
+use Rattle.muni_wire.specs.declared.head.Plan.TheVariants as plan
+use Rattle.muni_wire.specs.declared.head.Head.{Head}
+use Rattle.muni_wire.specs.declared.head.Head.TheVariants as head
+
+-- the bytes begin with a head of this plan, which ends at a place, whatever follows
+abbrev pub IsWholeAt : List ℕ → ℕ → Plan → Type 0
+IsWholeAt bytes end plan =
+    (more : List ℕ) → (end ≤ length bytes) × (h : RequestHead)
+    × HasHead (bytes ++ more) h (drop end bytes ++ more) × (plan ≡ plan_of h)
+
+-- a body that is to be read is within its limit
+abbrev pub IsWithinLimit : Plan → Type 0
+IsWithinLimit (plan.Refuse kind) = ⊤
+IsWithinLimit (plan.Ask command) = ⊤
+IsWithinLimit (plan.Read form size) = size ≤ body_limit
+
+-- what a head says of the bytes that were taken and of those that are left
+abbrev pub IsHeadOf : Head → List ℕ → Option (List ℕ) → Type 0
+IsHeadOf (head.Whole end plan) bytes left = IsWholeAt bytes end plan × IsWithinLimit plan
+IsHeadOf head.More bytes left = EndsInHead bytes × IsAtEnd left
+IsHeadOf head.Never bytes left = (more : List ℕ) → IsNoHead (bytes ++ more)
+IsHeadOf head.TooLarge bytes left = (more : List ℕ) → IsHeadTooLarge (bytes ++ more)
+
+-- the answer to a body of so many bytes, by all bytes behind the head
+abbrev pub IsAnswerTo : Form → ℕ → List ℕ → Result Command WireFault → Type 0
+IsAnswerTo form size rest (Ok command) = Whole command ≡ carried_out (plan.Read form size) rest
+IsAnswerTo form size rest (Err (fault.Bad kind)) = Faulty kind ≡ carried_out (plan.Read form size) rest
+IsAnswerTo form size rest (Err fault.Gone) = Short ≡ carried_out (plan.Read form size) rest
+IsAnswerTo form size rest (Err fault.LinkFault) = ⊤
+IsAnswerTo form size rest (Err fault.NoMemory) = ⊤

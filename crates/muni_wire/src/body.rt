@@ -1,0 +1,200 @@
+//! What a body asks for: the members of a JSON object.
+
+ghost use Rattle.std.specs.Prelude.{◌≡◌, Some, None, Err, IfOk, IfErr, IfSome, option_map};
+ghost use Rattle.serde_json.specs.View.{view};
+ghost use Rattle.muni_wire.specs.Body as spec;
+ghost use Rattle.muni_wire.specs.Faults.{IsOfBody};
+ghost use Rattle.muni_wire.specs.Members as members;
+
+use crate::calls::read_calls;
+use crate::routes::Form;
+use crate::{Bad, WireFault};
+use muni_days::{Basis, Day};
+use muni_dec::{Fee, Par};
+use muni_msg::{
+    Asked, Command, DeskName, Key, Reference, Side, Terms, read_basis_field, read_coupon,
+    read_cusip, read_fee_field, read_given, read_issue_name, read_kind, read_side,
+    read_version_number,
+};
+use muni_terms::{IssueRow, Kind};
+use serde_json::Value;
+use std::alloc::Global;
+
+/// What a body of this form asks for.
+pub(crate) fn read_body(alloc: Global, form: Form, body: &[u8]) -> Result<Command, WireFault>
+    ensures whole { IfOk result (λ command. spec.command_of form body.now ≡ Some command) }
+    ensures bad { (kind : _) → result ≡ Err (WireFault.Bad kind)
+        → (kind ≡ Bad.BadRequest) × (spec.command_of form body.now ≡ None) }
+    ensures others { IfErr result (λ fault. IsOfBody fault) }
+{
+    let value = read_value(alloc, body)?;
+    match read_command(form, &value) {
+        Some(command) => Ok(command),
+        None => Err(WireFault::Bad(Bad::BadRequest)),
+    }
+}
+
+fn read_value(alloc: Global, body: &[u8]) -> Result<Value, WireFault>
+    ensures value { IfOk result (λ value. spec.data_of body.now ≡ Some (view value)) }
+    ensures bad { (kind : _) → result ≡ Err (WireFault.Bad kind)
+        → (kind ≡ Bad.BadRequest) × (spec.data_of body.now ≡ None) }
+    ensures others { IfErr result (λ fault. IsOfBody fault) }
+{
+    match Value::from_slice(alloc, body) {
+        Ok(value) => Ok(value),
+        Err(error) => {
+            if error.is_memory() {
+                Err(WireFault::NoMemory)
+            } else {
+                Err(WireFault::Bad(Bad::BadRequest))
+            }
+        }
+    }
+}
+
+#[tactic(auto, unfolding(crate::specs::Body::command_in))]
+fn read_command(form: Form, value: &Value) -> Option<Command>
+    ensures { result ≡ spec.command_in form (view value.now) }
+{
+    match form {
+        Form::Issue => Some(Command::AddIssue(issue(value)?)),
+        Form::Trade => Some(Command::Enter {
+            key: key(value)?,
+            terms: terms(value)?,
+        }),
+        Form::Correction => Some(Command::Correct {
+            key: key(value)?,
+            number: number(value)?,
+            terms: terms(value)?,
+        }),
+        Form::Cancellation => Some(Command::Cancel {
+            key: key(value)?,
+            number: number(value)?,
+        }),
+        Form::Quote => Some(Command::Quote(asked(value, Side::Buy, Fee::new(0))?)),
+    }
+}
+
+/// The text of a member.
+pub(crate) fn member<'a>(value: &'a Value, name: &str) -> Option<&'a [u8]>
+    ensures { option_map (λ text. text.now) result ≡ members.member name.now (view value.now) }
+{
+    let text = value.get(name)?.as_str()?;
+    Some(text.as_bytes())
+}
+
+// The text of a member that may be left out, and reads as an empty one then.
+fn optional<'a>(value: &'a Value, name: &str) -> Option<&'a [u8]>
+    ensures { option_map (λ text. text.now) result ≡ members.optional name.now (view value.now) }
+{
+    let Some(found) = value.get(name) else {
+        return Some(b"");
+    };
+    let text = found.as_str()?;
+    Some(text.as_bytes())
+}
+
+fn key(value: &Value) -> Option<Key>
+    ensures { result ≡ spec.key_in (view value.now) }
+{
+    Some(Key {
+        desk: DeskName::read(member(value, "desk")?).ok()?,
+        reference: Reference::read(member(value, "reference")?).ok()?,
+    })
+}
+
+fn number(value: &Value) -> Option<u32>
+    ensures { result ≡ spec.number_in (view value.now) }
+{
+    read_version_number(member(value, "number")?)
+}
+
+// The terms of a trade.
+#[tactic(auto, unfolding(crate::specs::Body::terms_in))]
+fn terms(value: &Value) -> Option<Terms>
+    ensures { result ≡ spec.terms_in (view value.now) }
+{
+    let side = read_side(member(value, "side")?)?;
+    let fee = fee(value)?;
+    Some(Terms {
+        asked: asked(value, side, fee)?,
+    })
+}
+
+#[tactic(auto, unfolding(crate::specs::Body::fee_in))]
+fn fee(value: &Value) -> Option<Fee>
+    ensures { result ≡ spec.fee_in (view value.now) }
+{
+    read_fee_field(optional(value, "fee")?)
+}
+
+// What is asked on a side with a commission.
+#[tactic(auto, unfolding(crate::specs::Body::asked_in))]
+fn asked(value: &Value, side: Side, fee: Fee) -> Option<Asked>
+    ensures { result ≡ spec.asked_in side fee (view value.now) }
+{
+    Some(Asked {
+        cusip: read_cusip(member(value, "cusip")?)?,
+        par: Par::read(member(value, "par")?).ok()?,
+        settle: Day::read(member(value, "settle")?).ok()?,
+        given: read_given(member(value, "basis")?, member(value, "value")?)?,
+        side,
+        fee,
+    })
+}
+
+// The terms of an issue.
+fn issue(value: &Value) -> Option<IssueRow>
+    ensures { result ≡ spec.issue_in (view value.now) }
+{
+    let basis = basis(value)?;
+    issue_with(value, basis)
+}
+
+#[tactic(auto, unfolding(crate::specs::Body::basis_in))]
+fn basis(value: &Value) -> Option<Basis>
+    ensures { result ≡ spec.basis_in (view value.now) }
+{
+    read_basis_field(optional(value, "days")?)
+}
+
+// The terms of an issue with a day count basis.
+#[tactic(auto, unfolding(crate::specs::Body::issue_with))]
+fn issue_with(value: &Value, basis: Basis) -> Option<IssueRow>
+    ensures { result ≡ spec.issue_with basis (view value.now) }
+{
+    let (kind, dated, maturity) = calendar(value)?;
+    Some(IssueRow {
+        cusip: read_cusip(member(value, "cusip")?)?,
+        name: read_issue_name(member(value, "name")?)?,
+        kind,
+        basis,
+        dated,
+        maturity,
+        coupon: read_coupon(kind, optional(value, "coupon")?)?,
+        calls: read_calls(value)?,
+    })
+}
+
+// How an issue pays and when: its kind, its dated date and its maturity.
+#[tactic(auto, unfolding(crate::specs::Body::calendar_in))]
+fn calendar(value: &Value) -> Option<(Kind, Day, Day)>
+    ensures { result ≡ spec.calendar_in (view value.now) }
+{
+    let kind = kind(value)?;
+    let dated = Day::read(member(value, "dated")?).ok()?;
+    let maturity = Day::read(member(value, "maturity")?).ok()?;
+    Some((kind, dated, maturity))
+}
+
+// A kind, beside which the first interest date stands where it is periodic.
+fn kind(value: &Value) -> Option<Kind>
+    ensures { result ≡ spec.kind_in (view value.now) }
+{
+    let text = member(value, "kind")?;
+    let Some(first) = value.get("first") else {
+        return read_kind(text, None);
+    };
+    let first = first.as_str()?;
+    read_kind(text, Some(first.as_bytes()))
+}

@@ -1,0 +1,46 @@
+//! The calls of an issue in a body.
+
+ghost use Rattle.std.specs.Prelude.{◌≡◌, ◌≤◌, length, map, option_map};
+ghost use Rattle.serde_json.specs.View.{view};
+ghost use Rattle.muni_wire.specs.Calls as spec;
+
+use crate::body::member;
+use arrayvec::ArrayVec;
+use muni_days::Day;
+use muni_dec::Price;
+use muni_terms::Call;
+use serde_json::Value;
+
+/// At most 40 calls, and none where the member is left out.
+pub(crate) fn read_calls(value: &Value) -> Option<ArrayVec<Call, 40>>
+    ensures { option_map (λ calls. calls.items) result ≡ spec.calls_in (view value.now) }
+{
+    let Some(found) = value.get("calls") else {
+        return Some(ArrayVec::new());
+    };
+    let items = found.as_array()?;
+    if items.len() > 40 {
+        return None;
+    }
+    read_each(items.as_slice())
+}
+
+fn read_each(items: &[Value]) -> Option<ArrayVec<Call, 40>>
+    requires { length items.now ≤ 40 }
+    ensures { option_map (λ calls. calls.items) result ≡ spec.each_call (map view items.now) }
+{
+    let mut calls = ArrayVec::new();
+    for item in items {
+        calls.push(call(item)?);
+    }
+    Some(calls)
+}
+
+fn call(value: &Value) -> Option<Call>
+    ensures { result ≡ spec.call_in (view value.now) }
+{
+    Some(Call {
+        date: Day::read(member(value, "date")?).ok()?,
+        price: Price::read(member(value, "price")?).ok()?,
+    })
+}

@@ -1,0 +1,116 @@
+//! The head of a request, in the bytes that have come.
+
+ghost use Rattle.std.specs.Prelude.{◌≡◌, ◌≤◌, ◌<◌, ℕ, List, true, false, length, take, map, ◌++◌};
+ghost use Rattle.httparse.specs.Spans.{IsRequestWithin, header_bytes, span_bytes};
+ghost use Rattle.muni_wire.specs.Head.{IsNoHead, IsHeadTooLarge, EndsInHead, head_limit};
+ghost use Rattle.muni_wire.specs.Plan as spec;
+ghost use Rattle.muni_wire.specs.Routes.{routes as all_routes};
+ghost use Rattle.muni_wire.specs.Taken.{IsWholeAt, IsWithinLimit};
+
+use crate::Bad;
+use crate::length::body_length;
+use crate::routes::{Form, Route, Target, find_target, path_of};
+use httparse::spans::{EMPTY_HEADER_SPAN, HeaderSpan, RequestSpans, parse_request};
+use httparse::{Error, Status};
+use matchit::Router;
+use muni_msg::Command;
+
+/// What is to be done about a request, as its head alone tells it.
+#[derive(Drop)]
+pub(crate) enum Plan {
+    Refuse(Bad),
+    Ask(Command),
+    /// A body of so many bytes is to be read.
+    Read { form: Form, size: usize },
+}
+
+/// What the bytes that have come are.
+#[derive(Drop)]
+pub(crate) enum Head {
+    /// A whole head, which ends at a place.
+    Whole { end: usize, plan: Plan },
+    /// More is to come.
+    More,
+    /// Nothing that could come makes a head of them.
+    Never,
+    TooLarge,
+}
+
+impl Head {
+    /// Whether no more is to be awaited, where the last take gave so many bytes.
+    pub(crate) fn is_settled(&self, count: usize) -> bool
+        ensures settled { result ≡ true → self.now ≡ Head.More → count ≡ 0 }
+        ensures open { result ≡ false → (self.now ≡ Head.More) × (0 < count) }
+    {
+        match self {
+            Head::More => count == 0,
+            _ => true,
+        }
+    }
+}
+
+/// Looks at what has come. The answer stands whatever comes after it.
+pub(crate) fn look(routes: &Router<Route>, bytes: &[u8]) -> Head
+    requires routes { routes.now ≡ all_routes }
+    requires limit { length bytes.now ≤ head_limit }
+
+    ensures whole { (end : ℕ) (plan : _) → result ≡ Head.Whole end plan
+        → IsWholeAt bytes.now end plan × IsWithinLimit plan }
+    ensures more { result ≡ Head.More → EndsInHead bytes.now }
+    ensures never { (rest : List ℕ) → result ≡ Head.Never → IsNoHead (bytes.now ++ rest) }
+    ensures too_large { (rest : List ℕ) → result ≡ Head.TooLarge
+        → IsHeadTooLarge (bytes.now ++ rest) }
+{
+    let mut headers = [EMPTY_HEADER_SPAN; 64];
+    match parse_request(bytes, &mut headers) {
+        Ok(Status::Complete(head)) => Head::Whole {
+            end: head.len,
+            plan: plan_for(routes, bytes, &head, &headers),
+        },
+        Ok(Status::Partial) => {
+            if bytes.len() < 16_384 {
+                Head::More
+            } else {
+                Head::TooLarge
+            }
+        }
+        Err(Error::TooManyHeaders) => Head::TooLarge,
+        Err(_) => Head::Never,
+    }
+}
+
+fn plan_for(
+    routes: &Router<Route>,
+    bytes: &[u8],
+    head: &RequestSpans,
+    headers: &[HeaderSpan],
+) -> Plan
+    requires routes { routes.now ≡ all_routes }
+    requires head { IsRequestWithin bytes.now headers.now head.now }
+
+    ensures plan { result
+        ≡ spec.plan_by (span_bytes bytes.now head.now.method) (span_bytes bytes.now head.now.path)
+        (map (header_bytes bytes.now) (take head.now.headers headers.now)) }
+    ensures limit { IsWithinLimit result }
+{
+    let method = head.method.of(bytes);
+    match find_target(routes, path_of(head.path.of(bytes))) {
+        None => Plan::Refuse(Bad::NotFound),
+        Some(Target::Get(command)) => {
+            if method == b"GET".as_slice() {
+                Plan::Ask(command)
+            } else {
+                Plan::Refuse(Bad::NotAllowed { post: false })
+            }
+        }
+        Some(Target::Post(form)) => {
+            if method != b"POST".as_slice() {
+                return Plan::Refuse(Bad::NotAllowed { post: true });
+            }
+            match body_length(bytes, &headers[..head.headers]) {
+                Ok(size) => Plan::Read { form, size },
+                Err(bad) => Plan::Refuse(bad),
+            }
+        }
+    }
+}

@@ -1,0 +1,18 @@
+//! What holds of the definitions that the contracts of the reader cite.
+
+ghost use Rattle.muni_wire.specs.Laws.{HeadsAreReadOnce, AreReadOnce};
+ghost use Rattle.muni_wire.specs.LeftOut.{MayBeLeftOut};
+
+/// The bytes of a connection have one reading, unless they are ambiguous: where they end within a
+/// target that no request has, and where they hold more than 64 header fields before the head ends.
+/// Bytes that begin with a head within the limits are never ambiguous.
+pub fn bytes_are_read_in_one_way()
+    ensures heads { HeadsAreReadOnce }
+    ensures others { AreReadOnce }
+{}
+
+/// A body without a day count basis is one of 30/360, and one without a commission has the
+/// commission 0.
+pub fn days_and_fee_may_be_left_out()
+    ensures { MayBeLeftOut }
+{}

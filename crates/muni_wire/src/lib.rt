@@ -1,0 +1,20 @@
+//! A request of the desk from the bytes of an HTTP connection, and the answer to it.
+#![tactic(auto)]
+
+mod answer;
+mod body;
+mod calls;
+mod fault;
+mod head;
+pub mod law;
+mod length;
+mod list;
+mod request;
+mod routes;
+mod status;
+mod taking;
+
+pub use answer::{write_bad, write_reply, write_unavailable};
+pub use fault::{Bad, WireFault};
+pub use request::read_request;
+pub use status::Status;

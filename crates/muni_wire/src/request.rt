@@ -1,0 +1,88 @@
+//! One request of a connection.
+
+ghost use Rattle.std.specs.Prelude.{◌≡◌, ◌≤◌, Err, drop, ◌++◌, IfSome, vec_len};
+ghost use Rattle.muni_edge.specs.Sink.{Rose};
+ghost use Rattle.muni_wire.specs.BodyLength.{body_limit};
+ghost use Rattle.muni_wire.specs.Head.{head_limit};
+ghost use Rattle.muni_wire.specs.Laws.{IsTheAnswer};
+ghost use Rattle.muni_wire.specs.Reading.{Allows};
+ghost use Rattle.muni_wire.specs.Taken.{IsAnswerTo};
+
+use crate::body::read_body;
+use crate::head::{Head, Plan};
+use crate::routes::{Form, routes};
+use crate::taking::{fill, read_head};
+use crate::{Bad, WireFault};
+use muni_edge::Link;
+use muni_msg::Command;
+use std::alloc::Global;
+
+/// Reads one request of HTTP/1.0 or HTTP/1.1 (RFC 9112), by all bytes of the connection, however
+/// they come. Bytes behind the request may have been taken too.
+///
+/// Where memory was wanting nothing is said of the bytes.
+#[tactic(auto, using(crate::proofs::UniqueLemmas::told_answer))]
+pub fn read_request<L: Link>(alloc: Global, link: &mut L) -> Result<Command, WireFault>
+    ensures allowed { IfSome (L.left link.old) (λ bytes. Allows bytes result) }
+    ensures only { IfSome (L.left link.old) (λ bytes. IsTheAnswer bytes result) }
+    ensures later { L.Source.faults link.old ≤ L.Source.faults link.new }
+    ensures failed { result ≡ Err WireFault.LinkFault
+        → Rose (L.Source.faults link.old) (L.Source.faults link.new) }
+    ensures keeps_bytes { L.bytes link.new ≡ L.bytes link.old }
+    ensures keeps_puts { L.Sink.faults link.new ≡ L.Sink.faults link.old }
+{
+    read_by_head(alloc, link)
+}
+
+fn read_by_head<L: Link>(alloc: Global, link: &mut L) -> Result<Command, WireFault>
+    ensures allowed { IfSome (L.left link.old) (λ bytes. Allows bytes result) }
+    ensures later { L.Source.faults link.old ≤ L.Source.faults link.new }
+    ensures failed { result ≡ Err WireFault.LinkFault
+        → Rose (L.Source.faults link.old) (L.Source.faults link.new) }
+    ensures keeps_bytes { L.bytes link.new ≡ L.bytes link.old }
+    ensures keeps_puts { L.Sink.faults link.new ≡ L.Sink.faults link.old }
+{
+    // The routes agree with one another, so that memory alone can be wanting for them.
+    let Ok(routes) = routes(alloc) else {
+        return Err(WireFault::NoMemory);
+    };
+    let (head, mut bytes) = read_head(alloc, &routes, link)?;
+    match head {
+        Head::More => Err(WireFault::Gone),
+        Head::Never => Err(WireFault::Bad(Bad::BadRequest)),
+        Head::TooLarge => Err(WireFault::Bad(Bad::HeadTooLarge)),
+        Head::Whole { end, plan } => match plan {
+            Plan::Refuse(bad) => Err(WireFault::Bad(bad)),
+            Plan::Ask(command) => Ok(command),
+            Plan::Read { form, size } => take_body(alloc, link, &mut bytes, end, form, size),
+        },
+    }
+}
+
+// Reads the body behind a head that ends at a place of the bytes that were taken.
+fn take_body<L: Link>(
+    alloc: Global,
+    link: &mut L,
+    bytes: &mut Vec<u8>,
+    end: usize,
+    form: Form,
+    size: usize,
+) -> Result<Command, WireFault>
+    requires inside { end ≤ vec_len bytes.old }
+    requires head { end ≤ head_limit }
+    requires body { size ≤ body_limit }
+
+    ensures answer { IfSome (L.left link.old)
+        (λ left. IsAnswerTo form size (drop end bytes.old.items ++ left) result) }
+    ensures later { L.Source.faults link.old ≤ L.Source.faults link.new }
+    ensures failed { result ≡ Err WireFault.LinkFault
+        → Rose (L.Source.faults link.old) (L.Source.faults link.new) }
+    ensures keeps_bytes { L.bytes link.new ≡ L.bytes link.old }
+    ensures keeps_puts { L.Sink.faults link.new ≡ L.Sink.faults link.old }
+{
+    fill(link, bytes, end + size)?;
+    if bytes.len() < end + size {
+        return Err(WireFault::Gone);
+    }
+    read_body(alloc, form, &bytes[end..end + size])
+}

@@ -1,0 +1,141 @@
+//! The bytes of a connection, which come in pieces.
+
+ghost use Rattle.std.specs.Prelude.{◌≡◌, ◌≤◌, ◌<◌, ◌+◌, ◌-◌, ◌==◌, ◌&&◌, ℕ, List, Err, true, not, length, drop, nat_lt, ◌++◌, IfOk, IfErr, OnOk, vec_len};
+ghost use Rattle.std.specs.Io.KnownBytes.{Consumes, IsAtEnd};
+ghost use Rattle.std.specs.List.{list_any};
+ghost use Rattle.muni_edge.specs.Sink.{Rose};
+ghost use Rattle.muni_wire.specs.Faults.{IsOfTake};
+ghost use Rattle.muni_wire.specs.Head.{IsNoHead, IsHeadTooLarge, EndsInHead, head_limit};
+ghost use Rattle.muni_wire.specs.Routes.{routes as all_routes};
+ghost use Rattle.muni_wire.specs.Taken.{IsHeadOf, IsWholeAt, IsWithinLimit};
+
+use crate::WireFault;
+use crate::head::{Head, look};
+use crate::routes::Route;
+use matchit::Router;
+use muni_edge::{Failed, Link};
+use std::alloc::Global;
+
+/// Reads the head of a request, and returns it with all that was taken.
+pub(crate) fn read_head<L: Link>(
+    alloc: Global,
+    routes: &Router<Route>,
+    link: &mut L,
+) -> Result<(Head, Vec<u8>), WireFault>
+    requires { routes.now ≡ all_routes }
+
+    ensures limit { IfOk result (λ read. vec_len read.1 ≤ head_limit) }
+    ensures head { IfOk result (λ read. IsHeadOf read.0 read.1.items (L.left link.new)) }
+    ensures taken { IfOk result
+        (λ read. Consumes (L.left link.old) (L.left link.new) read.1.items) }
+    ensures later { L.Source.faults link.old ≤ L.Source.faults link.new }
+    ensures failed { result ≡ Err WireFault.LinkFault
+        → Rose (L.Source.faults link.old) (L.Source.faults link.new) }
+    ensures others { IfErr result (λ fault. IsOfTake fault) }
+    ensures keeps_bytes { L.bytes link.new ≡ L.bytes link.old }
+    ensures keeps_puts { L.Sink.faults link.new ≡ L.Sink.faults link.old }
+{
+    let mut bytes = Vec::new(alloc);
+    for turn in 0..16_385usize {
+        let _turn = turn;
+        let count = take_more(link, &mut bytes, 16_384)?;
+        let head = look_behind_lines(routes, &bytes, count);
+        if head.is_settled(count) {
+            return Ok((head, bytes));
+        }
+    }
+    unreachable!()
+}
+
+// Looks at what has come with the last so many bytes. A head ends with a line, so that more is to
+// come where no line has ended: a head that comes byte by byte is not looked at byte by byte.
+fn look_behind_lines(routes: &Router<Route>, bytes: &[u8], count: usize) -> Head
+    requires routes { routes.now ≡ all_routes }
+    requires limit { length bytes.now ≤ head_limit }
+    requires count { count ≤ length bytes.now }
+
+    ensures whole { (end : ℕ) (plan : _) → result ≡ Head.Whole end plan
+        → IsWholeAt bytes.now end plan × IsWithinLimit plan }
+    ensures more { result ≡ Head.More → length bytes.now < head_limit }
+    ensures last { result ≡ Head.More → count ≡ 0 → EndsInHead bytes.now }
+    ensures never { (rest : List ℕ) → result ≡ Head.Never → IsNoHead (bytes.now ++ rest) }
+    ensures too_large { (rest : List ℕ) → result ≡ Head.TooLarge
+        → IsHeadTooLarge (bytes.now ++ rest) }
+{
+    if is_within_line(bytes, count) {
+        return Head::More;
+    }
+    look(routes, bytes)
+}
+
+// Whether some bytes came, but no end of a line, and more may come.
+fn is_within_line(bytes: &[u8], count: usize) -> bool
+    requires { count ≤ length bytes.now }
+
+    ensures value { result ≡ ((nat_lt 0 count) && ((nat_lt (length bytes.now) head_limit)
+        && (not (list_any (λ b. b == 10) (drop (length bytes.now - count) bytes.now))))) }
+    ensures some { result ≡ true → (0 < count) × (length bytes.now < head_limit) }
+{
+    let last = &bytes[bytes.len() - count..];
+    count > 0 && bytes.len() < 16_384 && !last.contains(&b'\n')
+}
+
+/// Takes until so many bytes are there, or none is left.
+pub(crate) fn fill<L: Link>(
+    link: &mut L,
+    bytes: &mut Vec<u8>,
+    limit: usize,
+) -> Result<(), WireFault>
+    requires { limit ≤ 81_920 }
+
+    ensures taken { OnOk result ((piece : List ℕ) × Consumes (L.left link.old) (L.left link.new) piece
+        × (bytes.new.items ≡ bytes.old.items ++ piece)) }
+    ensures end { OnOk result (vec_len bytes.new < limit → IsAtEnd (L.left link.new)) }
+    ensures later { L.Source.faults link.old ≤ L.Source.faults link.new }
+    ensures failed { result ≡ Err WireFault.LinkFault
+        → Rose (L.Source.faults link.old) (L.Source.faults link.new) }
+    ensures others { IfErr result (λ fault. IsOfTake fault) }
+    ensures keeps_bytes { L.bytes link.new ≡ L.bytes link.old }
+    ensures keeps_puts { L.Sink.faults link.new ≡ L.Sink.faults link.old }
+{
+    for turn in 0..81_921usize {
+        let _turn = turn;
+        if bytes.len() >= limit {
+            return Ok(());
+        }
+        if take_more(link, bytes, limit)? == 0 {
+            return Ok(());
+        }
+    }
+    unreachable!()
+}
+
+// Takes the next piece behind the bytes that are there, which become no more than a limit, and
+// returns how many it has. 0 is the end.
+fn take_more<L: Link>(link: &mut L, bytes: &mut Vec<u8>, limit: usize) -> Result<usize, WireFault>
+    requires { vec_len bytes.old < limit }
+
+    ensures count { IfOk result (λ count. vec_len bytes.new ≡ vec_len bytes.old + count) }
+    ensures limit { IfOk result (λ count. vec_len bytes.new ≤ limit) }
+    ensures taken { IfOk result (λ count. (piece : List ℕ)
+        × Consumes (L.left link.old) (L.left link.new) piece
+        × (bytes.new.items ≡ bytes.old.items ++ piece)) }
+    ensures end { IfOk result (λ count. count ≡ 0 → IsAtEnd (L.left link.new)) }
+    ensures later { L.Source.faults link.old ≤ L.Source.faults link.new }
+    ensures failed { result ≡ Err WireFault.LinkFault
+        → Rose (L.Source.faults link.old) (L.Source.faults link.new) }
+    ensures others { IfErr result (λ fault. IsOfTake fault) }
+    ensures keeps_bytes { L.bytes link.new ≡ L.bytes link.old }
+    ensures keeps_puts { L.Sink.faults link.new ≡ L.Sink.faults link.old }
+{
+    let mut room = [0u8; 1024];
+    let size = (limit - bytes.len()).min(1024);
+    let count = match link.take(&mut room[..size]) {
+        Ok(count) => count,
+        Err(Failed) => return Err(WireFault::LinkFault),
+    };
+    if bytes.extend_from_slice(&room[..count]).is_err() {
+        return Err(WireFault::NoMemory);
+    }
+    Ok(count)
+}
