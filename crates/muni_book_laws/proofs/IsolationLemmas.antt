@@ -8,7 +8,8 @@ use Rattle.muni_keep.specs.Tables.{Tables}
 use Rattle.muni_keep.specs.Trades.{by_bytes, Desks, own, put_own}
 use Rattle.muni_step.specs.Runs.{Runs}
 use Rattle.muni_step.specs.Step.{Pricing, Entry, NewIssue, NewVersion, IsStep, IsStepOver, after, desk_of, own_of}
-use Rattle.muni_step.proofs.OutcomeLemmas.{IsReasoned, step-reason}
+use Rattle.muni_step.specs.Reasons.{IsReasoned}
+use Rattle.muni_step.proofs.OutcomeLemmas.{step-reason}
 use Rattle.muni_book_laws.specs.Isolation.{is_no_other, concerning, replies_to, AreAlike, DesksAreIsolated}
 use Rattle.muni_book_laws.proofs.PutLemmas.{own-put, same-name}
 

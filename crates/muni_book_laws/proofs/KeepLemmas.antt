@@ -15,7 +15,8 @@ use Rattle.muni_keep.specs.Tables.{Tables, version_at, with_version}
 use Rattle.muni_keep.specs.Trades.{by_bytes}
 use Rattle.muni_step.specs.Plan.{Issues}
 use Rattle.muni_step.specs.Step.{Pricing, Entry, NewIssue, NewVersion, IsStepOver, after}
-use Rattle.muni_step.proofs.OutcomeLemmas.{IsReasoned, step-reason}
+use Rattle.muni_step.specs.Reasons.{IsReasoned}
+use Rattle.muni_step.proofs.OutcomeLemmas.{step-reason}
 use Rattle.muni_book_laws.specs.Once.{Keeps, RunsKeep}
 use Rattle.muni_book_laws.proofs.PutLemmas.{itself, same-name, trade-put}
 

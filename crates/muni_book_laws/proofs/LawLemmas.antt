@@ -12,7 +12,9 @@ use Rattle.muni_book.proofs.UniqueLemmas.{answers-unique}
 use Rattle.muni_book.specs.Answers.{IsRightAnswer}
 use Rattle.muni_book.specs.RightFigures.{AreRightFigures}
 use Rattle.muni_book.specs.SoundTables.{AreSoundTables}
-use Rattle.muni_book_laws.specs.Laws.{TablesAreSound, AcceptedCommandsActOnce, NothingKeptIsLost, EachDeskIsIsolated, RepliesAreUnique}
+use Rattle.muni_step.proofs.OutcomeLemmas.{step-reason}
+use Rattle.muni_book_laws.specs.Laws.{TablesAreSound, AcceptedCommandsActOnce, NothingKeptIsLost, EachDeskIsIsolated, RepliesAreUnique, EachEntryHasItsReason, EachRefusalHasItsCause}
+use Rattle.muni_book_laws.proofs.CauseLemmas.{refusals-caused}
 use Rattle.muni_book_laws.proofs.IsolationLemmas.{desks-isolated}
 use Rattle.muni_book_laws.proofs.KeepLemmas.{runs-keep}
 use Rattle.muni_book_laws.proofs.OnceLemmas.{act-once}
@@ -51,3 +53,9 @@ unique = record {
   steps = λ ends. steps-unique (IsRightAnswer ends) (λ row asked answer other is also. answers-unique ends row asked answer other is also);
   runs = λ ends. runs-unique (IsRightAnswer ends) (λ row asked answer other is also. answers-unique ends row asked answer other is also);
 }
+
+pub caused : EachRefusalHasItsCause
+caused ends = refusals-caused (IsRightAnswer ends)
+
+pub reasoned : EachEntryHasItsReason
+reasoned ends t c reply entry step = step-reason (IsRightAnswer ends) t c reply entry step

@@ -1,4 +1,5 @@
 pub mod PutLemmas
+pub mod CauseLemmas
 pub mod IsolationLemmas
 pub mod KeepLemmas
 pub mod OnceLemmas

@@ -17,7 +17,8 @@ use Rattle.muni_step.specs.declared.plan.Plan.TheVariants.{Answer}
 use Rattle.muni_step.specs.Accepted.{AsksToKeep, IsAccepted, IsConfirmed, IsKept}
 use Rattle.muni_step.specs.Plan.{confirmed, sent_again, is_corrected, is_canceled, plan_of}
 use Rattle.muni_step.specs.Step.{Pricing, Entry, NewIssue, NewVersion, Outcome, answered, IsOutcome, after, desk_of, own_of}
-use Rattle.muni_step.proofs.OutcomeLemmas.{IsReasoned, IsReasonFor, step-reason}
+use Rattle.muni_step.specs.Reasons.{IsReasoned, IsReasonFor}
+use Rattle.muni_step.proofs.OutcomeLemmas.{step-reason}
 use Rattle.muni_step.proofs.ReadyLemmas.{live-next, new-next}
 use Rattle.muni_book_laws.specs.Once.{Keeps, CommandsActOnce}
 use Rattle.muni_book_laws.proofs.KeepLemmas.{issue-put, runs-keep}

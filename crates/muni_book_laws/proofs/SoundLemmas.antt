@@ -20,7 +20,8 @@ use Rattle.muni_keep.specs.Trades.{by_bytes, own, put_own}
 use Rattle.muni_step.specs.Plan.{Issues, is_full, is_canceled, cancel_of}
 use Rattle.muni_step.specs.Sound.{Rightness, IsRightVersion, Follows, AreFollowing, AreVersions, IsSoundTrade, IsSound}
 use Rattle.muni_step.specs.Step.{Pricing, Entry, NewIssue, NewVersion, after}
-use Rattle.muni_step.proofs.OutcomeLemmas.{IsReasoned, IsReasonFor, step-reason}
+use Rattle.muni_step.specs.Reasons.{IsReasoned, IsReasonFor}
+use Rattle.muni_step.proofs.OutcomeLemmas.{step-reason}
 use Rattle.muni_step.proofs.ReadyLemmas.{none-kept}
 use Rattle.muni_book_laws.specs.StaysSound.{PricesRight, RunsStaySound}
 use Rattle.muni_book_laws.specs.Once.{Keeps}

@@ -1,11 +1,16 @@
 -- Laws of the book, for the answers that any ends lead to.
-use Rattle.std.specs.Prelude.{ℤ}
+use Rattle.std.specs.Prelude.{ℤ, Option}
 use Rattle.muni_rule.specs.Payments.{PaymentSeries}
 use Rattle.muni_rule.specs.WorthEnds.{WorthEnds}
 use Rattle.muni_book.specs.Answers.{IsRightAnswer}
 use Rattle.muni_book.specs.RightFigures.{AreRightFigures}
 use Rattle.muni_book.specs.SoundTables.{AreSoundTables}
-use Rattle.muni_keep.specs.Tables.{no_tables}
+use Rattle.muni_msg.specs.declared.command.Command.{Command}
+use Rattle.muni_msg.specs.declared.command.Reply.{Reply}
+use Rattle.muni_keep.specs.Tables.{Tables, no_tables}
+use Rattle.muni_step.specs.Reasons.{IsReasoned}
+use Rattle.muni_step.specs.Step.{Entry, IsStepOver}
+use Rattle.muni_book_laws.specs.Causes.{RefusalsHaveCauses}
 use Rattle.muni_book_laws.specs.Isolation.{DesksAreIsolated}
 use Rattle.muni_book_laws.specs.Once.{RunsKeep, CommandsActOnce}
 use Rattle.muni_book_laws.specs.StaysSound.{RunsStaySound}
@@ -38,3 +43,14 @@ EachDeskIsIsolated = (ends : Ends) → DesksAreIsolated (IsRightAnswer ends)
 pub record RepliesAreUnique : Type 0 where
   pub steps : (ends : Ends) → StepsAreUnique (IsRightAnswer ends)
   pub runs : (ends : Ends) → RunsAreUnique (IsRightAnswer ends)
+
+-- each refusal has its cause
+abbrev pub EachRefusalHasItsCause : Type 0
+EachRefusalHasItsCause = (ends : Ends) → RefusalsHaveCauses (IsRightAnswer ends)
+
+-- each entry has its reason
+abbrev pub EachEntryHasItsReason : Type 0
+EachEntryHasItsReason =
+    (ends : Ends) (tables : Tables) (asked : Command) (reply : Reply) (entry : Option Entry)
+    → IsStepOver (IsRightAnswer ends) tables asked (record { reply = reply; entry = entry })
+    → IsReasoned (IsRightAnswer ends) tables asked reply entry

@@ -1,3 +1,4 @@
+pub mod Causes
 pub mod Isolation
 pub mod Once
 pub mod Unique

@@ -1,7 +1,7 @@
 //! Laws of runs of the book, over every list of commands.
 #![tactic(auto)]
 
-ghost use Rattle.muni_book_laws.specs.Laws.{TablesAreSound, AcceptedCommandsActOnce, NothingKeptIsLost, EachDeskIsIsolated, RepliesAreUnique};
+ghost use Rattle.muni_book_laws.specs.Laws.{TablesAreSound, AcceptedCommandsActOnce, NothingKeptIsLost, EachDeskIsIsolated, RepliesAreUnique, EachEntryHasItsReason, EachRefusalHasItsCause};
 
 /// A law of the definitions: the empty tables are sound, and a run leaves sound tables sound. So
 /// every figure that is ever kept is right by the rule's exact formulas.
@@ -30,4 +30,19 @@ pub fn each_desk_is_isolated()
 /// do not depend on how many workers compute.
 pub fn replies_are_unique()
     ensures { RepliesAreUnique }
+{}
+
+/// A law of the definitions: each entry has its reason. An issue is kept where it is new and passes
+/// its checks. A trade is kept where it is new and its desk has room, with the figures of its terms.
+/// A live trade takes a correction or a cancel with the next number. Where nothing is kept for a
+/// command that is accepted, it was kept before.
+pub fn each_entry_has_its_reason()
+    ensures { EachEntryHasItsReason }
+{}
+
+/// A law of the definitions: a refusal comes where it has its cause, or where the figures that are
+/// asked for are refused so. A conflict tells the issue or the version that is kept, which is not
+/// what was sent.
+pub fn each_refusal_has_its_cause()
+    ensures { EachRefusalHasItsCause }
 {}

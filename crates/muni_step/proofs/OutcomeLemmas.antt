@@ -1,36 +1,22 @@
 -- Why an outcome is what it is.
-use Rattle.std.proofs.Common.{◌≡◌, ◌⊎◌, inl, inr, ℕ, refl, sym, ap, subst, Option, Some, None, Result, Ok, Err}
+use Rattle.std.proofs.Common.{◌≡◌, ◌⊎◌, inl, inr, ℕ, refl, sym, ap, subst, Option, None, Result, Ok, Err}
 use Rattle.muni_terms.specs.declared.row.IssueRow.{IssueRow}
 use Rattle.muni_msg.specs.declared.asked.Asked.{Asked}
 use Rattle.muni_msg.specs.declared.asked.Terms.{Terms}
 use Rattle.muni_msg.specs.declared.command.Command.{Command}
 use Rattle.muni_msg.specs.declared.command.Key.{Key}
 use Rattle.muni_msg.specs.declared.command.Reply.{Reply}
-use Rattle.muni_msg.specs.declared.command.Reply.TheVariants.{Added, Confirmed}
 use Rattle.muni_msg.specs.declared.figures.Figures.{Figures}
 use Rattle.muni_msg.specs.declared.refusal.Refusal.{Refusal}
 use Rattle.muni_msg.specs.declared.version.Act.{Act}
-use Rattle.muni_msg.specs.declared.version.Version.{Version}
 use Rattle.muni_keep.specs.Tables.{Tables}
 use Rattle.muni_step.specs.declared.plan.Plan.{Plan}
 use Rattle.muni_step.specs.declared.plan.Plan.TheVariants.{Answer, Quote, KeepIssue, KeepVersion, KeepPriced}
-use Rattle.muni_step.specs.Accepted.{AsksToKeep, IsAccepted, IsKept}
+use Rattle.muni_step.specs.Accepted.{AsksToKeep}
+use Rattle.muni_step.specs.Reasons.{IsNewTrade, IsCorrection, IsReasoned}
 use Rattle.muni_step.specs.Runs.{IsRefusal}
-use Rattle.muni_step.specs.Step.{Pricing, Entry, NewIssue, NewVersion, Outcome, quoted, priced, IsOutcome, IsStepOver}
-use Rattle.muni_step.proofs.PlanLemmas.{IsNewIssue, IsNewTrade, IsCorrection, IsCancel, HasReason, reason-of}
-
--- why a version is kept
-abbrev pub IsReasonFor : Pricing → Tables → Command → IssueRow → Key → ℕ → Version → Type 0
-IsReasonFor P t c issue key number version =
-    IsCancel t c issue key number version
-    ⊎ ((IsNewTrade t c issue key number version.act version.terms ⊎ IsCorrection t c issue key number version.act version.terms)
-    × P issue version.terms.asked (Ok version.figures))
-
-abbrev pub IsReasoned : Pricing → Tables → Command → Reply → Option Entry → Type 0
-IsReasoned P t c reply None = AsksToKeep c → IsAccepted reply → IsKept t c reply
-IsReasoned P t c reply (Some (NewIssue issue)) = IsNewIssue t c issue × (reply ≡ Added issue.cusip)
-IsReasoned P t c reply (Some (NewVersion key version)) =
-    (issue : IssueRow) × (number : ℕ) × (reply ≡ Confirmed issue key number version) × IsReasonFor P t c issue key number version
+use Rattle.muni_step.specs.Step.{Pricing, Entry, Outcome, quoted, priced, IsOutcome, IsStepOver}
+use Rattle.muni_step.proofs.PlanLemmas.{HasReason, reason-of}
 
 abbrev HasOutcome : Pricing → Tables → Command → Outcome → Type 0
 HasOutcome P t c outcome = IsReasoned P t c outcome.reply outcome.entry

@@ -25,49 +25,9 @@ use Rattle.muni_keep.specs.Trades.{own}
 use Rattle.muni_step.specs.declared.plan.Plan.{Plan}
 use Rattle.muni_step.specs.declared.plan.Plan.TheVariants.{Answer, Quote, KeepIssue, KeepVersion, KeepPriced}
 use Rattle.muni_step.specs.Accepted.{AsksToKeep, IsAccepted, IsConfirmed, IsKept}
-use Rattle.muni_step.specs.Plan.{issue_of, for_issue, for_trade, unless, sent_again, issue_plan, kept_issue_plan, is_full, is_corrected, is_canceled, number_refusal, correction_refusal, cancel_refusal, cancel_of, confirmed, plan_of}
+use Rattle.muni_step.specs.Plan.{issue_of, for_issue, for_trade, unless, sent_again, issue_plan, kept_issue_plan, is_full, is_corrected, is_canceled, number_refusal, correction_refusal, cancel_refusal, confirmed, plan_of}
+use Rattle.muni_step.specs.Reasons.{IsNewIssue, IsNewTrade, IsCorrection, IsCancel}
 use Rattle.muni_step.specs.Step.{desk_of, own_of}
-
--- ---- the reasons
-
--- an issue that passes its checks, and is new
-pub record IsNewIssue (t : Tables) (c : Command) (issue : IssueRow) : Type 0 where
-  pub row : IssueRow
-  pub command : c ≡ command.AddIssue row
-  pub passed : checked row ≡ Ok issue
-  pub is_new : issue_at t issue.cusip ≡ None
-
--- a trade that is new, of a desk that has room
-pub record IsNewTrade (t : Tables) (c : Command) (issue : IssueRow) (key : Key) (number : ℕ) (act : Act) (terms : Terms) : Type 0 where
-  pub command : c ≡ command.Enter key terms
-  pub number_is : number ≡ 1
-  pub act_is : act ≡ Entered
-  pub issue_is : issue_at t terms.asked.cusip ≡ Some issue
-  pub is_new : version_at t key 1 ≡ None
-  pub room : is_full (own key.desk t.desks) ≡ false
-
--- a live trade, with the number of its next version
-pub record IsLive (t : Tables) (key : Key) (number : ℕ) (last : ℕ × Version) : Type 0 where
-  pub last_is : last_at t key ≡ Some last
-  pub live : is_canceled last.1.act ≡ false
-  pub number_is : number ≡ last.0 + 1
-
--- a correction of a live trade that has room for it
-pub record IsCorrection (t : Tables) (c : Command) (issue : IssueRow) (key : Key) (number : ℕ) (act : Act) (terms : Terms) : Type 0 where
-  pub command : c ≡ command.Correct key number terms
-  pub act_is : act ≡ Corrected
-  pub issue_is : issue_at t terms.asked.cusip ≡ Some issue
-  pub last : ℕ × Version
-  pub is_live : IsLive t key number last
-  pub room : nat_le 99 last.0 ≡ false
-
--- the cancel of a live trade
-pub record IsCancel (t : Tables) (c : Command) (issue : IssueRow) (key : Key) (number : ℕ) (version : Version) : Type 0 where
-  pub command : c ≡ command.Cancel key number
-  pub last : ℕ × Version
-  pub is_live : IsLive t key number last
-  pub issue_is : issue_at t last.1.terms.asked.cusip ≡ Some issue
-  pub version_is : version ≡ cancel_of last.1
 
 -- an answer that accepts a command says what is kept for it
 abbrev pub HasReason : Tables → Command → Plan → Type 0

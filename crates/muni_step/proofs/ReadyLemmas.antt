@@ -10,8 +10,9 @@ use Rattle.muni_keep.specs.Tables.{Tables, trade_at, version_at}
 use Rattle.muni_step.specs.declared.plan.Plan.{Plan}
 use Rattle.muni_step.specs.declared.plan.Plan.TheVariants.{Answer, Quote, KeepIssue, KeepVersion, KeepPriced}
 use Rattle.muni_step.specs.Plan.{plan_of}
+use Rattle.muni_step.specs.Reasons.{IsLive}
 use Rattle.muni_step.specs.Step.{CanKeep, desk_of, own_of}
-use Rattle.muni_step.proofs.PlanLemmas.{IsLive, HasReason, reason-of}
+use Rattle.muni_step.proofs.PlanLemmas.{HasReason, reason-of}
 
 -- every trade has a first version
 has-first : {A : Type 0} (earlier : List A) (last : A) → slice_get (earlier ++ last ∷ []) 0 ≡ None → ⊥
