@@ -1,3 +1,4 @@
 pub mod Confirm
 pub mod End
+pub mod Import
 pub mod Input

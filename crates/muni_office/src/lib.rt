@@ -4,6 +4,7 @@
 mod confirmations;
 mod end;
 mod input;
+mod rows;
 
 pub use confirmations::confirm;
 pub use end::End;
