@@ -8,8 +8,8 @@ use Rattle.muni_span.specs.Powers.{product_end, power_end, power_high}
 use Rattle.muni_span.proofs.DoublingSteps.{discount-in_reach}
 use Rattle.muni_span.proofs.FactorSteps.{IsDiscount}
 use Rattle.muni_span.proofs.Quotients.{quotient_is}
-use Rattle.muni_span.proofs.Squaring.{IsPowerOf, power_end-some}
-use Rattle.muni_multi.specs.Doubling.{level_from_half, level_by, level_end, doubling_end}
+use Rattle.muni_span.proofs.Squaring.{IsPowerOf, power_end-some, power_end-none}
+use Rattle.muni_multi.specs.Doubling.{scaled_end, level_from_half, level_by, level_end, paid_end, doubling_end}
 use Rattle.muni_multi.specs.DoublingLaws.{level_by-first, level_by-more, level_end-some, level-fits, factor-fits, sum-fits}
 use Rattle.muni_multi.specs.Horner.{AreDiscountEnds}
 use Rattle.muni_multi.specs.HornerLaws.{discount-is}
@@ -80,6 +80,14 @@ power-fits lo hi k ends few = factor-fits (discount_divisor ends.y) lo hi k (dis
 
 pub power-reach : (lo hi k : ℕ) → AreDiscountEnds lo hi → k ≤ 99 → hi ^ k ≤ 15 * (2 ^ 60) ^ k
 power-reach lo hi k ends few = discount-in_reach hi k few (discount-at lo hi ends).at_most
+
+-- where no payment comes before the first interest
+pub no-skip : (carry : ℕ) (series : PaymentSeries) (x m paid : ℕ) → carry < 2 ^ 60 → series.skip ≡ 0 → m ≡ series.n - 1 - series.skip → paid ≡ paid_end carry series x m → paid ≡ doubling_end carry series x
+unfolding doubling_end
+no-skip carry series x m paid small none count is =
+    let one : power_end carry x series.skip ≡ 2 ^ 60 = ap (power_end carry x) none ∙ power_end-none carry x in
+    let whole : paid ≡ scaled_end carry paid (2 ^ 60) = omega (arith, small) in
+    whole ∙ (λ i. scaled_end carry ((is ∙ ap (paid_end carry series x) count) i) (sym one i))
 
 pub doubling-fits : (series : PaymentSeries) (lo hi : ℕ) → IsSeries series → AreDiscountEnds lo hi → doubling_end (2 ^ 60 - 1) series hi < 2 ^ 64
 doubling-fits series lo hi is ends = rw ends.high (sum-fits series ends.y is ends.within)

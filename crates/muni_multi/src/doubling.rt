@@ -39,8 +39,13 @@ fn doubled_sum(flows: &Flows, discount: Span) -> Worth
     ensures hi { result.hi ≡ doubling_end (2 ^ 60 - 1) flows.now discount.hi }
     ensures small { result.hi < 2 ^ 64 }
 {
-    let after = flows.n() - 1 - flows.skip();
-    paid_sum(flows, discount, after).scale(discount.power(flows.skip()))
+    let skip = flows.skip();
+    let paid = paid_sum(flows, discount, flows.n() - 1 - skip);
+    if skip == 0 {
+        paid
+    } else {
+        paid.scale(discount.power(skip))
+    }
 }
 
 // On the day of the first interest: it, the payments after it and the redemption.

@@ -150,7 +150,7 @@ impl Bracket {
     {
         let place = self.question();
         let verdict = ask(encloser, &self.flows, self.price, place, discount);
-        *self = self.answered(place, verdict);
+        self.answer(place, verdict);
     }
 
     // The place that is asked next. At 0 and 105,003, next to the range, nothing is.
@@ -170,24 +170,18 @@ impl Bracket {
         }
     }
 
-    fn answered(&self, place: u32, verdict: Verdict) -> Bracket
-        requires open { spec.is_settled self.now ≡ false }
-        requires question { IsQuestion self.now place }
-        ensures { result ≡ spec.answered verdict place self.now }
+    fn answer(&mut self, place: u32, verdict: Verdict)
+        requires open { spec.is_settled self.old ≡ false }
+        requires question { IsQuestion self.old place }
+        ensures { self.new ≡ spec.answered verdict place self.old }
     {
-        let halvings = self.halvings + 1;
+        self.halvings += 1;
         match verdict {
-            Verdict::Yes => Bracket {
-                low: place,
-                halvings,
-                ..*self
-            },
-            Verdict::No | Verdict::Unsure => Bracket {
-                high: place,
-                at_high: verdict,
-                halvings,
-                ..*self
-            },
+            Verdict::Yes => self.low = place,
+            Verdict::No | Verdict::Unsure => {
+                self.high = place;
+                self.at_high = verdict;
+            }
         }
     }
 }
