@@ -1,5 +1,5 @@
 -- One row of an import behind others.
-use Rattle.std.proofs.Common.{◌≡◌, ◌≤◌, ◌+◌, ◌∙◌, ℕ, List, [], ◌∷◌, ◌++◌, length, take, Option, Some, None, Result, Ok, Err, IfSome, refl, sym, ap, subst, arith}
+use Rattle.std.proofs.Common.{◌≡◌, ◌≤◌, ◌+◌, ◌∙◌, ℕ, List, [], ◌∷◌, ◌++◌, length, take, Option, Some, None, Ok, Err, IfSome, refl, sym, ap, subst, arith}
 use Rattle.std.proofs.lemmas.List.{append_assoc, append-nil, length-append}
 use Rattle.muni_edge.specs.Sink.{HasWritten, HasWrittenPart}
 use Rattle.muni_keep.specs.Tables.{Tables}
@@ -8,7 +8,7 @@ use Rattle.muni_import.specs.Report.{Said, row_line}
 use Rattle.muni_import.specs.Row.{Row}
 use Rattle.muni_import.specs.Rows.{rows_of, IsNext}
 use Rattle.muni_import.proofs.RowLemmas.{HasRead, read-more, read-all, read-few, few-rows}
-use Rattle.muni_office.specs.Import.{Came, Imports, report, Did, WroteTo, DidNext, DidFirst, DidPart}
+use Rattle.muni_office.specs.Import.{Came, Imports, report, Did, DidNext, DidFirst, DidPart}
 
 -- what came of one row more
 imports-then : (Prices : Pricing) (old : Tables) (rows : List Row) (said : List Said) (mid : Tables) (row : Row) (last : Said) (new : Tables)

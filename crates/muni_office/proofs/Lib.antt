@@ -1,3 +1,4 @@
+pub mod EndLemmas
 pub mod ImportLemmas
 pub mod StoreLemmas
 pub mod TakenLemmas

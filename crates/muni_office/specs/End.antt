@@ -32,3 +32,23 @@ IsConfirmEnd WriteFault = ⊤
 IsConfirmEnd StoreFault = ⊤
 IsConfirmEnd NoMemory = ⊤
 IsConfirmEnd TooLarge = ⊥
+
+-- the input was read whole
+abbrev pub WasRead : End → Type 0
+WasRead Done = ⊤
+WasRead Refused = ⊥
+WasRead ReadFault = ⊥
+WasRead WriteFault = ⊤
+WasRead StoreFault = ⊤
+WasRead NoMemory = ⊥
+WasRead TooLarge = ⊥
+
+-- how an import may end
+abbrev pub IsImportEnd : End → Type 0
+IsImportEnd Done = ⊤
+IsImportEnd Refused = ⊥
+IsImportEnd ReadFault = ⊤
+IsImportEnd WriteFault = ⊤
+IsImportEnd StoreFault = ⊤
+IsImportEnd NoMemory = ⊤
+IsImportEnd TooLarge = ⊤

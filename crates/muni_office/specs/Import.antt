@@ -1,6 +1,6 @@
 -- What the rows of an import do, one after another.
-use Rattle.std.specs.Prelude.{◌≡◌, ℕ, ◌+◌, List, [], ◌∷◌, ◌++◌, take, length, Option, Some, Result, Ok, Err, IfSome}
-use Rattle.muni_edge.specs.Sink.{HasWritten, HasWrittenPart}
+use Rattle.std.specs.Prelude.{◌≡◌, ℕ, ◌+◌, List, [], ◌∷◌, ◌++◌, take, length, Option, Some, Ok, Err, IfSome}
+use Rattle.muni_edge.specs.Sink.{HasWritten}
 use Rattle.muni_keep.specs.Tables.{Tables}
 use Rattle.muni_step.specs.Runs.{StepsTo}
 use Rattle.muni_step.specs.Step.{Pricing}

@@ -16,12 +16,7 @@ use muni_msg::{Key, Refusal};
 
 /// Writes the confirmation of the last version of a trade that a store keeps, or the line of a refusal
 /// where none is kept.
-pub fn confirm<O: Sink, C: Cabinet>(
-    store: &[u8],
-    key: &Key,
-    output: &mut O,
-    cabinet: &mut C,
-) -> End
+pub fn confirm<O: Sink, C: Cabinet>(store: &[u8], key: &Key, output: &mut O, cabinet: &mut C) -> End
     requires { C.out cabinet.old ≡ None }
 
     // What is written, where the cabinet tells the tables of the store.

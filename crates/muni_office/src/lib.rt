@@ -3,9 +3,11 @@
 
 mod confirmations;
 mod end;
+mod imports;
 mod input;
 mod rows;
 
 pub use confirmations::confirm;
 pub use end::End;
+pub use imports::import;
 pub use input::{InputFault, LIMIT, read_input};

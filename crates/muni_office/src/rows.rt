@@ -20,7 +20,13 @@ use std::alloc::Global;
 use std::thread::Threads;
 
 /// Applies the rows of a text one after another, and writes the line of each once it is applied.
-pub(crate) fn import_rows<R: Threads + Sync, K: Keeper, O: Sink, E: Encloser + Sync, G: Gate + Sync>(
+pub(crate) fn import_rows<
+    R: Threads + Sync,
+    K: Keeper,
+    O: Sink,
+    E: Encloser + Sync,
+    G: Gate + Sync,
+>(
     rt: &R,
     alloc: Global,
     text: &[u8],

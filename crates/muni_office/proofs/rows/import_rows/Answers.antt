@@ -1,9 +1,7 @@
-use Rattle.std.proofs.Common.{◌≡◌, ◌+◌, ◌∙◌, Ok, Err, Some, IfSome, refl, rules, arith}
+use Rattle.std.proofs.Common.{◌+◌, ◌∙◌, refl, rules, arith}
 use Rattle.muni_book.specs.Answers.{IsRightAnswer}
 use Rattle.muni_edge.specs.Sink.{HasWritten, HasWrittenPart}
 use Rattle.muni_import.specs.Report.{row_line}
-use Rattle.muni_import.specs.Rows.{IsNext}
-use Rattle.muni_office.specs.Import.{Came}
 use Rattle.muni_office.proofs.ImportLemmas.{at-start, row-done, next-done, few-done}
 use Rattle.muni_office.proofs.rows.import_rows.Goals as goal
 
