@@ -1,3 +1,6 @@
+mod confirmation_cases;
+mod confirmations;
+
 use crate::{figure_lines, refusal_line};
 use arrayvec::ArrayVec;
 use muni_days::{Basis, Day};
