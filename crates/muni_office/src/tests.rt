@@ -1,0 +1,220 @@
+ghost use Rattle.std.specs.Prelude.{◌≡◌, None, IfOk};
+
+use crate::{End, confirm, import};
+use muni_edge::{MemSink, MemSource, NoGate};
+use muni_keep::{MemCabinet, MemKeeper};
+use muni_msg::{DeskName, Key, Reference};
+use muni_multi::Horner;
+use std::alloc::Global;
+use std::test::Fail;
+use std::thread::Threads;
+
+const ROWS: &[u8] =
+    b"issue,123456AA3,RIVERTON WATER 5S 2025,periodic,2020-01-01,2020-07-01,2025-01-01,5,
+trade,ALPHA,T0001,123456AA3,buy,25000,2024-04-01,yield,4
+trade,ALPHA,T0002,123456AA3,sell,10000,2024-04-01,price,100.725
+";
+
+const LINES: [&str; 3] = [
+    "1,added,123456AA3\n",
+    "2,confirmed,T0001,1,100.725,4.000,2025-01-01,25493.75\n",
+    "3,confirmed,T0002,1,100.725,4.001,2025-01-01,10197.50\n",
+];
+
+const CONFIRMATION: &str = "CONFIRMATION 1
+DESK ALPHA
+REFERENCE T0001
+BOUGHT 25000
+CUSIP 123456AA3
+ISSUE RIVERTON WATER 5S 2025
+COUPON 5.0000000
+DATED 2020-01-01
+MATURITY 2025-01-01
+SETTLEMENT 2024-04-01
+PRICE 100.725 COMPUTED
+YIELD 4.000 GIVEN
+REDEMPTION 2025-01-01 100.000000 MATURITY
+ACCRUED DAYS 90
+PRINCIPAL 25181.25
+ACCRUED 312.50
+TOTAL 25493.75
+";
+
+// Whether a text is the first so many lines of the report.
+fn is_report(text: &[u8], count: usize) -> bool {
+    let mut rest = text;
+    for line in LINES.iter().take(count) {
+        match rest.strip_prefix(line.as_bytes()) {
+            Some(behind) => rest = behind,
+            None => return false,
+        }
+    }
+    rest.is_empty()
+}
+
+// A cabinet with one store, whose calls of these numbers fail.
+fn cabinet(alloc: Global, failing: &[u64]) -> Result<MemCabinet, Fail>
+    ensures { IfOk result (λ cabinet. MemCabinet.Cabinet.out cabinet ≡ None) }
+{
+    let keeper = MemKeeper::new(alloc, failing).ok().ok_or("a keeper")?;
+    let mut keepers = Vec::new(alloc);
+    keepers.push((b"S".to_vec(alloc)?, keeper))?;
+    Ok(
+        MemCabinet::new(alloc, keepers, &[])
+            .ok()
+            .ok_or("a cabinet")?,
+    )
+}
+
+// How an import into a new store ends, and what it writes, where these calls of the keeper and these
+// puts fail.
+fn imported<R: Threads + Sync>(
+    rt: &R,
+    alloc: Global,
+    text: &[u8],
+    failing_calls: &[u64],
+    failing_puts: &[u64],
+) -> Result<(End, MemSink), Fail> {
+    let mut cabinet = cabinet(alloc, failing_calls)?;
+    let mut input = MemSource::new(alloc, text, &[]).ok().ok_or("an input")?;
+    let mut output = MemSink::new(alloc, 4096, failing_puts)
+        .ok()
+        .ok_or("an output")?;
+    let end = import(
+        rt,
+        alloc,
+        b"S",
+        1,
+        &mut input,
+        &mut output,
+        &mut cabinet,
+        &Horner,
+        &NoGate,
+    );
+    Ok((end, output))
+}
+
+#[test]
+fn each_row_has_its_line(rt: HostRuntime) -> Result<(), Fail> {
+    let (end, output) = imported(&rt, rt.alloc(), ROWS, &[], &[])?;
+    assert_eq!(rt; end, End::Done);
+    assert!(rt; is_report(output.bytes(), 3));
+    for (text, lines) in [
+        ("", ""),
+        ("trade,ALPHA,T0003,1234", "1,bad,1\n"),
+        (
+            "trade,ALPHA,T0003,123456AA3,buy,-5,2024-04-01,yield,4",
+            "1,bad,2,6\n",
+        ),
+        ("cancel,ALPHA,T0001,0000000001", "1,bad,2,4\n"),
+        ("cancel,ALPHA,T0001,1", "1,refused,2,UnknownTrade\n"),
+        (
+            "trade,ALPHA,T0003,000000000,buy,5,2024-04-01,yield,4\n\nx",
+            "1,refused,1,UnknownIssue\n2,bad,2,1\n",
+        ),
+    ] {
+        let (end, output) = imported(&rt, rt.alloc(), text.as_bytes(), &[], &[])?;
+        assert_eq!(rt; end, End::Done);
+        assert_eq!(rt; output.bytes(), lines.as_bytes(), "{text}");
+    }
+    Ok(())
+}
+
+#[test]
+fn rows_sent_again_act_once_and_are_confirmed(rt: HostRuntime) -> Result<(), Fail> {
+    let alloc = rt.alloc();
+    let mut cabinet = cabinet(alloc, &[])?;
+    let mut first = MemSource::new(alloc, ROWS, &[]).ok().ok_or("an input")?;
+    let mut again = MemSource::new(alloc, ROWS, &[]).ok().ok_or("an input")?;
+    let mut report = MemSink::new(alloc, 4096, &[]).ok().ok_or("an output")?;
+    let mut same = MemSink::new(alloc, 4096, &[]).ok().ok_or("an output")?;
+    let mut text = MemSink::new(alloc, 4096, &[]).ok().ok_or("an output")?;
+    let mut none = MemSink::new(alloc, 4096, &[]).ok().ok_or("an output")?;
+    let end = import(
+        &rt,
+        alloc,
+        b"S",
+        2,
+        &mut first,
+        &mut report,
+        &mut cabinet,
+        &Horner,
+        &NoGate,
+    );
+    assert_eq!(rt; end, End::Done);
+    let end = import(
+        &rt,
+        alloc,
+        b"S",
+        16,
+        &mut again,
+        &mut same,
+        &mut cabinet,
+        &Horner,
+        &NoGate,
+    );
+    assert_eq!(rt; end, End::Done);
+    assert!(rt; is_report(report.bytes(), 3));
+    assert!(rt; is_report(same.bytes(), 3));
+    let key = Key {
+        desk: DeskName::read(b"ALPHA").ok().ok_or("a desk")?,
+        reference: Reference::read(b"T0001").ok().ok_or("a reference")?,
+    };
+    assert_eq!(rt; confirm(b"S", &key, &mut text, &mut cabinet), End::Done);
+    assert_eq!(rt; text.bytes(), CONFIRMATION.as_bytes());
+    let other = Key {
+        desk: DeskName::read(b"BETA").ok().ok_or("a desk")?,
+        ..key
+    };
+    assert_eq!(rt;
+        confirm(b"S", &other, &mut none, &mut cabinet),
+        End::Refused
+    );
+    assert_eq!(rt; none.bytes(), b"REFUSED 2 UnknownTrade\n".as_slice());
+    Ok(())
+}
+
+#[test]
+fn a_put_that_fails_ends_the_run(rt: HostRuntime) -> Result<(), Fail> {
+    for put in 0..3usize {
+        let (end, output) = imported(&rt, rt.alloc(), ROWS, &[], &[put as u64])?;
+        assert_eq!(rt; end, End::WriteFault);
+        assert!(rt; is_report(output.bytes(), put));
+    }
+    Ok(())
+}
+
+#[test]
+fn a_keeper_that_fails_ends_the_run(rt: HostRuntime) -> Result<(), Fail> {
+    let mut before = 0usize;
+    for call in 0..40u64 {
+        let (end, output) = imported(&rt, rt.alloc(), ROWS, &[call], &[])?;
+        let mut lines = 0usize;
+        for count in 0..4usize {
+            if is_report(output.bytes(), count) {
+                lines = count;
+            }
+        }
+        assert!(rt; lines >= before);
+        assert!(rt; (end == End::StoreFault && lines < 3) || (end == End::Done && lines == 3));
+        before = lines;
+    }
+    assert_eq!(rt; before, 3);
+    Ok(())
+}
+
+#[test]
+fn an_input_may_have_4_194_304_bytes(rt: HostRuntime) -> Result<(), Fail> {
+    let mut text = Vec::new(rt.alloc());
+    for _ in 0..4_194_304u32 {
+        text.push(b'a')?;
+    }
+    let (end, output) = imported(&rt, rt.alloc(), &text, &[], &[])?;
+    assert_eq!(rt; end, End::Done);
+    assert_eq!(rt; output.bytes(), b"1,bad,2,1\n".as_slice());
+    text.push(b'a')?;
+    let (end, output) = imported(&rt, rt.alloc(), &text, &[], &[])?;
+    assert_eq!(rt; end, End::TooLarge);
+    assert!(rt; output.bytes().is_empty());
+    Ok(())
+}
