@@ -18,8 +18,9 @@ use std::thread::Threads;
 
 /// Applies each row of a CSV text to the tables of a store, and writes a line of report on each.
 ///
-/// The input is read whole before the store is fetched. Where the run ends at a row, the rows before
-/// it stay applied and their lines written.
+/// The input is read whole before the store is fetched. Where the store fails at a row, or no memory
+/// is left, the rows before it stay applied and their lines written. Where the output fails, its row
+/// stays applied too.
 // Up to `workers` threads look for each yield, and the gate is told when they begin (tested).
 pub fn import<
     R: Threads + Sync,
