@@ -12,7 +12,7 @@ mod schedule_cases;
 use crate::{Command, CommandLine, QuoteRequest, Status, desk, read};
 use muni_days::Day;
 use muni_edge::{MemSink, NoGate};
-use muni_multi::Horner;
+use muni_multi::{Doubling, Encloser, Horner};
 use muni_samples::{Sample, Table};
 use std::alloc::Global;
 use std::process::Abort;
@@ -66,11 +66,21 @@ fn written(alloc: Global, output: &MemSink) -> Result<String, Fail> {
     Ok(text.trim_end_matches('\n').replace(alloc, "\n", "/")?)
 }
 
-// Whether the words of each line, behind those of its base, end in the status and write the text
-// that stand behind the bars.
 fn answers_are_right<R: Threads + Sync + Abort>(
     rt: &R,
     alloc: Global,
+    cases: &str,
+    wanted: u32,
+) -> Result<(), Fail> {
+    answers_are_right_by(rt, alloc, &Doubling, cases, wanted)
+}
+
+// Whether the words of each line, behind those of its base, end in the status and write the text
+// that stand behind the bars.
+fn answers_are_right_by<R: Threads + Sync + Abort, E: Encloser + Sync>(
+    rt: &R,
+    alloc: Global,
+    encloser: &E,
     cases: &str,
     wanted: u32,
 ) -> Result<(), Fail> {
@@ -87,7 +97,7 @@ fn answers_are_right<R: Threads + Sync + Abort>(
         let (status, text) = answered.split_once('|').ok_or("a status")?;
         let mut output = sink(alloc, 512, &[])?;
         let words = words_of_case(alloc, &case)?;
-        let number = desk(rt, words.as_slice(), &mut output, &Horner, &NoGate).number();
+        let number = desk(rt, words.as_slice(), &mut output, encloser, &NoGate).number();
         assert_eq!(rt; number, status.parse::<u8>()?, "{line}");
         assert_eq!(rt; written(alloc, &output)?.as_str(), text, "{line}");
         assert_eq!(rt; output.bytes().ends_with(b"\n"), !text.is_empty(), "{line}");
@@ -165,7 +175,8 @@ fn the_lowest_figure_over_the_schedule_is_disclosed(rt: HostRuntime) -> Result<(
 
 #[test]
 fn sums_of_generated_books_are_the_exact_ones(rt: HostRuntime) -> Result<(), Fail> {
-    answers_are_right(&rt, rt.alloc(), drill_cases::CASES, 46)
+    answers_are_right(&rt, rt.alloc(), drill_cases::CASES, 46)?;
+    answers_are_right_by(&rt, rt.alloc(), &Horner, drill_cases::CASES, 46)
 }
 
 #[test]
@@ -173,7 +184,7 @@ fn a_full_output_holds_the_front_of_the_summary(rt: HostRuntime) -> Result<(), F
     let mut output = sink(rt.alloc(), 10, &[])?;
     let words = words_of(rt.alloc(), "drill --count=0 --seed=1 --workers=1")?;
     assert_eq!(rt;
-        desk(&rt, words.as_slice(), &mut output, &Horner, &NoGate),
+        desk(&rt, words.as_slice(), &mut output, &Doubling, &NoGate),
         Status::WriteFault
     );
     assert_eq!(rt; output.bytes(), b"DRILL 0\nPR".as_slice());
@@ -184,7 +195,7 @@ fn a_full_output_holds_the_front_of_the_summary(rt: HostRuntime) -> Result<(), F
 fn no_word_at_all_is_no_command(rt: HostRuntime) -> Result<(), Fail> {
     let mut output = sink(rt.alloc(), 64, &[])?;
     assert_eq!(rt;
-        desk(&rt, &[], &mut output, &Horner, &NoGate),
+        desk(&rt, &[], &mut output, &Doubling, &NoGate),
         Status::Usage
     );
     assert!(rt; output.bytes().is_empty());
@@ -196,7 +207,7 @@ fn an_output_that_fails_at_once_holds_nothing(rt: HostRuntime) -> Result<(), Fai
     let mut output = sink(rt.alloc(), 64, &[0])?;
     let words = words_of(rt.alloc(), WORKED)?;
     assert_eq!(rt;
-        desk(&rt, words.as_slice(), &mut output, &Horner, &NoGate),
+        desk(&rt, words.as_slice(), &mut output, &Doubling, &NoGate),
         Status::WriteFault
     );
     assert!(rt; output.bytes().is_empty());
@@ -208,7 +219,7 @@ fn an_output_that_is_full_holds_the_front_of_the_line(rt: HostRuntime) -> Result
     let mut output = sink(rt.alloc(), 3, &[])?;
     let words = words_of(rt.alloc(), WORKED)?;
     assert_eq!(rt;
-        desk(&rt, words.as_slice(), &mut output, &Horner, &NoGate),
+        desk(&rt, words.as_slice(), &mut output, &Doubling, &NoGate),
         Status::WriteFault
     );
     assert_eq!(rt; output.bytes(), b"100".as_slice());
