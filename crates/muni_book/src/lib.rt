@@ -1,4 +1,4 @@
-//! What the book says of a trade: its figures, or why there are none.
+//! The book of the desk: the figures of a trade, and what each command is answered and keeps.
 #![tactic(auto)]
 
 mod answers;

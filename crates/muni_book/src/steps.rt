@@ -19,9 +19,11 @@ use muni_step::{Plan, plan_of};
 use muni_terms::Issue;
 use std::thread::Threads;
 
-/// Applies one command.
+/// Applies one command: answers it, and keeps at most one issue or one version more for it.
 ///
-/// Up to `workers` threads, from 1 to 16, look for the yields.
+/// Nothing is kept for a command that is refused, nor where the keeper fails or has no memory. Where
+/// a keeper gives a version and not its issue, the issue is unknown.
+// Up to `workers` threads, from 1 to 16, look for the yields (tested).
 pub fn apply<R: Threads + Sync, K: Keeper, E: Encloser + Sync, G: Gate + Sync>(
     rt: &R,
     keeper: &mut K,
