@@ -1,11 +1,10 @@
 -- A body asks for the same without a member that may be left out.
-use Rattle.std.proofs.Common.{◌≡◌, ◌≢◌, ◌⊎◌, inl, inr, ℕ, List, bytes_eq, codes, Some, None, true, false, refl, sym, ap, subst, arith, ◌∙◌}
+use Rattle.std.proofs.Common.{◌≡◌, ◌≢◌, ◌⊎◌, inl, inr, ℕ, List, bytes_eq, codes, Some, true, false, refl, sym, ap, subst, arith, ◌∙◌}
 use Rattle.std.proofs.lemmas.Slice.Eq.{bytes_eq-Decides}
 use Rattle.muni_dec.specs.Decimal.{reading}
 use Rattle.muni_dec.specs.Values.{fee_reading, amount_reading}
 use Rattle.serde_json.specs.Data.{Data}
 use Rattle.serde_json.specs.Find.{get}
-use Rattle.muni_rule.specs.declared.basis.Basis.{Basis}
 use Rattle.muni_msg.specs.Fields.{◌>>=◌, basis_field, fee_field}
 use Rattle.muni_msg.specs.declared.asked.Side.TheVariants.{Buy}
 use Rattle.muni_wire.specs.Body.{command_of, command_in, key_in, number_in, asked_in, fee_in, terms_in, calendar_in, basis_in, issue_with, issue_in}

@@ -1,5 +1,5 @@
 -- What an answer says of all bytes of a connection.
-use Rattle.std.proofs.Common.{◌≡◌, ◌≤◌, ◌<◌, ◌+◌, ◌-◌, ℕ, List, Option, Some, None, Result, Ok, Err, false, nat_lt, ◌++◌, length, take, drop, refl, sym, subst, ap, IfSome, IfOk, IfErr, arith, ◌∙◌, inl, inr}
+use Rattle.std.proofs.Common.{◌≡◌, ◌≤◌, ◌+◌, ◌-◌, ℕ, List, Option, Some, None, Result, Ok, Err, false, nat_lt, ◌++◌, length, take, drop, refl, sym, subst, ap, IfSome, IfOk, IfErr, arith, ◌∙◌, inl, inr}
 use Rattle.std.proofs.lemmas.List.{drop-append-le, take-append-le, append_assoc, length-append, length-drop}
 use Rattle.std.proofs.lemmas.Bool.Decides.{nat_tests}
 use Rattle.std.specs.Io.KnownBytes.{Consumes, IsAtEnd}

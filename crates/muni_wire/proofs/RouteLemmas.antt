@@ -1,5 +1,5 @@
 -- Which route a path takes.
-use Rattle.std.proofs.Common.{◌≡◌, ℕ, List, Option, Some, None, Bool, true, false, refl, sym, IsUtf8}
+use Rattle.std.proofs.Common.{◌≡◌, ℕ, List, None, Bool, true, false, refl, IsUtf8}
 use Rattle.std.specs.Str.{is_utf8}
 use Rattle.std.proofs.lemmas.Str.{IsUtf8-from_is_utf8, is_utf8-from_IsUtf8}
 use Rattle.muni_wire.specs.Routes.{route_of, route_of_text}

@@ -1,5 +1,5 @@
 -- Each status has a phrase, and that is short.
-use Rattle.std.proofs.Common.{◌≡◌, ◌≢◌, ◌≤◌, Option, Some, None, List, ℕ, length, arith}
+use Rattle.std.proofs.Common.{◌≢◌, ◌≤◌, None, length, arith}
 use Rattle.http.specs.StatusCode.{reason_phrase}
 use Rattle.muni_wire.specs.Status.{code, phrase}
 use Rattle.muni_wire.specs.declared.status.Status.{Status}

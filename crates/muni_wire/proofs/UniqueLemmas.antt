@@ -1,5 +1,5 @@
 -- The bytes of a connection are read in one way.
-use Rattle.std.proofs.Common.{◌≡◌, ◌≤◌, ◌<◌, ◌-◌, ℕ, List, Option, Some, None, Result, Ok, Err, ◌⊎◌, ◌++◌, length, take, refl, sym, subst, ap, IfSome, arith, ◌∙◌, inl, inr, []}
+use Rattle.std.proofs.Common.{◌≡◌, ◌<◌, ◌-◌, ℕ, List, Option, Some, None, Result, Ok, Err, ◌⊎◌, ◌++◌, length, take, refl, sym, subst, ap, IfSome, arith, ◌∙◌, inl, inr, []}
 use Rattle.std.proofs.lemmas.List.{append-nil, take_all}
 use Rattle.httparse.specs.Grammar.{RequestHead, ReadsRequest, print_request, MayBecomeRequest}
 use Rattle.httparse.specs.Spans.{RequestExceeds}

@@ -1,4 +1,4 @@
-use Rattle.std.proofs.Common.{rules, arith, ◌≡◌, ◌<◌, ◌≤◌, Some, map, length, codes, ◌∙◌}
+use Rattle.std.proofs.Common.{rules, arith, ◌≡◌, Some, map, codes, ◌∙◌}
 use Rattle.std.proofs.lemmas.List.{length-map}
 use Rattle.serde_json.specs.Find.{get, as_array}
 use Rattle.serde_json.specs.View.{view, items_of}

@@ -1,4 +1,4 @@
-use Rattle.std.proofs.Common.{rules, arith, ◌≡◌, ◌≤◌, ◌+◌, ◌++◌, length}
+use Rattle.std.proofs.Common.{arith}
 use Rattle.muni_wire.proofs.ListLemmas.{next-line, last-line}
 use Rattle.muni_wire.proofs.list.push_list.Goals as goal
 

@@ -1,4 +1,4 @@
-use Rattle.std.proofs.Common.{arith, ◌≡◌, ◌≤◌, ◌+◌, length, []}
+use Rattle.std.proofs.Common.{arith, []}
 use Rattle.muni_wire.proofs.ReadingLemmas.{refused, asked, no-head, large-head, told-body}
 use Rattle.muni_wire.proofs.request.read_by_head.Goals as goal
 

@@ -1,4 +1,4 @@
-use Rattle.std.proofs.Common.{arith, ◌≡◌, ◌≤◌, ◌+◌, length}
+use Rattle.std.proofs.Common.{arith, ◌≤◌, ◌+◌, length}
 use Rattle.muni_wire.proofs.ReadingLemmas.{body-answer}
 use Rattle.muni_wire.proofs.request.take_body.Goals as goal
 

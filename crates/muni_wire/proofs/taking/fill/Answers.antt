@@ -1,4 +1,4 @@
-use Rattle.std.proofs.Common.{arith, ◌≡◌, ◌≤◌, ◌+◌, ◌∙◌, ap, length, sym, [], ◌++◌}
+use Rattle.std.proofs.Common.{arith, ◌∙◌, ap, sym, [], ◌++◌}
 use Rattle.std.proofs.lemmas.List.{append_assoc, append-nil}
 use Rattle.muni_wire.proofs.TakenLemmas.{both-taken, none-taken}
 use Rattle.muni_wire.proofs.taking.fill.Goals as goal
