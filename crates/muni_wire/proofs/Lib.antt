@@ -11,3 +11,5 @@ pub mod RouteLemmas
 pub mod ListLemmas
 pub mod LeftOutLemmas
 pub mod AnswerLemmas
+pub mod PathLemmas
+pub mod PostLemmas

@@ -10,6 +10,7 @@ pub mod Reading
 pub mod Taken
 pub mod Laws
 pub mod LeftOut
+pub mod PathLaws
 pub mod List
 pub mod Status
 pub mod Answer

@@ -2,6 +2,7 @@
 
 ghost use Rattle.muni_wire.specs.Laws.{HeadsAreReadOnce, AreReadOnce};
 ghost use Rattle.muni_wire.specs.LeftOut.{MayBeLeftOut};
+ghost use Rattle.muni_wire.specs.PathLaws.{BodiesArePosted, TradesAreConfirmed, ListsAreGiven, ListsGoOn};
 
 /// The bytes of a connection have one reading, unless they are ambiguous: where they end within a
 /// target that no request has, and where they hold more than 64 header fields before the head ends.
@@ -15,4 +16,14 @@ pub fn bytes_are_read_in_one_way()
 /// commission 0.
 pub fn days_and_fee_may_be_left_out()
     ensures { MayBeLeftOut }
+{}
+
+/// Bodies are posted under the five paths of the desk. A trade is confirmed under `/trades/`, its
+/// desk, a slash and its reference, and under no other path. A list is given under `/lists/` and its
+/// desk, and goes on behind a reference where that stands behind a slash, and under no other path.
+pub fn paths_lead_to_requests()
+    ensures posted { BodiesArePosted }
+    ensures confirmed { TradesAreConfirmed }
+    ensures listed { ListsAreGiven }
+    ensures listed_after { ListsGoOn }
 {}

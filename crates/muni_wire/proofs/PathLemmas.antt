@@ -1,0 +1,156 @@
+-- What a path is that leads to a request.
+use Rattle.std.proofs.Common.{◌≡◌, ◌<◌, ◌≤◌, ◌+◌, ◌==◌, nat_lt, not, ℕ, suc, List, ◌∷◌, ◌++◌, length, take, drop, get_or, codes, bytes_eq, Bool, true, false, cond, Option, Some, None, Result, Ok, Err, position, refl, sym, ap, ◌∙◌, arith}
+use Rattle.std.specs.Char.{is_ascii_alphanumeric}
+use Rattle.std.specs.Result.{result_ok}
+use Rattle.std.proofs.Math.Seq.{split_at}
+use Rattle.std.proofs.lemmas.Bool.Decides.{nat_tests}
+use Rattle.std.proofs.lemmas.List.{take-append-drop}
+use Rattle.std.proofs.lemmas.List.Quantifiers.{position-Some}
+use Rattle.std.proofs.lemmas.Slice.Eq.{bytes_eq-Decides}
+use Rattle.muni_msg.specs.Fields.{◌>>=◌}
+use Rattle.muni_msg.specs.Names.{is_desk_letter}
+use Rattle.muni_msg.specs.NameReading.{name_reading, name_if, unless_bad}
+use Rattle.muni_msg.specs.declared.names.NameFault.{NameFault}
+use Rattle.muni_msg.specs.declared.names.NameFault.TheVariants.{Empty, TooLong}
+use Rattle.muni_msg.specs.declared.command.Command.TheVariants.{Confirm, List as ListTrades}
+use Rattle.muni_msg.specs.declared.command.Key.{Key}
+use Rattle.muni_wire.specs.Routes.{target_of, route_of, asked_on, trade_at, list_at, list_after_at, behind, key_of, key_at}
+use Rattle.muni_wire.specs.declared.routes.Form.{Form}
+use Rattle.muni_wire.specs.declared.routes.Route.{Route}
+use Rattle.muni_wire.specs.declared.routes.Route.TheVariants as route
+use Rattle.muni_wire.specs.declared.routes.Target.{Target}
+use Rattle.muni_wire.specs.declared.routes.Target.TheVariants as target
+
+-- a name that reads is the text
+unless-read : (text name : List ℕ) (bad : Option ℕ) → result_ok (unless_bad text bad) ≡ Some name → text ≡ name
+unless-read text name None e = cc e
+unless-read text name (Some place) e = cc e
+
+short-read : (b : Bool) (fault : NameFault) (rest : Result (List ℕ) NameFault) (text name : List ℕ)
+    → (result_ok rest ≡ Some name → text ≡ name) → result_ok (cond b (Err fault) rest) ≡ Some name → text ≡ name
+short-read true fault rest text name read e = cc e
+short-read false fault rest text name read e = read e
+
+name-read : (is_letter : ℕ → Bool) (most : ℕ) (text name : List ℕ) → result_ok (name_reading is_letter most text) ≡ Some name → text ≡ name
+name-read is_letter most text name e =
+    let bad = position (λ b. not (is_letter b)) text in
+    let few = cond (nat_lt most (length text)) (Err TooLong) (unless_bad text bad) in
+    short-read (length text == 0) Empty few text name (short-read (nat_lt most (length text)) TooLong (unless_bad text bad) text name (unless-read text name bad)) e
+
+-- what stands behind a prefix
+behind-by : (b : Bool) (prefix text rest : List ℕ) → bytes_eq (take (length prefix) text) prefix ≡ b → cond b (Some (drop (length prefix) text)) None ≡ Some rest → text ≡ prefix ++ rest
+behind-by true prefix text rest is e =
+    let front : take (length prefix) text ≡ prefix = grind (arith, bytes_eq-Decides (take (length prefix) text) prefix, is) in
+    let last : drop (length prefix) text ≡ rest = cc e in
+    sym (take-append-drop (length prefix) text) ∙ ap (λ l. l ++ drop (length prefix) text) front ∙ ap (λ l. prefix ++ l) last
+behind-by false prefix text rest is e = cc e
+
+is-behind : (prefix text rest : List ℕ) → behind prefix text ≡ Some rest → text ≡ prefix ++ rest
+is-behind prefix text rest e = behind-by (bytes_eq (take (length prefix) text) prefix) prefix text rest refl e
+
+-- a desk, a slash and a reference
+both-read : (d r : Option (List ℕ)) (key : Key) → (d >>= λ desk. r >>= λ reference. Some (record { desk = desk; reference = reference })) ≡ Some key
+    → (d ≡ Some key.desk) × (r ≡ Some key.reference)
+both-read None r key e = cc e
+both-read (Some d) None key e = cc e
+both-read (Some d) (Some r) key e = (ap Some (cc (ap (λ o. o >>= λ k. Some k.desk) e)), ap Some (cc (ap (λ o. o >>= λ k. Some k.reference) e)))
+
+key-parts : (text : List ℕ) (slash : Option ℕ) (key : Key) → position (λ b. b == 47) text ≡ slash → (slash >>= λ at. key_at text at) ≡ Some key
+    → text ≡ key.desk ++ 47 ∷ key.reference
+key-parts text None key is e = cc e
+key-parts text (Some at) key is e =
+    let found = position-Some (λ b. b == 47) text at 0 is in
+    let next : suc at ≡ at + 1 = omega arith in
+    let split = rw next at (split_at text at 0 found.0) in
+    let slash : get_or text at 0 ≡ 47 = grind (arith, nat_tests, found.1) in
+    let read = both-read _ _ key e in
+    let desk = name-read is_desk_letter 16 (take at text) key.desk read.0 in
+    let reference = name-read is_ascii_alphanumeric 20 (drop (at + 1) text) key.reference read.1 in
+    split ∙ ap (λ b. take at text ++ b ∷ drop (at + 1) text) slash ∙ ap (λ l. l ++ 47 ∷ drop (at + 1) text) desk ∙ ap (λ l. key.desk ++ 47 ∷ l) reference
+
+is-key : (text : List ℕ) (key : Key) → key_of text ≡ Some key → text ≡ key.desk ++ 47 ∷ key.reference
+unfolding key_of
+is-key text key e = key-parts text (position (λ b. b == 47) text) key refl e
+
+-- a chain of two that ends
+both-there : {A B : Type 0} (o : Option A) (f : A → Option B) (b : B) → (o >>= f) ≡ Some b → (a : A) × (o ≡ Some a) × (f a ≡ Some b)
+both-there None f b e = cc e
+both-there (Some a) f b e = (a, refl, e)
+
+trade-path : (path : List ℕ) (key : Key) → trade_at path ≡ Some (target.Get (Confirm key)) → path ≡ codes "/trades/" ++ (key.desk ++ 47 ∷ key.reference)
+trade-path path key e =
+    let first = both-there (behind (codes "/trades/") path) (λ text. key_of text >>= λ k. Some (target.Get (Confirm k))) (target.Get (Confirm key)) e in
+    let second = both-there (key_of first.0) (λ k. Some (target.Get (Confirm k))) (target.Get (Confirm key)) first.2 in
+    let same : second.0 ≡ key = cc second.2 in
+    is-behind (codes "/trades/") path first.0 first.1 ∙ ap (λ l. codes "/trades/" ++ l) (is-key first.0 key (second.1 ∙ ap Some same))
+
+list-path : (path desk : List ℕ) → list_at path ≡ Some (target.Get (ListTrades desk None)) → path ≡ codes "/lists/" ++ desk
+list-path path desk e =
+    let first = both-there (behind (codes "/lists/") path) (λ text. result_ok (name_reading is_desk_letter 16 text) >>= λ d. Some (target.Get (ListTrades d None))) (target.Get (ListTrades desk None)) e in
+    let second = both-there (result_ok (name_reading is_desk_letter 16 first.0)) (λ d. Some (target.Get (ListTrades d None))) (target.Get (ListTrades desk None)) first.2 in
+    let same : second.0 ≡ desk = cc second.2 in
+    is-behind (codes "/lists/") path first.0 first.1 ∙ ap (λ l. codes "/lists/" ++ l) (name-read is_desk_letter 16 first.0 desk (second.1 ∙ ap Some same))
+
+list-after-path : (path desk after : List ℕ) → list_after_at path ≡ Some (target.Get (ListTrades desk (Some after))) → path ≡ codes "/lists/" ++ (desk ++ 47 ∷ after)
+list-after-path path desk after e =
+    let first = both-there (behind (codes "/lists/") path) (λ text. key_of text >>= λ k. Some (target.Get (ListTrades k.desk (Some k.reference)))) (target.Get (ListTrades desk (Some after))) e in
+    let second = both-there (key_of first.0) (λ k. Some (target.Get (ListTrades k.desk (Some k.reference)))) (target.Get (ListTrades desk (Some after))) first.2 in
+    let same_desk : second.0.desk ≡ desk = cc second.2 in
+    let same_after : second.0.reference ≡ after = cc second.2 in
+    is-behind (codes "/lists/") path first.0 first.1
+    ∙ ap (λ l. codes "/lists/" ++ l) (is-key first.0 second.0 second.1 ∙ ap (λ l. l ++ 47 ∷ second.0.reference) same_desk ∙ ap (λ l. desk ++ 47 ∷ l) same_after)
+
+-- which command each route may give
+no-trade : (path : List ℕ) (c : Target) → trade_at path ≡ Some c → (key : Key) × (c ≡ target.Get (Confirm key))
+no-trade path c e =
+    let first = both-there (behind (codes "/trades/") path) (λ text. key_of text >>= λ k. Some (target.Get (Confirm k))) c e in
+    let second = both-there (key_of first.0) (λ k. Some (target.Get (Confirm k))) c first.2 in
+    (second.0, cc second.2)
+
+no-list : (path : List ℕ) (c : Target) → list_at path ≡ Some c → (desk : List ℕ) × (c ≡ target.Get (ListTrades desk None))
+no-list path c e =
+    let first = both-there (behind (codes "/lists/") path) (λ text. result_ok (name_reading is_desk_letter 16 text) >>= λ d. Some (target.Get (ListTrades d None))) c e in
+    let second = both-there (result_ok (name_reading is_desk_letter 16 first.0)) (λ d. Some (target.Get (ListTrades d None))) c first.2 in
+    (second.0, cc second.2)
+
+no-list-after : (path : List ℕ) (c : Target) → list_after_at path ≡ Some c → (k : Key) × (c ≡ target.Get (ListTrades k.desk (Some k.reference)))
+no-list-after path c e =
+    let first = both-there (behind (codes "/lists/") path) (λ text. key_of text >>= λ k. Some (target.Get (ListTrades k.desk (Some k.reference)))) c e in
+    let second = both-there (key_of first.0) (λ k. Some (target.Get (ListTrades k.desk (Some k.reference)))) c first.2 in
+    (second.0, cc second.2)
+
+confirms-on : (path : List ℕ) (way : Route) (key : Key) → asked_on path way ≡ Some (target.Get (Confirm key)) → path ≡ codes "/trades/" ++ (key.desk ++ 47 ∷ key.reference)
+confirms-on path (route.Post form) key e = cc e
+confirms-on path route.Trade key e = trade-path path key e
+confirms-on path route.List key e = cc (no-list path (target.Get (Confirm key)) e).1
+confirms-on path route.ListAfter key e = cc (no-list-after path (target.Get (Confirm key)) e).1
+
+lists-on : (path desk : List ℕ) (way : Route) → asked_on path way ≡ Some (target.Get (ListTrades desk None)) → path ≡ codes "/lists/" ++ desk
+lists-on path desk (route.Post form) e = cc e
+lists-on path desk route.Trade e = cc (no-trade path (target.Get (ListTrades desk None)) e).1
+lists-on path desk route.List e = list-path path desk e
+lists-on path desk route.ListAfter e = cc (no-list-after path (target.Get (ListTrades desk None)) e).1
+
+goes-on : (path desk after : List ℕ) (way : Route) → asked_on path way ≡ Some (target.Get (ListTrades desk (Some after))) → path ≡ codes "/lists/" ++ (desk ++ 47 ∷ after)
+goes-on path desk after (route.Post form) e = cc e
+goes-on path desk after route.Trade e = cc (no-trade path (target.Get (ListTrades desk (Some after))) e).1
+goes-on path desk after route.List e = cc (no-list path (target.Get (ListTrades desk (Some after))) e).1
+goes-on path desk after route.ListAfter e = list-after-path path desk after e
+
+pub trades-confirmed : (path : List ℕ) (key : Key) → target_of path ≡ Some (target.Get (Confirm key)) → path ≡ codes "/trades/" ++ (key.desk ++ 47 ∷ key.reference)
+unfolding target_of
+trades-confirmed path key e =
+    let way = both-there (route_of path) (asked_on path) (target.Get (Confirm key)) e in
+    confirms-on path way.0 key way.2
+
+pub lists-given : (path desk : List ℕ) → target_of path ≡ Some (target.Get (ListTrades desk None)) → path ≡ codes "/lists/" ++ desk
+unfolding target_of
+lists-given path desk e =
+    let way = both-there (route_of path) (asked_on path) (target.Get (ListTrades desk None)) e in
+    lists-on path desk way.0 way.2
+
+pub lists-go-on : (path desk after : List ℕ) → target_of path ≡ Some (target.Get (ListTrades desk (Some after))) → path ≡ codes "/lists/" ++ (desk ++ 47 ∷ after)
+unfolding target_of
+lists-go-on path desk after e =
+    let way = both-there (route_of path) (asked_on path) (target.Get (ListTrades desk (Some after))) e in
+    goes-on path desk after way.0 way.2
