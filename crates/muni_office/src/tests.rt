@@ -1,8 +1,8 @@
-ghost use Rattle.std.specs.Prelude.{◌≡◌, None, IfOk};
+ghost use Rattle.std.specs.Prelude.{◌≡◌, ◌≤◌, None};
 
 use crate::{End, confirm, import};
 use muni_edge::{MemSink, MemSource, NoGate};
-use muni_keep::{MemCabinet, MemKeeper};
+use muni_keep::{Cabinet, MemCabinet, MemKeeper};
 use muni_msg::{DeskName, Key, Reference};
 use muni_multi::Horner;
 use std::alloc::Global;
@@ -52,18 +52,33 @@ fn is_report(text: &[u8], count: usize) -> bool {
     rest.is_empty()
 }
 
-// A cabinet with one store, whose calls of these numbers fail.
-fn cabinet(alloc: Global, failing: &[u64]) -> Result<MemCabinet, Fail>
-    ensures { IfOk result (λ cabinet. MemCabinet.Cabinet.out cabinet ≡ None) }
+// How an import into a cabinet ends, and what it writes, where these puts fail.
+fn import_into<R: Threads + Sync, C: Cabinet>(
+    rt: &R,
+    alloc: Global,
+    cabinet: &mut C,
+    workers: u32,
+    text: &[u8],
+    failing_puts: &[u64],
+) -> Result<(End, MemSink), Fail>
+    requires workers { (1 ≤ workers) × (workers ≤ 16) }
+    requires none_out { C.out cabinet.old ≡ None }
+    ensures { C.out cabinet.new ≡ None }
 {
-    let keeper = MemKeeper::new(alloc, failing).ok().ok_or("a keeper")?;
-    let mut keepers = Vec::new(alloc);
-    keepers.push((b"S".to_vec(alloc)?, keeper))?;
-    Ok(
-        MemCabinet::new(alloc, keepers, &[])
-            .ok()
-            .ok_or("a cabinet")?,
-    )
+    let mut input = MemSource::new(alloc, text, &[])?;
+    let mut output = MemSink::new(alloc, 4096, failing_puts)?;
+    let end = import(
+        rt,
+        alloc,
+        b"S",
+        workers,
+        &mut input,
+        &mut output,
+        cabinet,
+        &Horner,
+        &NoGate,
+    );
+    Ok((end, output))
 }
 
 // How an import into a new store ends, and what it writes, where these calls of the keeper and these
@@ -75,22 +90,27 @@ fn imported<R: Threads + Sync>(
     failing_calls: &[u64],
     failing_puts: &[u64],
 ) -> Result<(End, MemSink), Fail> {
-    let mut cabinet = cabinet(alloc, failing_calls)?;
-    let mut input = MemSource::new(alloc, text, &[]).ok().ok_or("an input")?;
-    let mut output = MemSink::new(alloc, 4096, failing_puts)
-        .ok()
-        .ok_or("an output")?;
-    let end = import(
-        rt,
-        alloc,
-        b"S",
-        1,
-        &mut input,
-        &mut output,
-        &mut cabinet,
-        &Horner,
-        &NoGate,
-    );
+    let mut keepers = Vec::new(alloc);
+    keepers.push((b"S".to_vec(alloc)?, MemKeeper::new(alloc, failing_calls)?))?;
+    let mut cabinet = MemCabinet::new(alloc, keepers, &[])?;
+    import_into(rt, alloc, &mut cabinet, 1, text, failing_puts)
+}
+
+// How a confirmation ends, and what it writes.
+fn confirm_from<C: Cabinet>(
+    alloc: Global,
+    cabinet: &mut C,
+    desk: &[u8],
+) -> Result<(End, MemSink), Fail>
+    requires { C.out cabinet.old ≡ None }
+    ensures { C.out cabinet.new ≡ None }
+{
+    let key = Key {
+        desk: DeskName::read(desk).ok().ok_or("a desk")?,
+        reference: Reference::read(b"T0001").ok().ok_or("a reference")?,
+    };
+    let mut output = MemSink::new(alloc, 4096, &[])?;
+    let end = confirm(b"S", &key, &mut output, cabinet);
     Ok((end, output))
 }
 
@@ -123,54 +143,19 @@ fn each_row_has_its_line(rt: HostRuntime) -> Result<(), Fail> {
 #[test]
 fn rows_sent_again_act_once_and_are_confirmed(rt: HostRuntime) -> Result<(), Fail> {
     let alloc = rt.alloc();
-    let mut cabinet = cabinet(alloc, &[])?;
-    let mut first = MemSource::new(alloc, ROWS, &[]).ok().ok_or("an input")?;
-    let mut again = MemSource::new(alloc, ROWS, &[]).ok().ok_or("an input")?;
-    let mut report = MemSink::new(alloc, 4096, &[]).ok().ok_or("an output")?;
-    let mut same = MemSink::new(alloc, 4096, &[]).ok().ok_or("an output")?;
-    let mut text = MemSink::new(alloc, 4096, &[]).ok().ok_or("an output")?;
-    let mut none = MemSink::new(alloc, 4096, &[]).ok().ok_or("an output")?;
-    let end = import(
-        &rt,
-        alloc,
-        b"S",
-        2,
-        &mut first,
-        &mut report,
-        &mut cabinet,
-        &Horner,
-        &NoGate,
-    );
-    assert_eq!(rt; end, End::Done);
-    let end = import(
-        &rt,
-        alloc,
-        b"S",
-        16,
-        &mut again,
-        &mut same,
-        &mut cabinet,
-        &Horner,
-        &NoGate,
-    );
-    assert_eq!(rt; end, End::Done);
-    assert!(rt; is_report(report.bytes(), 3));
-    assert!(rt; is_report(same.bytes(), 3));
-    let key = Key {
-        desk: DeskName::read(b"ALPHA").ok().ok_or("a desk")?,
-        reference: Reference::read(b"T0001").ok().ok_or("a reference")?,
-    };
-    assert_eq!(rt; confirm(b"S", &key, &mut text, &mut cabinet), End::Done);
+    let mut keepers = Vec::new(alloc);
+    keepers.push((b"S".to_vec(alloc)?, MemKeeper::new(alloc, &[])?))?;
+    let mut cabinet = MemCabinet::new(alloc, keepers, &[])?;
+    let (first, report) = import_into(&rt, alloc, &mut cabinet, 2, ROWS, &[])?;
+    let (again, same) = import_into(&rt, alloc, &mut cabinet, 16, ROWS, &[])?;
+    assert_eq!(rt; (first, again), (End::Done, End::Done));
+    assert!(rt; is_report(report.bytes(), 3) && is_report(same.bytes(), 3));
+    let (kept, text) = confirm_from(alloc, &mut cabinet, b"ALPHA")?;
+    assert_eq!(rt; kept, End::Done);
     assert_eq!(rt; text.bytes(), CONFIRMATION.as_bytes());
-    let other = Key {
-        desk: DeskName::read(b"BETA").ok().ok_or("a desk")?,
-        ..key
-    };
-    assert_eq!(rt;
-        confirm(b"S", &other, &mut none, &mut cabinet),
-        End::Refused
-    );
-    assert_eq!(rt; none.bytes(), b"REFUSED 2 UnknownTrade\n".as_slice());
+    let (unknown, line) = confirm_from(alloc, &mut cabinet, b"BETA")?;
+    assert_eq!(rt; unknown, End::Refused);
+    assert_eq!(rt; line.bytes(), b"REFUSED 2 UnknownTrade\n".as_slice());
     Ok(())
 }
 
