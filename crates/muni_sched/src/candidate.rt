@@ -29,6 +29,7 @@ pub struct Candidate {
 }
 
 impl Default for Candidate {
+    /// An empty slot of a list. No contract reads it.
     fn default() -> Self {
         Candidate {
             date: Day::FIRST,
