@@ -11,9 +11,11 @@ use muni_terms::{IssueRow, Kind, Label, check};
 use std::test::Fail;
 
 fn number(case: &Sample<'_>, name: &str) -> Result<u64, Fail> {
-    Ok(u64::try_from(case.number(name).ok_or("a number")?)
-        .ok()
-        .ok_or("a number")?)
+    Ok(
+        u64::try_from(case.number(name).ok_or("a number")?)
+            .ok()
+            .ok_or("a number")?,
+    )
 }
 
 fn cents(case: &Sample<'_>, name: &str) -> Result<Cents, Fail> {
@@ -100,10 +102,8 @@ fn version(case: &Sample<'_>) -> Result<Version, Fail> {
 // Whether a text is that of a case, which has a tilde for each line end.
 fn is_text(text: &[u8], wanted: &str) -> bool {
     text.len() == wanted.len()
-        && text
-            .iter()
-            .zip(wanted.bytes())
-            .all(|(byte, wanted)| *byte == wanted || (*byte == b'\n' && wanted == b'~'))
+        && text.iter().zip(wanted.bytes()).all(|(byte, wanted)| *byte == wanted
+            || (*byte == b'\n' && wanted == b'~'))
 }
 
 #[test]
