@@ -1,6 +1,7 @@
 //! The two places between which a yield is sought.
 
 ghost use Rattle.std.specs.Prelude.{◌≡◌, ◌+◌, ◌<◌, ◌≤◌, true, false, ℕ, ℤ};
+ghost use Rattle.muni_rule.specs.PrintedYield.{boundary};
 ghost use Rattle.muni_rule.specs.declared.verdict.Verdict.{Verdict};
 ghost use Rattle.muni_yield.specs.Bracket as spec;
 ghost use Rattle.muni_yield.specs.Bracket.{IsAnswered, IsBracket, IsQuestion};
@@ -132,6 +133,8 @@ impl Bracket {
     /// long as their answers are the same.
     pub fn discount(&self) -> Discount
         requires { spec.is_settled self.now ≡ false }
+        ensures y { result.y ≡ boundary (yield_at (spec.question self.now)) }
+        ensures a { result.a ≡ self.now.series.a }
     {
         Discount::at(boundary_at(self.question()), self.flows.a())
     }
