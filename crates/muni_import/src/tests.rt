@@ -74,10 +74,10 @@ fn rows_are_commands_or_faults(rt: HostRuntime) -> Result<(), Fail> {
             }
             let row = rows.get(place).ok_or("a row")?;
             assert!(rt; is_kind(row, kind), "{line}");
-            place += 1;
+            place = place.wrapping_add(1);
         }
         assert_eq!(rt; place, rows.len(), "{line}");
-        count += 1;
+        count = count.wrapping_add(1);
     }
     assert!(rt; count >= 120);
     Ok(())

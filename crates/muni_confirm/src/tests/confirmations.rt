@@ -4,10 +4,10 @@ use arrayvec::ArrayVec;
 use muni_days::{Basis, Day};
 use muni_dec::{Cents, Coupon, Fee, Par, Price, Price3, Yield3};
 use muni_msg::{
-    Act, Asked, DeskName, Figures, Key, Reference, Terms, Version, read_given, read_side,
+    Act, Asked, DeskName, Figures, Given, Key, Reference, Terms, Version, read_given, read_side,
 };
 use muni_samples::Sample;
-use muni_terms::{IssueRow, Kind, Label, check};
+use muni_terms::{Issue, IssueRow, Kind, Label, check};
 use std::test::Fail;
 
 fn number(case: &Sample<'_>, name: &str) -> Result<u64, Fail> {
@@ -58,15 +58,13 @@ fn key(case: &Sample<'_>) -> Result<Key, Fail> {
     })
 }
 
-fn asked(case: &Sample<'_>) -> Result<Asked, Fail> {
-    let on = case.text("on=").ok_or("what is given")?;
-    let value = case.text("value=").ok_or("a value")?;
+fn asked(case: &Sample<'_>, given: Given) -> Result<Asked, Fail> {
     let fee = case.text("fee=").ok_or("a commission")?;
     Ok(Asked {
         cusip: *b"123456AA3",
         par: Par::of(number(case, "par=")?).ok_or("a par")?,
         settle: day(case, "settle=")?,
-        given: read_given(on, value).ok_or("what is given")?,
+        given,
         side: read_side(case.text("side=").ok_or("a side")?).ok_or("a side")?,
         fee: Fee::read(fee).ok().ok_or("a commission")?,
     })
@@ -89,14 +87,30 @@ fn figures(case: &Sample<'_>) -> Result<Figures, Fail> {
     })
 }
 
-fn version(case: &Sample<'_>) -> Result<Version, Fail> {
-    Ok(Version {
-        act: act(case)?,
-        terms: Terms {
-            asked: asked(case)?,
-        },
-        figures: figures(case)?,
-    })
+fn given(case: &Sample<'_>) -> Result<Given, Fail> {
+    let on = case.text("on=").ok_or("what is given")?;
+    let value = case.text("value=").ok_or("a value")?;
+    Ok(read_given(on, value).ok_or("what is given")?)
+}
+
+fn confirm(
+    case: &Sample<'_>,
+    issue: &Issue,
+    number: u32,
+    text: &mut ArrayVec<u8, 1024>,
+) -> Result<(), Fail> {
+    let key = key(case)?;
+    let act = act(case)?;
+    let figures = figures(case)?;
+    let given: Given = given(case)?;
+    let asked = asked(case, given)?;
+    let version = Version {
+        act,
+        terms: Terms { asked },
+        figures,
+    };
+    confirmation(issue, &key, number, &version, text);
+    Ok(())
 }
 
 // Whether a text is that of a case, which has a tilde for each line end.
@@ -118,7 +132,7 @@ fn each_act_side_kind_and_basis_is_confirmed(rt: HostRuntime) -> Result<(), Fail
         let number = u32::try_from(number(&case, "number=")?)
             .ok()
             .ok_or("a number")?;
-        confirmation(&issue, &key(&case)?, number, &version(&case)?, &mut text);
+        confirm(&case, &issue, number, &mut text)?;
         assert!(rt; is_text(&text, wanted), "{line}");
     }
     Ok(())
@@ -133,7 +147,7 @@ fn the_longest_names_are_confirmed(rt: HostRuntime) -> Result<(), Fail> {
     );
     let mut name = ArrayVec::new();
     for _ in 0..60 {
-        name.push(b'N');
+        let _ = name.try_push(b'N');
     }
     let note = IssueRow {
         cusip: *b"123456AA3",
@@ -147,7 +161,7 @@ fn the_longest_names_are_confirmed(rt: HostRuntime) -> Result<(), Fail> {
     };
     let issue = check(note).ok().ok_or("an issue")?;
     let mut text = ArrayVec::new();
-    confirmation(&issue, &key(&case)?, u32::MAX, &version(&case)?, &mut text);
+    confirm(&case, &issue, u32::MAX, &mut text)?;
     assert_eq!(rt;
         text.as_slice(),
         b"CANCELED CONFIRMATION 4294967295
@@ -199,7 +213,7 @@ fn a_usual_confirmation_has_324_bytes(rt: HostRuntime) -> Result<(), Fail> {
     let issue = check(bond).ok().ok_or("an issue")?;
     let mut text = ArrayVec::new();
     text.push(b'x');
-    confirmation(&issue, &key(&case)?, 1, &version(&case)?, &mut text);
+    confirm(&case, &issue, 1, &mut text)?;
     assert_eq!(rt;
         text.as_slice(),
         b"CONFIRMATION 1
