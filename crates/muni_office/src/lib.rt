@@ -6,8 +6,6 @@ mod end;
 mod imports;
 mod input;
 mod rows;
-#[cfg(test)]
-mod tests;
 
 pub use confirmations::confirm;
 pub use end::End;
