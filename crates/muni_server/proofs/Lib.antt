@@ -1,0 +1,5 @@
+pub mod ServesLemmas
+pub mod ConnectionLemmas
+pub mod StoreLemmas
+pub mod AnswerLemmas
+pub mod RunLemmas

@@ -1,0 +1,160 @@
+//! Connections, served one after another.
+
+ghost use Rattle.std.specs.Prelude.{◌≡◌, ◌≢◌, ◌≤◌, ℕ, List, [], Some, None, is_some, IfOk, IfSome, IsSome, OnErr};
+ghost use Rattle.muni_book.specs.Answers.{IsRightAnswer};
+ghost use Rattle.muni_edge.specs.Sink.{Rose};
+ghost use Rattle.muni_server.specs.Connections.{IsNext, IsRun, IsRunOver};
+ghost use Rattle.muni_server.specs.Serves.{traffic};
+
+use crate::answers::answer_one;
+use crate::end::End;
+use crate::served::Served;
+use muni_edge::{Door, Failed, Gate};
+use muni_keep::{Cabinet, KeepFault, Keeper};
+use muni_multi::Encloser;
+use std::alloc::Global;
+use std::thread::Threads;
+
+/// Serves up to `connections` connections that come in by a door, one after the other, over the
+/// tables of a store.
+///
+/// The store is fetched first, and given back at the end; then the door is bound to the port. What a
+/// connection does or suffers ends that connection alone.
+// Up to `workers` threads look for each yield, and the gate is told when they begin (tested).
+pub fn serve<R: Threads + Sync, C: Cabinet, D: Door, E: Encloser + Sync, G: Gate + Sync>(
+    rt: &R,
+    alloc: Global,
+    store: &[u8],
+    port: u16,
+    connections: u32,
+    workers: u32,
+    cabinet: &mut C,
+    door: &mut D,
+    encloser: &E,
+    gate: &G,
+) -> End
+    requires workers { (1 ≤ workers) × (workers ≤ 16) }
+    requires none_out { C.out cabinet.old ≡ None }
+
+    // Which connections are served, where the door tells its links.
+    ensures run { IfSome (D.state door.old) (λ d. IsRunOver (IsRightAnswer (E.ends encloser.now))
+        (traffic D.L.left D.L.bytes D.L.Source.faults D.L.Sink.faults) port connections
+        d (D.state door.new) (C.told cabinet.old store.now) (C.told cabinet.new store.now)
+        (C.faults cabinet.old) (C.faults cabinet.new) result) }
+    ensures bound { result ≡ End.Done → IfSome (D.state door.new) (λ d. d.port ≡ Some port) }
+
+    // The tables of other stores stay as they are, and no keeper stays out.
+    ensures others { (other : List ℕ) → other ≢ store.now → C.told cabinet.new other ≡ C.told cabinet.old other }
+    ensures tells { (other : List ℕ) → is_some (C.told cabinet.new other) ≡ is_some (C.told cabinet.old other) }
+    ensures none_out { C.out cabinet.new ≡ None }
+
+    // When each fault comes. One of the store leaves the door as it was.
+    ensures store_fault { result ≡ End.StoreFault → Rose (C.faults cabinet.old) (C.faults cabinet.new) }
+    ensures unopened { result ≡ End.StoreFault → door.new ≡ door.old }
+    ensures door_fault { result ≡ End.DoorFault → Rose (D.faults door.old) (D.faults door.new) }
+    ensures door_later { D.faults door.old ≤ D.faults door.new }
+{
+    let mut keeper = match cabinet.fetch(store) {
+        Ok(keeper) => keeper,
+        Err(KeepFault::Failed) => return End::StoreFault,
+        Err(KeepFault::NoMemory) => return End::NoMemory,
+    };
+    let end = serve_links(
+        rt,
+        alloc,
+        port,
+        connections,
+        workers,
+        &mut keeper,
+        door,
+        encloser,
+        gate,
+    );
+    cabinet.give_back(keeper);
+    end
+}
+
+// Serves connections over the tables of a keeper.
+fn serve_links<R: Threads + Sync, K: Keeper, D: Door, E: Encloser + Sync, G: Gate + Sync>(
+    rt: &R,
+    alloc: Global,
+    port: u16,
+    connections: u32,
+    workers: u32,
+    keeper: &mut K,
+    door: &mut D,
+    encloser: &E,
+    gate: &G,
+) -> End
+    requires workers { (1 ≤ workers) × (workers ≤ 16) }
+
+    ensures run { IfSome (D.state door.old) (λ d. IsRun (IsRightAnswer (E.ends encloser.now))
+        (traffic D.L.left D.L.bytes D.L.Source.faults D.L.Sink.faults) port connections
+        d (D.state door.new) (K.tables keeper.old) (K.tables keeper.new)
+        (K.faults keeper.old) (K.faults keeper.new) result) }
+    ensures bound { result ≡ End.Done → IfSome (D.state door.new) (λ d. d.port ≡ Some port) }
+    ensures door_fault { result ≡ End.DoorFault → Rose (D.faults door.old) (D.faults door.new) }
+    ensures no_store_fault { result ≢ End.StoreFault }
+
+    ensures tells { is_some (K.tables keeper.new) ≡ is_some (K.tables keeper.old) }
+    ensures later { K.faults keeper.old ≤ K.faults keeper.new }
+    ensures mark { K.mark keeper.new ≡ K.mark keeper.old }
+    ensures door_later { D.faults door.old ≤ D.faults door.new }
+{
+    if door.bind(port).is_err() {
+        return End::DoorFault;
+    }
+    let mut end = End::Done;
+    for count in 0..connections {
+        let _count = count;
+        match serve_next(rt, alloc, workers, keeper, door, encloser, gate) {
+            Ok(Some(served)) => end = end.after(served),
+            Ok(None) => return end,
+            Err(Failed) => return End::DoorFault,
+        }
+    }
+    end
+}
+
+// Serves the first connection that waits, if one does, and hands it back.
+fn serve_next<R: Threads + Sync, K: Keeper, D: Door, E: Encloser + Sync, G: Gate + Sync>(
+    rt: &R,
+    alloc: Global,
+    workers: u32,
+    keeper: &mut K,
+    door: &mut D,
+    encloser: &E,
+    gate: &G,
+) -> Result<Option<Served>, Failed>
+    requires workers { (1 ≤ workers) × (workers ≤ 16) }
+    requires bound { IfSome (D.state door.old) (λ d. IsSome d.port) }
+
+    ensures next { (served : Served) → result ≡ Ok (Some served) → IfSome (D.state door.old) (λ d.
+        IsNext (IsRightAnswer (E.ends encloser.now))
+        (traffic D.L.left D.L.bytes D.L.Source.faults D.L.Sink.faults)
+        d (D.state door.new) (K.tables keeper.old) (K.tables keeper.new)
+        (K.faults keeper.old) (K.faults keeper.new) served) }
+    ensures none { result ≡ Ok None → (D.state door.new ≡ D.state door.old)
+        × IfSome (D.state door.old) (λ d. d.waiting ≡ []) }
+    ensures unchanged { OnErr result (D.state door.new ≡ D.state door.old) }
+    ensures unserved { (result ≡ Ok None → keeper.new ≡ keeper.old) × OnErr result (keeper.new ≡ keeper.old) }
+    ensures failed { OnErr result (Rose (D.faults door.old) (D.faults door.new)) }
+
+    ensures port { (port : ℕ) → IfSome (D.state door.old) (λ d. d.port ≡ Some port)
+        → IfSome (D.state door.new) (λ d. d.port ≡ Some port) }
+    ensures tells { is_some (K.tables keeper.new) ≡ is_some (K.tables keeper.old) }
+    ensures later { K.faults keeper.old ≤ K.faults keeper.new }
+    ensures mark { K.mark keeper.new ≡ K.mark keeper.old }
+    ensures door_later { D.faults door.old ≤ D.faults door.new }
+{
+    match door.accept() {
+        Ok(Some(link)) => {
+            let mut link = link;
+            let served = answer_one(rt, alloc, &mut link, keeper, workers, encloser, gate);
+            door.hand_back(link);
+            Ok(Some(served))
+        }
+        Ok(None) => Ok(None),
+        Err(Failed) => Err(Failed),
+    }
+}
