@@ -1,0 +1,5 @@
+pub mod Elapsed
+pub mod Patches
+pub mod Pieces
+pub mod Runs
+pub mod Truth

@@ -1,0 +1,4 @@
+pub mod Bytes
+pub mod Disk
+pub mod Past
+pub mod Moments

@@ -1,0 +1,81 @@
+//! Puts a piece behind a closed gate and opens the gate, so that a stop leaves the slot whole or not
+//! at all.
+
+ghost use Rattle.std.specs.Prelude.{◌≡◌, ◌≢◌, ◌<◌, ◌≤◌, ◌+◌, ◌^◌, length, is_some, OnOk, IsErrOf};
+ghost use Rattle.muni_edge.specs.Sink.{Rose};
+ghost use Rattle.muni_disk.specs.Bytes.{byte_at, IsSameOutside};
+ghost use Rattle.muni_disk.specs.Disk.{ComesFrom, StopsLeave, HasCause};
+ghost use Rattle.muni_slots.specs.Slots.{IsStep, IsTakenBack, AllImages};
+ghost use Rattle.muni_slots.specs.Outcome.{Leaves};
+
+use muni_disk::{Disk, DiskFault};
+
+/// The byte of a gate that is open. Any other byte is a closed gate.
+const OPEN: u8 = 1;
+
+/// The byte with which a gate is closed.
+const CLOSED: u8 = 0;
+
+/// Why a slot was not put.
+#[derive(Clone, Copy, Debug, PartialEq, Eq)]
+pub enum Unput {
+    /// Its gate was not touched, and is closed.
+    Unopened(DiskFault),
+    /// Its gate may be open or not.
+    InDoubt(DiskFault),
+}
+
+/// Puts a piece behind the closed gate at the place `gate`, and then opens the gate.
+///
+/// The piece is to end with the closed gate of the next slot. Two writes and two syncs.
+pub fn put_slot<D: Disk>(disk: &mut D, gate: u64, piece: &[u8]) -> Result<(), Unput>
+    requires room { gate + length piece.now + 1 < 2 ^ 41 }
+    requires closed { AllImages (D.image disk.old) (λ c. byte_at c gate ≢ 1) }
+
+    // Each image since the call began is one from before it, with the whole slot or with a closed gate.
+    ensures stops { StopsLeave D.clock D.since disk.old disk.new
+        (ComesFrom (IsStep gate piece.now) (D.image disk.old)) }
+    // Which of them the images are at the end.
+    ensures leaves { Leaves gate piece.now (D.image disk.old) (D.image disk.new) result }
+
+    ensures tells { is_some (D.bytes disk.new) ≡ is_some (D.bytes disk.old) }
+    ensures later { D.faults disk.old ≤ D.faults disk.new }
+    ensures unopened { IsErrOf result (Unput.Unopened DiskFault.Failed)
+        → Rose (D.faults disk.old) (D.faults disk.new) }
+    ensures in_doubt { IsErrOf result (Unput.InDoubt DiskFault.Failed)
+        → Rose (D.faults disk.old) (D.faults disk.new) }
+{
+    if let Err(fault) = disk.write(gate + 1, piece) {
+        return Err(Unput::Unopened(fault));
+    }
+    if let Err(fault) = disk.sync() {
+        return Err(Unput::Unopened(fault));
+    }
+    if let Err(fault) = disk.write(gate, &[OPEN]) {
+        return Err(Unput::InDoubt(fault));
+    }
+    if let Err(fault) = disk.sync() {
+        return Err(Unput::InDoubt(fault));
+    }
+    Ok(())
+}
+
+/// Closes the gate of a slot that may be open or not.
+pub fn take_back<D: Disk>(disk: &mut D, gate: u64) -> Result<(), DiskFault>
+    requires { gate + 1 < 2 ^ 41 }
+
+    // Each image since the call began is one from before it, but for the gate.
+    ensures stops { StopsLeave D.clock D.since disk.old disk.new
+        (ComesFrom (IsSameOutside gate 1) (D.image disk.old)) }
+    ensures images { AllImages (D.image disk.new)
+        (ComesFrom (IsSameOutside gate 1) (D.image disk.old)) }
+    ensures closed { OnOk result
+        (AllImages (D.image disk.new) (ComesFrom (IsTakenBack gate) (D.image disk.old))) }
+
+    ensures tells { is_some (D.bytes disk.new) ≡ is_some (D.bytes disk.old) }
+    ensures cause { HasCause (D.faults disk.old) (D.faults disk.new) result }
+{
+    disk.write(gate, &[CLOSED])?;
+    disk.sync()?;
+    Ok(())
+}
