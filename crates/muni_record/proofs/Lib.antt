@@ -1,0 +1,5 @@
+pub mod BodyLaws
+pub mod CallLemmas
+pub mod IssueLaws
+pub mod VersionLaws
+pub mod WordLaws

@@ -1,0 +1,7 @@
+pub mod Words
+pub mod Codes
+pub mod Fields
+pub mod IssueBody
+pub mod VersionBody
+pub mod Body
+pub mod Laws

@@ -1,0 +1,16 @@
+//! What the desk keeps, as the bytes of a journal: the body of an issue and that of a version, both
+//! ways. One value has one body.
+#![tactic(auto)]
+
+mod body;
+mod codes;
+mod fields;
+mod issue_body;
+mod laws;
+mod put;
+mod version_body;
+
+pub use body::{body_of, put_of};
+pub use fields::Body;
+pub use laws::bodies_are_puts;
+pub use put::Put;

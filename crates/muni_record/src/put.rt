@@ -1,0 +1,48 @@
+//! What is put into the tables of the desk.
+
+ghost use Rattle.std.specs.Prelude.{◌≡◌};
+
+use muni_msg::{Key, Version};
+use muni_terms::Issue;
+
+/// What is put into the tables of the desk.
+#[derive(Drop)]
+pub enum Put {
+    Issue(Issue),
+    /// The version of a trade with this number.
+    Version {
+        key: Key,
+        number: u32,
+        version: Version,
+    },
+}
+
+impl Put {
+    /// A put of equal value.
+    pub fn copy(&self) -> Put
+        ensures { result ≡ self.now }
+    {
+        match self {
+            Put::Issue(issue) => Put::Issue(issue.copy()),
+            Put::Version {
+                key,
+                number,
+                version,
+            } => Put::Version {
+                key: copy_key(key),
+                number: *number,
+                version: *version,
+            },
+        }
+    }
+}
+
+/// A key of equal value.
+pub(crate) fn copy_key(key: &Key) -> Key
+    ensures { result ≡ key.now }
+{
+    Key {
+        desk: key.desk.copy(),
+        reference: key.reference.copy(),
+    }
+}
