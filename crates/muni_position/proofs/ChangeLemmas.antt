@@ -1,0 +1,107 @@
+-- The holdings of a desk after a put.
+use Rattle.std.proofs.Common.{◌≡◌, ◌+◌, ◌≤◌, ◌^◌, ◌-◌, min, ℕ, Bool, true, false, cond, List, map, Option, Some, None, Result, Ok, Err, refl, sym, ap, subst, ◌∙◌, arith}
+use Rattle.std.specs.Prelude.{IfSome, OnOk, OnErr}
+use Rattle.std.specs.Option.{unwrap_or, option_map}
+use Rattle.std.specs.Ordering.{eq_by_cmp}
+use Rattle.std.specs.Cmp.Lexicographic.{nat_list_cmp_total}
+use Rattle.std.specs.FinMap.{empty, get, entries, get-insert}
+use Rattle.std.proofs.lemmas.Map.Lookups.{exact_bytes}
+use Rattle.std.proofs.lemmas.Map.Views.{tells_apart}
+use Rattle.muni_msg.specs.declared.command.Key.{Key}
+use Rattle.muni_msg.specs.declared.version.Version.{Version}
+use Rattle.muni_keep.specs.Tables.{Tables, last_at, with_version}
+use Rattle.muni_keep.specs.Trades.{by_bytes, own, put_own}
+use Rattle.muni_position.specs.Change.{IsChange, IsMoved, after_change, named_before}
+use Rattle.muni_position.specs.Positions.{last_versions, position_of}
+use Rattle.muni_position.specs.Holding.{nothing, share, share_of_last, plus, holding_of, position_in, IsInRange}
+use Rattle.muni_position.specs.Holdings.{Holdings, kept, AreInRange, AreOf, AreRight, is_watched}
+use Rattle.muni_position.specs.declared.change.Change.{Change}
+use Rattle.muni_position.specs.declared.holding.Holding.{Holding}
+use Rattle.muni_position.specs.declared.position.Position.{Position}
+use Rattle.muni_position.proofs.HoldingLemmas.{cancel, position_is}
+use Rattle.muni_position.proofs.PutLemmas.{holding_after}
+use Rattle.muni_position.proofs.SumLemmas.{share_other}
+
+-- the last version adds nothing to another CUSIP than the one that it names
+last_other : (cusip : List ℕ) (last : Option (ℕ × Version)) (version : Version) (before : List ℕ) → before ≡ named_before last version → eq_by_cmp by_bytes before cusip ≡ false → share_of_last cusip last ≡ nothing
+last_other cusip None version before named apart = refl
+last_other cusip (Some last) version before named apart = share_other cusip last.1 (ap (λ k. eq_by_cmp by_bytes k cusip) (sym named) ∙ apart)
+
+-- each holding is moved
+pub change_moves : (old room new : Holdings) (last : Option (ℕ × Version)) (version : Version) (change : Change) (cusip : List ℕ) → IsChange old last version change
+    → kept room cusip ≡ kept old cusip → kept new cusip ≡ after_change change room cusip → IsMoved cusip last version (kept old cusip) (kept new cusip)
+change_moves old room new last version change cusip is same made =
+    let moved = λ (h : Holding). IsMoved cusip last version (kept old cusip) h in
+    subst moved (sym made) (elim (eq_by_cmp by_bytes change.cusip cusip) as (λ b. eq_by_cmp by_bytes change.cusip cusip ≡ b → moved (cond b change.held (cond (eq_by_cmp by_bytes change.before cusip) change.left (kept room cusip)))) [
+      | true ↦ λ t. subst (λ k. IsMoved k last version (kept old k) change.held) (tells_apart exact_bytes change.cusip cusip t) is.held
+      | false ↦ λ here. elim (eq_by_cmp by_bytes change.before cusip) as (λ b. eq_by_cmp by_bytes change.before cusip ≡ b → moved (cond b change.left (kept room cusip))) [
+        | true ↦ λ t. subst (λ k. IsMoved k last version (kept old k) change.left) (tells_apart exact_bytes change.before cusip t) is.left
+        | false ↦ λ there.
+            ap (λ h. plus h (share_of_last cusip last)) same
+            ∙ ap (plus (kept old cusip)) (last_other cusip last version change.before is.before there ∙ sym (share_other cusip version (ap (λ k. eq_by_cmp by_bytes k cusip) (sym is.cusip) ∙ here)))
+      ] refl
+    ] refl)
+
+pub change_ranges : (old room new : Holdings) (last : Option (ℕ × Version)) (version : Version) (change : Change) (cusip : List ℕ) → IsChange old last version change
+    → AreInRange old → kept room cusip ≡ kept old cusip → kept new cusip ≡ after_change change room cusip → IsInRange (kept new cusip)
+change_ranges old room new last version change cusip is range same made =
+    subst IsInRange (sym made) (elim (eq_by_cmp by_bytes change.cusip cusip) as (λ b. IsInRange (cond b change.held (cond (eq_by_cmp by_bytes change.before cusip) change.left (kept room cusip)))) [
+      | true ↦ is.held_range
+      | false ↦ elim (eq_by_cmp by_bytes change.before cusip) as (λ b. IsInRange (cond b change.left (kept room cusip))) [
+        | true ↦ is.left_range
+        | false ↦ subst IsInRange (sym same) (range cusip)
+      ]
+    ])
+
+watched_is : (watched : Option (List ℕ)) (desk name : List ℕ) → is_watched watched name ≡ true → watched ≡ Some desk → name ≡ desk
+watched_is None desk name tested is = absurd (cc tested)
+watched_is (Some watched) desk name tested is =
+    let same : watched ≡ desk = cc is in
+    sym (tells_apart exact_bytes watched name tested) ∙ same
+
+-- the holdings are right after a put of the watched desk
+pub right_after : (watched : Option (List ℕ)) (told now : Option Tables) (old new : Holdings) (key : Key) (version : Version) (last : Option (ℕ × Version))
+    → is_watched watched key.desk ≡ true → AreRight watched told old → IfSome told (λ t. last ≡ last_at t key)
+    → now ≡ option_map (with_version key version) told → ((cusip : List ℕ) → IsMoved cusip last version (kept old cusip) (kept new cusip)) → AreRight watched now new
+right_after watched None now old new key version last tested right found is moves = λ desk tables w t. absurd (cc (is, t))
+right_after watched (Some told) now old new key version last tested right found is moves = λ desk tables w t cusip.
+    let name : key.desk ≡ desk = watched_is watched desk key.desk tested w in
+    let both : Some (with_version key version told) ≡ Some tables = sym is ∙ t in
+    let same : with_version key version told ≡ tables = cc both in
+    let was = right key.desk told (w ∙ ap Some (sym name)) refl cusip in
+    let after = holding_after cusip key version told in
+    let all = moves cusip ∙ ap (λ h. plus h (share cusip version)) was ∙ sym after ∙ ap (λ l. plus (holding_of cusip (last_versions key.desk (with_version key version told))) (share_of_last cusip l)) (sym found) in
+    cancel _ _ _ all ∙ ap (λ d. holding_of cusip (last_versions d (with_version key version told))) name ∙ ap (λ t. holding_of cusip (last_versions desk t)) same
+
+versions_other : (desk : List ℕ) (key : Key) (version : Version) (tables : Tables) → eq_by_cmp by_bytes desk key.desk ≡ false → last_versions desk (with_version key version tables) ≡ last_versions desk tables
+versions_other desk key version tables apart =
+    ap (λ found. map (λ trade. trade.1.last) (entries (unwrap_or found empty)))
+    (get-insert nat_list_cmp_total tables.desks key.desk (put_own key.reference version (own key.desk tables.desks)) desk
+    ∙ ap (λ b. cond b (Some (put_own key.reference version (own key.desk tables.desks))) (get tables.desks desk)) apart)
+
+-- and after one of another desk
+other_after : (watched : Option (List ℕ)) (told now : Option Tables) (holdings : Holdings) (key : Key) (version : Version)
+    → is_watched watched key.desk ≡ false → AreRight watched told holdings → now ≡ option_map (with_version key version) told → AreRight watched now holdings
+other_after watched None now holdings key version tested right is = λ desk tables w t. absurd (cc (is, t))
+other_after None (Some told) now holdings key version tested right is = λ desk tables w t. absurd (cc w)
+other_after (Some watched) (Some told) now holdings key version tested right is = λ desk tables w t cusip.
+    let both : Some (with_version key version told) ≡ Some tables = sym is ∙ t in
+    let same : with_version key version told ≡ tables = cc both in
+    let name : watched ≡ desk = cc w in
+    right desk told w refl cusip
+    ∙ ap (holding_of cusip) (sym (versions_other desk key version told (ap (λ d. eq_by_cmp by_bytes d key.desk) (sym name) ∙ tested)) ∙ ap (last_versions desk) same)
+
+pub right_still : (watched : Option (List ℕ)) (told now : Option Tables) (holdings : Holdings) → AreRight watched told holdings → now ≡ told → AreRight watched now holdings
+right_still watched told now holdings right same = λ desk tables w t. right desk tables w (sym same ∙ t)
+
+pub other_put : {T E : Type 0} (result : Result T E) (watched : Option (List ℕ)) (told now : Option Tables) (holdings : Holdings) (key : Key) (version : Version)
+    → is_watched watched key.desk ≡ false → AreRight watched told holdings → OnOk result (now ≡ option_map (with_version key version) told) → OnErr result (now ≡ told) → AreRight watched now holdings
+other_put (Ok x) watched told now holdings key version tested right put same = other_after watched told now holdings key version tested right put
+other_put (Err e) watched told now holdings key version tested right put same = right_still watched told now holdings right same
+
+-- what is kept is the position over the tables
+pub told_position : (watched : Option (List ℕ)) (told : Option Tables) (holdings : Holdings) (cusip : List ℕ) (position : Position) → AreRight watched told holdings
+    → position ≡ position_in (kept holdings cusip) → IfSome watched (λ desk. IfSome told (λ t. position ≡ position_of cusip (last_versions desk t)))
+told_position None told holdings cusip position right is = tt
+told_position (Some desk) None holdings cusip position right is = tt
+told_position (Some desk) (Some t) holdings cusip position right is = is ∙ ap position_in (right desk t refl refl cusip) ∙ position_is cusip (last_versions desk t)

@@ -1,0 +1,38 @@
+-- How a put changes the holdings of a desk.
+use Rattle.std.specs.Prelude.{◌≡◌, ◌≢◌, ℕ, List, Option, Some, None, if◌then◌else◌}
+use Rattle.std.specs.Ordering.{eq_by_cmp}
+use Rattle.muni_msg.specs.declared.version.Version.{Version}
+use Rattle.muni_keep.specs.Trades.{by_bytes}
+use Rattle.muni_position.specs.Holding.{plus, share, share_of_last, IsInRange}
+use Rattle.muni_position.specs.Holdings.{Holdings, kept}
+use Rattle.muni_position.specs.declared.holding.Holding.{Holding}
+use Rattle.muni_position.specs.declared.change.Change.{Change}
+
+-- the CUSIP that a trade named before a version, or that of the version where it is the first
+abbrev pub named_before : Option (ℕ × Version) → Version → List ℕ
+named_before None version = version.terms.asked.cusip
+named_before (Some last) version = last.1.terms.asked.cusip
+
+-- a holding after a put: what the last version added is gone, and what the next one adds is there
+abbrev pub IsMoved : List ℕ → Option (ℕ × Version) → Version → Holding → Holding → Type 0
+IsMoved cusip last version old new = plus new (share_of_last cusip last) ≡ plus old (share cusip version)
+
+-- the holdings of the two CUSIPs after a put
+pub record IsChange (holdings : Holdings) (last : Option (ℕ × Version)) (version : Version) (change : Change) : Type 0 where
+  pub before : change.before ≡ named_before last version
+  pub cusip : change.cusip ≡ version.terms.asked.cusip
+  pub left : IsMoved change.before last version (kept holdings change.before) change.left
+  pub held : IsMoved change.cusip last version (kept holdings change.cusip) change.held
+  pub left_range : IsInRange change.left
+  pub held_range : IsInRange change.held
+
+-- no holding in its range comes after the put of a version
+abbrev pub HasNoRoom : Holdings → Option (ℕ × Version) → Version → List ℕ → Type 0
+HasNoRoom holdings last version cusip =
+    (h : Holding) → IsInRange h → ¬ (IsMoved cusip last version (kept holdings cusip) h)
+
+-- what is kept of a CUSIP after a change
+abbrev pub after_change : Change → Holdings → List ℕ → Holding
+after_change change holdings cusip =
+    if eq_by_cmp by_bytes change.cusip cusip then change.held
+    else (if eq_by_cmp by_bytes change.before cusip then change.left else kept holdings cusip)

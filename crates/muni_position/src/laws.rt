@@ -1,0 +1,9 @@
+//! What holds of the positions of each desk.
+
+ghost use Rattle.muni_position.specs.Laws.{PositionsAreThoseHeld};
+
+/// Positions stand in the order of their CUSIPs, each once. A CUSIP is among them, with its position,
+/// exactly where a trade of it stands.
+pub fn positions_are_those_held()
+    ensures { PositionsAreThoseHeld }
+{}

@@ -1,0 +1,16 @@
+//! The positions of a desk, kept beside any keeper as its trades are put.
+#![tactic(auto)]
+
+mod change;
+mod holding;
+mod holdings;
+mod laws;
+mod line;
+mod pages;
+mod position;
+mod positioned;
+
+pub use laws::positions_are_those_held;
+pub use line::position_line;
+pub use position::Position;
+pub use positioned::{Positioned, over};

@@ -1,0 +1,208 @@
+//! A keeper with the positions of one desk beside it.
+
+ghost use Rattle.std.specs.Prelude.{◌≡◌, ◌≢◌, ◌+◌, ◌≤◌, ℕ, List, Option, Some, None, IsSome, IfOk, IfSome, OnOk, OnErr, IsErrOf, slice_get};
+ghost use Rattle.std.specs.Option.{option_map};
+ghost use Rattle.muni_edge.specs.Calls.{one_more};
+ghost use Rattle.muni_edge.specs.Sink.{Rose};
+ghost use Rattle.muni_keep.specs.History.{next_number};
+ghost use Rattle.muni_keep.specs.Tables.{Tables, issue_at, trade_at, version_at, last_at, trade_count, page_at, with_issue, with_version};
+ghost use Rattle.muni_position.specs.Holding.{IsInRange, holding_of, position_in};
+ghost use Rattle.muni_position.specs.Holdings.{AreInRange, AreRight, HasFew, kept};
+ghost use Rattle.muni_position.specs.Holdings as spec;
+ghost use Rattle.std.specs.Range.Bound.{bound_map};
+ghost use Rattle.muni_position.specs.Positions.{last_versions, position_of, positions_of, past};
+
+use crate::change::Change;
+use crate::holdings::{Holdings, kept};
+use crate::pages::sum_desk;
+use crate::position::Position;
+use arrayvec::ArrayVec;
+use muni_keep::{KeepFault, Keeper};
+use muni_msg::{DeskName, Key, Line, Reference, Version};
+use muni_terms::Issue;
+use std::alloc::Global;
+use std::collections::BTreeMap;
+use std::ops::Bound;
+
+/// A keeper, and the holdings of one desk over its trades, which change with each put.
+///
+/// It keeps what the inner one keeps. Its count of faults is that of the inner one and its own.
+#[derive(Drop)]
+pub struct Positioned<K: Keeper> {
+    alloc: Global,
+    inner: K,
+    faults: u64,
+    desk: Option<DeskName>,
+    holdings: Holdings,
+    ghost range: { AreInRange holdings },
+    ghost right: { AreRight desk (K.tables inner) holdings },
+}
+
+fn bound_past(after: &Option<[u8; 9]>) -> Bound<&[u8; 9]>
+    ensures { bound_map (λ cusip. cusip.now) result ≡ spec.bound_past after.now }
+{
+    match after {
+        Some(after) => Bound::Excluded(after),
+        None => Bound::Unbounded,
+    }
+}
+
+/// A keeper over another one, which watches no desk yet.
+pub fn over<K: Keeper>(alloc: Global, inner: K) -> Positioned<K>
+    ensures inner { result.inner ≡ inner }
+    ensures faults { result.faults ≡ 0 }
+    ensures desk { result.desk ≡ None }
+{
+    Positioned {
+        alloc,
+        inner,
+        faults: 0,
+        desk: None,
+        holdings: BTreeMap::new(alloc),
+    }
+}
+
+impl<K: Keeper> Positioned<K> {
+    /// Sums the trades of a desk and watches it, and no other desk from then on. After a refusal it
+    /// watches none.
+    ///
+    /// A desk with more than 100,000 trades is a fault of its own.
+    pub fn watch(&mut self, desk: &DeskName) -> Result<(), KeepFault>
+        ensures watched { OnOk result (self.new.desk ≡ Some desk.now) }
+        ensures refused { OnErr result (self.new.desk ≡ None) }
+        ensures unchanged { K.tables self.new.inner ≡ K.tables self.old.inner }
+        ensures later { K.faults self.old.inner + self.old.faults ≤ K.faults self.new.inner + self.new.faults }
+        ensures failed { IsErrOf result KeepFault.Failed
+            → Rose (K.faults self.old.inner + self.old.faults) (K.faults self.new.inner + self.new.faults) }
+        ensures mark { K.mark self.new.inner ≡ K.mark self.old.inner }
+
+        // Its own count rises only where the desk has too many trades, and then it is refused.
+        ensures own { IfSome (K.tables self.old.inner) (λ t. HasFew desk.now t → self.new.faults ≡ self.old.faults) }
+        ensures few { OnOk result (IfSome (K.tables self.old.inner) (λ t. HasFew desk.now t)) }
+    {
+        self.desk = None;
+        let Some(holdings) = sum_desk(self.alloc, &mut self.inner, desk)? else {
+            self.faults = self.faults.saturating_add(1);
+            return Err(KeepFault::Failed);
+        };
+        self.holdings = holdings;
+        self.desk = Some(desk.copy());
+        Ok(())
+    }
+
+    /// The desk that is watched.
+    pub fn watched(&self) -> Option<DeskName>
+        ensures { result ≡ self.now.desk }
+    {
+        match &self.desk {
+            Some(desk) => Some(desk.copy()),
+            None => None,
+        }
+    }
+
+    /// What the watched desk holds of a CUSIP. It sums nothing.
+    pub fn position(&self, cusip: &[u8; 9]) -> Position
+        requires { IsSome self.now.desk }
+
+        // Where the keeper tells its tables, it is the sum over them as they are now.
+        ensures { IfSome self.now.desk (λ desk. IfSome (K.tables self.now.inner)
+            (λ t. result ≡ position_of cusip.now (last_versions desk t))) }
+    {
+        kept(&self.holdings, cusip).position()
+    }
+
+    /// The first CUSIP after another, or of all, that the watched desk holds, with its position. It sums
+    /// nothing.
+    pub fn next(&self, after: &Option<[u8; 9]>) -> Option<([u8; 9], Position)>
+        requires { IsSome self.now.desk }
+        ensures { IfSome self.now.desk (λ desk. IfSome (K.tables self.now.inner)
+            (λ t. result ≡ slice_get (past after.now (positions_of (last_versions desk t))) 0)) }
+    {
+        for (cusip, _) in self.holdings.range((bound_past(after), Bound::Unbounded)) {
+            let holding = kept(&self.holdings, cusip);
+            if holding.live > 0 {
+                return Some((*cusip, holding.position()));
+            }
+        }
+        None
+    }
+
+    /// The keeper inside.
+    pub fn back(self) -> K
+        ensures { result ≡ self.inner }
+    {
+        let Positioned {
+            alloc: _,
+            inner,
+            faults: _,
+            desk: _,
+            holdings: _,
+        } = self;
+        inner
+    }
+}
+
+impl<K: Keeper> Keeper for Positioned<K> {
+    ghost tables = { λ keeper. K.tables keeper.inner };
+
+    ghost faults = { λ keeper. K.faults keeper.inner + keeper.faults };
+
+    ghost mark = { λ keeper. K.mark keeper.inner };
+
+    fn issue(&mut self, cusip: &[u8; 9]) -> Result<Option<Issue>, KeepFault> {
+        self.inner.issue(cusip)
+    }
+
+    fn put_issue(&mut self, issue: &Issue) -> Result<(), KeepFault> {
+        self.inner.put_issue(issue)
+    }
+
+    fn version(&mut self, key: &Key, number: u32) -> Result<Option<Version>, KeepFault> {
+        self.inner.version(key, number)
+    }
+
+    fn last(&mut self, key: &Key) -> Result<Option<(u32, Version)>, KeepFault> {
+        self.inner.last(key)
+    }
+
+    fn put_version(&mut self, key: &Key, number: u32, version: &Version) -> Result<(), KeepFault> {
+        if !self.watches(&key.desk) {
+            return self.inner.put_version(key, number, version);
+        }
+        let last = self.inner.last(key)?;
+        let Some(change) = Change::of(&self.holdings, &last, version) else {
+            self.faults = self.faults.saturating_add(1);
+            return Err(KeepFault::Failed);
+        };
+        change.make_room(&mut self.holdings)?;
+        self.inner.put_version(key, number, version)?;
+        change.make(&mut self.holdings);
+        Ok(())
+    }
+
+    fn trades(&mut self, desk: &DeskName) -> Result<u32, KeepFault> {
+        self.inner.trades(desk)
+    }
+
+    fn page(
+        &mut self,
+        desk: &DeskName,
+        after: &Option<Reference>,
+    ) -> Result<ArrayVec<Line, 50>, KeepFault> {
+        self.inner.page(desk, after)
+    }
+}
+
+impl<K: Keeper> Positioned<K> {
+    ghost use Rattle.muni_position.specs.Holdings.{is_watched};
+
+    // Whether a desk is the one that is watched.
+    fn watches(&self, desk: &DeskName) -> bool
+        ensures { result ≡ is_watched self.now.desk desk.now }
+    {
+        match &self.desk {
+            Some(watched) => watched == desk,
+            None => false,
+        }
+    }
+}
