@@ -16,6 +16,9 @@ use muni_multi::Encloser;
 use std::alloc::Global;
 use std::thread::Threads;
 
+/// The greatest number of bytes of an import.
+pub const LIMIT: usize = 4_194_304;
+
 /// Applies each row of a CSV text to the tables of a store, and writes a line of report on each.
 ///
 /// The input is read whole before the store is fetched. Where the store fails at a row, or no memory
@@ -69,7 +72,7 @@ pub fn import<
     ensures write_fault { result ≡ End.WriteFault → Rose (O.faults output.old) (O.faults output.new) }
     ensures ends { IsImportEnd result }
 {
-    let text = match read_input(alloc, input) {
+    let text = match read_input(alloc, input, LIMIT) {
         Ok(text) => text,
         Err(InputFault::Failed) => return End::ReadFault,
         Err(InputFault::TooLarge) => return End::TooLarge,

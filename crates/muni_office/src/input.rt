@@ -1,6 +1,6 @@
 //! A whole input.
 
-ghost use Rattle.std.specs.Prelude.{◌≡◌, ◌≤◌, ◌<◌, ◌+◌, ◌++◌, ℕ, List, [], Some, Err, length, vec_len, IfOk, IfSome, IfErr};
+ghost use Rattle.std.specs.Prelude.{◌≡◌, ◌≤◌, ◌<◌, ◌+◌, ◌^◌, ◌++◌, ℕ, List, [], Some, Err, length, vec_len, IfOk, IfSome, IfErr};
 ghost use Rattle.std.specs.Io.KnownBytes.{Consumes, IsAtEnd};
 ghost use Rattle.muni_edge.specs.Sink.{Rose};
 ghost use Rattle.muni_office.specs.Input.{IsNotTooLarge};
@@ -8,37 +8,40 @@ ghost use Rattle.muni_office.specs.Input.{IsNotTooLarge};
 use muni_edge::{Failed, Source};
 use std::alloc::Global;
 
-/// The greatest number of bytes of an input.
-pub const LIMIT: usize = 4_194_304;
 
 /// Why there is no input.
 #[derive(Clone, Copy, Debug, PartialEq, Eq)]
 pub enum InputFault {
     /// The source failed.
     Failed,
-    /// It has more bytes than [`LIMIT`].
+    /// It has more bytes than it may have.
     TooLarge,
     /// No memory was left.
     NoMemory,
 }
 
-/// All bytes of a source, up to its end.
-pub fn read_input<I: Source>(alloc: Global, source: &mut I) -> Result<Vec<u8>, InputFault>
+/// All bytes of a source, up to its end, where there are at most `limit`.
+pub fn read_input<I: Source>(
+    alloc: Global,
+    source: &mut I,
+    limit: usize,
+) -> Result<Vec<u8>, InputFault>
+    requires { limit < 2 ^ 32 }
     ensures whole { IfOk result (λ bytes. IfSome (I.left source.old)
         (λ all. (all ≡ bytes.items) × (I.left source.new ≡ Some []))) }
-    ensures limit { IfOk result (λ bytes. length bytes.items ≤ 4_194_304) }
+    ensures limit { IfOk result (λ bytes. length bytes.items ≤ limit) }
     ensures too_large { result ≡ Err InputFault.TooLarge → IfSome (I.left source.old)
-        (λ all. 4_194_304 < length all) }
+        (λ all. limit < length all) }
     ensures later { I.faults source.old ≤ I.faults source.new }
     ensures failed { result ≡ Err InputFault.Failed → Rose (I.faults source.old) (I.faults source.new) }
 {
     let mut bytes = Vec::new(alloc);
-    for turn in 0..LIMIT + 2 {
+    for turn in 0..limit + 2 {
         let _turn = turn;
-        if bytes.len() > LIMIT {
+        if bytes.len() > limit {
             return Err(InputFault::TooLarge);
         }
-        if take_more(source, &mut bytes)? == 0 {
+        if take_more(source, &mut bytes, limit)? == 0 {
             return Ok(bytes);
         }
     }
@@ -46,10 +49,15 @@ pub fn read_input<I: Source>(alloc: Global, source: &mut I) -> Result<Vec<u8>, I
 }
 
 // The next bytes go behind those that are there, up to the first byte past the limit.
-fn take_more<I: Source>(source: &mut I, bytes: &mut Vec<u8>) -> Result<usize, InputFault>
-    requires { vec_len bytes.old ≤ 4_194_304 }
+fn take_more<I: Source>(
+    source: &mut I,
+    bytes: &mut Vec<u8>,
+    limit: usize,
+) -> Result<usize, InputFault>
+    requires limit { limit < 2 ^ 32 }
+    requires room { vec_len bytes.old ≤ limit }
     ensures bound { IfOk result (λ count. vec_len bytes.new ≡ vec_len bytes.old + count) }
-    ensures limit { IfOk result (λ count. vec_len bytes.new ≤ 4_194_305) }
+    ensures limit { IfOk result (λ count. vec_len bytes.new ≤ limit + 1) }
     ensures taken { IfOk result (λ count. (piece : List ℕ)
         × Consumes (I.left source.old) (I.left source.new) piece
         × (bytes.new.items ≡ bytes.old.items ++ piece)) }
@@ -59,7 +67,7 @@ fn take_more<I: Source>(source: &mut I, bytes: &mut Vec<u8>) -> Result<usize, In
     ensures others { IfErr result (λ fault. IsNotTooLarge fault) }
 {
     let mut room = [0u8; 4096];
-    let size = (LIMIT + 1 - bytes.len()).min(4096);
+    let size = (limit + 1 - bytes.len()).min(4096);
     match source.take(&mut room[..size]) {
         Ok(count) => match bytes.extend_from_slice(&room[..count]) {
             Ok(()) => Ok(count),

@@ -9,5 +9,6 @@ mod rows;
 
 pub use confirmations::confirm;
 pub use end::End;
-pub use imports::import;
-pub use input::{InputFault, LIMIT, read_input};
+pub use imports::{LIMIT, import};
+pub use input::{InputFault, read_input};
+pub use rows::import_rows;

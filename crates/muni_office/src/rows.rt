@@ -20,7 +20,7 @@ use std::alloc::Global;
 use std::thread::Threads;
 
 /// Applies the rows of a text one after another, and writes the line of each once it is applied.
-pub(crate) fn import_rows<
+pub fn import_rows<
     R: Threads + Sync,
     K: Keeper,
     O: Sink,

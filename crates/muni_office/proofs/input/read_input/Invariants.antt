@@ -1,4 +1,4 @@
-use Rattle.std.proofs.Common.{◌≤◌, length}
+use Rattle.std.proofs.Common.{◌≤◌, ◌+◌, length}
 use Rattle.std.specs.Io.KnownBytes.{Consumes}
 use Rattle.muni_office.proofs.input.read_input.Given as goal
 
@@ -7,6 +7,6 @@ abbrev pub invariant-loop-turn : goal.invariant-loop-turn
 invariant-loop-turn g l = record {
   taken : Consumes (g.I.Source.left l.fn.source) (g.I.Source.left l.source) l.bytes.items;
   each : l.turn ≤ length l.bytes.items;
-  most : length l.bytes.items ≤ 4_194_305;
+  most : length l.bytes.items ≤ l.limit + 1;
   later : g.I.Source.faults l.fn.source ≤ g.I.Source.faults l.source;
 }
