@@ -13,3 +13,5 @@ pub mod LeftOutLemmas
 pub mod AnswerLemmas
 pub mod PathLemmas
 pub mod PostLemmas
+pub mod OnePathLemmas
+pub mod FoundPathLemmas

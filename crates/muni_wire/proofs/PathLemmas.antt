@@ -1,5 +1,5 @@
 -- What a path is that leads to a request.
-use Rattle.std.proofs.Common.{◌≡◌, ◌<◌, ◌≤◌, ◌+◌, ◌==◌, nat_lt, not, ℕ, suc, List, ◌∷◌, ◌++◌, length, take, drop, get_or, codes, bytes_eq, Bool, true, false, cond, Option, Some, None, Result, Ok, Err, position, refl, sym, ap, ◌∙◌, arith}
+use Rattle.std.proofs.Common.{◌≡◌, ◌+◌, ◌==◌, nat_lt, not, ℕ, suc, List, ◌∷◌, ◌++◌, length, take, drop, get_or, codes, bytes_eq, Bool, true, false, cond, Option, Some, None, Result, Err, position, refl, sym, ap, ◌∙◌, arith}
 use Rattle.std.specs.Char.{is_ascii_alphanumeric}
 use Rattle.std.specs.Result.{result_ok}
 use Rattle.std.proofs.Math.Seq.{split_at}
@@ -9,13 +9,12 @@ use Rattle.std.proofs.lemmas.List.Quantifiers.{position-Some}
 use Rattle.std.proofs.lemmas.Slice.Eq.{bytes_eq-Decides}
 use Rattle.muni_msg.specs.Fields.{◌>>=◌}
 use Rattle.muni_msg.specs.Names.{is_desk_letter}
-use Rattle.muni_msg.specs.NameReading.{name_reading, name_if, unless_bad}
+use Rattle.muni_msg.specs.NameReading.{name_reading, unless_bad}
 use Rattle.muni_msg.specs.declared.names.NameFault.{NameFault}
 use Rattle.muni_msg.specs.declared.names.NameFault.TheVariants.{Empty, TooLong}
 use Rattle.muni_msg.specs.declared.command.Command.TheVariants.{Confirm, List as ListTrades}
 use Rattle.muni_msg.specs.declared.command.Key.{Key}
 use Rattle.muni_wire.specs.Routes.{target_of, route_of, asked_on, trade_at, list_at, list_after_at, behind, key_of, key_at}
-use Rattle.muni_wire.specs.declared.routes.Form.{Form}
 use Rattle.muni_wire.specs.declared.routes.Route.{Route}
 use Rattle.muni_wire.specs.declared.routes.Route.TheVariants as route
 use Rattle.muni_wire.specs.declared.routes.Target.{Target}

@@ -1,8 +1,11 @@
 -- Which paths lead to which requests, in the words of the paths.
 use Rattle.std.specs.Prelude.{◌≡◌, ℕ, List, ◌∷◌, ◌++◌, codes, Some, None}
+use Rattle.std.specs.Char.{is_ascii_alphanumeric}
+use Rattle.muni_msg.specs.Names.{IsName, is_desk_letter}
 use Rattle.muni_msg.specs.declared.command.Command.TheVariants.{Confirm, List as ListTrades}
 use Rattle.muni_msg.specs.declared.command.Key.{Key}
 use Rattle.muni_wire.specs.Routes.{target_of}
+use Rattle.muni_wire.specs.declared.routes.Form.{Form}
 use Rattle.muni_wire.specs.declared.routes.Form.TheVariants as form
 use Rattle.muni_wire.specs.declared.routes.Target.TheVariants as target
 
@@ -30,3 +33,39 @@ abbrev pub ListsGoOn : Type 0
 ListsGoOn =
     (path desk after : List ℕ) → target_of path ≡ Some (target.Get (ListTrades desk (Some after)))
     → path ≡ codes "/lists/" ++ (desk ++ 47 ∷ after)
+
+-- the path under which a body of a form is posted
+abbrev pub posted_under : Form → List ℕ
+posted_under form.Issue = codes "/issues"
+posted_under form.Trade = codes "/trades"
+posted_under form.Correction = codes "/corrections"
+posted_under form.Cancellation = codes "/cancels"
+posted_under form.Quote = codes "/quotes"
+
+-- under no other path a body of that form is posted
+abbrev pub BodiesHaveOnePath : Type 0
+BodiesHaveOnePath =
+    (path : List ℕ) (posted : Form) → target_of path ≡ Some (target.Post posted)
+    → path ≡ posted_under posted
+
+-- the name of a desk and the reference of a trade
+pub record IsKey (key : Key) : Type 0 where
+  pub desk : IsName is_desk_letter 16 key.desk
+  pub reference : IsName is_ascii_alphanumeric 20 key.reference
+
+-- each trade is confirmed under its path
+abbrev pub EachTradeIsConfirmed : Type 0
+EachTradeIsConfirmed =
+    (key : Key) → IsKey key
+    → target_of (codes "/trades/" ++ (key.desk ++ 47 ∷ key.reference)) ≡ Some (target.Get (Confirm key))
+
+-- the list of each desk is given under its path, from the start and behind each reference
+abbrev pub EachListIsGiven : Type 0
+EachListIsGiven =
+    (desk : List ℕ) → IsName is_desk_letter 16 desk
+    → target_of (codes "/lists/" ++ desk) ≡ Some (target.Get (ListTrades desk None))
+
+abbrev pub EachListGoesOn : Type 0
+EachListGoesOn =
+    (key : Key) → IsKey key
+    → target_of (codes "/lists/" ++ (key.desk ++ 47 ∷ key.reference)) ≡ Some (target.Get (ListTrades key.desk (Some key.reference)))

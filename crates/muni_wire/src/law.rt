@@ -2,7 +2,7 @@
 
 ghost use Rattle.muni_wire.specs.Laws.{HeadsAreReadOnce, AreReadOnce};
 ghost use Rattle.muni_wire.specs.LeftOut.{MayBeLeftOut};
-ghost use Rattle.muni_wire.specs.PathLaws.{BodiesArePosted, TradesAreConfirmed, ListsAreGiven, ListsGoOn};
+ghost use Rattle.muni_wire.specs.PathLaws.{BodiesArePosted, TradesAreConfirmed, ListsAreGiven, ListsGoOn, BodiesHaveOnePath, EachTradeIsConfirmed, EachListIsGiven, EachListGoesOn};
 
 /// The bytes of a connection have one reading, unless they are ambiguous: where they end within a
 /// target that no request has, and where they hold more than 64 header fields before the head ends.
@@ -26,4 +26,13 @@ pub fn paths_lead_to_requests()
     ensures confirmed { TradesAreConfirmed }
     ensures listed { ListsAreGiven }
     ensures listed_after { ListsGoOn }
+{}
+
+/// Each trade is confirmed under its path, and the list of each desk is given under its own and goes on
+/// behind each reference. A body is posted under the one path of its form.
+pub fn each_path_leads_to_its_request()
+    ensures posted { BodiesHaveOnePath }
+    ensures confirmed { EachTradeIsConfirmed }
+    ensures listed { EachListIsGiven }
+    ensures listed_after { EachListGoesOn }
 {}
