@@ -1,0 +1,5 @@
+pub mod Ends
+pub mod GoesOn
+pub mod JournalImages
+pub mod KeptLemmas
+pub mod SlotLemmas

@@ -1,0 +1,59 @@
+use Rattle.std.proofs.Common.{◌≡◌, ℕ, List, Option, refl, sym, ◌∙◌, subst, arith}
+use Rattle.muni_keep.specs.Tables.{Tables}
+use Rattle.muni_disk.specs.Bytes.{byte_at}
+use Rattle.muni_disk.specs.Disk.{ReadsAs}
+use Rattle.muni_journal.specs.Journal.{Place}
+use Rattle.muni_journal.specs.Reading.{GoesOn}
+use Rattle.muni_journal.proofs.GoesOn.{at_start, one_on, at_end, no_journal, not_before, one_there, not_one}
+use Rattle.muni_journal.proofs.fetching.read_slots.Goals as goal
+
+pub slots-init : goal.slots-init
+slots-init g c = record {
+  bytes = refl;
+  images = λ f now. now;
+  faults = omega arith;
+  room = omega arith;
+  goes_on = λ f reads. subst (λ (t : Tables). GoesOn f (record { gate = 0; tables = t })) (sym c.requires) (at_start f);
+}
+
+pub slots-preserved : goal.slots-preserved
+slots-preserved g c =
+    let so_far = c.slots.invariant in
+    let at : Place = record { gate = c.slots.gate; tables = c.slots.kept } in
+    let next : Place = record { gate = c.in-Ok.next; tables = c.next_gate.new.kept } in
+    record {
+      bytes = c.next_gate.ensures.bytes ∙ c.open_at.ensures.bytes ∙ so_far.bytes;
+      images = λ f now. so_far.images f (c.open_at.ensures.images f (c.next_gate.ensures.images f now));
+      faults = omega (arith, so_far.faults, c.open_at.ensures.later, c.next_gate.ensures.later);
+      room = omega arith;
+      goes_on = λ f reads.
+          let here = subst (λ (o : Option (List ℕ)). ReadsAs o f) (sym so_far.bytes) reads in
+          let there = subst (λ (o : Option (List ℕ)). ReadsAs o f) (sym c.open_at.ensures.bytes) here in
+          one_on f at next (one_there c.in_ok-open_at.field-0 (byte_at f c.slots.gate) (c.in_ok-open_at.ensures.gate f here) c.if-branch.true) (c.in-Ok.ensures.next f there) (so_far.goes_on f reads);
+    }
+
+pub returns-clause-found : goal.returns-clause-found
+returns-clause-found g c f reads =
+    let so_far = c.slots.invariant in
+    let at : Place = record { gate = c.slots.gate; tables = c.slots.kept } in
+    let here = subst (λ (o : Option (List ℕ)). ReadsAs o f) (sym so_far.bytes) reads in
+    at_end f at (not_one c.in_ok-open_at.field-0 (byte_at f c.slots.gate) (c.in_ok-open_at.ensures.gate f here) c.if-branch.false) (so_far.goes_on f reads)
+
+pub returns-then-next-gt-LIMIT-clause-none : goal.returns-then-next-gt-LIMIT-clause-none
+returns-then-next-gt-LIMIT-clause-none g c _ f reads e is =
+    let so_far = c.slots.invariant in
+    let at : Place = record { gate = c.slots.gate; tables = c.slots.kept } in
+    let here = subst (λ (o : Option (List ℕ)). ReadsAs o f) (sym so_far.bytes) reads in
+    let there = subst (λ (o : Option (List ℕ)). ReadsAs o f) (sym c.open_at.ensures.bytes) here in
+    let behind : Place = record { gate = c.in-Ok.next; tables = c.next_gate.new.kept } in
+    let next = one_on f at behind (one_there c.in_ok-open_at.field-0 (byte_at f c.slots.gate) (c.in_ok-open_at.ensures.gate f here) c.if-branch.true) (c.in-Ok.ensures.next f there) (so_far.goes_on f reads) in
+    omega (arith, not_before f behind e next is, c.if-next-gt-LIMIT.true)
+
+pub returns-in-Err-clause-none : goal.returns-in-Err-clause-none
+returns-in-Err-clause-none g c none f reads e is =
+    let so_far = c.slots.invariant in
+    let at : Place = record { gate = c.slots.gate; tables = c.slots.kept } in
+    let here = subst (λ (o : Option (List ℕ)). ReadsAs o f) (sym so_far.bytes) reads in
+    let there = subst (λ (o : Option (List ℕ)). ReadsAs o f) (sym c.open_at.ensures.bytes) here in
+    let opened = one_there c.in_ok-open_at.field-0 (byte_at f c.slots.gate) (c.in_ok-open_at.ensures.gate f here) c.if-branch.true in
+    absurd (no_journal f at e opened (c.next_gate.ensures.none (c.in-Err.is ∙ none) f there) (so_far.goes_on f reads) is)

@@ -1,0 +1,4 @@
+pub mod Puts
+pub mod Journal
+pub mod Stops
+pub mod Reading

@@ -1,0 +1,154 @@
+//! Reads a journal.
+
+ghost use Rattle.std.specs.Prelude.{◌≡◌, ◌==◌, ◌<◌, ◌≤◌, ◌+◌, ◌^◌, ◌≢◌, List, ℕ, Ok, Err, Some, None, IfOk, IfErr};
+ghost use Rattle.muni_edge.specs.Sink.{Rose};
+ghost use Rattle.muni_keep.specs.Tables.{no_tables};
+ghost use Rattle.muni_disk.specs.Bytes.{byte_at, bytes_at};
+ghost use Rattle.muni_disk.specs.Disk.{ReadsAs, HasCause};
+ghost use Rattle.muni_record.specs.Body.{put_of as spec_put_of};
+ghost use Rattle.muni_journal.specs.Journal.{Place};
+ghost use Rattle.muni_journal.specs.Journal as spec;
+
+use crate::kept::Kept;
+use muni_disk::{Disk, DiskFault};
+use muni_record::{Put, put_of};
+
+/// No slot of a journal ends past this place.
+pub(crate) const LIMIT: u64 = 1 << 40;
+
+/// Why no keeper was fetched.
+#[derive(Clone, Copy, Debug, PartialEq, Eq)]
+pub enum FetchFault {
+    /// The disk refused a call, or no memory was left.
+    Disk(DiskFault),
+    /// An open slot does not read, its put does not meet its condition, or it ends past the limit.
+    NotAJournal,
+}
+
+/// Whether the gate at a place is open.
+fn is_open<D: Disk>(disk: &mut D, place: u64) -> Result<bool, DiskFault>
+    requires { place + 1 < 2 ^ 41 }
+    ensures gate { IfOk result (λ opened. (c : List ℕ) → ReadsAs (D.bytes disk.old) c
+        → opened ≡ (byte_at c place == 1)) }
+    ensures bytes { D.bytes disk.new ≡ D.bytes disk.old }
+    ensures images { (c : List ℕ) → D.image disk.new c → D.image disk.old c }
+    ensures cause { HasCause (D.faults disk.old) (D.faults disk.new) result }
+{
+    let mut room = [0];
+    disk.read(place, &mut room)?;
+    Ok(room[0] == 1)
+}
+
+/// The number in the four bytes at a place.
+#[tactic(auto, unfolding(crate::specs::Journal::number_at, muni_record::specs::Words::number_of_4))]
+fn number_at<D: Disk>(disk: &mut D, place: u64) -> Result<u32, DiskFault>
+    requires { place + 4 < 2 ^ 41 }
+    ensures number { IfOk result (λ n. (c : List ℕ) → ReadsAs (D.bytes disk.old) c
+        → n ≡ spec.number_at c place) }
+    ensures bytes { D.bytes disk.new ≡ D.bytes disk.old }
+    ensures images { (c : List ℕ) → D.image disk.new c → D.image disk.old c }
+    ensures cause { HasCause (D.faults disk.old) (D.faults disk.new) result }
+{
+    let mut room = [0; 4];
+    disk.read(place, &mut room)?;
+    Ok(u32::from_be_bytes(room))
+}
+
+/// The put whose body stands at a place.
+fn body_at<D: Disk>(disk: &mut D, place: u64, count: usize) -> Result<Option<Put>, DiskFault>
+    requires room { place + 1_024 < 2 ^ 41 }
+    requires length { count ≤ 1_024 }
+    ensures put { IfOk result (λ put. (c : List ℕ) → ReadsAs (D.bytes disk.old) c
+        → put ≡ spec_put_of (bytes_at c place count)) }
+    ensures bytes { D.bytes disk.new ≡ D.bytes disk.old }
+    ensures images { (c : List ℕ) → D.image disk.new c → D.image disk.old c }
+    ensures cause { HasCause (D.faults disk.old) (D.faults disk.new) result }
+{
+    let mut room = [0; 1024];
+    disk.read(place, &mut room[..count])?;
+    Ok(put_of(&room[..count]))
+}
+
+/// Puts what the open slot at a gate holds, and gives the gate behind it.
+#[tactic(auto, unfolding(crate::specs::Journal::behind_slot))]
+fn next_gate<D: Disk>(disk: &mut D, gate: u64, kept: &mut Kept) -> Result<u64, FetchFault>
+    requires { gate ≤ 2 ^ 40 }
+    ensures next { IfOk result (λ next. (c : List ℕ) → ReadsAs (D.bytes disk.old) c
+        → spec.behind_slot c (record { gate = gate; tables = kept.old })
+        ≡ Some (record { gate = next; tables = kept.new })) }
+    ensures further { IfOk result (λ next. gate < next) }
+    ensures none { result ≡ Err FetchFault.NotAJournal → (c : List ℕ) → ReadsAs (D.bytes disk.old) c
+        → spec.behind_slot c (record { gate = gate; tables = kept.old }) ≡ None }
+    ensures bytes { D.bytes disk.new ≡ D.bytes disk.old }
+    ensures images { (c : List ℕ) → D.image disk.new c → D.image disk.old c }
+    ensures later { D.faults disk.old ≤ D.faults disk.new }
+    ensures failed { result ≡ Err (FetchFault.Disk DiskFault.Failed)
+        → Rose (D.faults disk.old) (D.faults disk.new) }
+{
+    let place = gate + 1;
+    let count = match number_at(disk, place) {
+        Ok(count) => count,
+        Err(fault) => return Err(FetchFault::Disk(fault)),
+    };
+    if count < 1 || count > 1_024 {
+        return Err(FetchFault::NotAJournal);
+    }
+    let put = match body_at(disk, place + 4, count as usize) {
+        Ok(Some(put)) => put,
+        Ok(None) => return Err(FetchFault::NotAJournal),
+        Err(fault) => return Err(FetchFault::Disk(fault)),
+    };
+    let Ok(is_put) = kept.put_next(&put) else {
+        return Err(FetchFault::Disk(DiskFault::NoMemory));
+    };
+    if !is_put {
+        return Err(FetchFault::NotAJournal);
+    }
+    Ok(gate + 5 + u64::from(count))
+}
+
+fn open_at<D: Disk>(disk: &mut D, place: u64) -> Result<bool, FetchFault>
+    requires { place + 1 < 2 ^ 41 }
+    ensures gate { IfOk result (λ opened. (c : List ℕ) → ReadsAs (D.bytes disk.old) c
+        → opened ≡ (byte_at c place == 1)) }
+    ensures disk { IfErr result (λ fault. fault ≢ FetchFault.NotAJournal) }
+    ensures bytes { D.bytes disk.new ≡ D.bytes disk.old }
+    ensures images { (c : List ℕ) → D.image disk.new c → D.image disk.old c }
+    ensures later { D.faults disk.old ≤ D.faults disk.new }
+    ensures failed { result ≡ Err (FetchFault.Disk DiskFault.Failed)
+        → Rose (D.faults disk.old) (D.faults disk.new) }
+{
+    match is_open(disk, place) {
+        Ok(opened) => Ok(opened),
+        Err(fault) => Err(FetchFault::Disk(fault)),
+    }
+}
+
+/// Puts what the slots hold up to the first closed gate, and gives that gate.
+pub(crate) fn read_slots<D: Disk>(disk: &mut D, kept: &mut Kept) -> Result<u64, FetchFault>
+    requires { kept.old ≡ no_tables }
+    ensures found { IfOk result (λ gate. (c : List ℕ) → ReadsAs (D.bytes disk.old) c
+        → spec.journal_of c ≡ Some (record { gate = gate; tables = kept.new })) }
+    ensures room { IfOk result (λ gate. gate ≤ 2 ^ 40) }
+    // It is no journal only where the disk stands for no tables, or its slots end past the limit.
+    ensures none { result ≡ Err FetchFault.NotAJournal → (c : List ℕ) → ReadsAs (D.bytes disk.old) c
+        → (e : Place) → spec.journal_of c ≡ Some e → 2 ^ 40 < e.gate }
+    ensures bytes { D.bytes disk.new ≡ D.bytes disk.old }
+    ensures images { (c : List ℕ) → D.image disk.new c → D.image disk.old c }
+    ensures later { D.faults disk.old ≤ D.faults disk.new }
+    ensures failed { result ≡ Err (FetchFault.Disk DiskFault.Failed)
+        → Rose (D.faults disk.old) (D.faults disk.new) }
+{
+    let mut gate = 0;
+    'slots: while open_at(disk, gate)? {
+        let next = match next_gate(disk, gate, kept) {
+            Ok(next) => next,
+            Err(fault) => return Err(fault),
+        };
+        if next > LIMIT {
+            return Err(FetchFault::NotAJournal);
+        }
+        gate = next;
+    }
+    Ok(gate)
+}

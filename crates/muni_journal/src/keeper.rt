@@ -1,0 +1,227 @@
+//! The keeper over a journal.
+
+ghost use Rattle.std.specs.Prelude.{◌≡◌, ◌≢◌, ◌<◌, ◌≤◌, ◌+◌, ◌^◌, ◌⊎◌, Some, None, Ok, true, List, ℕ, length, IfOk, OnOk, OnErr, IsErrOf};
+ghost use Rattle.std.specs.Option.{ForSome, ForNone};
+ghost use Rattle.muni_edge.specs.Sink.{Rose};
+ghost use Rattle.muni_keep.specs.History.{next_number};
+ghost use Rattle.muni_keep.specs.Tables.{issue_at, trade_at, version_at, last_at, trade_count, page_at, with_issue, with_version};
+ghost use Rattle.muni_disk.specs.Disk.{StopsLeave, HasCause};
+ghost use Rattle.muni_slots.specs.Slots.{AllImages};
+ghost use Rattle.muni_record.specs.Body.{body_of, PutFits};
+ghost use Rattle.muni_record.specs.declared.put.Put.TheVariants as put;
+ghost use Rattle.muni_journal.specs.Puts.{is_next, after};
+ghost use Rattle.muni_journal.specs.Journal.{journal_of, piece_of as spec_piece};
+ghost use Rattle.muni_journal.specs.Stops.{IsInDoubt, StandsFor};
+
+use crate::fetching::LIMIT;
+use crate::kept::Kept;
+use crate::piece::piece_of;
+use arrayvec::ArrayVec;
+use muni_disk::{Disk, DiskFault};
+use muni_keep::{KeepFault, Keeper};
+use muni_msg::{DeskName, Key, Line, Reference, Version};
+use muni_record::Put;
+use muni_slots::{Unput, put_slot, take_back};
+use muni_terms::Issue;
+
+/// The tables in memory, and each put in a journal on a disk.
+#[derive(Drop)]
+pub struct JournalKeeper<D: Disk> {
+    pub(crate) disk: D,
+    pub(crate) gate: u64,
+    pub(crate) kept: Kept,
+    pub(crate) in_doubt: Option<Put>,
+    pub(crate) faults: u64,
+    ghost room: { gate ≤ 2 ^ 40 },
+    // Between two calls every image of the disk stands for the tables, or for them after a put in doubt.
+    ghost at_rest: { ForNone in_doubt (AllImages (D.image disk) (λ c. journal_of c ≡ Some (record { gate = gate; tables = kept }))) },
+    ghost doubtful: { ForSome in_doubt (λ put. AllImages (D.image disk) (IsInDoubt (record { gate = gate; tables = kept }) put)) },
+}
+
+impl<D: Disk> JournalKeeper<D> {
+    /// Takes back a put that is in doubt.
+    fn settle(&mut self) -> Result<(), DiskFault>
+        ensures gate { self.new.gate ≡ self.old.gate }
+        ensures tables { self.new.kept ≡ self.old.kept }
+        ensures faults { self.new.faults ≡ self.old.faults }
+        ensures settled { OnOk result (self.new.in_doubt ≡ None) }
+        ensures kept { OnErr result (self.new.in_doubt ≡ self.old.in_doubt) }
+        ensures stops { StopsLeave D.clock D.since self.old.disk self.new.disk
+            (StandsFor self.old.kept self.old.in_doubt None) }
+        ensures cause { HasCause (D.faults self.old.disk) (D.faults self.new.disk) result }
+    {
+        if self.in_doubt.is_some() {
+            take_back(&mut self.disk, self.gate)?;
+            self.in_doubt = None;
+        }
+        Ok(())
+    }
+
+    /// Puts where nothing is in doubt. Where the tables find no memory the put is in doubt too, though
+    /// the disk has it.
+    fn add(&mut self, put: &Put, piece: &[u8]) -> Result<(), DiskFault>
+        requires at_rest { self.old.in_doubt ≡ None }
+        requires next { is_next self.old.kept put.now ≡ true }
+        requires fits { PutFits put.now }
+        requires body { (1 ≤ length (body_of put.now)) × (length (body_of put.now) ≤ 410) }
+        requires piece { piece.now ≡ spec_piece put.now }
+        requires size { length piece.now ≡ 5 + length (body_of put.now) }
+        requires room { self.old.gate + 5 + length (body_of put.now) ≤ 2 ^ 40 }
+
+        ensures put { OnOk result (self.new.kept ≡ after self.old.kept put.now) }
+        ensures unchanged { OnErr result (self.new.kept ≡ self.old.kept) }
+        ensures faults { self.new.faults ≡ self.old.faults }
+        ensures stops { StopsLeave D.clock D.since self.old.disk self.new.disk
+            (StandsFor self.old.kept None (Some put.now)) }
+        ensures cause { HasCause (D.faults self.old.disk) (D.faults self.new.disk) result }
+    {
+        match put_slot(&mut self.disk, self.gate, piece) {
+            Ok(()) => match self.kept.put(put) {
+                Ok(()) => {
+                    self.gate += piece.len() as u64;
+                    Ok(())
+                }
+                Err(_) => {
+                    self.in_doubt = Some(put.copy());
+                    Err(DiskFault::NoMemory)
+                }
+            },
+            Err(Unput::Unopened(fault)) => Err(fault),
+            Err(Unput::InDoubt(fault)) => {
+                self.in_doubt = Some(put.copy());
+                Err(fault)
+            }
+        }
+    }
+
+    /// Counts a refusal of the disk where it is a failure.
+    fn refused(&mut self, fault: DiskFault) -> KeepFault
+        ensures disk { self.new.disk ≡ self.old.disk }
+        ensures gate { self.new.gate ≡ self.old.gate }
+        ensures tables { self.new.kept ≡ self.old.kept }
+        ensures in_doubt { self.new.in_doubt ≡ self.old.in_doubt }
+        ensures later { self.old.faults ≤ self.new.faults }
+        ensures counted { result ≡ KeepFault.Failed → Rose self.old.faults self.new.faults }
+        ensures cause { self.new.faults ≢ self.old.faults → fault ≡ DiskFault.Failed }
+    {
+        match fault {
+            DiskFault::Failed => {
+                self.faults = self.faults.saturating_add(1);
+                KeepFault::Failed
+            }
+            DiskFault::NoMemory => KeepFault::NoMemory,
+        }
+    }
+
+    /// Puts what meets its condition. Each image since the call began stands for the tables before it,
+    /// or for them after one put more: this one, or the last that failed and was not taken back.
+    fn put(&mut self, put: &Put) -> Result<(), KeepFault>
+        requires { is_next self.old.kept put.now ≡ true }
+
+        ensures put { OnOk result (self.new.kept ≡ after self.old.kept put.now) }
+        ensures unchanged { OnErr result (self.new.kept ≡ self.old.kept) }
+        ensures stops { StopsLeave D.clock D.since self.old.disk self.new.disk
+            (StandsFor self.old.kept self.old.in_doubt (Some put.now)) }
+        ensures later { self.old.faults ≤ self.new.faults }
+        ensures failed { IsErrOf result KeepFault.Failed → Rose self.old.faults self.new.faults }
+        // It counts only failures of its disk, and puts whose slot would end past the limit.
+        ensures counted { self.new.faults ≢ self.old.faults
+            → Rose (D.faults self.old.disk) (D.faults self.new.disk)
+            ⊎ (2 ^ 40 < self.old.gate + 5 + length (body_of put.now)) }
+    {
+        if let Err(fault) = self.settle() {
+            return Err(self.refused(fault));
+        }
+        let piece = piece_of(put);
+        if self.gate + piece.len() as u64 > LIMIT {
+            self.faults = self.faults.saturating_add(1);
+            return Err(KeepFault::Failed);
+        }
+        if let Err(fault) = self.add(put, &piece) {
+            return Err(self.refused(fault));
+        }
+        Ok(())
+    }
+
+    /// Between two calls every image of its disk stands for its tables, or for them after the put that
+    /// is in doubt.
+    pub fn images_stand(&self)
+        ensures { (c : List ℕ) → D.image self.now.disk c
+            → StandsFor self.now.kept self.now.in_doubt None c }
+    {}
+}
+
+/// A key of equal value.
+fn copy_key(key: &Key) -> Key
+    ensures { result ≡ key.now }
+{
+    Key {
+        desk: key.desk.copy(),
+        reference: key.reference.copy(),
+    }
+}
+
+impl<D: Disk> Keeper for JournalKeeper<D> {
+    ghost tables = { λ keeper. Some keeper.kept };
+
+    ghost faults = { λ keeper. keeper.faults };
+
+    ghost mark = { λ _. 0 };
+
+    fn issue(&mut self, cusip: &[u8; 9]) -> Result<Option<Issue>, KeepFault> {
+        self.kept.issue(cusip)
+    }
+
+    fn put_issue(&mut self, issue: &Issue) -> Result<(), KeepFault>
+        requires { issue_at self.old.kept issue.now.cusip ≡ None }
+
+        ensures kept { OnOk result (self.new.kept ≡ with_issue issue.now self.old.kept) }
+        ensures unchanged { OnErr result (self.new.kept ≡ self.old.kept) }
+        ensures stops { StopsLeave D.clock D.since self.old.disk self.new.disk
+            (StandsFor self.old.kept self.old.in_doubt (Some (put.Issue issue.now))) }
+        ensures later { self.old.faults ≤ self.new.faults }
+        ensures failed { IsErrOf result KeepFault.Failed → Rose self.old.faults self.new.faults }
+    {
+        let put = Put::Issue(issue.copy());
+        self.put(&put)
+    }
+
+    fn version(&mut self, key: &Key, number: u32) -> Result<Option<Version>, KeepFault> {
+        self.kept.version(key, number)
+    }
+
+    fn last(&mut self, key: &Key) -> Result<Option<(u32, Version)>, KeepFault> {
+        self.kept.last(key)
+    }
+
+    fn put_version(&mut self, key: &Key, number: u32, version: &Version) -> Result<(), KeepFault>
+        requires { number ≡ next_number (trade_at self.old.kept key.now) }
+
+        ensures kept { OnOk result
+            (self.new.kept ≡ with_version key.now version.now self.old.kept) }
+        ensures unchanged { OnErr result (self.new.kept ≡ self.old.kept) }
+        ensures stops { StopsLeave D.clock D.since self.old.disk self.new.disk
+            (StandsFor self.old.kept self.old.in_doubt (Some (put.Version key.now number version.now))) }
+        ensures later { self.old.faults ≤ self.new.faults }
+        ensures failed { IsErrOf result KeepFault.Failed → Rose self.old.faults self.new.faults }
+    {
+        let put = Put::Version {
+            key: copy_key(key),
+            number,
+            version: *version,
+        };
+        self.put(&put)
+    }
+
+    fn trades(&mut self, desk: &DeskName) -> Result<u32, KeepFault> {
+        self.kept.trades(desk)
+    }
+
+    fn page(
+        &mut self,
+        desk: &DeskName,
+        after: &Option<Reference>,
+    ) -> Result<ArrayVec<Line, 50>, KeepFault> {
+        self.kept.page(desk, after)
+    }
+}

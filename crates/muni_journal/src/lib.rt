@@ -1,0 +1,13 @@
+//! A crash-safe store of the desk's own: the tables in memory, and each put in a journal on a disk. A
+//! stop at any moment keeps every put that was answered, and none in part.
+#![tactic(auto)]
+
+mod fetching;
+mod keeper;
+mod kept;
+mod opening;
+mod piece;
+
+pub use fetching::FetchFault;
+pub use keeper::JournalKeeper;
+pub use opening::{Unfetched, open};

@@ -1,0 +1,76 @@
+//! Opens a journal.
+
+ghost use Rattle.std.specs.Prelude.{◌≡◌, ◌<◌, ◌^◌, List, ℕ, Some, None, IfOk, IfErr};
+ghost use Rattle.muni_edge.specs.Sink.{Rose};
+ghost use Rattle.muni_disk.specs.Disk.{ReadsAs};
+ghost use Rattle.muni_journal.specs.Journal.{Place, journal_of, tables_of};
+
+use crate::fetching::{FetchFault, read_slots};
+use crate::keeper::JournalKeeper;
+use crate::kept::Kept;
+use muni_disk::{Disk, DiskFault};
+use std::alloc::Global;
+
+/// A disk from which no keeper was fetched, and why.
+#[derive(Drop)]
+pub struct Unfetched<D: Disk> {
+    pub fault: FetchFault,
+    pub disk: D,
+}
+
+/// The keeper of the tables for which a disk stands. The disk is synced first.
+pub fn open<D: Disk + Drop>(alloc: Global, disk: D) -> Result<JournalKeeper<D>, Unfetched<D>>
+    ensures found { IfOk result (λ keeper. (c : List ℕ) → ReadsAs (D.bytes disk) c
+        → tables_of c ≡ Some keeper.kept) }
+    ensures settled { IfOk result (λ keeper. keeper.in_doubt ≡ None) }
+    ensures uncounted { IfOk result (λ keeper. keeper.faults ≡ 0) }
+
+    // It is no journal only where the disk stands for no tables, or its slots end past the limit.
+    ensures none { IfErr result (λ unfetched. unfetched.fault ≡ FetchFault.NotAJournal
+        → (c : List ℕ) → ReadsAs (D.bytes disk) c
+        → (e : Place) → journal_of c ≡ Some e → 2 ^ 40 < e.gate) }
+    ensures failed { IfErr result (λ unfetched. unfetched.fault ≡ FetchFault.Disk DiskFault.Failed
+        → Rose (D.faults disk) (D.faults unfetched.disk)) }
+
+    // What the disk reads as stays, and no image comes.
+    ensures bytes { IfOk result (λ keeper. D.bytes keeper.disk ≡ D.bytes disk) }
+    ensures images { IfOk result (λ keeper. (c : List ℕ) → D.image keeper.disk c → D.image disk c) }
+    ensures refused_bytes { IfErr result (λ unfetched. D.bytes unfetched.disk ≡ D.bytes disk) }
+    ensures refused_images { IfErr result (λ unfetched.
+        (c : List ℕ) → D.image unfetched.disk c → D.image disk c) }
+{
+    let mut disk = disk;
+    let Ok(mut kept) = Kept::new(alloc) else {
+        return Err(Unfetched {
+            fault: FetchFault::Disk(DiskFault::NoMemory),
+            disk,
+        });
+    };
+    if let Err(fault) = disk.sync() {
+        return Err(Unfetched {
+            fault: FetchFault::Disk(fault),
+            disk,
+        });
+    }
+    match read_slots(&mut disk, &mut kept) {
+        Ok(gate) => Ok(JournalKeeper {
+            disk,
+            gate,
+            kept,
+            in_doubt: None,
+            faults: 0,
+        }),
+        Err(fault) => Err(Unfetched { fault, disk }),
+    }
+}
+
+impl<D: Disk> JournalKeeper<D> {
+    /// Its disk, which stands for its tables where no put is in doubt.
+    pub fn disk(&self) -> &D
+        ensures disk { result.now ≡ self.now.disk }
+        ensures stands { self.now.in_doubt ≡ None → (c : List ℕ) → ReadsAs (D.bytes self.now.disk) c
+            → tables_of c ≡ Some self.now.kept }
+    {
+        &self.disk
+    }
+}
