@@ -1,5 +1,5 @@
 -- The positions of a desk in the order of their CUSIPs.
-use Rattle.std.proofs.Common.{arith, ◌≡◌, ◌<◌, ℕ, zero, suc, Bool, true, false, cond, List, [], ◌∷◌, length, map, Option, Some, None, refl, sym, ap, subst, ◌∙◌}
+use Rattle.std.proofs.Common.{arith, ◌≡◌, ◌<◌, ◌≤◌, ◌++◌, append_assoc, ℕ, zero, suc, Bool, true, false, cond, List, [], ◌∷◌, length, map, Option, Some, None, refl, sym, ap, subst, ◌∙◌}
 use Rattle.std.specs.Prelude.{◌&&◌, not, IfSome, is_some, slice_get, nat_lt, T}
 use Rattle.std.specs.List.{filter, list_any, AllByRecursion}
 use Rattle.std.specs.List.Sorted.{IsStrictlySortedBy}
@@ -28,10 +28,12 @@ use Rattle.muni_keep.specs.Trades.{by_bytes, is_past}
 use Rattle.muni_position.specs.Positions.{is_live, counts, last_versions, position_of, positions_of, past}
 use Rattle.muni_position.specs.Holding.{nothing, holding_of, position_in}
 use Rattle.muni_position.specs.Holdings.{Holdings, kept, AreOf, AreRight, bound_past}
+use Rattle.muni_position.specs.Line.{position_line, position_lines}
 use Rattle.muni_position.specs.Laws.{AreThoseHeld, if_live}
 use Rattle.muni_position.specs.declared.holding.Holding.{Holding}
 use Rattle.muni_position.specs.declared.position.Position.{Position}
 use Rattle.muni_position.proofs.HoldingLemmas.{position_is}
+use Rattle.muni_position.proofs.PageLemmas.{all_pass}
 use Rattle.muni_position.proofs.PutLemmas.{keys_rise, find_lookup}
 
 -- the positions of those entries at which a trade stands
@@ -43,6 +45,9 @@ turned cusip named = (eq_by_cmp_equiv nat_list_cmp_total).symm named cusip
 
 some_live : (n : ℕ) → 0 < n → nat_lt 0 n ≡ true
 some_live n above = grind (arith, nat_tests)
+
+none_live : (n : ℕ) → n ≤ 0 → nat_lt 0 n ≡ false
+none_live n none = grind (arith, nat_tests)
 
 -- what stands at a CUSIP among the positions of these versions
 found_is : (cusip : List ℕ) (all versions : List Version)
@@ -203,3 +208,36 @@ pub stop_at : (holdings : Holdings) (e : List ℕ × Holding) (old rest : List (
 stop_at holdings e old rest is live =
     ap (λ l. slice_get (held_of holdings l) 0) is
     ∙ ap (λ b. slice_get (map (λ e. (e.0, position_in (kept holdings e.0))) (cond b (e ∷ filter (λ e. nat_lt 0 (kept holdings e.0).live) rest) (filter (λ e. nat_lt 0 (kept holdings e.0).live) rest))) 0) (some_live (kept holdings e.0).live live)
+
+-- of entries, one more line is written where a trade stands
+pub line_written : (holdings : Holdings) (e : List ℕ × Holding) (old rest : List (List ℕ × Holding)) (text next all : List ℕ) → old ≡ e ∷ rest → 0 < (kept holdings e.0).live
+    → next ≡ text ++ position_line e.0 (position_in (kept holdings e.0)) → text ++ position_lines (held_of holdings old) ≡ all → next ++ position_lines (held_of holdings rest) ≡ all
+line_written holdings e old rest text next all is live written so_far =
+    let at : List ℕ × Holding → List ℕ × Position = λ e. (e.0, position_in (kept holdings e.0)) in
+    let left = filter (λ (e : List ℕ × Holding). nat_lt 0 (kept holdings e.0).live) rest in
+    let first : held_of holdings old ≡ at e ∷ held_of holdings rest =
+    ap (held_of holdings) is ∙ ap (λ b. map at (cond b (e ∷ left) left)) (some_live (kept holdings e.0).live live) in
+    ap (λ l. l ++ position_lines (held_of holdings rest)) written
+    ∙ append_assoc text (position_line e.0 (position_in (kept holdings e.0))) (position_lines (held_of holdings rest))
+    ∙ ap (λ l. text ++ position_lines l) (sym first) ∙ so_far
+
+pub line_passed : (holdings : Holdings) (e : List ℕ × Holding) (old rest : List (List ℕ × Holding)) (text all : List ℕ) → old ≡ e ∷ rest → (kept holdings e.0).live ≤ 0
+    → text ++ position_lines (held_of holdings old) ≡ all → text ++ position_lines (held_of holdings rest) ≡ all
+line_passed holdings e old rest text all is none so_far =
+    let at : List ℕ × Holding → List ℕ × Position = λ e. (e.0, position_in (kept holdings e.0)) in
+    let left = filter (λ (e : List ℕ × Holding). nat_lt 0 (kept holdings e.0).live) rest in
+    let same : held_of holdings old ≡ held_of holdings rest =
+    ap (held_of holdings) is ∙ ap (λ b. map at (cond b (e ∷ left) left)) (none_live (kept holdings e.0).live none) in
+    ap (λ l. text ++ position_lines l) (sym same) ∙ so_far
+
+-- the lines of a whole range are those of the positions
+pub told_lines : (watched : Option (List ℕ)) (told : Option Tables) (holdings : Holdings) (range : List (List ℕ × Holding)) (text : List ℕ) (bound : Bound (List ℕ))
+    → AreRight watched told holdings → tree.IsOrdered by_bytes holdings → bound ≡ bound_past None → range ≡ entries_between by_bytes bound Unbounded holdings.entries
+    → text ≡ position_lines (held_of holdings range)
+    → IfSome watched (λ desk. IfSome told (λ t. text ≡ position_lines (positions_of (last_versions desk t))))
+told_lines None told holdings range text bound right ordered at are is = tt
+told_lines (Some desk) None holdings range text bound right ordered at are is = tt
+told_lines (Some desk) (Some t) holdings range text bound right ordered at are is =
+    is
+    ∙ ap (λ l. position_lines (held_of holdings l)) (are ∙ ap (λ b. entries_between by_bytes b Unbounded holdings.entries) at)
+    ∙ ap position_lines (past_are holdings None holdings.entries ∙ all_pass (held_of holdings holdings.entries) ∙ held_are (last_versions desk t) holdings ordered (right desk t refl refl))

@@ -22,7 +22,7 @@ use Rattle.muni_position.specs.Holdings.{Holdings, kept, AreOf}
 use Rattle.muni_position.proofs.HoldingLemmas.{holding_of-nil, holding_of-append}
 use Rattle.muni_position.proofs.PutLemmas.{first, second, less}
 
-all_pass : {A : Type 0} (xs : List A) → filter (λ _. true) xs ≡ xs
+pub all_pass : {A : Type 0} (xs : List A) → filter (λ _. true) xs ≡ xs
 all_pass [] = refl
 all_pass (x ∷ xs) = ap (λ l. x ∷ l) (all_pass xs)
 

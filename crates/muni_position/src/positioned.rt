@@ -10,13 +10,16 @@ ghost use Rattle.muni_position.specs.Holding.{IsInRange, holding_of, position_in
 ghost use Rattle.muni_position.specs.Holdings.{AreInRange, AreRight, HasFew, kept};
 ghost use Rattle.muni_position.specs.Holdings as spec;
 ghost use Rattle.std.specs.Range.Bound.{bound_map};
+ghost use Rattle.muni_position.specs.Line.{position_lines};
 ghost use Rattle.muni_position.specs.Positions.{last_versions, position_of, positions_of, past};
 
 use crate::change::Change;
 use crate::holdings::{Holdings, kept};
+use crate::line::position_line;
 use crate::pages::sum_desk;
 use crate::position::Position;
 use arrayvec::ArrayVec;
+use muni_edge::NoMemory;
 use muni_keep::{KeepFault, Keeper};
 use muni_msg::{DeskName, Key, Line, Reference, Version};
 use muni_terms::Issue;
@@ -125,6 +128,26 @@ impl<K: Keeper> Positioned<K> {
             }
         }
         None
+    }
+
+    /// The lines of all positions of the watched desk, in the order of their CUSIPs.
+    pub fn lines(&self, alloc: Global) -> Result<Vec<u8>, NoMemory>
+        requires { IsSome self.now.desk }
+        ensures { IfOk result (λ text. IfSome self.now.desk (λ desk. IfSome (K.tables self.now.inner)
+            (λ t. text.items ≡ position_lines (positions_of (last_versions desk t))))) }
+    {
+        let mut text = Vec::new(alloc);
+        let mut line = ArrayVec::new();
+        for (cusip, _) in self.holdings.range((bound_past(&None), Bound::Unbounded)) {
+            let holding = kept(&self.holdings, cusip);
+            if holding.live > 0 {
+                position_line(cusip, &holding.position(), &mut line);
+                if text.extend_from_slice(line.as_slice()).is_err() {
+                    return Err(NoMemory);
+                }
+            }
+        }
+        Ok(text)
     }
 
     /// The keeper inside.

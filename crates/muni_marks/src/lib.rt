@@ -1,0 +1,12 @@
+//! Marks of a portfolio: what its rows are worth, priced side by side on every processor.
+#![tactic(auto)]
+
+mod line;
+mod pricer;
+mod pricing;
+mod reader;
+
+pub use line::{mark_line, total};
+pub use pricer::Pricer;
+pub use pricing::{MarkSaid, marks};
+pub use reader::read_marks;
