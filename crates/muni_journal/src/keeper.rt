@@ -40,7 +40,7 @@ pub struct JournalKeeper<D: Disk> {
 
 impl<D: Disk> JournalKeeper<D> {
     /// Takes back a put that is in doubt.
-    fn settle(&mut self) -> Result<(), DiskFault>
+    pub(crate) fn settle(&mut self) -> Result<(), DiskFault>
         ensures gate { self.new.gate ≡ self.old.gate }
         ensures tables { self.new.kept ≡ self.old.kept }
         ensures faults { self.new.faults ≡ self.old.faults }

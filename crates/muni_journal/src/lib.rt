@@ -2,12 +2,14 @@
 //! stop at any moment keeps every put that was answered, and none in part.
 #![tactic(auto)]
 
+mod cabinet;
 mod fetching;
 mod keeper;
 mod kept;
 mod opening;
 mod piece;
 
+pub use cabinet::JournalCabinet;
 pub use fetching::FetchFault;
 pub use keeper::JournalKeeper;
 pub use opening::{Unfetched, open};

@@ -18,6 +18,13 @@ pub struct Unfetched<D: Disk> {
     pub disk: D,
 }
 
+/// A keeper whose failed put could not be taken back, and why.
+#[derive(Drop)]
+pub(crate) struct Unsettled<D: Disk> {
+    pub fault: DiskFault,
+    pub keeper: JournalKeeper<D>,
+}
+
 /// The keeper of the tables for which a disk stands. The disk is synced first.
 pub fn open<D: Disk + Drop>(alloc: Global, disk: D) -> Result<JournalKeeper<D>, Unfetched<D>>
     ensures found { IfOk result (λ keeper. (c : List ℕ) → ReadsAs (D.bytes disk) c
@@ -72,5 +79,30 @@ impl<D: Disk> JournalKeeper<D> {
             → tables_of c ≡ Some self.now.kept }
     {
         &self.disk
+    }
+
+    /// Its disk, which then stands for its tables, where no put is in doubt or the one that is can be
+    /// taken back.
+    pub(crate) fn into_disk(self) -> Result<D, Unsettled<D>>
+        ensures stands { IfOk result (λ disk. (c : List ℕ) → ReadsAs (D.bytes disk) c
+            → tables_of c ≡ Some self.kept) }
+        ensures kept { IfErr result (λ unsettled. unsettled.keeper.kept ≡ self.kept) }
+    {
+        let mut keeper = self;
+        if let Err(fault) = keeper.settle() {
+            return Err(Unsettled { fault, keeper });
+        }
+        let JournalKeeper { disk, .. } = keeper;
+        Ok(disk)
+    }
+
+    /// The same keeper with no fault counted.
+    pub(crate) fn uncounted(self) -> JournalKeeper<D>
+        ensures tables { result.kept ≡ self.kept }
+        ensures count { result.faults ≡ 0 }
+    {
+        let mut keeper = self;
+        keeper.faults = 0;
+        keeper
     }
 }

@@ -1,0 +1,6 @@
+//! What lends disks by name.
+#![tactic(auto)]
+
+mod shelf;
+
+pub use shelf::Shelf;
