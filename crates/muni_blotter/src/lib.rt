@@ -1,0 +1,6 @@
+//! What the desk does over a store with the positions of a desk beside it.
+#![tactic(auto)]
+
+mod listing;
+
+pub use listing::positions;

@@ -1,0 +1,93 @@
+//! The positions of a desk.
+
+ghost use Rattle.std.specs.Prelude.{◌≡◌, ◌⊎◌, ◌≤◌, None, ℕ, List, IfOk, IfSome, IsErrOf};
+ghost use Rattle.muni_edge.specs.Sink.{Rose, HasWritten, HasWrittenPart};
+ghost use Rattle.muni_blotter.specs.Listing.{MayNotSum, IsListingEnd, positions_text};
+
+use muni_edge::Sink;
+use muni_keep::{Cabinet, KeepFault, Keeper};
+use muni_msg::DeskName;
+use muni_office::End;
+use muni_position::{Positioned, over};
+use std::alloc::Global;
+
+/// Writes what a desk holds of each security by the trades that a store keeps, a line for each CUSIP.
+///
+/// A desk with more than 100,000 trades is answered as a fault of the store.
+pub fn positions<O: Sink, C: Cabinet>(
+    alloc: Global,
+    store: &[u8],
+    desk: &DeskName,
+    output: &mut O,
+    cabinet: &mut C,
+) -> End
+    requires { C.out cabinet.old ≡ None }
+
+    // What is written, where the cabinet tells the tables of the store.
+    ensures done { result ≡ End.Done → IfSome (C.told cabinet.old store.now)
+        (λ t. HasWritten (O.bytes output.old) (O.bytes output.new) (positions_text desk.now t)) }
+    ensures part { result ≡ End.WriteFault → IfSome (C.told cabinet.old store.now)
+        (λ t. HasWrittenPart (O.bytes output.old) (O.bytes output.new) (positions_text desk.now t)) }
+    ensures store { result ≡ End.StoreFault → output.new ≡ output.old }
+    ensures memory { result ≡ End.NoMemory → output.new ≡ output.old }
+
+    // No tables change, and no keeper stays out.
+    ensures tables { (other : List ℕ) → C.told cabinet.new other ≡ C.told cabinet.old other }
+    ensures none_out { C.out cabinet.new ≡ None }
+
+    // When each fault comes.
+    ensures store_fault { result ≡ End.StoreFault → Rose (C.faults cabinet.old) (C.faults cabinet.new)
+        ⊎ MayNotSum desk.now (C.told cabinet.old store.now) }
+    ensures write_fault { result ≡ End.WriteFault → Rose (O.faults output.old) (O.faults output.new) }
+    ensures others { IsListingEnd result }
+    ensures puts_later { O.faults output.old ≤ O.faults output.new }
+{
+    match fetch_lines(alloc, store, desk, cabinet) {
+        Ok(lines) => match output.put(lines.as_slice()) {
+            Ok(()) => End::Done,
+            Err(_) => End::WriteFault,
+        },
+        Err(KeepFault::Failed) => End::StoreFault,
+        Err(KeepFault::NoMemory) => End::NoMemory,
+    }
+}
+
+// The lines from the tables of a store, whose keeper is fetched and given back.
+fn fetch_lines<C: Cabinet>(
+    alloc: Global,
+    store: &[u8],
+    desk: &DeskName,
+    cabinet: &mut C,
+) -> Result<Vec<u8>, KeepFault>
+    requires { C.out cabinet.old ≡ None }
+    ensures lines { IfOk result (λ lines. IfSome (C.told cabinet.old store.now)
+        (λ t. lines.items ≡ positions_text desk.now t)) }
+    ensures tables { (other : List ℕ) → C.told cabinet.new other ≡ C.told cabinet.old other }
+    ensures none_out { C.out cabinet.new ≡ None }
+    ensures failed { IsErrOf result KeepFault.Failed → Rose (C.faults cabinet.old) (C.faults cabinet.new)
+        ⊎ MayNotSum desk.now (C.told cabinet.old store.now) }
+{
+    let mut positioned = over(alloc, cabinet.fetch(store)?);
+    let lines = watched_lines(alloc, &mut positioned, desk);
+    cabinet.give_back(positioned.back());
+    lines
+}
+
+// The lines of a desk that is watched from now on.
+fn watched_lines<K: Keeper>(
+    alloc: Global,
+    keeper: &mut Positioned<K>,
+    desk: &DeskName,
+) -> Result<Vec<u8>, KeepFault>
+    requires { keeper.old.faults ≡ 0 }
+    ensures lines { IfOk result (λ lines. IfSome (K.tables keeper.old.inner)
+        (λ t. lines.items ≡ positions_text desk.now t)) }
+    ensures unchanged { K.tables keeper.new.inner ≡ K.tables keeper.old.inner }
+    ensures mark { K.mark keeper.new.inner ≡ K.mark keeper.old.inner }
+    ensures failed { IsErrOf result KeepFault.Failed
+        → Rose (K.faults keeper.old.inner) (K.faults keeper.new.inner)
+        ⊎ MayNotSum desk.now (K.tables keeper.old.inner) }
+{
+    keeper.watch(desk)?;
+    Ok(keeper.lines(alloc)?)
+}
