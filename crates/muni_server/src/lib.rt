@@ -7,6 +7,8 @@ mod connections;
 mod end;
 pub mod laws;
 mod served;
+#[cfg(test)]
+mod tests;
 
 pub use answers::answer_one;
 pub use connections::serve;

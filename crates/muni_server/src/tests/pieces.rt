@@ -1,0 +1,48 @@
+//! A connection whose bytes come in pieces of one size.
+
+ghost use Rattle.std.specs.Prelude.{◌≡◌, None};
+
+use muni_edge::{Failed, Link, MemLink, Sink, Source};
+
+#[derive(Drop)]
+pub struct Pieces {
+    pub link: MemLink,
+    pub size: usize,
+}
+
+impl Source for Pieces {
+    ghost left = { λ _. None };
+
+    ghost faults = { λ pieces. pieces.link.source.calls.faults };
+
+    ghost take_keeps = { λ old new. new.link.sink ≡ old.link.sink };
+
+    fn take(&mut self, room: &mut [u8]) -> Result<usize, Failed> {
+        let size = self.size.min(room.len()).max(1);
+        self.link.take(&mut room[..size])
+    }
+}
+
+impl Sink for Pieces {
+    ghost bytes = { λ _. None };
+
+    ghost faults = { λ pieces. pieces.link.sink.calls.faults };
+
+    ghost put_keeps = { λ old new. new.link.source ≡ old.link.source };
+
+    fn put(&mut self, piece: &[u8]) -> Result<(), Failed> {
+        self.link.put(piece)
+    }
+}
+
+impl Link for Pieces {
+    ghost use Rattle.std.proofs.Common.{ap, refl};
+
+    ghost take_keeps_bytes = { λ old new same. refl };
+
+    ghost take_keeps_faults = { λ old new same. ap (λ sink. sink.calls.faults) same };
+
+    ghost put_keeps_left = { λ old new same. refl };
+
+    ghost put_keeps_faults = { λ old new same. ap (λ source. source.calls.faults) same };
+}
