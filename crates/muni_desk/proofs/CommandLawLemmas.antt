@@ -1,4 +1,4 @@
--- What words are read as, against the rule of the command line.
+-- What the words behind the name of a command are read as, against the rule of the command line.
 use Rattle.std.proofs.Common.{◌≡◌, ℕ, ◌≤◌, inl, inr, Bool, true, false, List, [], ◌∷◌, ◌++◌, Option, Some, None, length, drop, map, refl, sym, ap, ◌∙◌, subst, arith, Result, Ok, ℤ}
 use Rattle.std.specs.Prelude.{All, codes, filter, if◌then◌else◌, nat_le, option_map, ◌==◌}
 use Rattle.std.specs.List.{AllZip}
@@ -30,37 +30,35 @@ use Rattle.muni_desk.specs.QuoteOptions as quote
 use Rattle.muni_desk.specs.DrillOptions as drill
 use Rattle.muni_desk.specs.DrillOptions.{drill_of}
 use Rattle.muni_desk.specs.QuoteOne.{is_next, values_reading, quote_one_of}
-use Rattle.muni_desk.specs.Command.{command_of}
-use Rattle.muni_desk.specs.declared.command.Command.{Command}
-use Rattle.muni_desk.specs.declared.command.Command.TheVariants.{QuoteOne, Quote, Drill}
+use Rattle.muni_desk.specs.declared.command.DeskCommand.TheVariants.{QuoteOne, Quote, Drill}
 use Rattle.muni_desk.specs.declared.command.CommandLine.{CommandLine}
 use Rattle.muni_desk.specs.declared.drill.options.DrillRequest.{DrillRequest}
 use Rattle.muni_desk.specs.declared.quote_one.QuoteOneRequest.{QuoteOneRequest}
 use Rattle.muni_desk.specs.declared.request.QuoteRequest.{QuoteRequest}
-use Rattle.muni_desk.specs.WordLaws.{IsCall, IsCommandLine, IsDrill, IsQuote, IsQuoteOne, IsSaid, IsSingle, SaysAsked, SaysTerms, Says, Reads, Lacks, ReadsOr, SaysKind, SaysNoteDays, SaysDays, SaysCoupon, SaysCalls, SaysGiven}
+use Rattle.muni_desk.specs.WordLaws.{IsCall, IsCommandLine, IsDrill, IsQuote, IsQuoteOne, IsSingle, SaysAsked, SaysTerms, Says, Reads, Lacks, ReadsOr, SaysKind, SaysNoteDays, SaysDays, SaysCoupon, SaysCalls, SaysGiven}
 use Rattle.muni_desk.proofs.CallLawLemmas.{read-call, call-read}
 use Rattle.muni_desk.proofs.OptionalLemmas.{bind-some, some-bind, map-some, ok-some, if-some, when-true}
 use Rattle.muni_desk.proofs.WordLawLemmas.{both, option-joined, options-read, are-options, found-says, says-found, none-lacks, lacks-none}
 
 -- ---- one option, read
-read-option : {A : Type 0} (f : List ℕ → Option A) (words : List (List ℕ)) (name : List ℕ) (y : A) → (value_of name words >>= f) ≡ Some y → Reads words name (λ text. f text ≡ Some y)
+pub read-option : {A : Type 0} (f : List ℕ → Option A) (words : List (List ℕ)) (name : List ℕ) (y : A) → (value_of name words >>= f) ≡ Some y → Reads words name (λ text. f text ≡ Some y)
 read-option f words name y is =
     let found = bind-some f (value_of name words) y is in
     record { text = found.0; stands = found-says name found.0 words found.1; is_read = found.2 }
 
-option-read : {A : Type 0} (f : List ℕ → Option A) (words : List (List ℕ)) (name : List ℕ) (y : A) → IsSingle words name → Reads words name (λ text. f text ≡ Some y) → (value_of name words >>= f) ≡ Some y
+pub option-read : {A : Type 0} (f : List ℕ → Option A) (words : List (List ℕ)) (name : List ℕ) (y : A) → IsSingle words name → Reads words name (λ text. f text ≡ Some y) → (value_of name words >>= f) ≡ Some y
 option-read f words name y single read = some-bind f (value_of name words) read.text y (says-found name read.text words single read.stands) read.is_read
 
-read-ok : {A E : Type 0} (f : List ℕ → Result A E) (words : List (List ℕ)) (name : List ℕ) (y : A) → (value_of name words >>= λ text. result_ok (f text)) ≡ Some y → Reads words name (λ text. f text ≡ Ok y)
+pub read-ok : {A E : Type 0} (f : List ℕ → Result A E) (words : List (List ℕ)) (name : List ℕ) (y : A) → (value_of name words >>= λ text. result_ok (f text)) ≡ Some y → Reads words name (λ text. f text ≡ Ok y)
 read-ok f words name y is =
     let read = read-option (λ text. result_ok (f text)) words name y is in
     record { text = read.text; stands = read.stands; is_read = ok-some (f read.text) y read.is_read }
 
-ok-read : {A E : Type 0} (f : List ℕ → Result A E) (words : List (List ℕ)) (name : List ℕ) (y : A) → IsSingle words name → Reads words name (λ text. f text ≡ Ok y) → (value_of name words >>= λ text. result_ok (f text)) ≡ Some y
+pub ok-read : {A E : Type 0} (f : List ℕ → Result A E) (words : List (List ℕ)) (name : List ℕ) (y : A) → IsSingle words name → Reads words name (λ text. f text ≡ Ok y) → (value_of name words >>= λ text. result_ok (f text)) ≡ Some y
 ok-read f words name y single read = some-bind (λ text. result_ok (f text)) (value_of name words) read.text y (says-found name read.text words single read.stands) (ap result_ok read.is_read)
 
 -- ---- the kind
-same-text : (text other : List ℕ) → bytes_eq text other ≡ true → text ≡ other
+pub same-text : (text other : List ℕ) → bytes_eq text other ≡ true → text ≡ other
 same-text text other test = (bytes_eq-Decides text other).0 test
 
 plain-by : (words : List (List ℕ)) (zero redemption discount : Bool) (kind : Kind) → (if zero then Some Zero else (if redemption then Some AtRedemption else (if discount then Some Discount else None))) ≡ Some kind → ((zero ≡ true) → Says words (codes "--kind=") (codes "zero")) → ((redemption ≡ true) → Says words (codes "--kind=") (codes "at-redemption")) → ((discount ≡ true) → Says words (codes "--kind=") (codes "discount")) → Lacks words (codes "--first=") → SaysKind words kind
@@ -326,11 +324,11 @@ par-read : (words : List (List ℕ)) (par : ℕ) → IsSingle words (codes "--pa
 par-read words par single (inl read) = ap par_of (says-found (codes "--par=") read.text words single read.stands) ∙ ap result_ok read.is_read
 par-read words par single (inr lacks) = ap par_of (lacks-none (codes "--par=") words lacks.0) ∙ ap Some (sym lacks.1)
 
-read-workers : (words : List (List ℕ)) (workers : ℕ) (found : Option (List ℕ)) → value_of (codes "--workers=") words ≡ found → workers_in found ≡ Some workers → ReadsOr words (codes "--workers=") (λ text. number_reading 20 1 16 text ≡ Some workers) (workers ≡ 1)
+pub read-workers : (words : List (List ℕ)) (workers : ℕ) (found : Option (List ℕ)) → value_of (codes "--workers=") words ≡ found → workers_in found ≡ Some workers → ReadsOr words (codes "--workers=") (λ text. number_reading 20 1 16 text ≡ Some workers) (workers ≡ 1)
 read-workers words workers None is read = inr (none-lacks (codes "--workers=") words is, sym (same_Some 1 workers read))
 read-workers words workers (Some text) is read = inl (record { text = text; stands = found-says (codes "--workers=") text words is; is_read = read })
 
-workers-read : (words : List (List ℕ)) (workers : ℕ) → IsSingle words (codes "--workers=") → ReadsOr words (codes "--workers=") (λ text. number_reading 20 1 16 text ≡ Some workers) (workers ≡ 1) → workers_of words ≡ Some workers
+pub workers-read : (words : List (List ℕ)) (workers : ℕ) → IsSingle words (codes "--workers=") → ReadsOr words (codes "--workers=") (λ text. number_reading 20 1 16 text ≡ Some workers) (workers ≡ 1) → workers_of words ≡ Some workers
 workers-read words workers single (inl read) = ap workers_in (says-found (codes "--workers=") read.text words single read.stands) ∙ read.is_read
 workers-read words workers single (inr lacks) = ap workers_in (lacks-none (codes "--workers=") words lacks.0) ∙ ap Some (sym lacks.1)
 
@@ -470,34 +468,3 @@ quote_one-read words request said =
     (some-bind _ (result_ok (price_reading (word words 3))) request.redemption line (ap result_ok said.redemption)
     (some-bind _ (result_ok (yield_reading (word words 4))) request.yld line (ap result_ok said.yld)
     (when-true (is_next (civil request.next)) (Some line) line next refl))))))
-
--- ---- the command line
-read-by : (name : List ℕ) (words : List (List ℕ)) (line : CommandLine) (one quoted drilled : Bool) → bytes_eq name (codes "quote-one") ≡ one → bytes_eq name (codes "quote") ≡ quoted → bytes_eq name (codes "drill") ≡ drilled → (if one then quote_one_of words else (if quoted then quote_of words else (if drilled then drill_of words else None))) ≡ Some line → IsCommandLine (name ∷ words) line
-read-by name words line true quoted drilled is_one is_quote is_drill is = read-quote_one words name line (same-text name (codes "quote-one") is_one) is
-read-by name words line false true drilled is_one is_quote is_drill is = read-quote words name line (same-text name (codes "quote") is_quote) is
-read-by name words line false false true is_one is_quote is_drill is = read-drill words name line (same-text name (codes "drill") is_drill) is
-read-by name words line false false false is_one is_quote is_drill is = absurd (none-some line is)
-
-pub read-line : (words : List (List ℕ)) (line : CommandLine) → command_of words ≡ Some line → IsCommandLine words line
-read-line [] line is = absurd (none-some line is)
-read-line (name ∷ words) line is = read-by name words line (bytes_eq name (codes "quote-one")) (bytes_eq name (codes "quote")) (bytes_eq name (codes "drill")) refl refl refl is
-
-said-read : (name : List ℕ) (words : List (List ℕ)) (command : Command) (workers : ℕ) → IsSaid (name ∷ words) command workers → command_of (name ∷ words) ≡ Some (record { command = command; workers = workers })
-said-read name words (QuoteOne request) workers said =
-    ap (λ name. command_of (name ∷ words)) said.0 ∙ quote_one-read words request said.1 ∙ (λ i. Some (record { command = QuoteOne request; workers = sym said.2 i }))
-said-read name words (Quote request) workers said = ap (λ name. command_of (name ∷ words)) said.0 ∙ quote-read words request workers said.1
-said-read name words (Drill request) workers said = ap (λ name. command_of (name ∷ words)) said.0 ∙ drill-read words request workers said.1
-
-pub line-read : (words : List (List ℕ)) (line : CommandLine) → IsCommandLine words line → command_of words ≡ Some line
-line-read [] line said = absurd said
-line-read (name ∷ words) line said = said-read name words line.command line.workers said
-
-none-by : (words : List (List ℕ)) (found : Option CommandLine) → command_of words ≡ found → ((line : CommandLine) → ¬ (IsCommandLine words line)) → command_of words ≡ None
-none-by words None is never = is
-none-by words (Some line) is never = absurd (never line (read-line words line is))
-
-pub refused-none : (words : List (List ℕ)) → ((line : CommandLine) → ¬ (IsCommandLine words line)) → command_of words ≡ None
-refused-none words never = none-by words (command_of words) refl never
-
-pub none-refused : (words : List (List ℕ)) (line : CommandLine) → command_of words ≡ None → ¬ (IsCommandLine words line)
-none-refused words line none = λ said. none-some line (sym none ∙ line-read words line said)

@@ -15,14 +15,14 @@ use Rattle.muni_confirm.specs.Figures.{figure_text}
 use Rattle.muni_confirm.specs.Refusal.{refusal_text}
 use Rattle.muni_book.specs.Answers.{IsRightAnswer}
 use Rattle.muni_book.proofs.UniqueLemmas.{answers-unique}
-use Rattle.muni_desk.specs.Answers.{price_line, IsQuoteOneText, IsQuoteText, IsDrillText, IsAnswer}
+use Rattle.muni_desk.specs.Answers.{price_line, IsQuoteOneText, IsQuoteText, IsDrillText, IsHelpText, IsAnswer}
 use Rattle.muni_desk.specs.Command.{IsAnswerable}
 use Rattle.muni_desk.specs.Drill.{IsDrilled, IsBook}
 use Rattle.muni_desk.specs.QuoteOne.{is_next}
 use Rattle.muni_desk.specs.Request.{IsAnswered}
 use Rattle.muni_desk.specs.Sums.{Answered, summary_text}
-use Rattle.muni_desk.specs.declared.command.Command.{Command}
-use Rattle.muni_desk.specs.declared.command.Command.TheVariants.{QuoteOne, Quote, Drill}
+use Rattle.muni_desk.specs.declared.command.DeskCommand.{DeskCommand}
+use Rattle.muni_desk.specs.declared.command.DeskCommand.TheVariants.{QuoteOne, Quote, Import, Confirm, Drill, Help}
 use Rattle.muni_desk.specs.declared.drill.options.DrillRequest.{DrillRequest}
 use Rattle.muni_desk.specs.declared.quote_one.QuoteOneRequest.{QuoteOneRequest}
 use Rattle.muni_desk.specs.declared.request.QuoteRequest.{QuoteRequest}
@@ -99,11 +99,19 @@ drill-same ends request Done Done text also is so =
 drill-same ends request Done other text also is so = absurd so
 drill-same ends request status other text also is so = absurd is
 
+help-same : (status other : Status) (text also : List ℕ) → IsHelpText status text → IsHelpText other also → IsSame status other text also
+help-same Done Done text also is so = record { ends = refl; writes = is ∙ sym so }
+help-same Done other text also is so = absurd so
+help-same status other text also is so = absurd is
+
 -- ---- the answer
 answer-by : (answer other : Answer) → IsSame answer.status other.status answer.text.items other.text.items → answer ≡ other
 answer-by answer other same = λ i. record { status = same.ends i; text = record { items = same.writes i } }
 
-pub answer-unique : (ends : PaymentSeries → ℤ → WorthEnds) (command : Command) (answer other : Answer) → IsAnswerable command → IsAnswer ends command answer → IsAnswer ends command other → answer ≡ other
+pub answer-unique : (ends : PaymentSeries → ℤ → WorthEnds) (command : DeskCommand) (answer other : Answer) → IsAnswerable command → IsAnswer ends command answer → IsAnswer ends command other → answer ≡ other
 answer-unique ends (QuoteOne request) answer other next is also = answer-by answer other (quote_one-same request answer.status other.status answer.text.items other.text.items next is also)
 answer-unique ends (Quote request) answer other fine is also = answer-by answer other (quote-same ends request answer.status other.status answer.text.items other.text.items is also)
 answer-unique ends (Drill request) answer other few is also = answer-by answer other (drill-same ends request answer.status other.status answer.text.items other.text.items is also)
+answer-unique ends Help answer other fine is also = answer-by answer other (help-same answer.status other.status answer.text.items other.text.items is also)
+answer-unique ends (Import store) answer other fine is also = absurd is
+answer-unique ends (Confirm store key) answer other fine is also = absurd is

@@ -7,7 +7,7 @@ use Rattle.muni_desk.specs.Command.{command_of}
 use Rattle.muni_desk.specs.declared.command.CommandLine.{CommandLine}
 use Rattle.muni_desk.specs.declared.status.Answer.{Answer}
 
--- for words that are a command one answer is right: one text, and one status
+-- for words that are a command one answer of its own is right at most: one text, and one status
 abbrev pub AnswersAreUnique : Type 0
 AnswersAreUnique =
     (ends : PaymentSeries → ℤ → WorthEnds) (words : List (List ℕ)) (line : CommandLine)

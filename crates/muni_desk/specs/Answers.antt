@@ -9,10 +9,11 @@ use Rattle.muni_msg.specs.declared.refusal.Refusal.{Refusal}
 use Rattle.muni_confirm.specs.Figures.{figure_text}
 use Rattle.muni_confirm.specs.Refusal.{refusal_text}
 use Rattle.muni_desk.specs.Drill.{IsSummary}
+use Rattle.muni_desk.specs.Help.{help_text}
 use Rattle.muni_desk.specs.QuoteOne.{IsPriced}
 use Rattle.muni_desk.specs.Request.{IsAnswered}
-use Rattle.muni_desk.specs.declared.command.Command.{Command}
-use Rattle.muni_desk.specs.declared.command.Command.TheVariants.{QuoteOne, Quote, Drill}
+use Rattle.muni_desk.specs.declared.command.DeskCommand.{DeskCommand}
+use Rattle.muni_desk.specs.declared.command.DeskCommand.TheVariants.{QuoteOne, Quote, Import, Confirm, Drill, Help}
 use Rattle.muni_desk.specs.declared.drill.options.DrillRequest.{DrillRequest}
 use Rattle.muni_desk.specs.declared.quote_one.QuoteOneRequest.{QuoteOneRequest}
 use Rattle.muni_desk.specs.declared.request.QuoteRequest.{QuoteRequest}
@@ -45,8 +46,16 @@ abbrev pub IsDrillText : (ends : PaymentSeries → ℤ → WorthEnds) → DrillR
 IsDrillText ends request Done text = IsSummary ends request text
 IsDrillText ends request status text = ⊥
 
--- the answer is right
-abbrev pub IsAnswer : (ends : PaymentSeries → ℤ → WorthEnds) → Command → Answer → Type 0
+-- `help`: a line for each command
+abbrev pub IsHelpText : Status → List ℕ → Type 0
+IsHelpText Done text = text ≡ help_text
+IsHelpText status text = ⊥
+
+-- the answer is right; an import and a confirmation are answered from a store, and by no text of their own
+abbrev pub IsAnswer : (ends : PaymentSeries → ℤ → WorthEnds) → DeskCommand → Answer → Type 0
 IsAnswer ends (QuoteOne request) answer = IsQuoteOneText request answer.status answer.text.items
 IsAnswer ends (Quote request) answer = IsQuoteText ends request answer.status answer.text.items
+IsAnswer ends (Import store) answer = ⊥
+IsAnswer ends (Confirm store key) answer = ⊥
 IsAnswer ends (Drill request) answer = IsDrillText ends request answer.status answer.text.items
+IsAnswer ends Help answer = IsHelpText answer.status answer.text.items

@@ -4,9 +4,11 @@ use Rattle.std.specs.Str.{bytes_eq}
 use Rattle.muni_days.specs.Day.{civil}
 use Rattle.muni_desk.specs.DrillOptions.{drill_of}
 use Rattle.muni_desk.specs.QuoteOne.{is_next, quote_one_of}
+use Rattle.muni_desk.specs.Help.{help_of}
 use Rattle.muni_desk.specs.QuoteOptions.{quote_of}
-use Rattle.muni_desk.specs.declared.command.Command.{Command}
-use Rattle.muni_desk.specs.declared.command.Command.TheVariants.{QuoteOne, Quote, Drill}
+use Rattle.muni_desk.specs.StoreOptions.{import_of, confirm_of}
+use Rattle.muni_desk.specs.declared.command.DeskCommand.{DeskCommand}
+use Rattle.muni_desk.specs.declared.command.DeskCommand.TheVariants.{QuoteOne, Quote, Import, Confirm, Drill, Help}
 use Rattle.muni_desk.specs.declared.command.CommandLine.{CommandLine}
 
 -- the command of words: the first is its name, and those behind it say what it is asked for
@@ -15,10 +17,16 @@ command_of [] = None
 command_of (name ∷ words) =
     if bytes_eq name (codes "quote-one") then quote_one_of words
     else (if bytes_eq name (codes "quote") then quote_of words
-    else (if bytes_eq name (codes "drill") then drill_of words else None))
+    else (if bytes_eq name (codes "import") then import_of words
+    else (if bytes_eq name (codes "confirm") then confirm_of words
+    else (if bytes_eq name (codes "drill") then drill_of words
+    else (if bytes_eq name (codes "help") then help_of words else None)))))
 
 -- a command that words may name
-abbrev pub IsAnswerable : Command → Type 0
+abbrev pub IsAnswerable : DeskCommand → Type 0
 IsAnswerable (QuoteOne request) = is_next (civil request.next) ≡ true
 IsAnswerable (Quote request) = ⊤
+IsAnswerable (Import store) = ⊤
+IsAnswerable (Confirm store key) = ⊤
 IsAnswerable (Drill request) = request.count ≤ 1_000
+IsAnswerable Help = ⊤

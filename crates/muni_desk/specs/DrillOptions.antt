@@ -2,7 +2,7 @@
 use Rattle.std.specs.Prelude.{ℕ, if◌then◌else◌, List, [], ◌∷◌, codes, Option, Some, None}
 use Rattle.muni_dec.specs.Digits.{number_reading}
 use Rattle.muni_desk.specs.Words.{◌>>=◌, are_options, value_of}
-use Rattle.muni_desk.specs.declared.command.Command.TheVariants.{Drill}
+use Rattle.muni_desk.specs.declared.command.DeskCommand.TheVariants.{Drill}
 use Rattle.muni_desk.specs.declared.command.CommandLine.{CommandLine}
 
 -- all options, each of which stands once

@@ -4,11 +4,15 @@ pub mod Command
 pub mod QuoteOptions
 pub mod QuoteOne
 pub mod DrillOptions
+pub mod StoreOptions
+pub mod Help
 pub mod Request
 pub mod Generator
 pub mod Sums
 pub mod Drill
 pub mod Answers
 pub mod Written
+pub mod Store
+pub mod Does
 pub mod AnswerLaws
 pub mod WordLaws

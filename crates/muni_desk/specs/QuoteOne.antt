@@ -16,7 +16,7 @@ use Rattle.muni_msg.specs.declared.refusal.Range.TheVariants.{PriceBelowZero}
 use Rattle.muni_msg.specs.declared.refusal.Refusal.{Refusal}
 use Rattle.muni_msg.specs.declared.refusal.Refusal.TheVariants.{SettleOutside, GivenOutOfRange}
 use Rattle.muni_desk.specs.Words.{◌>>=◌, word}
-use Rattle.muni_desk.specs.declared.command.Command.TheVariants.{QuoteOne}
+use Rattle.muni_desk.specs.declared.command.DeskCommand.TheVariants.{QuoteOne}
 use Rattle.muni_desk.specs.declared.command.CommandLine.{CommandLine}
 use Rattle.muni_desk.specs.declared.quote_one.QuoteOneRequest.{QuoteOneRequest}
 

@@ -16,7 +16,7 @@ use Rattle.muni_msg.specs.declared.asked.Asked.{Asked}
 use Rattle.muni_msg.specs.declared.asked.Given.{Given}
 use Rattle.muni_msg.specs.declared.asked.Side.TheVariants.{Buy}
 use Rattle.muni_desk.specs.Words.{◌>>=◌, are_options, value_of, values_of}
-use Rattle.muni_desk.specs.declared.command.Command.TheVariants.{Quote}
+use Rattle.muni_desk.specs.declared.command.DeskCommand.TheVariants.{Quote}
 use Rattle.muni_desk.specs.declared.command.CommandLine.{CommandLine}
 
 -- the options that may stand once

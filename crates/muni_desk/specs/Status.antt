@@ -2,6 +2,18 @@
 use Rattle.std.specs.Prelude.{ℕ}
 use Rattle.muni_desk.specs.declared.status.Status.{Status}
 use Rattle.muni_desk.specs.declared.status.Status.TheVariants.{Done, Usage, Refused, ReadFault, WriteFault, StoreFault, DoorFault, NoMemory, TooLarge}
+use Rattle.muni_office.specs.declared.end.End.{End}
+use Rattle.muni_office.specs.declared.end.End.TheVariants as end
+
+-- of a command over a store
+abbrev pub status_of : End → Status
+status_of end.Done = Done
+status_of end.Refused = Refused
+status_of end.ReadFault = ReadFault
+status_of end.WriteFault = WriteFault
+status_of end.StoreFault = StoreFault
+status_of end.NoMemory = NoMemory
+status_of end.TooLarge = TooLarge
 
 -- the program's exit status
 abbrev pub number_of : Status → ℕ

@@ -1,6 +1,8 @@
 -- What the words of a command line say, in the rule's own words.
 use Rattle.std.specs.Prelude.{◌≡◌, ◌≢◌, ◌<◌, ◌≤◌, ◌↔◌, ◌⊎◌, ℕ, List, [], ◌∷◌, ◌++◌, length, map, filter, All, Contains, codes, Some, None, Ok}
+use Rattle.std.specs.Char.{is_ascii_alphanumeric}
 use Rattle.std.specs.List.{AllZip}
+use Rattle.arrayvec.specs.ArrayVec.{ArrayVec}
 use Rattle.muni_rule.specs.declared.basis.Basis.{Basis}
 use Rattle.muni_rule.specs.declared.basis.Basis.TheVariants.{Thirty360, Actual365}
 use Rattle.muni_dec.specs.Digits.{number_reading}
@@ -14,12 +16,16 @@ use Rattle.muni_msg.specs.declared.asked.Asked.{Asked}
 use Rattle.muni_msg.specs.declared.asked.Given.{Given}
 use Rattle.muni_msg.specs.declared.asked.Given.TheVariants.{AtYield, AtPrice, AtRate}
 use Rattle.muni_msg.specs.declared.asked.Side.TheVariants.{Buy}
+use Rattle.muni_msg.specs.NameReading.{name_reading}
+use Rattle.muni_msg.specs.Names.{is_desk_letter}
+use Rattle.muni_msg.specs.declared.command.Key.{Key}
 use Rattle.muni_desk.specs.Words.{word, is_option}
 use Rattle.muni_desk.specs.QuoteOptions.{options, single_options}
 use Rattle.muni_desk.specs.DrillOptions as drill
+use Rattle.muni_desk.specs.StoreOptions.{import_options, confirm_options}
 use Rattle.muni_desk.specs.Command.{command_of}
-use Rattle.muni_desk.specs.declared.command.Command.{Command}
-use Rattle.muni_desk.specs.declared.command.Command.TheVariants.{QuoteOne, Quote, Drill}
+use Rattle.muni_desk.specs.declared.command.DeskCommand.{DeskCommand}
+use Rattle.muni_desk.specs.declared.command.DeskCommand.TheVariants.{QuoteOne, Quote, Import, Confirm, Drill, Help}
 use Rattle.muni_desk.specs.declared.command.CommandLine.{CommandLine}
 use Rattle.muni_desk.specs.declared.drill.options.DrillRequest.{DrillRequest}
 use Rattle.muni_desk.specs.declared.quote_one.QuoteOneRequest.{QuoteOneRequest}
@@ -158,6 +164,33 @@ pub record IsQuote (words : List (List ℕ)) (request : QuoteRequest) (workers :
       ReadsOr words (codes "--workers=") (λ text. number_reading 20 1 16 text ≡ Some workers)
       (workers ≡ 1)
 
+-- ---- the options of `import` and of `confirm`
+-- the name of a store: at most 200 bytes, none of which is a blank or below it, or above 126
+pub record SaysStore (words : List (List ℕ)) (store : ArrayVec ℕ) : Type 0 where
+  pub stands : Says words (codes "--store=") store.items
+  pub few : length store.items ≤ 200
+  pub bytes : All (λ b. (33 ≤ b) × (b ≤ 126)) store.items
+
+-- words behind `import`: a store, and from 1 to 16 workers, and one where no number is given
+pub record IsImport (words : List (List ℕ)) (store : ArrayVec ℕ) (workers : ℕ) : Type 0 where
+  pub known : All (IsKnown import_options) words
+  pub single : All (IsSingle words) import_options
+  pub named : SaysStore words store
+  pub at_once :
+      ReadsOr words (codes "--workers=") (λ text. number_reading 20 1 16 text ≡ Some workers)
+      (workers ≡ 1)
+
+-- words behind `confirm`: a store, a desk and the reference of a trade
+pub record IsConfirm (words : List (List ℕ)) (store : ArrayVec ℕ) (key : Key) : Type 0 where
+  pub known : All (IsKnown confirm_options) words
+  pub single : All (IsSingle words) confirm_options
+  pub named : SaysStore words store
+  pub desk :
+      Reads words (codes "--desk=") (λ text. name_reading is_desk_letter 16 text ≡ Ok key.desk)
+  pub reference :
+      Reads words (codes "--ref=")
+      (λ text. name_reading is_ascii_alphanumeric 20 text ≡ Ok key.reference)
+
 -- ---- the options of `drill`
 -- words behind `drill`: up to 1,000 trades, a seed below 2^64, and from 1 to 16 workers
 pub record IsDrill (words : List (List ℕ)) (request : DrillRequest) (workers : ℕ) : Type 0 where
@@ -186,14 +219,20 @@ pub record IsQuoteOne (words : List (List ℕ)) (request : QuoteOneRequest) : Ty
 
 -- ---- the command line
 -- the first word names the command, and those behind it say what is asked of it
-abbrev pub IsSaid : List (List ℕ) → Command → ℕ → Type 0
+abbrev pub IsSaid : List (List ℕ) → DeskCommand → ℕ → Type 0
 IsSaid [] command workers = ⊥
 IsSaid (name ∷ words) (QuoteOne request) workers =
     (name ≡ codes "quote-one") × IsQuoteOne words request × (workers ≡ 1)
 IsSaid (name ∷ words) (Quote request) workers =
     (name ≡ codes "quote") × IsQuote words request workers
+IsSaid (name ∷ words) (Import store) workers =
+    (name ≡ codes "import") × IsImport words store workers
+IsSaid (name ∷ words) (Confirm store key) workers =
+    (name ≡ codes "confirm") × IsConfirm words store key × (workers ≡ 1)
 IsSaid (name ∷ words) (Drill request) workers =
     (name ≡ codes "drill") × IsDrill words request workers
+IsSaid (name ∷ words) Help workers =
+    (name ≡ codes "help") × (words ≡ []) × (workers ≡ 1)
 
 abbrev pub IsCommandLine : List (List ℕ) → CommandLine → Type 0
 IsCommandLine words line = IsSaid words line.command line.workers

@@ -1,18 +1,17 @@
-//! What the desk says to a command.
+//! What the desk says to a command that is answered by a text.
 
 ghost use Rattle.std.specs.Prelude.{◌≡◌, ◌≤◌, true, ◌++◌, ◌∷◌, []};
 ghost use Rattle.muni_confirm.specs.Figures.{figure_text};
 ghost use Rattle.muni_confirm.specs.Refusal.{refusal_text};
 ghost use Rattle.muni_days.specs.Day.{civil};
 ghost use Rattle.muni_desk.specs.Answers as spec;
-ghost use Rattle.muni_desk.specs.Answers.{IsAnswer};
-ghost use Rattle.muni_desk.specs.Command.{IsAnswerable};
 ghost use Rattle.muni_desk.specs.QuoteOne.{is_next};
 
-use crate::drill::summary_of;
+use crate::drill::{DrillRequest, summary_of};
+use crate::help::help_text;
 use crate::quote_one::last_period_price;
 use crate::request::answer_of;
-use crate::{Answer, Command, QuoteOneRequest, QuoteRequest, Status};
+use crate::{Answer, QuoteOneRequest, QuoteRequest, Status};
 use arrayvec::ArrayVec;
 use muni_confirm::{figure_lines, refusal_line};
 use muni_dec::Price3;
@@ -22,28 +21,8 @@ use muni_msg::{Asked, Figures, Refusal};
 use muni_multi::Encloser;
 use std::thread::Threads;
 
-/// The answer to a command: the price, the figures or the sums that it asks for, or the refusal that
-/// applies first.
-// Yields are looked for by up to `workers` threads, and the gate is told when they begin (tested).
-pub fn answer<R: Threads + Sync, E: Encloser + Sync, G: Gate + Sync>(
-    rt: &R,
-    command: Command,
-    workers: u32,
-    encloser: &E,
-    gate: &G,
-) -> Answer
-    requires command { IsAnswerable command }
-    requires workers { (1 ≤ workers) × (workers ≤ 16) }
-    ensures { IsAnswer (E.ends encloser.now) command result }
-{
-    match command {
-        Command::QuoteOne(request) => quote_one_answer(&request),
-        Command::Quote(request) => quote_answer(rt, request, workers, encloser, gate),
-        Command::Drill(request) => done(summary_of(rt, request, workers, encloser, gate)),
-    }
-}
-
-fn quote_one_answer(request: &QuoteOneRequest) -> Answer
+/// The price, or the refusal that applies first.
+pub fn quote_one_answer(request: &QuoteOneRequest) -> Answer
     requires { is_next (civil request.now.next) ≡ true }
     ensures { spec.IsQuoteOneText request.now result.status result.text.items }
 {
@@ -53,7 +32,9 @@ fn quote_one_answer(request: &QuoteOneRequest) -> Answer
     }
 }
 
-fn quote_answer<R: Threads + Sync, E: Encloser + Sync, G: Gate + Sync>(
+/// The figures, or the refusal that applies first.
+// Yields are looked for by up to `workers` threads, and the gate is told when they begin (tested).
+pub fn quote_answer<R: Threads + Sync, E: Encloser + Sync, G: Gate + Sync>(
     rt: &R,
     request: QuoteRequest,
     workers: u32,
@@ -68,6 +49,29 @@ fn quote_answer<R: Threads + Sync, E: Encloser + Sync, G: Gate + Sync>(
         Ok(figures) => done(figures_text(&figures, &asked)),
         Err(refusal) => refused(&refusal),
     }
+}
+
+/// The sums over a generated book.
+// Its trades are shared out to up to `workers` threads (tested).
+pub fn drill_answer<R: Threads + Sync, E: Encloser + Sync, G: Gate + Sync>(
+    rt: &R,
+    request: DrillRequest,
+    workers: u32,
+    encloser: &E,
+    gate: &G,
+) -> Answer
+    requires count { request.count ≤ 1_000 }
+    requires workers { (1 ≤ workers) × (workers ≤ 16) }
+    ensures { spec.IsDrillText (E.ends encloser.now) request result.status result.text.items }
+{
+    done(summary_of(rt, request, workers, encloser, gate))
+}
+
+/// What the program can be asked for.
+pub fn help_answer() -> Answer
+    ensures { spec.IsHelpText result.status result.text.items }
+{
+    done(help_text())
 }
 
 fn figures_text(figures: &Figures, asked: &Asked) -> ArrayVec<u8, 512>

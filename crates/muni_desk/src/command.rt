@@ -5,25 +5,36 @@ ghost use Rattle.muni_desk.specs.Command as spec;
 ghost use Rattle.muni_desk.specs.Command.{IsAnswerable};
 
 use crate::drill::{DrillRequest, read_drill};
+use crate::help::read_help;
 use crate::quote_one::{QuoteOneRequest, read_quote_one};
 use crate::quote_options::read_quote;
 use crate::request::QuoteRequest;
+use crate::store_options::{read_confirm, read_import};
+use arrayvec::ArrayVec;
+use muni_msg::Key;
 
 /// What the desk can be asked for.
 #[derive(Drop)]
-pub enum Command {
+pub enum DeskCommand {
     /// The price of a security in its last interest period.
     QuoteOne(QuoteOneRequest),
     /// The figures of a security.
     Quote(QuoteRequest),
+    /// To apply the rows of the input to the tables of a store. A name of a store has 1 to 200
+    /// printing bytes, none of which is a blank.
+    Import { store: ArrayVec<u8, 200> },
+    /// The confirmation of a trade that a store keeps.
+    Confirm { store: ArrayVec<u8, 200>, key: Key },
     /// The sums over a generated book of trades.
     Drill(DrillRequest),
+    /// What the program can be asked for.
+    Help,
 }
 
 /// A command, and how it is to be done.
 #[derive(Drop)]
 pub struct CommandLine {
-    pub command: Command,
+    pub command: DeskCommand,
     /// How many workers may compute at once, from 1 to 16. What is answered does not depend on it.
     pub workers: u32,
 }
@@ -38,7 +49,10 @@ pub fn read(words: &[String]) -> Option<CommandLine>
     match name.as_str() {
         "quote-one" => read_quote_one(options),
         "quote" => read_quote(options),
+        "import" => read_import(options),
+        "confirm" => read_confirm(options),
         "drill" => read_drill(options),
+        "help" => read_help(options),
         _ => None,
     }
 }

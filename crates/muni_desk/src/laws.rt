@@ -6,14 +6,14 @@ mod words;
 
 pub use words::words_are_read_by_the_rule;
 
-/// A law of the definitions: for words that are a command they allow one answer, and so one text to
-/// be written, and one way to end.
+/// A law of the definitions: for words of a command that needs no store they allow one answer, and so
+/// one text to be written, and one way to end.
 pub fn the_answer_is_unique()
     ensures { AnswersAreUnique }
 {}
 
-/// A law of the definitions: two lists of words that differ in their workers at most have one answer.
-/// So what is written and how it ends is the same, whatever the number of workers.
+/// A law of the definitions: two lists of words of such a command that differ in their workers at most
+/// have one answer. So what is written and how it ends is the same, whatever the number of workers.
 pub fn the_workers_do_not_show()
     ensures { WorkersDoNotShow }
 {}

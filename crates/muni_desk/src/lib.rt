@@ -4,18 +4,19 @@
 mod answers;
 mod command;
 mod drill;
+mod help;
 mod laws;
 mod output;
 mod quote_one;
 mod quote_options;
 mod request;
 mod status;
+mod store_options;
 #[cfg(test)]
 mod tests;
 mod words;
 
-pub use answers::answer;
-pub use command::{Command, CommandLine, read};
+pub use command::{CommandLine, DeskCommand, read};
 pub use drill::DrillRequest;
 pub use laws::{the_answer_is_unique, the_workers_do_not_show, words_are_read_by_the_rule};
 pub use output::desk;

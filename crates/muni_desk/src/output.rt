@@ -1,15 +1,20 @@
 //! The top call: one command, from its words to its status.
 
-ghost use Rattle.std.specs.Prelude.{◌≡◌, ◌↔◌, ◌≤◌, is_some, map, None, IfSome, string_bytes};
-ghost use Rattle.muni_desk.specs.Answers.{IsAnswer};
-ghost use Rattle.muni_desk.specs.Command.{command_of};
-ghost use Rattle.muni_desk.specs.Written.{WritesAnswer, TellsFaults};
+ghost use Rattle.std.specs.Prelude.{◌≡◌, ◌≢◌, ◌↔◌, ◌≤◌, ◌⊎◌, is_some, map, None, IfSome, string_bytes};
+ghost use Rattle.muni_edge.specs.Sink.{HasWritten, HasWrittenPart};
+ghost use Rattle.muni_desk.specs.Command.{command_of, IsAnswerable};
+ghost use Rattle.muni_desk.specs.Does.{Does, Spares};
+ghost use Rattle.muni_desk.specs.Store.{objects};
+ghost use Rattle.muni_desk.specs.Written.{TellsFaults};
 
-use crate::Status;
-use crate::answers::answer;
+use crate::answers::{drill_answer, help_answer, quote_answer, quote_one_answer};
 use crate::command::read;
-use muni_edge::{Gate, Sink};
+use crate::{Answer, CommandLine, DeskCommand, Status};
+use muni_edge::{Gate, Sink, Source};
+use muni_keep::Cabinet;
 use muni_multi::Encloser;
+use muni_office::{confirm, import};
+use std::alloc::Global;
 use std::thread::Threads;
 
 /// Does what the words ask for, and writes the answer.
@@ -17,33 +22,92 @@ use std::thread::Threads;
 /// `quote-one COUPON NEXT SETTLE REDEMPTION YIELD` is the price of a security with six months or less
 /// to redemption. `quote` and options in any order give the figures of a security, whose worth with more
 /// than six months left comes from the encloser. `drill` and options in any order price a generated book
-/// of trades, and give the sums. It takes no memory.
+/// of trades, and give the sums. `import` applies the rows of the input to the tables of a store, and
+/// writes a line on each. `confirm` writes the confirmation of a trade that a store keeps. `help` names
+/// the commands. Memory is taken by `import` and `confirm` alone.
 // Yields are looked for by as many threads as the words name workers, and the gate is told when they
 // begin (tested).
-pub fn desk<O: Sink, R: Threads + Sync, E: Encloser + Sync, G: Gate + Sync>(
+pub fn desk<R: Threads + Sync, I: Source, O: Sink, C: Cabinet, E: Encloser + Sync, G: Gate + Sync>(
     rt: &R,
+    alloc: Global,
     words: &[String],
+    input: &mut I,
     output: &mut O,
+    cabinet: &mut C,
     encloser: &E,
     gate: &G,
 ) -> Status
+    requires none_out { C.out cabinet.old ≡ None }
+
     // Words that are no command change nothing.
     ensures usage { (result ≡ Status.Usage) ↔ (command_of (map string_bytes words.now) ≡ None) }
-    ensures untouched { result ≡ Status.Usage → output.new ≡ output.old }
+    ensures untouched { result ≡ Status.Usage
+        → (input.new ≡ input.old) × (output.new ≡ output.old) × (cabinet.new ≡ cabinet.old) }
 
-    // Those that are a command write its answer.
-    ensures answered { IfSome (command_of (map string_bytes words.now)) (λ line.
-        WritesAnswer (IsAnswer (E.ends encloser.now) line.command) result (O.bytes output.old)
-        (O.bytes output.new)) }
+    // Those that are a command do what it says, where the objects tell what they hold.
+    ensures does { IfSome (command_of (map string_bytes words.now)) (λ line.
+        Does (E.ends encloser.now) line.command result
+        (objects (I.left input.old) (O.bytes output.old) (C.told cabinet.old)
+        (I.faults input.old) (O.faults output.old) (C.faults cabinet.old))
+        (objects (I.left input.new) (O.bytes output.new) (C.told cabinet.new)
+        (I.faults input.new) (O.faults output.new) (C.faults cabinet.new))) }
+    ensures spares { IfSome (command_of (map string_bytes words.now)) (λ line.
+        Spares line.command result (input.new ≡ input.old) (output.new ≡ output.old) (cabinet.new ≡ cabinet.old)) }
+
+    // No keeper stays out.
+    ensures none_out { C.out cabinet.new ≡ None }
+{
+    match read(words) {
+        Some(line) => carry_out(rt, alloc, line, input, output, cabinet, encloser, gate),
+        None => Status::Usage,
+    }
+}
+
+fn carry_out<R: Threads + Sync, I: Source, O: Sink, C: Cabinet, E: Encloser + Sync, G: Gate + Sync>(
+    rt: &R,
+    alloc: Global,
+    line: CommandLine,
+    input: &mut I,
+    output: &mut O,
+    cabinet: &mut C,
+    encloser: &E,
+    gate: &G,
+) -> Status
+    requires answerable { IsAnswerable line.command }
+    requires workers { (1 ≤ line.workers) × (line.workers ≤ 16) }
+    requires none_out { C.out cabinet.old ≡ None }
+    ensures does { Does (E.ends encloser.now) line.command result
+        (objects (I.left input.old) (O.bytes output.old) (C.told cabinet.old)
+        (I.faults input.old) (O.faults output.old) (C.faults cabinet.old))
+        (objects (I.left input.new) (O.bytes output.new) (C.told cabinet.new)
+        (I.faults input.new) (O.faults output.new) (C.faults cabinet.new)) }
+    ensures spares { Spares line.command result (input.new ≡ input.old) (output.new ≡ output.old) (cabinet.new ≡ cabinet.old) }
+    ensures none_out { C.out cabinet.new ≡ None }
+{
+    let CommandLine { command, workers } = line;
+    match command {
+        DeskCommand::QuoteOne(request) => say(&quote_one_answer(&request), output),
+        DeskCommand::Quote(request) => {
+            say(&quote_answer(rt, request, workers, encloser, gate), output)
+        }
+        DeskCommand::Import { store } => Status::of(import(
+            rt, alloc, &store, workers, input, output, cabinet, encloser, gate,
+        )),
+        DeskCommand::Confirm { store, key } => Status::of(confirm(&store, &key, output, cabinet)),
+        DeskCommand::Drill(request) => {
+            say(&drill_answer(rt, request, workers, encloser, gate), output)
+        }
+        DeskCommand::Help => say(&help_answer(), output),
+    }
+}
+
+fn say<O: Sink>(answer: &Answer, output: &mut O) -> Status
+    requires { answer.now.status ≢ Status.WriteFault }
+    ensures written { ((result ≡ answer.now.status) × HasWritten (O.bytes output.old) (O.bytes output.new) answer.now.text.items)
+        ⊎ ((result ≡ Status.WriteFault) × HasWrittenPart (O.bytes output.old) (O.bytes output.new) answer.now.text.items) }
     ensures tells { is_some (O.bytes output.new) ≡ is_some (O.bytes output.old) }
-
-    // Only a failing output keeps them from it.
     ensures faults { TellsFaults result (O.faults output.old) (O.faults output.new) }
 {
-    let Some(line) = read(words) else {
-        return Status::Usage;
-    };
-    let answer = answer(rt, line.command, line.workers, encloser, gate);
     match output.put(answer.text.as_slice()) {
         Ok(()) => answer.status,
         Err(_) => Status::WriteFault,

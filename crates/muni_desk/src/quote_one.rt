@@ -9,7 +9,7 @@ ghost use Rattle.muni_desk.specs.Command.{IsAnswerable};
 ghost use Rattle.muni_desk.specs.QuoteOne as spec;
 ghost use Rattle.muni_desk.specs.QuoteOne.{IsPriced};
 
-use crate::command::{Command, CommandLine};
+use crate::command::{CommandLine, DeskCommand};
 use crate::words::word_at;
 use muni_days::{Basis, Day, days360, months_on};
 use muni_dec::{Coupon, Price, Price3, Yield};
@@ -70,7 +70,7 @@ fn read_values(
         return None;
     }
     Some(CommandLine {
-        command: Command::QuoteOne(QuoteOneRequest {
+        command: DeskCommand::QuoteOne(QuoteOneRequest {
             coupon,
             next,
             settlement,

@@ -7,7 +7,7 @@ ghost use Rattle.muni_desk.specs.Command.{IsAnswerable};
 ghost use Rattle.muni_desk.specs.QuoteOptions as spec;
 ghost use Rattle.muni_desk.specs.Words.{count_of, values_of};
 
-use crate::command::{Command, CommandLine};
+use crate::command::{CommandLine, DeskCommand};
 use crate::request::{NO_CUSIP, QuoteRequest, issue_name};
 use crate::words::{are_options, count_of, value_in, value_of};
 use arrayvec::ArrayVec;
@@ -61,7 +61,7 @@ pub fn read_quote(words: &[String]) -> Option<CommandLine>
     let asked = read_asked(words)?;
     let workers = read_workers(words)?;
     Some(CommandLine {
-        command: Command::Quote(QuoteRequest { row, asked }),
+        command: DeskCommand::Quote(QuoteRequest { row, asked }),
         workers,
     })
 }
@@ -183,7 +183,8 @@ fn read_one_given(words: &[String]) -> Option<Given>
     }
 }
 
-fn read_workers(words: &[String]) -> Option<u32>
+/// How many workers may compute, which is 1 where no number is given.
+pub fn read_workers(words: &[String]) -> Option<u32>
     ensures value { result ≡ spec.workers_of (map string_bytes words.now) }
     ensures range { IfSome result (λ workers. (1 ≤ workers) × (workers ≤ 16)) }
 {

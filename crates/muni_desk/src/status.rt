@@ -1,9 +1,10 @@
 //! How a command ends, and what it says.
 
 ghost use Rattle.std.specs.Prelude.{◌≡◌};
-ghost use Rattle.muni_desk.specs.Status.{number_of};
+ghost use Rattle.muni_desk.specs.Status.{number_of, status_of};
 
 use arrayvec::ArrayVec;
+use muni_office::End;
 
 /// How a command ended.
 #[derive(Clone, Copy, Debug, PartialEq, Eq)]
@@ -29,6 +30,21 @@ pub enum Status {
 }
 
 impl Status {
+    /// How a command over a store ended.
+    pub fn of(end: End) -> Status
+        ensures { result ≡ status_of end }
+    {
+        match end {
+            End::Done => Status::Done,
+            End::Refused => Status::Refused,
+            End::ReadFault => Status::ReadFault,
+            End::WriteFault => Status::WriteFault,
+            End::StoreFault => Status::StoreFault,
+            End::NoMemory => Status::NoMemory,
+            End::TooLarge => Status::TooLarge,
+        }
+    }
+
     /// The exit status of the program, from 0 to 9.
     pub fn number(self) -> u8
         ensures { result ≡ number_of self }

@@ -8,10 +8,13 @@ mod price_cases;
 mod quote_cases;
 mod quote_one_cases;
 mod schedule_cases;
+mod store;
+mod store_cases;
 
-use crate::{Command, CommandLine, QuoteRequest, Status, desk, read};
+use crate::{CommandLine, DeskCommand, QuoteRequest, Status, desk, read};
 use muni_days::Day;
-use muni_edge::{MemSink, NoGate};
+use muni_edge::{Gate, MemSink, MemSource, NoGate};
+use muni_keep::MemCabinet;
 use muni_multi::{Doubling, Encloser, Horner};
 use muni_samples::{Sample, Table};
 use std::alloc::Global;
@@ -66,6 +69,29 @@ fn written(alloc: Global, output: &MemSink) -> Result<String, Fail> {
     Ok(text.trim_end_matches('\n').replace(alloc, "\n", "/")?)
 }
 
+// The status in which a command ends that needs no input and no store.
+fn status_without_store<R: Threads + Sync, E: Encloser + Sync, G: Gate + Sync>(
+    rt: &R,
+    alloc: Global,
+    words: &[String],
+    output: &mut MemSink,
+    encloser: &E,
+    gate: &G,
+) -> Result<Status, Fail> {
+    let mut input = MemSource::new(alloc, b"", &[0])?;
+    let mut cabinet = MemCabinet::new(alloc, Vec::new(alloc), &[0])?;
+    Ok(desk(
+        rt,
+        alloc,
+        words,
+        &mut input,
+        output,
+        &mut cabinet,
+        encloser,
+        gate,
+    ))
+}
+
 fn answers_are_right<R: Threads + Sync + Abort>(
     rt: &R,
     alloc: Global,
@@ -97,7 +123,14 @@ fn answers_are_right_by<R: Threads + Sync + Abort, E: Encloser + Sync>(
         let (status, text) = answered.split_once('|').ok_or("a status")?;
         let mut output = sink(alloc, 512, &[])?;
         let words = words_of_case(alloc, &case)?;
-        let number = desk(rt, words.as_slice(), &mut output, encloser, &NoGate).number();
+        let number = status_without_store(
+            rt,
+            alloc,
+            &words,
+            &mut output,
+            encloser,
+            &NoGate,
+        )?.number();
         assert_eq!(rt; number, status.parse::<u8>()?, "{line}");
         assert_eq!(rt; written(alloc, &output)?.as_str(), text, "{line}");
         assert_eq!(rt; output.bytes().ends_with(b"\n"), !text.is_empty(), "{line}");
@@ -142,8 +175,8 @@ fn quoted(alloc: Global, line: &str) -> Result<(QuoteRequest, u32), Fail> {
     let words = words_of(alloc, line)?;
     let CommandLine { command, workers } = read(words.as_slice()).ok_or("a command")?;
     match command {
-        Command::Quote(request) => Ok((request, workers)),
-        Command::QuoteOne(_) | Command::Drill(_) => Err("a quote")?,
+        DeskCommand::Quote(request) => Ok((request, workers)),
+        _ => Err("a quote")?,
     }
 }
 
@@ -184,7 +217,7 @@ fn a_full_output_holds_the_front_of_the_summary(rt: HostRuntime) -> Result<(), F
     let mut output = sink(rt.alloc(), 10, &[])?;
     let words = words_of(rt.alloc(), "drill --count=0 --seed=1 --workers=1")?;
     assert_eq!(rt;
-        desk(&rt, words.as_slice(), &mut output, &Doubling, &NoGate),
+        status_without_store(&rt, rt.alloc(), &words, &mut output, &Doubling, &NoGate)?,
         Status::WriteFault
     );
     assert_eq!(rt; output.bytes(), b"DRILL 0\nPR".as_slice());
@@ -195,7 +228,7 @@ fn a_full_output_holds_the_front_of_the_summary(rt: HostRuntime) -> Result<(), F
 fn no_word_at_all_is_no_command(rt: HostRuntime) -> Result<(), Fail> {
     let mut output = sink(rt.alloc(), 64, &[])?;
     assert_eq!(rt;
-        desk(&rt, &[], &mut output, &Doubling, &NoGate),
+        status_without_store(&rt, rt.alloc(), &[], &mut output, &Doubling, &NoGate)?,
         Status::Usage
     );
     assert!(rt; output.bytes().is_empty());
@@ -207,7 +240,7 @@ fn an_output_that_fails_at_once_holds_nothing(rt: HostRuntime) -> Result<(), Fai
     let mut output = sink(rt.alloc(), 64, &[0])?;
     let words = words_of(rt.alloc(), WORKED)?;
     assert_eq!(rt;
-        desk(&rt, words.as_slice(), &mut output, &Doubling, &NoGate),
+        status_without_store(&rt, rt.alloc(), &words, &mut output, &Doubling, &NoGate)?,
         Status::WriteFault
     );
     assert!(rt; output.bytes().is_empty());
@@ -219,7 +252,7 @@ fn an_output_that_is_full_holds_the_front_of_the_line(rt: HostRuntime) -> Result
     let mut output = sink(rt.alloc(), 3, &[])?;
     let words = words_of(rt.alloc(), WORKED)?;
     assert_eq!(rt;
-        desk(&rt, words.as_slice(), &mut output, &Doubling, &NoGate),
+        status_without_store(&rt, rt.alloc(), &words, &mut output, &Doubling, &NoGate)?,
         Status::WriteFault
     );
     assert_eq!(rt; output.bytes(), b"100".as_slice());

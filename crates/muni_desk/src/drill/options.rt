@@ -4,7 +4,7 @@ ghost use Rattle.std.specs.Prelude.{◌≡◌, ◌≤◌, map, IfSome, string_by
 ghost use Rattle.muni_desk.specs.DrillOptions as spec;
 ghost use Rattle.muni_desk.specs.Command.{IsAnswerable};
 
-use crate::command::{Command, CommandLine};
+use crate::command::{CommandLine, DeskCommand};
 use crate::words::{are_options, value_of};
 use muni_dec::digits::read_number;
 
@@ -38,7 +38,7 @@ pub fn read_drill(words: &[String]) -> Option<CommandLine>
     let seed = read_number_of(words, SEED, 0, u64::MAX)?;
     let workers = read_number_of(words, WORKERS, 1, 16)? as u32;
     Some(CommandLine {
-        command: Command::Drill(DrillRequest { seed, count }),
+        command: DeskCommand::Drill(DrillRequest { seed, count }),
         workers,
     })
 }

@@ -3,8 +3,8 @@
 ghost use Rattle.muni_multi.specs.Horner.{horner_ends};
 ghost use Rattle.muni_multi.specs.HornerLaws.{horner-encloses, horner-narrow};
 
-use super::{sink, words_of, written};
-use crate::{Status, desk};
+use super::{sink, status_without_store, words_of, written};
+use crate::Status;
 use muni_edge::Gate;
 use muni_multi::{Encloser, Horner};
 use muni_span::worth::Worth;
@@ -133,7 +133,7 @@ fn side_by_side<R: Threads + Sync + Abort>(
     gate: Meeting,
 ) -> Result<u32, Fail> {
     let mut output = sink(alloc, 512, &[])?;
-    let status = desk(rt, words, &mut output, &Horner, &gate);
+    let status = status_without_store(rt, alloc, words, &mut output, &Horner, &gate)?;
     assert_eq!(rt; status, Status::Done);
     assert_eq!(rt; written(alloc, &output)?.as_str(), ANSWER);
     Ok(gate.most.load(Ordering::SeqCst))
@@ -183,7 +183,7 @@ fn a_candidate_that_cannot_be_the_lowest_is_dropped(rt: HostRuntime) -> Result<(
         TWO_CANDIDATES,
         &["--price=108.584", "--workers=1"],
     )?;
-    let status = desk(&rt, words.as_slice(), &mut output, &watching, &watching);
+    let status = status_without_store(&rt, rt.alloc(), &words, &mut output, &watching, &watching)?;
     assert_eq!(rt; status, Status::Done);
     assert_eq!(rt; written(rt.alloc(), &output)?.as_str(), ANSWER);
     assert!(rt; watching.starts.load(Ordering::SeqCst) <= 27);
@@ -200,7 +200,7 @@ fn the_gate_is_told_before_each_question_which_candidate_it_is(
     let watching = nothing_seen();
     let mut output = sink(rt.alloc(), 512, &[])?;
     let words = words_with(rt.alloc(), TWO_CANDIDATES, &["--price=90", "--workers=1"])?;
-    let status = desk(&rt, words.as_slice(), &mut output, &watching, &watching);
+    let status = status_without_store(&rt, rt.alloc(), &words, &mut output, &watching, &watching)?;
     assert_eq!(rt; status, Status::Done);
     assert!(rt; !watching.early.load(Ordering::SeqCst));
     assert_eq!(rt; watching.place.load(Ordering::SeqCst), 1);
@@ -213,7 +213,7 @@ fn a_price_takes_one_call_of_the_encloser_for_each_candidate(rt: HostRuntime) ->
     let watching = nothing_seen();
     let mut output = sink(rt.alloc(), 512, &[])?;
     let words = words_with(rt.alloc(), FOUR_CANDIDATES, &["--yield=3.1"])?;
-    let status = desk(&rt, words.as_slice(), &mut output, &watching, &watching);
+    let status = status_without_store(&rt, rt.alloc(), &words, &mut output, &watching, &watching)?;
     assert_eq!(rt; status, Status::Done);
     assert_eq!(rt; watching.calls.load(Ordering::SeqCst), 4);
     Ok(())
@@ -224,7 +224,7 @@ fn the_gate_is_told_of_the_searches_of_a_drill(rt: HostRuntime) -> Result<(), Fa
     let watching = nothing_seen();
     let mut output = sink(rt.alloc(), 512, &[])?;
     let words = words_of(rt.alloc(), "drill --count=1 --seed=1 --workers=1")?;
-    let status = desk(&rt, words.as_slice(), &mut output, &Horner, &watching);
+    let status = status_without_store(&rt, rt.alloc(), &words, &mut output, &Horner, &watching)?;
     assert_eq!(rt; status, Status::Done);
     assert!(rt; watching.starts.load(Ordering::SeqCst) > 0);
     Ok(())
@@ -235,7 +235,7 @@ fn trades_of_a_drill_are_answered_side_by_side(rt: HostRuntime) -> Result<(), Fa
     let gate = meeting_of(2, 100_000_000);
     let mut output = sink(rt.alloc(), 512, &[])?;
     let words = words_of(rt.alloc(), "drill --count=2 --seed=7 --workers=2")?;
-    let status = desk(&rt, words.as_slice(), &mut output, &Horner, &gate);
+    let status = status_without_store(&rt, rt.alloc(), &words, &mut output, &Horner, &gate)?;
     assert_eq!(rt; status, Status::Done);
     assert_eq!(rt; gate.most.load(Ordering::SeqCst), 2);
     Ok(())

@@ -1,4 +1,4 @@
-use Rattle.muni_desk.proofs.CommandLawLemmas.{read-line, line-read, none-refused, refused-none}
+use Rattle.muni_desk.proofs.LineLawLemmas.{read-line, line-read, none-refused, refused-none}
 use Rattle.muni_desk.proofs.WordLawLemmas.{names-apart}
 use Rattle.muni_desk.proofs.laws.words.words_are_read_by_the_rule.Goals as goal
 

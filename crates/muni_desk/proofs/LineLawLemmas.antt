@@ -1,0 +1,55 @@
+-- What words are read as, against the rule of the command line.
+use Rattle.std.proofs.Common.{◌≡◌, ℕ, Bool, true, false, List, [], ◌∷◌, Option, Some, None, refl, sym, ap, ◌∙◌}
+use Rattle.std.specs.Prelude.{codes, if◌then◌else◌}
+use Rattle.std.specs.Str.{bytes_eq}
+use Rattle.std.proofs.lemmas.Option.{none-some}
+use Rattle.muni_desk.specs.Command.{command_of}
+use Rattle.muni_desk.specs.DrillOptions.{drill_of}
+use Rattle.muni_desk.specs.Help.{help_of}
+use Rattle.muni_desk.specs.QuoteOne.{quote_one_of}
+use Rattle.muni_desk.specs.QuoteOptions.{quote_of}
+use Rattle.muni_desk.specs.StoreOptions.{import_of, confirm_of}
+use Rattle.muni_desk.specs.WordLaws.{IsCommandLine, IsSaid}
+use Rattle.muni_desk.specs.declared.command.CommandLine.{CommandLine}
+use Rattle.muni_desk.specs.declared.command.DeskCommand.{DeskCommand}
+use Rattle.muni_desk.specs.declared.command.DeskCommand.TheVariants.{QuoteOne, Quote, Import, Confirm, Drill, Help}
+use Rattle.muni_desk.proofs.CommandLawLemmas.{same-text, read-quote, quote-read, read-drill, drill-read, read-quote_one, quote_one-read}
+use Rattle.muni_desk.proofs.StoreLawLemmas.{read-import, import-read, read-confirm, confirm-read, read-help, help-read}
+
+read-by : (name : List ℕ) (words : List (List ℕ)) (line : CommandLine) (one quoted imported confirmed drilled helped : Bool) → bytes_eq name (codes "quote-one") ≡ one → bytes_eq name (codes "quote") ≡ quoted → bytes_eq name (codes "import") ≡ imported → bytes_eq name (codes "confirm") ≡ confirmed → bytes_eq name (codes "drill") ≡ drilled → bytes_eq name (codes "help") ≡ helped → (if one then quote_one_of words else (if quoted then quote_of words else (if imported then import_of words else (if confirmed then confirm_of words else (if drilled then drill_of words else (if helped then help_of words else None)))))) ≡ Some line → IsCommandLine (name ∷ words) line
+read-by name words line true quoted imported confirmed drilled helped is_one is_quote is_import is_confirm is_drill is_help is = read-quote_one words name line (same-text name (codes "quote-one") is_one) is
+read-by name words line false true imported confirmed drilled helped is_one is_quote is_import is_confirm is_drill is_help is = read-quote words name line (same-text name (codes "quote") is_quote) is
+read-by name words line false false true confirmed drilled helped is_one is_quote is_import is_confirm is_drill is_help is = read-import words name line (same-text name (codes "import") is_import) is
+read-by name words line false false false true drilled helped is_one is_quote is_import is_confirm is_drill is_help is = read-confirm words name line (same-text name (codes "confirm") is_confirm) is
+read-by name words line false false false false true helped is_one is_quote is_import is_confirm is_drill is_help is = read-drill words name line (same-text name (codes "drill") is_drill) is
+read-by name words line false false false false false true is_one is_quote is_import is_confirm is_drill is_help is = read-help words name line (same-text name (codes "help") is_help) is
+read-by name words line false false false false false false is_one is_quote is_import is_confirm is_drill is_help is = absurd (none-some line is)
+
+pub read-line : (words : List (List ℕ)) (line : CommandLine) → command_of words ≡ Some line → IsCommandLine words line
+read-line [] line is = absurd (none-some line is)
+read-line (name ∷ words) line is = read-by name words line (bytes_eq name (codes "quote-one")) (bytes_eq name (codes "quote")) (bytes_eq name (codes "import")) (bytes_eq name (codes "confirm")) (bytes_eq name (codes "drill")) (bytes_eq name (codes "help")) refl refl refl refl refl refl is
+
+said-read : (name : List ℕ) (words : List (List ℕ)) (command : DeskCommand) (workers : ℕ) → IsSaid (name ∷ words) command workers → command_of (name ∷ words) ≡ Some (record { command = command; workers = workers })
+said-read name words (QuoteOne request) workers said =
+    ap (λ name. command_of (name ∷ words)) said.0 ∙ quote_one-read words request said.1 ∙ (λ i. Some (record { command = QuoteOne request; workers = sym said.2 i }))
+said-read name words (Quote request) workers said = ap (λ name. command_of (name ∷ words)) said.0 ∙ quote-read words request workers said.1
+said-read name words (Import store) workers said = ap (λ name. command_of (name ∷ words)) said.0 ∙ import-read words store workers said.1
+said-read name words (Confirm store key) workers said =
+    ap (λ name. command_of (name ∷ words)) said.0 ∙ confirm-read words store key said.1 ∙ (λ i. Some (record { command = Confirm store key; workers = sym said.2 i }))
+said-read name words (Drill request) workers said = ap (λ name. command_of (name ∷ words)) said.0 ∙ drill-read words request workers said.1
+said-read name words Help workers said =
+    ap (λ name. command_of (name ∷ words)) said.0 ∙ help-read words said.1 ∙ (λ i. Some (record { command = Help; workers = sym said.2 i }))
+
+pub line-read : (words : List (List ℕ)) (line : CommandLine) → IsCommandLine words line → command_of words ≡ Some line
+line-read [] line said = absurd said
+line-read (name ∷ words) line said = said-read name words line.command line.workers said
+
+none-by : (words : List (List ℕ)) (found : Option CommandLine) → command_of words ≡ found → ((line : CommandLine) → ¬ (IsCommandLine words line)) → command_of words ≡ None
+none-by words None is never = is
+none-by words (Some line) is never = absurd (never line (read-line words line is))
+
+pub refused-none : (words : List (List ℕ)) → ((line : CommandLine) → ¬ (IsCommandLine words line)) → command_of words ≡ None
+refused-none words never = none-by words (command_of words) refl never
+
+pub none-refused : (words : List (List ℕ)) (line : CommandLine) → command_of words ≡ None → ¬ (IsCommandLine words line)
+none-refused words line none = λ said. none-some line (sym none ∙ line-read words line said)

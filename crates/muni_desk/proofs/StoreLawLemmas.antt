@@ -1,0 +1,122 @@
+-- What the words behind `import`, `confirm` and `help` are read as, against the rule of the command line.
+use Rattle.std.proofs.Common.{◌≡◌, ℕ, ◌≤◌, true, List, [], ◌∷◌, Option, Some, None, length, refl, sym, ap, ◌∙◌, subst, arith}
+use Rattle.std.specs.Prelude.{All, codes, nat_le}
+use Rattle.std.specs.Bool.{Decides}
+use Rattle.std.specs.Char.{is_ascii_graphic, is_ascii_alphanumeric}
+use Rattle.std.specs.List.{list_all}
+use Rattle.std.specs.Result.{result_ok}
+use Rattle.std.proofs.lemmas.Bool.Decides.{Decides-by_and, nat_tests}
+use Rattle.std.proofs.lemmas.Option.{none-some, same_Some}
+use Rattle.arrayvec.specs.ArrayVec.{ArrayVec}
+use Rattle.muni_msg.specs.NameReading.{name_reading}
+use Rattle.muni_msg.specs.Names.{is_desk_letter}
+use Rattle.muni_msg.specs.declared.command.Key.{Key}
+use Rattle.muni_desk.specs.Words.{◌>>=◌, are_options, value_of}
+use Rattle.muni_desk.specs.QuoteOptions.{workers_of}
+use Rattle.muni_desk.specs.StoreOptions.{import_options, confirm_options, is_store_name, store_reading, store_of, import_line, import_of, confirm_line, confirm_of}
+use Rattle.muni_desk.specs.Help.{help_of}
+use Rattle.muni_desk.specs.WordLaws.{IsCommandLine, IsImport, IsConfirm, IsSingle, SaysStore}
+use Rattle.muni_desk.specs.declared.command.CommandLine.{CommandLine}
+use Rattle.muni_desk.specs.declared.command.DeskCommand.TheVariants.{Import, Confirm, Help}
+use Rattle.muni_desk.proofs.CommandLawLemmas.{read-ok, ok-read, read-workers, workers-read}
+use Rattle.muni_desk.proofs.OptionalLemmas.{bind-some, some-bind, if-some, when-true}
+use Rattle.muni_desk.proofs.WordLawLemmas.{both, options-read, are-options, found-says, says-found}
+
+-- ---- the name of a store
+byte-decides : (b : ℕ) → Decides (is_ascii_graphic b) ((33 ≤ b) × (b ≤ 126))
+byte-decides b = (λ test. (grind (arith, nat_tests), grind (arith, nat_tests)), λ inside. let least = inside.0 in let most = inside.1 in grind (arith, nat_tests))
+
+bytes-decide : (text : List ℕ) → Decides (list_all is_ascii_graphic text) (All (λ b. (33 ≤ b) × (b ≤ 126)) text)
+bytes-decide text = Decides-by_and is_ascii_graphic (λ b. (33 ≤ b) × (b ≤ 126)) (list_all is_ascii_graphic) byte-decides refl (λ _ _. refl) text
+
+read-store : (words : List (List ℕ)) (store : ArrayVec ℕ) → store_of words ≡ Some store → SaysStore words store
+read-store words store is =
+    let found = bind-some store_reading (value_of (codes "--store=") words) store is in
+    let parts = if-some (is_store_name found.0) (Some (record { items = found.0 })) store found.2 in
+    let tests = both (nat_le (length found.0) 200) (list_all is_ascii_graphic found.0) parts.0 in
+    let few : nat_le (length found.0) 200 ≡ true = tests.0 in
+    subst (SaysStore words) (same_Some (record { items = found.0 }) store parts.1)
+    (record { stands = found-says (codes "--store=") found.0 words found.1; few = grind (arith, nat_tests); bytes = (bytes-decide found.0).0 tests.1 })
+
+store-read : (words : List (List ℕ)) (store : ArrayVec ℕ) → IsSingle words (codes "--store=") → SaysStore words store → store_of words ≡ Some store
+store-read words store single said =
+    let most = said.few in
+    let few : nat_le (length store.items) 200 ≡ true = grind (arith, nat_tests) in
+    let bytes : list_all is_ascii_graphic store.items ≡ true = (bytes-decide store.items).1 said.bytes in
+    let test : is_store_name store.items ≡ true = rw (few, bytes) refl in
+    some-bind store_reading (value_of (codes "--store=") words) store.items store (says-found (codes "--store=") store.items words single said.stands)
+    (when-true (is_store_name store.items) (Some (record { items = store.items })) store test refl)
+
+-- ---- `import`
+abbrev import_from : ArrayVec ℕ → ℕ → CommandLine
+import_from store workers = record { command = Import store; workers = workers }
+
+pub read-import : (words : List (List ℕ)) (name : List ℕ) (line : CommandLine) → name ≡ codes "import" → import_of words ≡ Some line → IsCommandLine (name ∷ words) line
+read-import words name line named is =
+    let options_read = if-some (are_options import_options import_options words) (import_line words) line is in
+    let stand = options-read import_options import_options words options_read.0 in
+    let store = bind-some _ (store_of words) line options_read.1 in
+    let workers = bind-some _ (workers_of words) line store.2 in
+    subst (IsCommandLine (name ∷ words)) (same_Some (import_from store.0 workers.0) line workers.2) (
+      named,
+      record {
+        known = stand.0;
+        single = stand.1;
+        named = read-store words store.0 store.1;
+        at_once = read-workers words workers.0 (value_of (codes "--workers=") words) refl workers.1;
+      },
+    )
+
+pub import-read : (words : List (List ℕ)) (store : ArrayVec ℕ) (workers : ℕ) → IsImport words store workers → import_of words ≡ Some (record { command = Import store; workers = workers })
+import-read words store workers said =
+    let line = import_from store workers in
+    when-true (are_options import_options import_options words) (import_line words) line (are-options import_options import_options words said.known said.single)
+    (some-bind _ (store_of words) store line (store-read words store (said.single 0 [] (omega arith)) said.named)
+    (some-bind _ (workers_of words) workers line (workers-read words workers (said.single 1 [] (omega arith)) said.at_once)
+    refl))
+
+-- ---- `confirm`
+abbrev confirm_from : ArrayVec ℕ → List ℕ → List ℕ → CommandLine
+confirm_from store desk reference = record { command = Confirm store (record { desk = desk; reference = reference }); workers = 1 }
+
+abbrev desk_of : List (List ℕ) → Option (List ℕ)
+desk_of words = value_of (codes "--desk=") words >>= λ text. result_ok (name_reading is_desk_letter 16 text)
+
+abbrev reference_of : List (List ℕ) → Option (List ℕ)
+reference_of words = value_of (codes "--ref=") words >>= λ text. result_ok (name_reading is_ascii_alphanumeric 20 text)
+
+pub read-confirm : (words : List (List ℕ)) (name : List ℕ) (line : CommandLine) → name ≡ codes "confirm" → confirm_of words ≡ Some line → IsCommandLine (name ∷ words) line
+read-confirm words name line named is =
+    let options_read = if-some (are_options confirm_options confirm_options words) (confirm_line words) line is in
+    let stand = options-read confirm_options confirm_options words options_read.0 in
+    let store = bind-some _ (store_of words) line options_read.1 in
+    let desk = bind-some _ (desk_of words) line store.2 in
+    let reference = bind-some _ (reference_of words) line desk.2 in
+    subst (IsCommandLine (name ∷ words)) (same_Some (confirm_from store.0 desk.0 reference.0) line reference.2) (
+      named,
+      record {
+        known = stand.0;
+        single = stand.1;
+        named = read-store words store.0 store.1;
+        desk = read-ok (name_reading is_desk_letter 16) words (codes "--desk=") desk.0 desk.1;
+        reference = read-ok (name_reading is_ascii_alphanumeric 20) words (codes "--ref=") reference.0 reference.1;
+      },
+      refl,
+    )
+
+pub confirm-read : (words : List (List ℕ)) (store : ArrayVec ℕ) (key : Key) → IsConfirm words store key → confirm_of words ≡ Some (record { command = Confirm store key; workers = 1 })
+confirm-read words store key said =
+    let line : CommandLine = record { command = Confirm store key; workers = 1 } in
+    when-true (are_options confirm_options confirm_options words) (confirm_line words) line (are-options confirm_options confirm_options words said.known said.single)
+    (some-bind _ (store_of words) store line (store-read words store (said.single 0 [] (omega arith)) said.named)
+    (some-bind _ (desk_of words) key.desk line (ok-read (name_reading is_desk_letter 16) words (codes "--desk=") key.desk (said.single 1 [] (omega arith)) said.desk)
+    (some-bind _ (reference_of words) key.reference line (ok-read (name_reading is_ascii_alphanumeric 20) words (codes "--ref=") key.reference (said.single 2 [] (omega arith)) said.reference)
+    refl)))
+
+-- ---- `help`
+pub read-help : (words : List (List ℕ)) (name : List ℕ) (line : CommandLine) → name ≡ codes "help" → help_of words ≡ Some line → IsCommandLine (name ∷ words) line
+read-help [] name line named is = subst (IsCommandLine (name ∷ [])) (same_Some (record { command = Help; workers = 1 }) line is) (named, refl, refl)
+read-help (word ∷ words) name line named is = absurd (none-some line is)
+
+pub help-read : (words : List (List ℕ)) → words ≡ [] → help_of words ≡ Some (record { command = Help; workers = 1 })
+help-read words none = ap help_of none

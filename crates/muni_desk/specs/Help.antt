@@ -1,0 +1,22 @@
+-- The command `help`.
+use Rattle.std.specs.Prelude.{ℕ, List, [], ◌∷◌, ◌++◌, codes, Option, Some, None}
+use Rattle.muni_desk.specs.declared.command.DeskCommand.TheVariants.{Help}
+use Rattle.muni_desk.specs.declared.command.CommandLine.{CommandLine}
+
+-- what words ask for behind the name of the command: there are none
+abbrev pub help_of : List (List ℕ) → Option CommandLine
+help_of [] = Some (record { command = Help; workers = 1 })
+help_of (word ∷ words) = None
+
+-- a line for each command of the finished program, with its options
+abbrev pub help_text : List ℕ
+help_text =
+    codes "quote-one COUPON NEXT SETTLE REDEMPTION YIELD\n"
+    ++ (codes "quote --kind --dated --maturity --settle --yield|--price|--rate --first --coupon --call --par --workers --days\n"
+    ++ (codes "import --store --workers --positions\n"
+    ++ (codes "confirm --store --desk --ref\n"
+    ++ (codes "serve --store --port --connections --workers\n"
+    ++ (codes "drill --count --seed --workers\n"
+    ++ (codes "positions --store --desk\n"
+    ++ (codes "mark --store\n"
+    ++ codes "help\n")))))))

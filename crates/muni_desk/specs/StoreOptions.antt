@@ -1,0 +1,53 @@
+-- The options of `import` and of `confirm`.
+use Rattle.std.specs.Prelude.{ℕ, Bool, ◌&&◌, nat_le, if◌then◌else◌, List, length, [], ◌∷◌, codes, Option, Some, None}
+use Rattle.std.specs.Char.{is_ascii_graphic, is_ascii_alphanumeric}
+use Rattle.std.specs.List.{list_all}
+use Rattle.std.specs.Result.{result_ok}
+use Rattle.arrayvec.specs.ArrayVec.{ArrayVec}
+use Rattle.muni_msg.specs.NameReading.{name_reading}
+use Rattle.muni_msg.specs.Names.{is_desk_letter}
+use Rattle.muni_desk.specs.QuoteOptions.{workers_of}
+use Rattle.muni_desk.specs.Words.{◌>>=◌, are_options, value_of}
+use Rattle.muni_desk.specs.declared.command.DeskCommand.TheVariants.{Import, Confirm}
+use Rattle.muni_desk.specs.declared.command.CommandLine.{CommandLine}
+
+-- all options, each of which stands once at most
+abbrev pub import_options : List (List ℕ)
+import_options = codes "--store=" ∷ codes "--workers=" ∷ []
+
+abbrev pub confirm_options : List (List ℕ)
+confirm_options = codes "--store=" ∷ codes "--desk=" ∷ codes "--ref=" ∷ []
+
+-- a text names a store: at most 200 bytes, which print and are no blank
+abbrev pub is_store_name : List ℕ → Bool
+is_store_name text = nat_le (length text) 200 && list_all is_ascii_graphic text
+
+abbrev pub store_reading : List ℕ → Option (ArrayVec ℕ)
+store_reading text = if is_store_name text then Some (record { items = text }) else None
+
+abbrev pub store_of : List (List ℕ) → Option (ArrayVec ℕ)
+store_of words = value_of (codes "--store=") words >>= λ text. store_reading text
+
+-- an import into a store, and how many workers may compute
+abbrev pub import_line : List (List ℕ) → Option CommandLine
+import_line words = do
+  store ← store_of words
+  workers ← workers_of words
+  Some (record { command = Import store; workers = workers })
+
+-- what words ask for that are options of the command
+abbrev pub import_of : List (List ℕ) → Option CommandLine
+import_of words =
+    if are_options import_options import_options words then import_line words else None
+
+-- the trade of a desk under a reference, in a store
+abbrev pub confirm_line : List (List ℕ) → Option CommandLine
+confirm_line words = do
+  store ← store_of words
+  desk ← value_of (codes "--desk=") words >>= λ text. result_ok (name_reading is_desk_letter 16 text)
+  reference ← value_of (codes "--ref=") words >>= λ text. result_ok (name_reading is_ascii_alphanumeric 20 text)
+  Some (record { command = Confirm store (record { desk = desk; reference = reference }); workers = 1 })
+
+abbrev pub confirm_of : List (List ℕ) → Option CommandLine
+confirm_of words =
+    if are_options confirm_options confirm_options words then confirm_line words else None

@@ -1,0 +1,43 @@
+//! The command `help`: a line for each command of the finished program.
+
+ghost use Rattle.std.specs.Prelude.{◌≡◌, map, IfSome, string_bytes};
+ghost use Rattle.muni_desk.specs.Help as spec;
+ghost use Rattle.muni_desk.specs.Command.{IsAnswerable};
+
+use crate::command::{CommandLine, DeskCommand};
+use arrayvec::ArrayVec;
+use muni_dec::text::push;
+
+const TEXT: &[u8] = b"quote-one COUPON NEXT SETTLE REDEMPTION YIELD\n\
+quote --kind --dated --maturity --settle --yield|--price|--rate --first --coupon --call --par --workers --days\n\
+import --store --workers --positions\n\
+confirm --store --desk --ref\n\
+serve --store --port --connections --workers\n\
+drill --count --seed --workers\n\
+positions --store --desk\n\
+mark --store\n\
+help\n";
+
+/// What words ask for, where there are none.
+pub fn read_help(words: &[String]) -> Option<CommandLine>
+    ensures command { result ≡ spec.help_of (map string_bytes words.now) }
+    ensures answerable { IfSome result (λ line. IsAnswerable line.command) }
+    ensures workers { IfSome result (λ line. line.workers ≡ 1) }
+{
+    if !words.is_empty() {
+        return None;
+    }
+    Some(CommandLine {
+        command: DeskCommand::Help,
+        workers: 1,
+    })
+}
+
+/// A line for each command, with its options.
+pub fn help_text() -> ArrayVec<u8, 512>
+    ensures { result.items ≡ spec.help_text }
+{
+    let mut text = ArrayVec::new();
+    push(&mut text, TEXT);
+    text
+}

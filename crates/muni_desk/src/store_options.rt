@@ -1,0 +1,80 @@
+//! The options of `import` and of `confirm`.
+
+ghost use Rattle.std.specs.Prelude.{◌≡◌, ◌≤◌, map, IfSome, string_bytes};
+ghost use Rattle.std.specs.Char.{is_ascii_graphic};
+ghost use Rattle.std.specs.List.{list_all};
+ghost use Rattle.muni_desk.specs.Command.{IsAnswerable};
+ghost use Rattle.muni_desk.specs.StoreOptions as spec;
+
+use crate::command::{CommandLine, DeskCommand};
+use crate::quote_options::read_workers;
+use crate::words::{are_options, value_of};
+use arrayvec::ArrayVec;
+use muni_msg::{DeskName, Key, Reference};
+
+const STORE: &[u8] = b"--store=";
+
+const WORKERS: &[u8] = b"--workers=";
+
+const DESK: &[u8] = b"--desk=";
+
+const REF: &[u8] = b"--ref=";
+
+const IMPORT: [&[u8]; 2] = [STORE, WORKERS];
+
+const CONFIRM: [&[u8]; 3] = [STORE, DESK, REF];
+
+/// What words ask for, where they are options of `import`, in any order.
+pub fn read_import(words: &[String]) -> Option<CommandLine>
+    ensures command { result ≡ spec.import_of (map string_bytes words.now) }
+    ensures answerable { IfSome result (λ line. IsAnswerable line.command) }
+    ensures workers { IfSome result (λ line. (1 ≤ line.workers) × (line.workers ≤ 16)) }
+{
+    if !are_options(words, &IMPORT, &IMPORT) {
+        return None;
+    }
+    let store = read_store(value_of(words, STORE)?)?;
+    let workers = read_workers(words)?;
+    Some(CommandLine {
+        command: DeskCommand::Import { store },
+        workers,
+    })
+}
+
+/// What words ask for, where they are options of `confirm`, in any order.
+pub fn read_confirm(words: &[String]) -> Option<CommandLine>
+    ensures command { result ≡ spec.confirm_of (map string_bytes words.now) }
+    ensures answerable { IfSome result (λ line. IsAnswerable line.command) }
+    ensures workers { IfSome result (λ line. line.workers ≡ 1) }
+{
+    if !are_options(words, &CONFIRM, &CONFIRM) {
+        return None;
+    }
+    let store = read_store(value_of(words, STORE)?)?;
+    let desk = DeskName::read(value_of(words, DESK)?).ok()?;
+    let reference = Reference::read(value_of(words, REF)?).ok()?;
+    Some(CommandLine {
+        command: DeskCommand::Confirm {
+            store,
+            key: Key { desk, reference },
+        },
+        workers: 1,
+    })
+}
+
+fn is_graphic(text: &[u8]) -> bool
+    ensures { result ≡ list_all is_ascii_graphic text.now }
+{
+    text.iter().all(|b| b.is_ascii_graphic())
+}
+
+fn read_store(text: &[u8]) -> Option<ArrayVec<u8, 200>>
+    ensures { result ≡ spec.store_reading text.now }
+{
+    if text.len() > 200 || !is_graphic(text) {
+        return None;
+    }
+    let mut store = ArrayVec::new();
+    let _ = store.try_extend_from_slice(text);
+    Some(store)
+}
