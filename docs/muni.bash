@@ -4,6 +4,8 @@
 _muni_options() {
     case $1 in
     quote) echo --kind --dated --first --maturity --settle --coupon --yield --price --rate --call --days --par --workers ;;
+    import) echo --store --workers ;;
+    confirm) echo --store --desk --ref ;;
     drill) echo --count --seed --workers ;;
     esac
 }
@@ -19,7 +21,7 @@ _muni() {
     local word=${COMP_WORDS[COMP_CWORD]} before=${COMP_WORDS[COMP_CWORD - 1]} choices='' option place
     COMPREPLY=()
     if [ "$COMP_CWORD" -eq 1 ]; then
-        choices='quote-one quote drill'
+        choices='quote-one quote import confirm drill help'
     elif [ "$word" = = ]; then
         # bash takes `--kind=zero` for three words.
         choices=$(_muni_values "$before")
