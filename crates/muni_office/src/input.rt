@@ -8,7 +8,6 @@ ghost use Rattle.muni_office.specs.Input.{IsNotTooLarge};
 use muni_edge::{Failed, Source};
 use std::alloc::Global;
 
-
 /// Why there is no input.
 #[derive(Clone, Copy, Debug, PartialEq, Eq)]
 pub enum InputFault {

@@ -20,13 +20,7 @@ use std::alloc::Global;
 use std::thread::Threads;
 
 /// Applies the rows of a text one after another, and writes the line of each once it is applied.
-pub fn import_rows<
-    R: Threads + Sync,
-    K: Keeper,
-    O: Sink,
-    E: Encloser + Sync,
-    G: Gate + Sync,
->(
+pub fn import_rows<R: Threads + Sync, K: Keeper, O: Sink, E: Encloser + Sync, G: Gate + Sync>(
     rt: &R,
     alloc: Global,
     text: &[u8],
