@@ -1,4 +1,4 @@
--- One moment more.
+-- The next moment of a disk.
 use Rattle.std.proofs.Common.{◌≡◌, ◌⊎◌, inl, inr, ⊎_elim, ℕ, zero, suc, ◌+◌, ◌≤◌, List, ◌∷◌, length, drop, sym, subst, arith}
 use Rattle.muni_disk.specs.Disk.{GoesBy}
 use Rattle.muni_disk.specs.declared.past.MadeCall.{MadeCall}

@@ -1,4 +1,4 @@
--- Bytes with others in a range.
+-- Bytes of which a range is replaced.
 use Rattle.std.proofs.Common.{◌≡◌, inl, inr, ℕ, zero, suc, ◌+◌, ◌-◌, ◌<◌, ◌≤◌, false, List, [], ◌∷◌, length, refl, sym, ◌∙◌, ap, subst, arith}
 use Rattle.std.proofs.lemmas.Bool.{cases_lt}
 use Rattle.std.proofs.lemmas.Bool.Decides.{nat_tests}
@@ -56,7 +56,7 @@ patch_after (suc p) xs c zero past = absurd (omega (arith, past))
 patch_after (suc p) xs [] (suc j) past = patch_after p xs [] j (omega (arith, past))
 patch_after (suc p) xs (b ∷ c) (suc j) past = patch_after p xs c j (omega (arith, past))
 
--- after a write each image is one of before but for the range
+-- an image after a write differs from an earlier one in the range at most
 pub torn : (first : List ℕ) (past later : List MadeCall) (before : _) (piece : Piece) (place count : ℕ) → piece.place ≡ place → length piece.bytes.items ≡ count
     → later ≡ record { before = before; step = Write piece } ∷ past → IsTorn place count (IsImage first past) (IsImage first later)
 torn first past later before piece place count at size is c now =

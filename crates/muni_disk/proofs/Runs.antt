@@ -1,13 +1,13 @@
--- How a run of disk calls goes on.
+-- Disk calls that follow one another.
 use Rattle.std.proofs.Common.{inl, inr, ⊎_elim, ℕ, List, arith}
 use Rattle.muni_disk.specs.Disk.{GoesBy, StopsLeave}
 
 module _ {D : Type 0} (clock : D → ℕ) (since : D → ℕ → List ℕ → Type 0) where
-  -- before the first call
+  -- no call is made yet
   pub started : (old : D) (IsSo : List ℕ → Type 0) → ((c : List ℕ) → since old (clock old) c → IsSo c) → StopsLeave clock since old old IsSo
   started old IsSo here = record { later = omega arith; each = here; before = λ t c le left. inl left }
 
-  -- one call more, after which a stop leaves what is so
+  -- one more call, and what a stop leaves after it
   pub goes_on : (old mid new : D) (IsSo image : List ℕ → Type 0) → StopsLeave clock since old mid IsSo → GoesBy (clock mid) (clock new) (since mid) (since new) image
       → ((c : List ℕ) → image c → IsSo c) → StopsLeave clock since old new IsSo
   goes_on old mid new IsSo image so_far time here = record {
@@ -16,7 +16,7 @@ module _ {D : Type 0} (clock : D → ℕ) (since : D → ℕ → List ℕ → Ty
     before = λ t c le left. ⊎_elim (so_far.before t c le) (λ now. inr (here c now)) ((time.told t c (omega (arith, le, so_far.later))).0 left);
   }
 
-  -- one run after another
+  -- two runs of calls, one behind the other
   pub joins : (old mid new : D) (IsSo : List ℕ → Type 0) → StopsLeave clock since old mid IsSo → StopsLeave clock since mid new IsSo → StopsLeave clock since old new IsSo
   joins old mid new IsSo first second = record {
     later = omega (arith, first.later, second.later);

@@ -1,4 +1,4 @@
--- What the record says that the disk read as.
+-- What is remembered of a disk agrees with its images.
 use Rattle.std.proofs.Common.{◌≡◌, inl, inr, ⊎_elim, ℕ, zero, suc, ◌+◌, ◌-◌, ◌<◌, ◌||◌, Bool, true, false, cond, Some, Vec, Global, List, [], ◌∷◌, length, drop, refl, sym, ◌∙◌, ap, subst, arith}
 use Rattle.std.specs.Prelude.{slice_get}
 use Rattle.std.proofs.lemmas.Bool.{cases_lt}
@@ -13,7 +13,7 @@ use Rattle.muni_disk.specs.Past.{is_in, unsure_after, is_unsure, synced_after, s
 use Rattle.muni_disk.specs.Moments.{WasImage}
 use Rattle.muni_disk.proofs.Elapsed.{elapses}
 
--- each call's content is an image of the moment before it
+-- what the disk read as before a call was an image then
 abbrev pub IsTrue : List ℕ → List MadeCall → Type 0
 IsTrue first past = (k : ℕ) (call : MadeCall) → slice_get past k ≡ Some call → IsImage first (drop (k + 1) past) call.before.items
 

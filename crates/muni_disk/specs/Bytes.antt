@@ -10,7 +10,7 @@ abbrev pub bytes_at : List ℕ → ℕ → ℕ → List ℕ
 bytes_at bytes place zero = []
 bytes_at bytes place (suc count) = byte_at bytes place ∷ bytes_at bytes (place + 1) count
 
--- the piece stands at the place
+-- the bytes from a place on begin with the piece
 pub record StandsAt (place : ℕ) (piece bytes : List ℕ) : Type 0 where
   pub each : (i : ℕ) → i < length piece → byte_at bytes (place + i) ≡ byte_at piece i
 

@@ -1,4 +1,4 @@
--- What a disk reads as, and what a stop leaves of it.
+-- The bytes of a disk: as it reads, and as a stop leaves them.
 use Rattle.std.specs.Prelude.{◌≡◌, ◌⊎◌, ◌↔◌, ℕ, ◌≤◌, List, Option, Some, None, Result, IsErrOf}
 use Rattle.muni_edge.specs.Sink.{Rose}
 use Rattle.muni_disk.specs.Bytes.{byte_at, IsSameOutside}

@@ -6,7 +6,7 @@ use Rattle.muni_disk.specs.declared.past.Step.{Step}
 use Rattle.muni_disk.specs.declared.past.Step.TheVariants.{Read, Write, Synced, Unsynced}
 use Rattle.muni_disk.specs.declared.past.MadeCall.{MadeCall}
 
--- a place is in the range of a piece
+-- whether a place is one that a piece is written to
 abbrev pub is_in : Piece → ℕ → Bool
 is_in piece i = nat_le piece.place i && nat_lt i (piece.place + length piece.bytes.items)
 
@@ -17,7 +17,7 @@ unsure_after (Write piece) before i = is_in piece i || before
 unsure_after Synced before i = false
 unsure_after Unsynced before i = before
 
--- a write was given the place since the last sync that succeeded
+-- whether a place was written to, and not synced since
 abbrev pub is_unsure : List MadeCall → ℕ → Bool
 is_unsure [] i = false
 is_unsure (call ∷ past) i = unsure_after call.step (is_unsure past i) i
@@ -53,6 +53,6 @@ IsStopped before kept bytes Read = bytes ≡ before
 IsStopped before kept bytes Synced = bytes ≡ before
 IsStopped before kept bytes Unsynced = bytes ≡ before
 
--- the call of a number, counted from 0
+-- the call with a number; the first has 0
 abbrev pub call_of : List MadeCall → ℕ → Option MadeCall
 call_of past number = slice_get past (length past - 1 - number)

@@ -1,4 +1,4 @@
--- Where a journal ends.
+-- The end of a journal, and what moves it.
 use Rattle.std.proofs.Common.{◌≡◌, ◌≢◌, inl, inr, ℕ, zero, suc, ◌+◌, ◌-◌, ◌<◌, ◌≤◌, ◌==◌, if◌then◌else◌, true, false, List, ◌∷◌, length, Option, Some, None, refl, sym, ◌∙◌, ap, arith}
 use Rattle.std.specs.Option.{option_map, option_and_then}
 use Rattle.std.proofs.lemmas.Bool.{cases_eq, cases_lt}
@@ -12,7 +12,7 @@ use Rattle.muni_record.specs.Body.{put_of}
 use Rattle.muni_journal.specs.Puts.{put_on}
 use Rattle.muni_journal.specs.Journal.{Place, start, number_at, is_length, put_at, behind_slot, end_from, journal_of}
 
--- bytes that are the same below a place give the same pieces below it
+-- equal bytes before a place have equal parts before it
 pub same_piece : (top place count : ℕ) (d c : List ℕ) → IsSameBefore top d c → place + count ≤ top → bytes_at c place count ≡ bytes_at d place count
 same_piece top place zero d c same room = refl
 same_piece top place (suc count) d c same room = λ i. same.each place (omega (arith, room)) i ∷ same_piece top (place + 1) count d c same (omega (arith, room)) i
@@ -28,7 +28,7 @@ open_step k c at is_open = let t : byte_at c at.gate == 1 ≡ true = grind (arit
 pub closed_step : (k : ℕ) (c : List ℕ) (at : Place) → byte_at c at.gate ≢ 1 → end_from (suc k) c at ≡ Some at
 closed_step k c at is_closed = let t : byte_at c at.gate == 1 ≡ false = grind (arith, nat_tests) in rw t refl
 
--- what an open step that ends somewhere has read
+-- a journal that ends has read its open slot
 pub record HasNext (k : ℕ) (c : List ℕ) (at e : Place) : Type 0 where
   pub next : Place
   pub behind : behind_slot c at ≡ Some next
@@ -41,7 +41,7 @@ has_next k c at e is_open ends = option_and_then_some (end_from k c) (behind_slo
 pub with_next : (k : ℕ) (c : List ℕ) (at next e : Place) → byte_at c at.gate ≡ 1 → behind_slot c at ≡ Some next → end_from k c next ≡ Some e → end_from (suc k) c at ≡ Some e
 with_next k c at next e is_open behind ends = open_step k c at is_open ∙ ap (λ (o : Option Place). option_and_then (end_from k c) o) behind ∙ ends
 
--- a slot takes its gate, the four bytes and the body
+-- a slot is five bytes longer than its body
 some_of : {A B : Type 0} (f : A → B) (o : Option A) (y : B) → option_map f o ≡ Some y → (x : A) × (o ≡ Some x) × (f x ≡ y)
 some_of f None y e = absurd (cc e)
 some_of f (Some x) y e = (x, refl, cc)
@@ -52,7 +52,7 @@ next_gate c at next behind =
     let found = some_of (λ (tables : Tables). let p : Place = record { gate = at.gate + 5 + number_at c (at.gate + 1); tables = tables } in p) (option_and_then (put_on at.tables) (put_at c (at.gate + 1))) next behind in
     ap (λ (p : Place). p.gate) (sym found.2)
 
--- the same bytes up to the next gate make the same step
+-- equal bytes up to the next gate hold the same slot
 pub same_step : (d c : List ℕ) (at next : Place) → IsSameBefore next.gate d c → behind_slot d at ≡ Some next → behind_slot c at ≡ Some next
 unfolding behind_slot
 same_step d c at next same behind =
@@ -63,7 +63,7 @@ same_step d c at next same behind =
     let body : bytes_at c (at.gate + 1 + 4) (number_at d (at.gate + 1)) ≡ bytes_at d (at.gate + 1 + 4) (number_at d (at.gate + 1)) = same_piece next.gate (at.gate + 1 + 4) (number_at d (at.gate + 1)) d c same (omega (arith, end)) in
     ap (λ (n : ℕ). F n (bytes_at c (at.gate + 1 + 4) n)) number ∙ ap (λ (b : List ℕ). F (number_at d (at.gate + 1)) b) body ∙ behind
 
--- slots go on
+-- an open slot leads to the next one
 pub gates_rise : (k : ℕ) (c : List ℕ) (at e : Place) → end_from k c at ≡ Some e → at.gate ≤ e.gate
 gates_rise zero c at e ends = absurd (none-some e ends)
 gates_rise (suc k) c at e ends = elim (cases_eq (byte_at c at.gate) 1) [
@@ -106,7 +106,7 @@ longer_end (suc k) d c at e next ends same opened behind closed = elim (cases_eq
       with_next (suc k) c at next next (ap (λ (p : Place). byte_at c p.gate) here ∙ opened) (ap (behind_slot c) here ∙ behind) (closed_step k c next closed)
 ]
 
--- more steps than are needed change nothing
+-- the end does not depend on how many slots are allowed, once they suffice
 pub more : (k m : ℕ) (c : List ℕ) (at e : Place) → k ≤ m → end_from k c at ≡ Some e → end_from m c at ≡ Some e
 more zero m c at e le ends = absurd (none-some e ends)
 more (suc k) zero c at e le ends = absurd (omega (arith, le))
@@ -117,7 +117,7 @@ more (suc k) (suc m) c at e le ends = elim (cases_eq (byte_at c at.gate) 1) [
   | inr is_closed ↦ closed_step m c at is_closed ∙ sym (closed_step k c at is_closed) ∙ ends
 ]
 
--- an open gate stands within the bytes
+-- past the end every gate is closed
 open_within : (c : List ℕ) (gate : ℕ) → byte_at c gate ≡ 1 → gate < length c
 open_within c gate is_open = elim (cases_lt gate (length c)) [
   | inl within ↦ within

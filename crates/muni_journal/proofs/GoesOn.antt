@@ -1,4 +1,4 @@
--- Reading goes on to the end of a journal.
+-- A journal is read slot by slot, up to its end.
 use Rattle.std.proofs.Common.{◌≡◌, ◌≢◌, ℕ, zero, suc, ◌+◌, ◌≤◌, ◌==◌, Bool, true, false, List, length, Some, None, sym, ◌∙◌, ap}
 use Rattle.std.proofs.lemmas.Bool.{eqb-true}
 use Rattle.muni_disk.specs.Bytes.{byte_at}
@@ -9,7 +9,7 @@ use Rattle.muni_journal.proofs.Ends.{closed_step, has_next, with_next, gates_ris
 pub at_start : (c : List ℕ) → GoesOn c start
 at_start c = record { sound = λ most e ends. journal_ends most c e ends; whole = λ e is. (length c + 1, from_journal c e is) }
 
--- one step on
+-- the next slot
 next_is : (c : List ℕ) (at next e : Place) → byte_at c at.gate ≡ 1 → behind_slot c at ≡ Some next → (most : ℕ) → end_from most c at ≡ Some e → (k : ℕ) × (end_from k c next ≡ Some e)
 next_is c at next e is_open behind zero ends = absurd (cc ends)
 next_is c at next e is_open behind (suc most) ends =

@@ -1,4 +1,4 @@
--- What the images stand for after each step of a put.
+-- The tables for which the images stand while a put is made.
 use Rattle.std.proofs.Common.{◌≡◌, ◌≢◌, inl, inr, ⊎_elim, ℕ, zero, suc, ◌+◌, ◌<◌, ◌≤◌, ◌^◌, if◌then◌else◌, true, List, [], ◌∷◌, ◌++◌, length, Option, Some, None, refl, sym, ◌∙◌, ap, arith}
 use Rattle.std.specs.Prelude.{is_some}
 use Rattle.std.specs.Option.{option_map, option_and_then}
@@ -66,7 +66,7 @@ closed_from (suc k) c at e ends = elim (cases_eq (byte_at c at.gate) 1) [
 pub closed_end : (c : List ℕ) (e : Place) → journal_of c ≡ Some e → byte_at c e.gate ≢ 1
 closed_end c e is = closed_from (length c + 1) c start e (from_journal c e is)
 
--- below the gate nothing has changed
+-- all slots before the gate are as they were
 pub still : (at : Place) (d c : List ℕ) → journal_of d ≡ Some at → IsSameBefore at.gate d c → byte_at c at.gate ≢ 1 → journal_of c ≡ Some at
 still at d c is same closed = journal_ends (length d + 1) c at (same_end (length d + 1) d c start at (from_journal d at is) same closed)
 
@@ -102,7 +102,7 @@ module _ (at : Place) (x : Put) (fits : PutFits x) (short : IsShort x) (next : i
   tables_are : (c : List ℕ) (e : Place) → journal_of c ≡ Some e → tables_of c ≡ Some e.tables
   tables_are c e is = ap (λ (o : Option Place). option_map (λ (p : Place). p.tables) o) is
 
-  -- each image since the call began
+  -- a stop at any moment of the call
   pub step_stops : (old : List ℕ → Type 0) → AllImages old (λ d. journal_of d ≡ Some at) → (c : List ℕ) → ComesFrom (IsStep at.gate (piece_of x)) old c → StandsFor at.tables None (Some x) c
   step_stops old rest c from =
       let is = rest.each from.0 from.1 in
@@ -158,7 +158,7 @@ run_of clock since old new IsSo IsAlso so run = record {
   before = λ t c le left. ⊎_elim inl (λ is. inr (so c is)) (run.before t c le left);
 }
 
--- between two calls
+-- while no call runs
 pub stand_now : (at : Place) (doubt : Option Put) (image : List ℕ → Type 0) → (doubt ≡ None → AllImages image (λ c. journal_of c ≡ Some at)) → ((x : Put) → doubt ≡ Some x → AllImages image (IsInDoubt at x))
     → (c : List ℕ) → image c → StandsFor at.tables doubt None c
 stand_now at None image rest doubtful c now = inl (ap (λ (o : Option Place). option_map (λ (p : Place). p.tables) o) ((rest refl).each c now))

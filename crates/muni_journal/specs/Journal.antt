@@ -18,11 +18,11 @@ pub record Place : Type 0 where
 abbrev pub start : Place
 start = record { gate = 0; tables = no_tables }
 
--- a body has from 1 to 1,024 bytes
+-- a length that a body may have
 abbrev pub is_length : ℕ → Bool
 is_length count = nat_le 1 count && nat_le count 1_024
 
--- the number in the four bytes at a place
+-- the length that a record begins with
 unfoldable pub number_at : List ℕ → ℕ → ℕ
 number_at bytes place = number_of_4 (bytes_at bytes place 4)
 

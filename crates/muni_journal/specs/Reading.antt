@@ -1,4 +1,4 @@
--- How far a journal was read.
+-- The part of a journal that has been read.
 use Rattle.std.specs.Prelude.{◌≡◌, ℕ, List, Some}
 use Rattle.muni_journal.specs.Journal.{Place, end_from, journal_of}
 

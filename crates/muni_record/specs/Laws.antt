@@ -3,7 +3,7 @@ use Rattle.std.specs.Prelude.{◌≡◌, ℕ, List, Some}
 use Rattle.muni_record.specs.Body.{body_of, put_of, PutFits}
 use Rattle.muni_record.specs.declared.put.Put.{Put}
 
--- what was written is read
+-- a put is read from the bytes that are written for it
 abbrev pub WhatIsWrittenIsRead : Type 0
 WhatIsWrittenIsRead = (put : Put) → PutFits put → put_of (body_of put) ≡ Some put
 

@@ -1,4 +1,4 @@
--- What stands on a disk after each call of a put.
+-- The images of a disk between the four calls of a put.
 use Rattle.std.proofs.Common.{◌≡◌, ◌≢◌, ◌↔◌, inl, inr, ℕ, ◌+◌, List, [], ◌∷◌, refl, sym, ◌∙◌, ap, arith}
 use Rattle.muni_disk.specs.Bytes.{byte_at, StandsAt, IsSameOutside}
 use Rattle.muni_disk.specs.Disk.{ComesFrom, IsTorn, GoesBy, StopsLeave}
@@ -12,13 +12,13 @@ pub weaker : (image IsSo IsAlso : List ℕ → Type 0) → AllImages image IsSo 
 weaker image IsSo IsAlso all so = record { each = λ c now. so c (all.each c now) }
 
 module _ (gate : ℕ) (piece : List ℕ) (image : List ℕ → Type 0) where
-  -- behind the gate any bytes may stand
+  -- until the first sync a stop may leave any bytes of the piece
   pub behind_all : (n : ℕ) (new : List ℕ → Type 0) → IsTorn (gate + 1) n image new → AllImages new (ComesFrom (IsUnopened gate) image)
   behind_all n new torn = record {
     each = λ c now. let from = torn c now in (from.0, from.1, record { each = λ i below. from.2.before i below });
   }
 
-  -- after the first sync the piece stands there
+  -- the first sync makes the piece last
   pub staged : (reads mid new : List ℕ → Type 0) → ((c : List ℕ) → reads c → mid c) → AllImages mid (ComesFrom (IsUnopened gate) image)
       → ((c : List ℕ) → reads c → StandsAt (gate + 1) piece c) → ((c : List ℕ) → new c → reads c) → AllImages new (ComesFrom (IsDoubtful gate piece) image)
   staged reads mid new is_image unopened written only = record {
@@ -27,7 +27,7 @@ module _ (gate : ℕ) (piece : List ℕ) (image : List ℕ → Type 0) where
         (from.0, from.1, record { before = record { each = λ i below. from.2.each i (omega (arith, below)) }; behind = written c (only c now) });
   }
 
-  -- any byte may stand in the gate
+  -- until then a stop may leave any byte as the gate
   pub gate_all : (mid new : List ℕ → Type 0) → IsTorn gate 1 mid new → AllImages mid (ComesFrom (IsDoubtful gate piece) image) → AllImages new (ComesFrom (IsDoubtful gate piece) image)
   gate_all mid new torn doubtful = record {
     each = λ c now.
@@ -42,7 +42,7 @@ module _ (gate : ℕ) (piece : List ℕ) (image : List ℕ → Type 0) where
         );
   }
 
-  -- after the second the gate is open
+  -- the second sync makes the open gate last
   pub opened : (reads mid new : List ℕ → Type 0) → ((c : List ℕ) → reads c → mid c) → AllImages mid (ComesFrom (IsDoubtful gate piece) image)
       → ((c : List ℕ) → reads c → StandsAt gate (1 ∷ []) c) → ((c : List ℕ) → new c → reads c) → AllImages new (ComesFrom (IsPut gate piece) image)
   opened reads mid new is_image doubtful written only = record {
@@ -68,7 +68,7 @@ module _ (gate : ℕ) (piece : List ℕ) (image : List ℕ → Type 0) where
   pub same_step : AllImages image (λ c. byte_at c gate ≢ 1) → (c : List ℕ) → image c → ComesFrom (IsStep gate piece) image c
   same_step closed c now = (c, now, record { before = record { each = λ i below. refl }; whole = inl (closed.each c now) })
 
--- the gate alone is torn
+-- the gate is the one byte that a stop may leave torn
 module _ (gate : ℕ) (image : List ℕ → Type 0) where
   pub gate_torn : (mid new : List ℕ → Type 0) → IsTorn gate 1 mid new → AllImages mid (ComesFrom (IsSameOutside gate 1) image) → AllImages new (ComesFrom (IsSameOutside gate 1) image)
   gate_torn mid new torn kept = record {
@@ -97,7 +97,7 @@ module _ (gate : ℕ) (image : List ℕ → Type 0) where
         (from.0, from.1, record { others = from.2; is_closed = λ is_open. absurd (cc (is_open, zero_there)) });
   }
 
--- the run so far, and one call more
+-- a run of calls, and the call behind it
 module _ {D : Type 0} (clock : D → ℕ) (since : D → ℕ → List ℕ → Type 0) (image : D → List ℕ → Type 0) (IsSo : List ℕ → Type 0) where
   pub begun : (old : D) → ((c : List ℕ) → since old (clock old) c ↔ image old c) → AllImages (image old) IsSo → StopsLeave clock since old old IsSo
   begun old now before = started clock since old IsSo (λ c left. before.each c ((now c).0 left))

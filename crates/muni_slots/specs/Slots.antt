@@ -27,6 +27,6 @@ pub record IsTakenBack (gate : ℕ) (old new : List ℕ) : Type 0 where
   pub others : IsSameOutside gate 1 old new
   pub is_closed : byte_at new gate ≢ 1
 
--- each image is so
+-- a fact of all images
 pub record AllImages (image IsSo : List ℕ → Type 0) : Type 0 where
   pub each : (c : List ℕ) → image c → IsSo c
