@@ -1,3 +1,4 @@
 pub mod Line
 pub mod Marks
+pub mod Portfolio
 pub mod Rows

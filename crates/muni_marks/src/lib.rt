@@ -2,11 +2,13 @@
 #![tactic(auto)]
 
 mod line;
+mod portfolio;
 mod pricer;
 mod pricing;
 mod reader;
 
 pub use line::{mark_line, total};
+pub use portfolio::{LIMIT, mark};
 pub use pricer::Pricer;
 pub use pricing::{MarkSaid, marks};
 pub use reader::read_marks;

@@ -163,3 +163,38 @@ fn push_digits(text: &mut ArrayVec<u8, 256>, number: u32)
     let mut buffer = Buffer::new();
     push(text, buffer.format(number).as_bytes());
 }
+
+/// Replaces the text by the line of the total: how many rows are marked, and what they are worth.
+#[tactic(auto, unfolding(crate::specs::Line::total_line))]
+pub(crate) fn total_line(count: u64, sum: u128, text: &mut ArrayVec<u8, 256>)
+    ensures items { text.new.items ≡ spec.total_line count sum }
+    ensures len { array_vec_len text.new ≤ 120 }
+{
+    text.clear();
+    push(text, b"TOTAL");
+    push_count(text, count);
+    push_sum(text, sum);
+    text.push(b'\n');
+}
+
+fn push_count(text: &mut ArrayVec<u8, 256>, count: u64)
+    requires { array_vec_len text.old ≤ 10 }
+    ensures items { text.new.items ≡ text.old.items ++ behind_commas (decimal count ∷ []) }
+    ensures len { array_vec_len text.new ≤ array_vec_len text.old + 21 }
+{
+    let mut buffer = Buffer::new();
+    push_field(text, buffer.format(count).as_bytes());
+}
+
+fn push_sum(text: &mut ArrayVec<u8, 256>, sum: u128)
+    requires { array_vec_len text.old ≤ 40 }
+    ensures items { text.new.items ≡ text.old.items ++ behind_commas (decimal_text 2 sum ∷ []) }
+    ensures len { array_vec_len text.new ≤ array_vec_len text.old + 50 }
+{
+    text.push(b',');
+    let mut buffer = Buffer::new();
+    push(text, buffer.format(sum / 100).as_bytes());
+    text.push(b'.');
+    text.push(b'0' + (sum / 10 % 10) as u8);
+    text.push(b'0' + (sum % 10) as u8);
+}

@@ -1,0 +1,64 @@
+-- The marks of a portfolio over the tables of a desk.
+use Rattle.std.specs.Prelude.{◌≡◌, ℕ, Bool, true, List, Option, IsSome, Result, Ok, Err, ⊤}
+use Rattle.std.specs.List.{AllByRecursion, AllZip}
+use Rattle.muni_terms.specs.declared.row.IssueRow.{IssueRow}
+use Rattle.muni_msg.specs.declared.asked.Asked.{Asked}
+use Rattle.muni_keep.specs.Tables.{Tables, issue_at}
+use Rattle.muni_import.specs.declared.row.RowFault.{RowFault}
+use Rattle.muni_office.specs.declared.end.End.{End}
+use Rattle.muni_office.specs.declared.end.End.TheVariants.{Done, Refused, ReadFault, WriteFault, StoreFault, NoMemory, TooLarge}
+use Rattle.muni_marks.specs.Line.{marks_text}
+use Rattle.muni_marks.specs.Marks.{Pricing, IsMark}
+use Rattle.muni_marks.specs.Rows.{AreRows}
+use Rattle.muni_marks.specs.declared.pricing.MarkSaid.{MarkSaid}
+
+-- of a CUSIP it is known what is kept
+abbrev pub IsKnown : Tables → (List ℕ → Option IssueRow) → List ℕ → Type 0
+IsKnown tables issue cusip = issue cusip ≡ issue_at tables cusip
+
+-- it is known of each that was found and of each that is missing
+pub record AreKnown (tables : Tables) (issue : List ℕ → Option IssueRow) (is_missing : List ℕ → Bool) : Type 0 where
+  pub found : (cusip : List ℕ) → IsSome (issue cusip) → IsKnown tables issue cusip
+  pub missing : (cusip : List ℕ) → is_missing cusip ≡ true → IsKnown tables issue cusip
+
+-- it is known of one CUSIP more, and of those before it as before
+pub record IsKnownNext (tables : Tables) (cusip : List ℕ) (old new : List ℕ → Option IssueRow) (is_missing : List ℕ → Bool) : Type 0 where
+  pub are : AreKnown tables new is_missing
+  pub this : IsKnown tables new cusip
+  pub others : (other : List ℕ) → IsKnown tables old other → IsKnown tables new other
+
+-- and of the CUSIP of each row
+abbrev pub IsFetched : Tables → (List ℕ → Option IssueRow) → Result Asked RowFault → Type 0
+IsFetched tables issue (Err fault) = ⊤
+IsFetched tables issue (Ok asked) = IsKnown tables issue asked.cusip
+
+abbrev pub AreFetched : Tables → (List ℕ → Option IssueRow) → List (Result Asked RowFault) → Type 0
+AreFetched tables issue rows = AllByRecursion (IsFetched tables issue) rows
+
+-- the lines of a portfolio: its rows are those of the text, and each is marked by itself
+pub record IsPortfolioText (Prices : Pricing) (tables : Tables) (text : List ℕ) (lines : List ℕ) : Type 0 where
+  pub rows : List (Result Asked RowFault)
+  pub said : List MarkSaid
+  pub read : AreRows text rows
+  pub marks : AllZip (IsMark Prices (issue_at tables)) rows said
+  pub written : lines ≡ marks_text said
+
+-- how a portfolio may end
+abbrev pub IsMarkEnd : End → Type 0
+IsMarkEnd Done = ⊤
+IsMarkEnd Refused = ⊥
+IsMarkEnd ReadFault = ⊤
+IsMarkEnd WriteFault = ⊤
+IsMarkEnd StoreFault = ⊤
+IsMarkEnd NoMemory = ⊤
+IsMarkEnd TooLarge = ⊤
+
+-- the input was read whole
+abbrev pub WasReadWhole : End → Type 0
+WasReadWhole Done = ⊤
+WasReadWhole Refused = ⊥
+WasReadWhole ReadFault = ⊥
+WasReadWhole WriteFault = ⊤
+WasReadWhole StoreFault = ⊤
+WasReadWhole NoMemory = ⊥
+WasReadWhole TooLarge = ⊥

@@ -1,0 +1,203 @@
+//! The marks of a portfolio over the issues of a store.
+
+ghost use Rattle.std.specs.Prelude.{◌≡◌, ◌≤◌, ◌<◌, None, ℕ, List, length, IfOk, IfSome, OnOk, IsErrOf};
+ghost use Rattle.std.specs.List.{AllByRecursion};
+ghost use Rattle.std.specs.BTreeMap as tree;
+ghost use Rattle.std.specs.BTreeSet as set;
+ghost use Rattle.muni_edge.specs.Sink.{Rose, Wrote, WrotePart};
+ghost use Rattle.muni_keep.specs.Trades.{by_bytes};
+ghost use Rattle.muni_marks.specs.Line as lines;
+ghost use Rattle.muni_marks.specs.Marks as spec;
+ghost use Rattle.muni_marks.specs.Portfolio.{AreFetched, AreKnown, IsKnownNext, IsPortfolioText, IsMarkEnd, WasReadWhole};
+
+use crate::line::{mark_line, total, total_line};
+use crate::pricer::Pricer;
+use crate::pricing::{MarkSaid, marks};
+use crate::reader::read_marks;
+use arrayvec::ArrayVec;
+use muni_edge::{NoMemory, Sink, Source};
+use muni_import::RowFault;
+use muni_keep::{Cabinet, KeepFault, Keeper};
+use muni_msg::Asked;
+use muni_office::{End, InputFault, read_input};
+use muni_terms::Issue;
+use std::alloc::Global;
+use std::collections::{BTreeMap, BTreeSet};
+use std::thread::Threads;
+
+/// The greatest number of bytes of a portfolio.
+pub const LIMIT: usize = 1_048_576;
+
+/// Marks each row of a portfolio by the issues that a store keeps, and writes a line on each and the
+/// total behind them.
+///
+/// The input is read whole before the store is fetched, and each CUSIP is asked for once. Nothing is
+/// written before all rows are marked.
+pub fn mark<R: Threads + Sync, I: Source, O: Sink, C: Cabinet, P: Pricer + Sync>(
+    rt: &R,
+    alloc: Global,
+    store: &[u8],
+    input: &mut I,
+    output: &mut O,
+    cabinet: &mut C,
+    pricer: &P,
+) -> End
+    requires { C.out cabinet.old ≡ None }
+
+    // What is written, where the input and the cabinet tell what they hold.
+    ensures done { result ≡ End.Done → IfSome (I.left input.old) (λ text. IfSome (C.told cabinet.old store.now) (λ t.
+        Wrote (IsPortfolioText (P.prices pricer.now) t text) (O.bytes output.old) (O.bytes output.new))) }
+    ensures write { result ≡ End.WriteFault → IfSome (I.left input.old) (λ text. IfSome (C.told cabinet.old store.now) (λ t.
+        WrotePart (IsPortfolioText (P.prices pricer.now) t text) (O.bytes output.old) (O.bytes output.new))) }
+    ensures store { result ≡ End.StoreFault → output.new ≡ output.old }
+    ensures memory { result ≡ End.NoMemory → output.new ≡ output.old }
+
+    // An input that is not read whole changes nothing.
+    ensures read { result ≡ End.ReadFault → (cabinet.new ≡ cabinet.old) × (output.new ≡ output.old) }
+    ensures too_large { result ≡ End.TooLarge → (cabinet.new ≡ cabinet.old) × (output.new ≡ output.old)
+        × IfSome (I.left input.old) (λ text. 1_048_576 < length text) }
+    ensures limit { WasReadWhole result → IfSome (I.left input.old) (λ text. length text ≤ 1_048_576) }
+
+    // No tables change, and no keeper stays out.
+    ensures tables { (other : List ℕ) → C.told cabinet.new other ≡ C.told cabinet.old other }
+    ensures none_out { C.out cabinet.new ≡ None }
+
+    // When each fault comes.
+    ensures read_fault { result ≡ End.ReadFault → Rose (I.faults input.old) (I.faults input.new) }
+    ensures store_fault { result ≡ End.StoreFault → Rose (C.faults cabinet.old) (C.faults cabinet.new) }
+    ensures write_fault { result ≡ End.WriteFault → Rose (O.faults output.old) (O.faults output.new) }
+    ensures ends { IsMarkEnd result }
+{
+    let text = match read_input(alloc, input, LIMIT) {
+        Ok(text) => text,
+        Err(InputFault::Failed) => return End::ReadFault,
+        Err(InputFault::TooLarge) => return End::TooLarge,
+        Err(InputFault::NoMemory) => return End::NoMemory,
+    };
+    match marked_text(rt, alloc, store, text.as_slice(), cabinet, pricer) {
+        Ok(lines) => match output.put(lines.as_slice()) {
+            Ok(()) => End::Done,
+            Err(_) => End::WriteFault,
+        },
+        Err(KeepFault::Failed) => End::StoreFault,
+        Err(KeepFault::NoMemory) => End::NoMemory,
+    }
+}
+
+// The lines of the rows of a text, and the total.
+fn marked_text<R: Threads + Sync, C: Cabinet, P: Pricer + Sync>(
+    rt: &R,
+    alloc: Global,
+    store: &[u8],
+    text: &[u8],
+    cabinet: &mut C,
+    pricer: &P,
+) -> Result<Vec<u8>, KeepFault>
+    requires none_out { C.out cabinet.old ≡ None }
+    requires limit { length text.now ≤ 1_048_576 }
+    ensures lines { IfOk result (λ lines. IfSome (C.told cabinet.old store.now)
+        (λ t. IsPortfolioText (P.prices pricer.now) t text.now lines.items)) }
+    ensures tables { (other : List ℕ) → C.told cabinet.new other ≡ C.told cabinet.old other }
+    ensures none_out { C.out cabinet.new ≡ None }
+    ensures failed { IsErrOf result KeepFault.Failed → Rose (C.faults cabinet.old) (C.faults cabinet.new) }
+{
+    let rows = read_marks(alloc, text)?;
+    let issues = fetch_issues(alloc, store, rows.as_slice(), cabinet)?;
+    let said = marks(rt, alloc, rows.as_slice(), &issues, pricer)?;
+    Ok(said_text(alloc, said.as_slice())?)
+}
+
+// The lines of marks, and their total.
+fn said_text(alloc: Global, said: &[MarkSaid]) -> Result<Vec<u8>, NoMemory>
+    requires names { AllByRecursion lines.HasName said.now }
+    requires few { length said.now ≤ 1_048_576 }
+    ensures { IfOk result (λ text. text.items ≡ lines.marks_text said.now) }
+{
+    let mut text = Vec::new(alloc);
+    let mut line = ArrayVec::new();
+    for (place, mark) in said.iter().enumerate() {
+        mark_line(place as u32 + 1, mark, &mut line);
+        if text.extend_from_slice(line.as_slice()).is_err() {
+            return Err(NoMemory);
+        }
+    }
+    let (count, sum) = total(said);
+    total_line(count, sum.unsigned_abs(), &mut line);
+    match text.extend_from_slice(line.as_slice()) {
+        Ok(()) => Ok(text),
+        Err(_) => Err(NoMemory),
+    }
+}
+
+// The issues of a store that rows name.
+fn fetch_issues<C: Cabinet>(
+    alloc: Global,
+    store: &[u8],
+    rows: &[Result<Asked, RowFault>],
+    cabinet: &mut C,
+) -> Result<BTreeMap<[u8; 9], Issue>, KeepFault>
+    requires { C.out cabinet.old ≡ None }
+    ensures issues { IfOk result (λ issues. IfSome (C.told cabinet.old store.now)
+        (λ t. AreFetched t (tree.get by_bytes issues) rows.now)) }
+    ensures tables { (other : List ℕ) → C.told cabinet.new other ≡ C.told cabinet.old other }
+    ensures none_out { C.out cabinet.new ≡ None }
+    ensures failed { IsErrOf result KeepFault.Failed → Rose (C.faults cabinet.old) (C.faults cabinet.new) }
+{
+    let mut keeper = cabinet.fetch(store)?;
+    let issues = kept_issues(alloc, &mut keeper, rows);
+    cabinet.give_back(keeper);
+    issues
+}
+
+// The issues that rows name, of which each is asked for once.
+fn kept_issues<K: Keeper>(
+    alloc: Global,
+    keeper: &mut K,
+    rows: &[Result<Asked, RowFault>],
+) -> Result<BTreeMap<[u8; 9], Issue>, KeepFault>
+    ensures issues { IfOk result (λ issues. IfSome (K.tables keeper.old)
+        (λ t. AreFetched t (tree.get by_bytes issues) rows.now)) }
+    ensures unchanged { K.tables keeper.new ≡ K.tables keeper.old }
+    ensures later { K.faults keeper.old ≤ K.faults keeper.new }
+    ensures failed { IsErrOf result KeepFault.Failed → Rose (K.faults keeper.old) (K.faults keeper.new) }
+    ensures mark { K.mark keeper.new ≡ K.mark keeper.old }
+{
+    let mut issues = BTreeMap::new(alloc);
+    let mut missing = BTreeSet::new(alloc);
+    for row in rows {
+        if let Ok(asked) = row {
+            ask(keeper, &asked.cusip, &mut issues, &mut missing)?;
+        }
+    }
+    Ok(issues)
+}
+
+// What is kept under a CUSIP, which is asked for where it is not known yet.
+fn ask<K: Keeper>(
+    keeper: &mut K,
+    cusip: &[u8; 9],
+    issues: &mut BTreeMap<[u8; 9], Issue>,
+    missing: &mut BTreeSet<[u8; 9]>,
+) -> Result<(), KeepFault>
+    requires { IfSome (K.tables keeper.old) (λ t. AreKnown t (tree.get by_bytes issues.old) (set.contains by_bytes missing.old)) }
+    ensures known { OnOk result (IfSome (K.tables keeper.old)
+        (λ t. IsKnownNext t cusip.now (tree.get by_bytes issues.old) (tree.get by_bytes issues.new) (set.contains by_bytes missing.new))) }
+    ensures unchanged { K.tables keeper.new ≡ K.tables keeper.old }
+    ensures later { K.faults keeper.old ≤ K.faults keeper.new }
+    ensures failed { IsErrOf result KeepFault.Failed → Rose (K.faults keeper.old) (K.faults keeper.new) }
+    ensures mark { K.mark keeper.new ≡ K.mark keeper.old }
+{
+    if issues.contains_key(cusip) || missing.contains(cusip) {
+        return Ok(());
+    }
+    match keeper.issue(cusip)? {
+        Some(issue) => match issues.insert(*cusip, issue) {
+            Ok(_) => Ok(()),
+            Err(_) => Err(KeepFault::NoMemory),
+        },
+        None => match missing.insert(*cusip) {
+            Ok(_) => Ok(()),
+            Err(_) => Err(KeepFault::NoMemory),
+        },
+    }
+}
