@@ -1,0 +1,1 @@
+//! Laws: what the columns stand for.

@@ -1,0 +1,13 @@
+//! The columns in which the store keeps issues and versions, and the values that they stand for.
+#![tactic(auto)]
+
+mod calls;
+mod codes;
+mod issue;
+pub mod laws;
+#[cfg(test)]
+mod tests;
+mod version;
+
+pub use issue::{IssueColumns, issue_1, issue_2, issue_columns};
+pub use version::{VersionColumns, version_1, version_2, version_columns};
