@@ -1,0 +1,137 @@
+//! A keeper over a file.
+
+ghost use Rattle.std.specs.Prelude.{◌≡◌, ◌≤◌, None, IsErrOf};
+
+use crate::faults::Faults;
+use crate::rows::{
+    count_trades, find_issue, find_last, find_version, insert_issue, insert_version,
+    read_reference, references_after,
+};
+use crate::schema::Database;
+use crate::trade_counts::TradeCounts;
+use arrayvec::ArrayVec;
+use muni_keep::{KeepFault, Keeper};
+use muni_msg::{DeskName, Key, Line, Reference, Version};
+use muni_terms::Issue;
+use std::alloc::Global;
+
+/// A keeper over a file, which no other process can open meanwhile. It does not tell what it keeps.
+///
+/// What a put answered `Ok` is on the disk. Every refusal of `sqlite` is a fault, save want of
+/// memory, and so is a row that is not that of a checked value.
+#[derive(Drop)]
+pub struct SqlKeeper {
+    database: Database,
+    trades: TradeCounts,
+    faults: Faults,
+}
+
+impl SqlKeeper {
+    pub(crate) fn new(alloc: Global, database: Database) -> SqlKeeper
+        ensures { result.faults ≡ 0 }
+    {
+        SqlKeeper {
+            database,
+            trades: TradeCounts::new(alloc),
+            faults: Faults::none(),
+        }
+    }
+
+    /// Closes the file, and gives the count of faults. Where the log cannot be copied into the file
+    /// it stays beside it, and nothing that was kept is lost.
+    pub(crate) fn close(self) -> Faults
+        ensures { result ≡ self.faults }
+    {
+        let SqlKeeper {
+            database,
+            faults,
+            ..
+        } = self;
+        let _ = database.close();
+        faults
+    }
+}
+
+impl Keeper for SqlKeeper {
+    ghost tables = { λ _. None };
+
+    ghost faults = { λ keeper. keeper.faults };
+
+    ghost mark = { λ _. 0 };
+
+    fn issue(&mut self, cusip: &[u8; 9]) -> Result<Option<Issue>, KeepFault> {
+        let found = find_issue(&mut self.database, cusip);
+        self.faults.noted(found)
+    }
+
+    fn put_issue(&mut self, issue: &Issue) -> Result<(), KeepFault> {
+        let put = insert_issue(&mut self.database, issue);
+        self.faults.noted(put)
+    }
+
+    fn version(&mut self, key: &Key, number: u32) -> Result<Option<Version>, KeepFault> {
+        match find_version(&mut self.database, key, number) {
+            Ok(found) => Ok(found),
+            Err(fault) => Err(self.faults.note(fault)),
+        }
+    }
+
+    fn last(&mut self, key: &Key) -> Result<Option<(u32, Version)>, KeepFault> {
+        match find_last(&mut self.database, key) {
+            Ok(found) => Ok(found),
+            Err(fault) => Err(self.faults.note(fault)),
+        }
+    }
+
+    fn put_version(&mut self, key: &Key, number: u32, version: &Version) -> Result<(), KeepFault> {
+        let put = insert_version(&mut self.database, key, number, version);
+        if number == 1 && put.is_ok() {
+            self.trades.add_one(&key.desk);
+        }
+        self.faults.noted(put)
+    }
+
+    fn trades(&mut self, desk: &DeskName) -> Result<u32, KeepFault> {
+        if let Some(count) = self.trades.of(desk) {
+            return Ok(count);
+        }
+        let count = self.faults.noted(count_trades(&mut self.database, desk))?;
+        self.trades.keep(desk, count);
+        Ok(count)
+    }
+
+    fn page(
+        &mut self,
+        desk: &DeskName,
+        after: &Option<Reference>,
+    ) -> Result<ArrayVec<Line, 50>, KeepFault> {
+        let lines = page(&mut self.database, desk, after);
+        self.faults.noted(lines)
+    }
+}
+
+fn page(
+    database: &mut Database,
+    desk: &DeskName,
+    after: &Option<Reference>,
+) -> Result<ArrayVec<Line, 50>, KeepFault> {
+    let mut lines = ArrayVec::new();
+    for row in references_after(database, desk, after)? {
+        let key = Key {
+            desk: desk.copy(),
+            reference: read_reference(&row)?,
+        };
+        let Some((number, version)) = find_last(database, &key)? else {
+            return Err(KeepFault::Failed);
+        };
+        let line = Line {
+            reference: key.reference,
+            number,
+            version,
+        };
+        if lines.try_push(line).is_err() {
+            break;
+        }
+    }
+    Ok(lines)
+}

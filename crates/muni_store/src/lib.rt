@@ -1,0 +1,14 @@
+//! The store: the issues and the trades of a desk in one file, which any `sqlite3` reads.
+#![tactic(auto)]
+
+mod cabinet;
+mod faults;
+mod keeper;
+pub mod laws;
+mod moving;
+mod rows;
+mod schema;
+mod trade_counts;
+
+pub use cabinet::SqlCabinet;
+pub use keeper::SqlKeeper;

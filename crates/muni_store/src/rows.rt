@@ -1,0 +1,238 @@
+//! The statements on the tables.
+
+use crate::schema::{Database, fault_of, text};
+use muni_keep::KeepFault;
+use muni_msg::{DeskName, Given, Key, Reference, Version};
+use muni_rows::{issue_2, issue_columns, version_2, version_columns};
+use muni_terms::Issue;
+use sqlite::{Error, Row, params};
+
+/// The issue of a CUSIP, if it is kept.
+pub(crate) fn find_issue(
+    database: &mut Database,
+    cusip: &[u8; 9],
+) -> Result<Option<Issue>, KeepFault> {
+    // An issue that is kept has a CUSIP of letters and digits.
+    let Ok(cusip) = text(cusip) else {
+        return Ok(None);
+    };
+    let row = database.query_row(
+        "SELECT cusip, name, kind, dated, first, maturity, coupon, calls, basis
+         FROM issues_2 WHERE cusip = ?1",
+        params![cusip],
+    );
+    match if_found(row)? {
+        Some(row) => Ok(Some(read_issue(&row)?)),
+        None => Ok(None),
+    }
+}
+
+/// Keeps an issue.
+pub(crate) fn insert_issue(database: &mut Database, issue: &Issue) -> Result<(), KeepFault> {
+    let columns = issue_columns(issue);
+    done(database.execute(
+        "INSERT INTO issues_2 (cusip, name, kind, dated, first, maturity, coupon, calls, basis)
+         VALUES (?1, ?2, ?3, ?4, ?5, ?6, ?7, ?8, ?9)",
+        params![
+            text(&columns.cusip)?,
+            text(&columns.name)?,
+            columns.kind,
+            text(&columns.dated)?,
+            text(&columns.first)?,
+            text(&columns.maturity)?,
+            columns.coupon,
+            text(columns.calls())?,
+            columns.basis,
+        ],
+    ))
+}
+
+/// The version of a trade with this number, if it is kept.
+pub(crate) fn find_version(
+    database: &mut Database,
+    key: &Key,
+    number: u32,
+) -> Result<Option<Version>, KeepFault> {
+    let row = database.query_row(
+        "SELECT desk, reference, number, act, cusip, side, par, settle, basis, value, price, yld,
+         redemption, at_price, label, days, principal, accrued, total, fee, commission
+         FROM versions_2 WHERE desk = ?1 AND reference = ?2 AND number = ?3",
+        params![
+            text(key.desk.bytes())?,
+            text(key.reference.bytes())?,
+            number,
+        ],
+    );
+    match version_in(row)? {
+        Some((_, version)) => Ok(Some(version)),
+        None => Ok(None),
+    }
+}
+
+/// The last version of a trade with its number, if any is kept.
+pub(crate) fn find_last(
+    database: &mut Database,
+    key: &Key,
+) -> Result<Option<(u32, Version)>, KeepFault> {
+    let row = database.query_row(
+        "SELECT desk, reference, number, act, cusip, side, par, settle, basis, value, price, yld,
+         redemption, at_price, label, days, principal, accrued, total, fee, commission
+         FROM versions_2 WHERE desk = ?1 AND reference = ?2 ORDER BY number DESC LIMIT 1",
+        params![text(key.desk.bytes())?, text(key.reference.bytes())?],
+    );
+    version_in(row)
+}
+
+/// Keeps a version of a trade.
+pub(crate) fn insert_version(
+    database: &mut Database,
+    key: &Key,
+    number: u32,
+    version: &Version,
+) -> Result<(), KeepFault> {
+    let columns = version_columns(version);
+    done(database.execute(
+        "INSERT INTO versions_2 (desk, reference, number, act, cusip, side, par, settle, basis, value,
+         price, yld, redemption, at_price, label, days, principal, accrued, total, fee, commission)
+         VALUES (?1, ?2, ?3, ?4, ?5, ?6, ?7, ?8, ?9, ?10, ?11, ?12, ?13, ?14, ?15, ?16, ?17, ?18, ?19,
+         ?20, ?21)",
+        params![
+            text(key.desk.bytes())?,
+            text(key.reference.bytes())?,
+            number,
+            columns.act,
+            text(&columns.cusip)?,
+            columns.side,
+            columns.par,
+            text(&columns.settle)?,
+            columns.basis,
+            columns.value,
+            columns.price,
+            columns.yld,
+            text(&columns.redemption)?,
+            columns.at_price,
+            columns.label,
+            columns.days,
+            columns.principal,
+            columns.accrued,
+            columns.total,
+            columns.fee,
+            columns.commission,
+        ],
+    ))
+}
+
+/// How many trades of a desk are kept. Each has a first version.
+pub(crate) fn count_trades(database: &mut Database, desk: &DeskName) -> Result<u32, KeepFault> {
+    let row = database.query_row(
+        "SELECT COUNT(*) FROM versions_2 WHERE desk = ?1 AND number = 1",
+        params![text(desk.bytes())?],
+    );
+    match if_found(row)? {
+        Some(row) => Ok(u32::try_from(number_at(&row, 0)?).unwrap_or(u32::MAX)),
+        None => Err(KeepFault::Failed),
+    }
+}
+
+/// The references of the first 50 trades of a desk after a reference, in their order.
+pub(crate) fn references_after(
+    database: &mut Database,
+    desk: &DeskName,
+    after: &Option<Reference>,
+) -> Result<Vec<Row>, KeepFault> {
+    let after = match after {
+        Some(reference) => reference.bytes(),
+        None => b"",
+    };
+    let rows = database.query_all(
+        "SELECT reference FROM versions_2 WHERE desk = ?1 AND reference > ?2 AND number = 1
+         ORDER BY reference LIMIT 50",
+        params![text(desk.bytes())?, text(after)?],
+    );
+    rows.map_err(|error| fault_of(error))
+}
+
+/// The reference in the first column of a row.
+pub(crate) fn read_reference(row: &Row) -> Result<Reference, KeepFault> {
+    match Reference::read(text_at(row, 0)?.as_bytes()) {
+        Ok(reference) => Ok(reference),
+        Err(_) => Err(KeepFault::Failed),
+    }
+}
+
+/// What a statement answered, or `None` where it found no row.
+pub(crate) fn if_found(row: Result<Row, Error>) -> Result<Option<Row>, KeepFault> {
+    match row {
+        Ok(row) => Ok(Some(row)),
+        Err(Error::QueryReturnedNoRows) => Ok(None),
+        Err(error) => Err(fault_of(error)),
+    }
+}
+
+/// A statement that writes was carried out.
+pub(crate) fn done(written: Result<usize, Error>) -> Result<(), KeepFault> {
+    match written {
+        Ok(_) => Ok(()),
+        Err(error) => Err(fault_of(error)),
+    }
+}
+
+/// The text in a column.
+pub(crate) fn text_at(row: &Row, at: usize) -> Result<String, KeepFault> {
+    row.get(at).map_err(|error| fault_of(error))
+}
+
+/// The number in a column.
+pub(crate) fn number_at(row: &Row, at: usize) -> Result<i64, KeepFault> {
+    row.get(at).map_err(|error| fault_of(error))
+}
+
+fn version_in(row: Result<Row, Error>) -> Result<Option<(u32, Version)>, KeepFault> {
+    let Some(row) = if_found(row)? else {
+        return Ok(None);
+    };
+    let (_, number, version) = read_version(&row)?;
+    Ok(Some((number, version)))
+}
+
+fn read_issue(row: &Row) -> Result<Issue, KeepFault> {
+    let issue = issue_2(
+        &text_at(row, 0)?,
+        &text_at(row, 1)?,
+        number_at(row, 2)?,
+        &text_at(row, 3)?,
+        &text_at(row, 4)?,
+        &text_at(row, 5)?,
+        number_at(row, 6)?,
+        &text_at(row, 7)?,
+        number_at(row, 8)?,
+    );
+    issue.ok_or(KeepFault::Failed)
+}
+
+fn read_version(row: &Row) -> Result<(Key, u32, Version), KeepFault> {
+    let kept = version_2(
+        &text_at(row, 0)?,
+        &text_at(row, 1)?,
+        number_at(row, 2)?,
+        number_at(row, 3)?,
+        &text_at(row, 4)?,
+        number_at(row, 5)?,
+        number_at(row, 6)?,
+        &text_at(row, 7)?,
+        number_at(row, 8)?,
+        number_at(row, 9)?,
+        number_at(row, 10)?,
+        number_at(row, 11)?,
+        &text_at(row, 12)?,
+        number_at(row, 13)?,
+        number_at(row, 14)?,
+        number_at(row, 15)?,
+        number_at(row, 16)?,
+        number_at(row, 17)?,
+        number_at(row, 18)?,
+        number_at(row, 19)?,
+        number_at(row, 20)?,
+    );
+    kept.ok_or(KeepFault::Failed)
+}

@@ -1,0 +1,94 @@
+//! The file of a store and its tables.
+
+ghost use Rattle.std.specs.Prelude.{◌≡◌, ◌↔◌};
+
+use crate::rows::{done, if_found, number_at};
+use muni_keep::KeepFault;
+use sqlite::{Connection, Error, ErrorCode, File, FileStore, params};
+
+/// A store that is open.
+pub(crate) type Database = Connection<FileStore<File>>;
+
+const ISSUES: &str = "CREATE TABLE issues_2 (
+  cusip TEXT NOT NULL,
+  name TEXT NOT NULL,
+  kind INTEGER NOT NULL,
+  dated TEXT NOT NULL,
+  first TEXT NOT NULL,
+  maturity TEXT NOT NULL,
+  coupon INTEGER NOT NULL,
+  calls TEXT NOT NULL,
+  basis INTEGER NOT NULL,
+  PRIMARY KEY (cusip)
+) STRICT";
+
+const VERSIONS: &str = "CREATE TABLE versions_2 (
+  desk TEXT NOT NULL,
+  reference TEXT NOT NULL,
+  number INTEGER NOT NULL,
+  act INTEGER NOT NULL,
+  cusip TEXT NOT NULL,
+  side INTEGER NOT NULL,
+  par INTEGER NOT NULL,
+  settle TEXT NOT NULL,
+  basis INTEGER NOT NULL,
+  value INTEGER NOT NULL,
+  price INTEGER NOT NULL,
+  yld INTEGER NOT NULL,
+  redemption TEXT NOT NULL,
+  at_price INTEGER NOT NULL,
+  label INTEGER NOT NULL,
+  days INTEGER NOT NULL,
+  principal INTEGER NOT NULL,
+  accrued INTEGER NOT NULL,
+  total INTEGER NOT NULL,
+  fee INTEGER NOT NULL,
+  commission INTEGER NOT NULL,
+  PRIMARY KEY (desk, reference, number)
+) STRICT";
+
+/// Opens the store in a file, and makes the file and the tables where there are none.
+pub(crate) fn open(rt: &HostRuntime, name: &[u8]) -> Result<Database, KeepFault> {
+    let path = text(name)?;
+    let mut database = Connection::open(rt, path).map_err(|error| fault_of(error))?;
+    make_table(&mut database, "issues_2", ISSUES)?;
+    make_table(&mut database, "versions_2", VERSIONS)?;
+    Ok(database)
+}
+
+fn make_table(database: &mut Database, name: &str, statement: &str) -> Result<(), KeepFault> {
+    if has_table(database, name)? {
+        return Ok(());
+    }
+    done(database.execute(statement, params![]))
+}
+
+/// Whether the file has a table of this name.
+pub(crate) fn has_table(database: &mut Database, name: &str) -> Result<bool, KeepFault> {
+    let row = database.query_row(
+        "SELECT COUNT(*) FROM sqlite_schema WHERE type = 'table' AND name = ?1",
+        params![name],
+    );
+    match if_found(row)? {
+        Some(row) => Ok(number_at(&row, 0)? > 0),
+        None => Ok(false),
+    }
+}
+
+/// Bytes as a text. The store keeps texts alone.
+pub(crate) fn text(bytes: &[u8]) -> Result<&str, KeepFault> {
+    match std::str::from_utf8(bytes) {
+        Ok(text) => Ok(text),
+        Err(_) => Err(KeepFault::Failed),
+    }
+}
+
+/// The fault of a call that `sqlite` refused.
+pub(crate) fn fault_of(error: Error) -> KeepFault
+    ensures { (result ≡ KeepFault.NoMemory) ↔ (error ≡ Error.SqliteFailure ErrorCode.OutOfMemory) }
+{
+    match error {
+        Error::SqliteFailure(ErrorCode::OutOfMemory) => KeepFault::NoMemory,
+        _ => KeepFault::Failed,
+    }
+}
