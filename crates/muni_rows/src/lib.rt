@@ -4,9 +4,6 @@
 mod calls;
 mod codes;
 mod issue;
-pub mod laws;
-#[cfg(test)]
-mod tests;
 mod version;
 
 pub use issue::{IssueColumns, issue_1, issue_2, issue_columns};

@@ -1,1 +1,0 @@
-//! Laws: what the columns stand for.
