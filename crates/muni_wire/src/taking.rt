@@ -1,6 +1,6 @@
 //! The bytes of a connection, which come in pieces.
 
-ghost use Rattle.std.specs.Prelude.{◌≡◌, ◌≤◌, ◌<◌, ◌+◌, ◌-◌, ◌==◌, ◌&&◌, ℕ, List, Err, true, not, length, drop, nat_lt, ◌++◌, IfOk, IfErr, OnOk, vec_len};
+ghost use Rattle.std.specs.Prelude.{◌≡◌, ◌≤◌, ◌<◌, ◌+◌, ◌-◌, ◌==◌, ◌&&◌, ◌||◌, ℕ, List, Err, true, not, length, drop, nat_lt, ◌++◌, IfOk, IfErr, OnOk, vec_len};
 ghost use Rattle.std.specs.Io.KnownBytes.{Consumes, IsAtEnd};
 ghost use Rattle.std.specs.List.{list_any};
 ghost use Rattle.muni_edge.specs.Sink.{Rose};
@@ -36,10 +36,11 @@ pub(crate) fn read_head<L: Link>(
     ensures keeps_puts { L.Sink.faults link.new ≡ L.Sink.faults link.old }
 {
     let mut bytes = Vec::new(alloc);
+    let mut has_begun = false;
     for turn in 0..16_385usize {
         let _turn = turn;
         let count = take_more(link, &mut bytes, 16_384)?;
-        let head = look_behind_lines(routes, &bytes, count);
+        let head = look_behind_lines(routes, &bytes, count, &mut has_begun);
         if head.is_settled(count) {
             return Ok((head, bytes));
         }
@@ -48,8 +49,14 @@ pub(crate) fn read_head<L: Link>(
 }
 
 // Looks at what has come with the last so many bytes. A head ends with a line, so that more is to
-// come where no line has ended: a head that comes byte by byte is not looked at byte by byte.
-fn look_behind_lines(routes: &Router<Route>, bytes: &[u8], count: usize) -> Head
+// come where no line has ended, and before it there may be empty lines: a head that comes byte by byte
+// is not looked at byte by byte.
+fn look_behind_lines(
+    routes: &Router<Route>,
+    bytes: &[u8],
+    count: usize,
+    has_begun: &mut bool,
+) -> Head
     requires routes { routes.now ≡ all_routes }
     requires limit { length bytes.now ≤ head_limit }
     requires count { count ≤ length bytes.now }
@@ -62,22 +69,30 @@ fn look_behind_lines(routes: &Router<Route>, bytes: &[u8], count: usize) -> Head
     ensures too_large { (rest : List ℕ) → result ≡ Head.TooLarge
         → IsHeadTooLarge (bytes.now ++ rest) }
 {
-    if is_within_line(bytes, count) {
+    *has_begun = *has_begun || has_text(&bytes[bytes.len() - count..]);
+    if is_within_line(bytes, count, *has_begun) {
         return Head::More;
     }
     look(routes, bytes)
 }
 
-// Whether some bytes came, but no end of a line, and more may come.
-fn is_within_line(bytes: &[u8], count: usize) -> bool
+// Whether some bytes came, but no end of a line of a head that has begun, and more may come.
+fn is_within_line(bytes: &[u8], count: usize, has_begun: bool) -> bool
     requires { count ≤ length bytes.now }
 
     ensures value { result ≡ ((nat_lt 0 count) && ((nat_lt (length bytes.now) head_limit)
-        && (not (list_any (λ b. b == 10) (drop (length bytes.now - count) bytes.now))))) }
+        && (not (has_begun && list_any (λ b. b == 10) (drop (length bytes.now - count) bytes.now))))) }
     ensures some { result ≡ true → (0 < count) × (length bytes.now < head_limit) }
 {
     let last = &bytes[bytes.len() - count..];
-    count > 0 && bytes.len() < 16_384 && !last.contains(&b'\n')
+    count > 0 && bytes.len() < 16_384 && !(has_begun && last.contains(&b'\n'))
+}
+
+// Whether there is more than ends of lines.
+fn has_text(bytes: &[u8]) -> bool
+    ensures { result ≡ list_any (λ b. not (b == 13 || b == 10)) bytes.now }
+{
+    bytes.iter().any(|b| !(*b == b'\r' || *b == b'\n'))
 }
 
 /// Takes until so many bytes are there, or none is left.
