@@ -5,7 +5,7 @@ use Rattle.muni_dec.proofs.NumberLemmas.{reading-number}
 use Rattle.muni_desk.specs.Command.{command_of, IsAnswerable}
 use Rattle.muni_desk.specs.WordLaws.{IsSaid}
 use Rattle.muni_desk.specs.declared.command.DeskCommand.{DeskCommand}
-use Rattle.muni_desk.specs.declared.command.DeskCommand.TheVariants.{QuoteOne, Quote, Import, Confirm, Drill, Help}
+use Rattle.muni_desk.specs.declared.command.DeskCommand.TheVariants.{QuoteOne, Quote, Import, Confirm, Serve, Positions, Drill, Help}
 use Rattle.muni_desk.specs.declared.command.CommandLine.{CommandLine}
 use Rattle.muni_desk.proofs.LineLawLemmas.{read-line}
 
@@ -18,6 +18,8 @@ said-answerable (name ∷ words) (QuoteOne request) workers said =
 said-answerable (name ∷ words) (Quote request) workers said = tt
 said-answerable (name ∷ words) (Import store) workers said = tt
 said-answerable (name ∷ words) (Confirm store key) workers said = tt
+said-answerable (name ∷ words) (Serve store port connections) workers said = tt
+said-answerable (name ∷ words) (Positions store desk) workers said = tt
 said-answerable (name ∷ words) Help workers said = tt
 said-answerable (name ∷ words) (Drill request) workers said =
     let count = said.1.count in

@@ -1,4 +1,4 @@
--- What the words behind `import`, `confirm` and `help` are read as, against the rule of the command line.
+-- What the words behind the names of the commands over a store and `help` are read as, against the rule of the command line.
 use Rattle.std.proofs.Common.{◌≡◌, ℕ, ◌≤◌, true, List, [], ◌∷◌, Option, Some, None, length, refl, sym, ap, ◌∙◌, subst, arith}
 use Rattle.std.specs.Prelude.{All, codes, nat_le}
 use Rattle.std.specs.Bool.{Decides}
@@ -8,17 +8,18 @@ use Rattle.std.specs.Result.{result_ok}
 use Rattle.std.proofs.lemmas.Bool.Decides.{Decides-by_and, nat_tests}
 use Rattle.std.proofs.lemmas.Option.{none-some, same_Some}
 use Rattle.arrayvec.specs.ArrayVec.{ArrayVec}
+use Rattle.muni_dec.specs.Digits.{number_reading}
 use Rattle.muni_msg.specs.NameReading.{name_reading}
 use Rattle.muni_msg.specs.Names.{is_desk_letter}
 use Rattle.muni_msg.specs.declared.command.Key.{Key}
 use Rattle.muni_desk.specs.Words.{◌>>=◌, are_options, value_of}
 use Rattle.muni_desk.specs.QuoteOptions.{workers_of}
-use Rattle.muni_desk.specs.StoreOptions.{import_options, confirm_options, is_store_name, store_reading, store_of, import_line, import_of, confirm_line, confirm_of}
+use Rattle.muni_desk.specs.StoreOptions.{import_options, confirm_options, serve_options, positions_options, is_store_name, store_reading, store_of, import_line, import_of, confirm_line, confirm_of, serve_line, serve_of, positions_line, positions_of}
 use Rattle.muni_desk.specs.Help.{help_of}
-use Rattle.muni_desk.specs.WordLaws.{IsCommandLine, IsImport, IsConfirm, IsSingle, SaysStore}
+use Rattle.muni_desk.specs.WordLaws.{IsCommandLine, IsImport, IsConfirm, IsServe, IsPositions, IsSingle, SaysStore}
 use Rattle.muni_desk.specs.declared.command.CommandLine.{CommandLine}
-use Rattle.muni_desk.specs.declared.command.DeskCommand.TheVariants.{Import, Confirm, Help}
-use Rattle.muni_desk.proofs.CommandLawLemmas.{read-ok, ok-read, read-workers, workers-read}
+use Rattle.muni_desk.specs.declared.command.DeskCommand.TheVariants.{Import, Confirm, Serve, Positions, Help}
+use Rattle.muni_desk.proofs.CommandLawLemmas.{read-ok, ok-read, read-option, option-read, read-workers, workers-read}
 use Rattle.muni_desk.proofs.OptionalLemmas.{bind-some, some-bind, if-some, when-true}
 use Rattle.muni_desk.proofs.WordLawLemmas.{both, options-read, are-options, found-says, says-found}
 
@@ -112,6 +113,75 @@ confirm-read words store key said =
     (some-bind _ (desk_of words) key.desk line (ok-read (name_reading is_desk_letter 16) words (codes "--desk=") key.desk (said.single 1 [] (omega arith)) said.desk)
     (some-bind _ (reference_of words) key.reference line (ok-read (name_reading is_ascii_alphanumeric 20) words (codes "--ref=") key.reference (said.single 2 [] (omega arith)) said.reference)
     refl)))
+
+-- ---- `serve`
+abbrev serve_from : ArrayVec ℕ → ℕ → ℕ → ℕ → CommandLine
+serve_from store port connections workers = record { command = Serve store port connections; workers = workers }
+
+abbrev port_of : List (List ℕ) → Option ℕ
+port_of words = value_of (codes "--port=") words >>= λ text. number_reading 20 1 65_535 text
+
+abbrev connections_of : List (List ℕ) → Option ℕ
+connections_of words = value_of (codes "--connections=") words >>= λ text. number_reading 20 1 1_000_000 text
+
+pub read-serve : (words : List (List ℕ)) (name : List ℕ) (line : CommandLine) → name ≡ codes "serve" → serve_of words ≡ Some line → IsCommandLine (name ∷ words) line
+read-serve words name line named is =
+    let options_read = if-some (are_options serve_options serve_options words) (serve_line words) line is in
+    let stand = options-read serve_options serve_options words options_read.0 in
+    let store = bind-some _ (store_of words) line options_read.1 in
+    let port = bind-some _ (port_of words) line store.2 in
+    let connections = bind-some _ (connections_of words) line port.2 in
+    let workers = bind-some _ (workers_of words) line connections.2 in
+    subst (IsCommandLine (name ∷ words)) (same_Some (serve_from store.0 port.0 connections.0 workers.0) line workers.2) (
+      named,
+      record {
+        known = stand.0;
+        single = stand.1;
+        named = read-store words store.0 store.1;
+        bound = read-option (number_reading 20 1 65_535) words (codes "--port=") port.0 port.1;
+        most = read-option (number_reading 20 1 1_000_000) words (codes "--connections=") connections.0 connections.1;
+        at_once = read-workers words workers.0 (value_of (codes "--workers=") words) refl workers.1;
+      },
+    )
+
+pub serve-read : (words : List (List ℕ)) (store : ArrayVec ℕ) (port connections workers : ℕ) → IsServe words store port connections workers → serve_of words ≡ Some (record { command = Serve store port connections; workers = workers })
+serve-read words store port connections workers said =
+    let line = serve_from store port connections workers in
+    when-true (are_options serve_options serve_options words) (serve_line words) line (are-options serve_options serve_options words said.known said.single)
+    (some-bind _ (store_of words) store line (store-read words store (said.single 0 [] (omega arith)) said.named)
+    (some-bind _ (port_of words) port line (option-read (number_reading 20 1 65_535) words (codes "--port=") port (said.single 1 [] (omega arith)) said.bound)
+    (some-bind _ (connections_of words) connections line (option-read (number_reading 20 1 1_000_000) words (codes "--connections=") connections (said.single 2 [] (omega arith)) said.most)
+    (some-bind _ (workers_of words) workers line (workers-read words workers (said.single 3 [] (omega arith)) said.at_once)
+    refl))))
+
+-- ---- `positions`
+abbrev positions_from : ArrayVec ℕ → List ℕ → CommandLine
+positions_from store desk = record { command = Positions store desk; workers = 1 }
+
+pub read-positions : (words : List (List ℕ)) (name : List ℕ) (line : CommandLine) → name ≡ codes "positions" → positions_of words ≡ Some line → IsCommandLine (name ∷ words) line
+read-positions words name line named is =
+    let options_read = if-some (are_options positions_options positions_options words) (positions_line words) line is in
+    let stand = options-read positions_options positions_options words options_read.0 in
+    let store = bind-some _ (store_of words) line options_read.1 in
+    let desk = bind-some _ (desk_of words) line store.2 in
+    subst (IsCommandLine (name ∷ words)) (same_Some (positions_from store.0 desk.0) line desk.2) (
+      named,
+      record {
+        known = stand.0;
+        single = stand.1;
+        named = read-store words store.0 store.1;
+        desk_named = read-ok (name_reading is_desk_letter 16) words (codes "--desk=") desk.0 desk.1;
+      },
+      refl,
+    )
+
+pub positions-read : (words : List (List ℕ)) (store : ArrayVec ℕ) (desk : List ℕ) → IsPositions words store desk → positions_of words ≡ Some (record { command = Positions store desk; workers = 1 })
+positions-read words store desk said =
+    let line = positions_from store desk in
+    when-true (are_options positions_options positions_options words) (positions_line words) line (are-options positions_options positions_options words said.known said.single)
+    (some-bind _ (store_of words) store line (store-read words store (said.single 0 [] (omega arith)) said.named)
+    (some-bind _ (desk_of words) desk line (ok-read (name_reading is_desk_letter 16) words (codes "--desk=") desk (said.single 1 [] (omega arith)) said.desk_named)
+    refl))
 
 -- ---- `help`
 pub read-help : (words : List (List ℕ)) (name : List ℕ) (line : CommandLine) → name ≡ codes "help" → help_of words ≡ Some line → IsCommandLine (name ∷ words) line

@@ -22,7 +22,7 @@ use Rattle.muni_desk.specs.QuoteOne.{is_next}
 use Rattle.muni_desk.specs.Request.{IsAnswered}
 use Rattle.muni_desk.specs.Sums.{Answered, summary_text}
 use Rattle.muni_desk.specs.declared.command.DeskCommand.{DeskCommand}
-use Rattle.muni_desk.specs.declared.command.DeskCommand.TheVariants.{QuoteOne, Quote, Import, Confirm, Drill, Help}
+use Rattle.muni_desk.specs.declared.command.DeskCommand.TheVariants.{QuoteOne, Quote, Import, Confirm, Serve, Positions, Drill, Help}
 use Rattle.muni_desk.specs.declared.drill.options.DrillRequest.{DrillRequest}
 use Rattle.muni_desk.specs.declared.quote_one.QuoteOneRequest.{QuoteOneRequest}
 use Rattle.muni_desk.specs.declared.request.QuoteRequest.{QuoteRequest}
@@ -115,3 +115,5 @@ answer-unique ends (Drill request) answer other few is also = answer-by answer o
 answer-unique ends Help answer other fine is also = answer-by answer other (help-same answer.status other.status answer.text.items other.text.items is also)
 answer-unique ends (Import store) answer other fine is also = absurd is
 answer-unique ends (Confirm store key) answer other fine is also = absurd is
+answer-unique ends (Serve store port connections) answer other fine is also = absurd is
+answer-unique ends (Positions store desk) answer other fine is also = absurd is

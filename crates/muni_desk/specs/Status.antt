@@ -3,6 +3,8 @@ use Rattle.std.specs.Prelude.{ℕ}
 use Rattle.muni_desk.specs.declared.status.Status.{Status}
 use Rattle.muni_desk.specs.declared.status.Status.TheVariants.{Done, Usage, Refused, ReadFault, WriteFault, StoreFault, DoorFault, NoMemory, TooLarge}
 use Rattle.muni_office.specs.declared.end.End.{End}
+use Rattle.muni_server.specs.declared.end.End as server
+use Rattle.muni_server.specs.declared.end.End.TheVariants as run
 use Rattle.muni_office.specs.declared.end.End.TheVariants as end
 
 -- of a command over a store
@@ -14,6 +16,13 @@ status_of end.WriteFault = WriteFault
 status_of end.StoreFault = StoreFault
 status_of end.NoMemory = NoMemory
 status_of end.TooLarge = TooLarge
+
+-- of a run of connections
+abbrev pub status_of_run : server.End → Status
+status_of_run run.Done = Done
+status_of_run run.StoreFault = StoreFault
+status_of_run run.DoorFault = DoorFault
+status_of_run run.NoMemory = NoMemory
 
 -- the program's exit status
 abbrev pub number_of : Status → ℕ

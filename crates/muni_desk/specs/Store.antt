@@ -1,5 +1,5 @@
 -- What a command over a store leaves on the objects that it is lent, by its status.
-use Rattle.std.specs.Prelude.{◌≡◌, ◌≢◌, ◌<◌, ◌≤◌, ℕ, ⊤, List, length, Option, IfSome}
+use Rattle.std.specs.Prelude.{◌≡◌, ◌≢◌, ◌<◌, ◌≤◌, ◌⊎◌, ℕ, ⊤, List, length, Option, IfSome}
 use Rattle.muni_edge.specs.Sink.{Rose, HasWritten, HasWrittenPart}
 use Rattle.muni_keep.specs.Tables.{Tables}
 use Rattle.muni_step.specs.Step.{Pricing}
@@ -7,6 +7,7 @@ use Rattle.muni_import.specs.Rows.{rows_of}
 use Rattle.muni_msg.specs.declared.command.Key.{Key}
 use Rattle.muni_office.specs.Confirm.{confirmed}
 use Rattle.muni_office.specs.Import.{Did, DidFirst, DidPart}
+use Rattle.muni_blotter.specs.Listing.{MayNotSum, positions_text}
 use Rattle.muni_desk.specs.Status.{status_of}
 use Rattle.muni_desk.specs.declared.status.Status.{Status}
 use Rattle.muni_desk.specs.declared.status.Status.TheVariants.{Done, Refused, ReadFault, WriteFault, StoreFault, NoMemory, TooLarge}
@@ -75,3 +76,16 @@ Confirmed store key WriteFault old new =
 Confirmed store key StoreFault old new = Rose old.cabinet_faults new.cabinet_faults
 Confirmed store key NoMemory old new = ⊤
 Confirmed store key status old new = ⊥
+
+-- a listing of positions: what is written, and which object has failed; more trades of a desk than are
+-- summed are told as a fault of the store
+abbrev pub Listed : (store desk : List ℕ) → Status → Objects → Objects → Type 0
+Listed store desk Done old new =
+    IfSome (old.tables store) (λ tables. HasWritten old.output new.output (positions_text desk tables))
+Listed store desk WriteFault old new =
+    IfSome (old.tables store) (λ tables. HasWrittenPart old.output new.output (positions_text desk tables))
+    × Rose old.output_faults new.output_faults
+Listed store desk StoreFault old new =
+    Rose old.cabinet_faults new.cabinet_faults ⊎ MayNotSum desk (old.tables store)
+Listed store desk NoMemory old new = ⊤
+Listed store desk status old new = ⊥

@@ -1,14 +1,15 @@
--- The options of `import` and of `confirm`.
+-- The options of the commands over a store.
 use Rattle.std.specs.Prelude.{ℕ, Bool, ◌&&◌, nat_le, if◌then◌else◌, List, length, [], ◌∷◌, codes, Option, Some, None}
 use Rattle.std.specs.Char.{is_ascii_graphic, is_ascii_alphanumeric}
 use Rattle.std.specs.List.{list_all}
 use Rattle.std.specs.Result.{result_ok}
 use Rattle.arrayvec.specs.ArrayVec.{ArrayVec}
+use Rattle.muni_dec.specs.Digits.{number_reading}
 use Rattle.muni_msg.specs.NameReading.{name_reading}
 use Rattle.muni_msg.specs.Names.{is_desk_letter}
 use Rattle.muni_desk.specs.QuoteOptions.{workers_of}
 use Rattle.muni_desk.specs.Words.{◌>>=◌, are_options, value_of}
-use Rattle.muni_desk.specs.declared.command.DeskCommand.TheVariants.{Import, Confirm}
+use Rattle.muni_desk.specs.declared.command.DeskCommand.TheVariants.{Import, Confirm, Serve, Positions}
 use Rattle.muni_desk.specs.declared.command.CommandLine.{CommandLine}
 
 -- all options, each of which stands once at most
@@ -17,6 +18,12 @@ import_options = codes "--store=" ∷ codes "--workers=" ∷ []
 
 abbrev pub confirm_options : List (List ℕ)
 confirm_options = codes "--store=" ∷ codes "--desk=" ∷ codes "--ref=" ∷ []
+
+abbrev pub serve_options : List (List ℕ)
+serve_options = codes "--store=" ∷ codes "--port=" ∷ codes "--connections=" ∷ codes "--workers=" ∷ []
+
+abbrev pub positions_options : List (List ℕ)
+positions_options = codes "--store=" ∷ codes "--desk=" ∷ []
 
 -- a text names a store: at most 200 bytes, which print and are no blank
 abbrev pub is_store_name : List ℕ → Bool
@@ -51,3 +58,27 @@ confirm_line words = do
 abbrev pub confirm_of : List (List ℕ) → Option CommandLine
 confirm_of words =
     if are_options confirm_options confirm_options words then confirm_line words else None
+
+-- connections over a store that come in by a port
+abbrev pub serve_line : List (List ℕ) → Option CommandLine
+serve_line words = do
+  store ← store_of words
+  port ← value_of (codes "--port=") words >>= λ text. number_reading 20 1 65_535 text
+  connections ← value_of (codes "--connections=") words >>= λ text. number_reading 20 1 1_000_000 text
+  workers ← workers_of words
+  Some (record { command = Serve store port connections; workers = workers })
+
+abbrev pub serve_of : List (List ℕ) → Option CommandLine
+serve_of words =
+    if are_options serve_options serve_options words then serve_line words else None
+
+-- the positions of a desk over a store
+abbrev pub positions_line : List (List ℕ) → Option CommandLine
+positions_line words = do
+  store ← store_of words
+  desk ← value_of (codes "--desk=") words >>= λ text. result_ok (name_reading is_desk_letter 16 text)
+  Some (record { command = Positions store desk; workers = 1 })
+
+abbrev pub positions_of : List (List ℕ) → Option CommandLine
+positions_of words =
+    if are_options positions_options positions_options words then positions_line words else None

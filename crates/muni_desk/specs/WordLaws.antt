@@ -22,10 +22,10 @@ use Rattle.muni_msg.specs.declared.command.Key.{Key}
 use Rattle.muni_desk.specs.Words.{word, is_option}
 use Rattle.muni_desk.specs.QuoteOptions.{options, single_options}
 use Rattle.muni_desk.specs.DrillOptions as drill
-use Rattle.muni_desk.specs.StoreOptions.{import_options, confirm_options}
+use Rattle.muni_desk.specs.StoreOptions.{import_options, confirm_options, serve_options, positions_options}
 use Rattle.muni_desk.specs.Command.{command_of}
 use Rattle.muni_desk.specs.declared.command.DeskCommand.{DeskCommand}
-use Rattle.muni_desk.specs.declared.command.DeskCommand.TheVariants.{QuoteOne, Quote, Import, Confirm, Drill, Help}
+use Rattle.muni_desk.specs.declared.command.DeskCommand.TheVariants.{QuoteOne, Quote, Import, Confirm, Serve, Positions, Drill, Help}
 use Rattle.muni_desk.specs.declared.command.CommandLine.{CommandLine}
 use Rattle.muni_desk.specs.declared.drill.options.DrillRequest.{DrillRequest}
 use Rattle.muni_desk.specs.declared.quote_one.QuoteOneRequest.{QuoteOneRequest}
@@ -164,7 +164,7 @@ pub record IsQuote (words : List (List ℕ)) (request : QuoteRequest) (workers :
       ReadsOr words (codes "--workers=") (λ text. number_reading 20 1 16 text ≡ Some workers)
       (workers ≡ 1)
 
--- ---- the options of `import` and of `confirm`
+-- ---- the options of the commands over a store
 -- the name of a store: at most 200 bytes, none of which is a blank or below it, or above 126
 pub record SaysStore (words : List (List ℕ)) (store : ArrayVec ℕ) : Type 0 where
   pub stands : Says words (codes "--store=") store.items
@@ -190,6 +190,29 @@ pub record IsConfirm (words : List (List ℕ)) (store : ArrayVec ℕ) (key : Key
   pub reference :
       Reads words (codes "--ref=")
       (λ text. name_reading is_ascii_alphanumeric 20 text ≡ Ok key.reference)
+
+-- words behind `serve`: a store, a port from 1 to 65,535, from 1 to 1,000,000 connections, and from 1 to
+-- 16 workers, and one where no number is given
+pub record IsServe (words : List (List ℕ)) (store : ArrayVec ℕ) (port connections workers : ℕ) : Type 0 where
+  pub known : All (IsKnown serve_options) words
+  pub single : All (IsSingle words) serve_options
+  pub named : SaysStore words store
+  pub bound :
+      Reads words (codes "--port=") (λ text. number_reading 20 1 65_535 text ≡ Some port)
+  pub most :
+      Reads words (codes "--connections=")
+      (λ text. number_reading 20 1 1_000_000 text ≡ Some connections)
+  pub at_once :
+      ReadsOr words (codes "--workers=") (λ text. number_reading 20 1 16 text ≡ Some workers)
+      (workers ≡ 1)
+
+-- words behind `positions`: a store and a desk
+pub record IsPositions (words : List (List ℕ)) (store : ArrayVec ℕ) (desk : List ℕ) : Type 0 where
+  pub known : All (IsKnown positions_options) words
+  pub single : All (IsSingle words) positions_options
+  pub named : SaysStore words store
+  pub desk_named :
+      Reads words (codes "--desk=") (λ text. name_reading is_desk_letter 16 text ≡ Ok desk)
 
 -- ---- the options of `drill`
 -- words behind `drill`: up to 1,000 trades, a seed below 2^64, and from 1 to 16 workers
@@ -229,6 +252,10 @@ IsSaid (name ∷ words) (Import store) workers =
     (name ≡ codes "import") × IsImport words store workers
 IsSaid (name ∷ words) (Confirm store key) workers =
     (name ≡ codes "confirm") × IsConfirm words store key × (workers ≡ 1)
+IsSaid (name ∷ words) (Serve store port connections) workers =
+    (name ≡ codes "serve") × IsServe words store port connections workers
+IsSaid (name ∷ words) (Positions store desk) workers =
+    (name ≡ codes "positions") × IsPositions words store desk × (workers ≡ 1)
 IsSaid (name ∷ words) (Drill request) workers =
     (name ≡ codes "drill") × IsDrill words request workers
 IsSaid (name ∷ words) Help workers =

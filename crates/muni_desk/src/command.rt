@@ -9,9 +9,9 @@ use crate::help::read_help;
 use crate::quote_one::{QuoteOneRequest, read_quote_one};
 use crate::quote_options::read_quote;
 use crate::request::QuoteRequest;
-use crate::store_options::{read_confirm, read_import};
+use crate::store_options::{read_confirm, read_import, read_positions, read_serve};
 use arrayvec::ArrayVec;
-use muni_msg::Key;
+use muni_msg::{DeskName, Key};
 
 /// What the desk can be asked for.
 #[derive(Drop)]
@@ -22,9 +22,25 @@ pub enum DeskCommand {
     Quote(QuoteRequest),
     /// To apply the rows of the input to the tables of a store. A name of a store has 1 to 200
     /// printing bytes, none of which is a blank.
-    Import { store: ArrayVec<u8, 200> },
+    Import {
+        store: ArrayVec<u8, 200>,
+    },
     /// The confirmation of a trade that a store keeps.
-    Confirm { store: ArrayVec<u8, 200>, key: Key },
+    Confirm {
+        store: ArrayVec<u8, 200>,
+        key: Key,
+    },
+    /// What a desk holds of each security, by the trades that a store keeps.
+    Positions {
+        store: ArrayVec<u8, 200>,
+        desk: DeskName,
+    },
+    /// To serve so many connections that come in by a port, over the tables of a store.
+    Serve {
+        store: ArrayVec<u8, 200>,
+        port: u16,
+        connections: u32,
+    },
     /// The sums over a generated book of trades.
     Drill(DrillRequest),
     /// What the program can be asked for.
@@ -49,10 +65,22 @@ pub fn read(words: &[String]) -> Option<CommandLine>
     match name.as_str() {
         "quote-one" => read_quote_one(options),
         "quote" => read_quote(options),
-        "import" => read_import(options),
-        "confirm" => read_confirm(options),
         "drill" => read_drill(options),
         "help" => read_help(options),
+        other => read_over_store(other, options),
+    }
+}
+
+fn read_over_store(name: &str, options: &[String]) -> Option<CommandLine>
+    ensures command { result ≡ spec.over_store_of name.now (map string_bytes options.now) }
+    ensures answerable { IfSome result (λ line. IsAnswerable line.command) }
+    ensures workers { IfSome result (λ line. (1 ≤ line.workers) × (line.workers ≤ 16)) }
+{
+    match name {
+        "import" => read_import(options),
+        "confirm" => read_confirm(options),
+        "serve" => read_serve(options),
+        "positions" => read_positions(options),
         _ => None,
     }
 }

@@ -4,16 +4,20 @@ ghost use Rattle.std.specs.Prelude.{◌≡◌, ◌≢◌, ◌↔◌, ◌≤◌, 
 ghost use Rattle.muni_edge.specs.Sink.{HasWritten, HasWrittenPart};
 ghost use Rattle.muni_desk.specs.Command.{command_of, IsAnswerable};
 ghost use Rattle.muni_desk.specs.Does.{Does, Spares};
+ghost use Rattle.muni_desk.specs.Serving.{door_told};
 ghost use Rattle.muni_desk.specs.Store.{objects};
+ghost use Rattle.muni_server.specs.Serves.{traffic};
 ghost use Rattle.muni_desk.specs.Written.{TellsFaults};
 
 use crate::answers::{drill_answer, help_answer, quote_answer, quote_one_answer};
 use crate::command::read;
 use crate::{Answer, CommandLine, DeskCommand, Status};
-use muni_edge::{Gate, Sink, Source};
+use muni_blotter::positions;
+use muni_edge::{Door, Gate, Sink, Source};
 use muni_keep::Cabinet;
 use muni_multi::Encloser;
 use muni_office::{confirm, import};
+use muni_server::serve;
 use std::alloc::Global;
 use std::thread::Threads;
 
@@ -23,17 +27,27 @@ use std::thread::Threads;
 /// to redemption. `quote` and options in any order give the figures of a security, whose worth with more
 /// than six months left comes from the encloser. `drill` and options in any order price a generated book
 /// of trades, and give the sums. `import` applies the rows of the input to the tables of a store, and
-/// writes a line on each. `confirm` writes the confirmation of a trade that a store keeps. `help` names
-/// the commands. Memory is taken by `import` and `confirm` alone.
+/// writes a line on each. `confirm` writes the confirmation of a trade that a store keeps. `serve` answers
+/// the requests of connections that come in by a door. `positions` writes what a desk holds of each
+/// security. `help` names the commands. Memory is taken by the four commands over a store alone.
 // Yields are looked for by as many threads as the words name workers, and the gate is told when they
 // begin (tested).
-pub fn desk<R: Threads + Sync, I: Source, O: Sink, C: Cabinet, E: Encloser + Sync, G: Gate + Sync>(
+pub fn desk<
+    R: Threads + Sync,
+    I: Source,
+    O: Sink,
+    C: Cabinet,
+    D: Door,
+    E: Encloser + Sync,
+    G: Gate + Sync,
+>(
     rt: &R,
     alloc: Global,
     words: &[String],
     input: &mut I,
     output: &mut O,
     cabinet: &mut C,
+    door: &mut D,
     encloser: &E,
     gate: &G,
 ) -> Status
@@ -42,46 +56,59 @@ pub fn desk<R: Threads + Sync, I: Source, O: Sink, C: Cabinet, E: Encloser + Syn
     // Words that are no command change nothing.
     ensures usage { (result ≡ Status.Usage) ↔ (command_of (map string_bytes words.now) ≡ None) }
     ensures untouched { result ≡ Status.Usage
-        → (input.new ≡ input.old) × (output.new ≡ output.old) × (cabinet.new ≡ cabinet.old) }
+        → (input.new ≡ input.old) × (output.new ≡ output.old) × (cabinet.new ≡ cabinet.old) × (door.new ≡ door.old) }
 
     // Those that are a command do what it says, where the objects tell what they hold.
     ensures does { IfSome (command_of (map string_bytes words.now)) (λ line.
-        Does (E.ends encloser.now) line.command result
+        Does (E.ends encloser.now) (traffic D.L.left D.L.bytes D.L.Source.faults D.L.Sink.faults) line.command result
         (objects (I.left input.old) (O.bytes output.old) (C.told cabinet.old)
         (I.faults input.old) (O.faults output.old) (C.faults cabinet.old))
         (objects (I.left input.new) (O.bytes output.new) (C.told cabinet.new)
-        (I.faults input.new) (O.faults output.new) (C.faults cabinet.new))) }
+        (I.faults input.new) (O.faults output.new) (C.faults cabinet.new))
+        (door_told (D.state door.old) (D.faults door.old)) (door_told (D.state door.new) (D.faults door.new))) }
     ensures spares { IfSome (command_of (map string_bytes words.now)) (λ line.
-        Spares line.command result (input.new ≡ input.old) (output.new ≡ output.old) (cabinet.new ≡ cabinet.old)) }
+        Spares line.command result (input.new ≡ input.old) (output.new ≡ output.old) (cabinet.new ≡ cabinet.old) (door.new ≡ door.old)) }
 
     // No keeper stays out.
     ensures none_out { C.out cabinet.new ≡ None }
 {
     match read(words) {
-        Some(line) => carry_out(rt, alloc, line, input, output, cabinet, encloser, gate),
+        Some(line) => carry_out(
+            rt, alloc, line, input, output, cabinet, door, encloser, gate,
+        ),
         None => Status::Usage,
     }
 }
 
-fn carry_out<R: Threads + Sync, I: Source, O: Sink, C: Cabinet, E: Encloser + Sync, G: Gate + Sync>(
+fn carry_out<
+    R: Threads + Sync,
+    I: Source,
+    O: Sink,
+    C: Cabinet,
+    D: Door,
+    E: Encloser + Sync,
+    G: Gate + Sync,
+>(
     rt: &R,
     alloc: Global,
     line: CommandLine,
     input: &mut I,
     output: &mut O,
     cabinet: &mut C,
+    door: &mut D,
     encloser: &E,
     gate: &G,
 ) -> Status
     requires answerable { IsAnswerable line.command }
     requires workers { (1 ≤ line.workers) × (line.workers ≤ 16) }
     requires none_out { C.out cabinet.old ≡ None }
-    ensures does { Does (E.ends encloser.now) line.command result
+    ensures does { Does (E.ends encloser.now) (traffic D.L.left D.L.bytes D.L.Source.faults D.L.Sink.faults) line.command result
         (objects (I.left input.old) (O.bytes output.old) (C.told cabinet.old)
         (I.faults input.old) (O.faults output.old) (C.faults cabinet.old))
         (objects (I.left input.new) (O.bytes output.new) (C.told cabinet.new)
-        (I.faults input.new) (O.faults output.new) (C.faults cabinet.new)) }
-    ensures spares { Spares line.command result (input.new ≡ input.old) (output.new ≡ output.old) (cabinet.new ≡ cabinet.old) }
+        (I.faults input.new) (O.faults output.new) (C.faults cabinet.new))
+        (door_told (D.state door.old) (D.faults door.old)) (door_told (D.state door.new) (D.faults door.new)) }
+    ensures spares { Spares line.command result (input.new ≡ input.old) (output.new ≡ output.old) (cabinet.new ≡ cabinet.old) (door.new ≡ door.old) }
     ensures none_out { C.out cabinet.new ≡ None }
 {
     let CommandLine { command, workers } = line;
@@ -94,6 +121,25 @@ fn carry_out<R: Threads + Sync, I: Source, O: Sink, C: Cabinet, E: Encloser + Sy
             rt, alloc, &store, workers, input, output, cabinet, encloser, gate,
         )),
         DeskCommand::Confirm { store, key } => Status::of(confirm(&store, &key, output, cabinet)),
+        DeskCommand::Serve {
+            store,
+            port,
+            connections,
+        } => Status::of_run(serve(
+            rt,
+            alloc,
+            &store,
+            port,
+            connections,
+            workers,
+            cabinet,
+            door,
+            encloser,
+            gate,
+        )),
+        DeskCommand::Positions { store, desk } => {
+            Status::of(positions(alloc, &store, &desk, output, cabinet))
+        }
         DeskCommand::Drill(request) => {
             say(&drill_answer(rt, request, workers, encloser, gate), output)
         }

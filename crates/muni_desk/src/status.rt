@@ -1,7 +1,7 @@
 //! How a command ends, and what it says.
 
 ghost use Rattle.std.specs.Prelude.{◌≡◌};
-ghost use Rattle.muni_desk.specs.Status.{number_of, status_of};
+ghost use Rattle.muni_desk.specs.Status.{number_of, status_of, status_of_run};
 
 use arrayvec::ArrayVec;
 use muni_office::End;
@@ -42,6 +42,18 @@ impl Status {
             End::StoreFault => Status::StoreFault,
             End::NoMemory => Status::NoMemory,
             End::TooLarge => Status::TooLarge,
+        }
+    }
+
+    /// How a run of connections ended.
+    pub fn of_run(end: muni_server::End) -> Status
+        ensures { result ≡ status_of_run end }
+    {
+        match end {
+            muni_server::End::Done => Status::Done,
+            muni_server::End::StoreFault => Status::StoreFault,
+            muni_server::End::DoorFault => Status::DoorFault,
+            muni_server::End::NoMemory => Status::NoMemory,
         }
     }
 

@@ -1,4 +1,4 @@
-//! The options of `import` and of `confirm`.
+//! The options of the commands over a store.
 
 ghost use Rattle.std.specs.Prelude.{◌≡◌, ◌≤◌, map, IfSome, string_bytes};
 ghost use Rattle.std.specs.Char.{is_ascii_graphic};
@@ -10,6 +10,7 @@ use crate::command::{CommandLine, DeskCommand};
 use crate::quote_options::read_workers;
 use crate::words::{are_options, value_of};
 use arrayvec::ArrayVec;
+use muni_dec::digits::read_number;
 use muni_msg::{DeskName, Key, Reference};
 
 const STORE: &[u8] = b"--store=";
@@ -20,9 +21,17 @@ const DESK: &[u8] = b"--desk=";
 
 const REF: &[u8] = b"--ref=";
 
+const PORT: &[u8] = b"--port=";
+
+const CONNECTIONS: &[u8] = b"--connections=";
+
 const IMPORT: [&[u8]; 2] = [STORE, WORKERS];
 
 const CONFIRM: [&[u8]; 3] = [STORE, DESK, REF];
+
+const POSITIONS: [&[u8]; 2] = [STORE, DESK];
+
+const SERVE: [&[u8]; 4] = [STORE, PORT, CONNECTIONS, WORKERS];
 
 /// What words ask for, where they are options of `import`, in any order.
 pub fn read_import(words: &[String]) -> Option<CommandLine>
@@ -58,6 +67,46 @@ pub fn read_confirm(words: &[String]) -> Option<CommandLine>
             store,
             key: Key { desk, reference },
         },
+        workers: 1,
+    })
+}
+
+/// What words ask for, where they are options of `serve`, in any order.
+pub fn read_serve(words: &[String]) -> Option<CommandLine>
+    ensures command { result ≡ spec.serve_of (map string_bytes words.now) }
+    ensures answerable { IfSome result (λ line. IsAnswerable line.command) }
+    ensures workers { IfSome result (λ line. (1 ≤ line.workers) × (line.workers ≤ 16)) }
+{
+    if !are_options(words, &SERVE, &SERVE) {
+        return None;
+    }
+    let store = read_store(value_of(words, STORE)?)?;
+    let port = read_number(value_of(words, PORT)?, 20, 1, 65_535)? as u16;
+    let connections = read_number(value_of(words, CONNECTIONS)?, 20, 1, 1_000_000)? as u32;
+    let workers = read_workers(words)?;
+    Some(CommandLine {
+        command: DeskCommand::Serve {
+            store,
+            port,
+            connections,
+        },
+        workers,
+    })
+}
+
+/// What words ask for, where they are options of `positions`, in any order.
+pub fn read_positions(words: &[String]) -> Option<CommandLine>
+    ensures command { result ≡ spec.positions_of (map string_bytes words.now) }
+    ensures answerable { IfSome result (λ line. IsAnswerable line.command) }
+    ensures workers { IfSome result (λ line. line.workers ≡ 1) }
+{
+    if !are_options(words, &POSITIONS, &POSITIONS) {
+        return None;
+    }
+    let store = read_store(value_of(words, STORE)?)?;
+    let desk = DeskName::read(value_of(words, DESK)?).ok()?;
+    Some(CommandLine {
+        command: DeskCommand::Positions { store, desk },
         workers: 1,
     })
 }

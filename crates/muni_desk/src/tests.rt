@@ -13,7 +13,7 @@ mod store_cases;
 
 use crate::{CommandLine, DeskCommand, QuoteRequest, Status, desk, read};
 use muni_days::Day;
-use muni_edge::{Gate, MemSink, MemSource, NoGate};
+use muni_edge::{Gate, MemDoor, MemSink, MemSource, NoGate};
 use muni_keep::MemCabinet;
 use muni_multi::{Doubling, Encloser, Horner};
 use muni_samples::{Sample, Table};
@@ -80,6 +80,7 @@ fn status_without_store<R: Threads + Sync, E: Encloser + Sync, G: Gate + Sync>(
 ) -> Result<Status, Fail> {
     let mut input = MemSource::new(alloc, b"", &[0])?;
     let mut cabinet = MemCabinet::new(alloc, Vec::new(alloc), &[0])?;
+    let mut door = MemDoor::new(alloc, Vec::new(alloc), &[0])?;
     Ok(desk(
         rt,
         alloc,
@@ -87,6 +88,7 @@ fn status_without_store<R: Threads + Sync, E: Encloser + Sync, G: Gate + Sync>(
         &mut input,
         output,
         &mut cabinet,
+        &mut door,
         encloser,
         gate,
     ))

@@ -1,12 +1,15 @@
-//! The program: the words that it was started with, the real input and output, a cabinet in memory,
-//! and the encloser.
+//! The program: the words that it was started with, the real input and output, a cabinet in memory, a
+//! door on this machine, and the encloser.
 #![tactic(auto)]
 
 ghost use Rattle.std.specs.Prelude.{◌≡◌, None, IfOk};
 
+mod door;
 mod input;
+mod link;
 mod output;
 
+use door::LoopbackDoor;
 use input::Input;
 use muni_desk::{Status, desk};
 use muni_edge::NoGate;
@@ -22,6 +25,7 @@ fn main(rt: HostRuntime) -> ExitCode {
         Ok((words, mut cabinet)) => {
             let mut input = Input::new(rt.reader());
             let mut output = Output::new(io::writer(&rt));
+            let mut door = LoopbackDoor::new(&rt);
             desk(
                 &rt,
                 rt.alloc(),
@@ -29,6 +33,7 @@ fn main(rt: HostRuntime) -> ExitCode {
                 &mut input,
                 &mut output,
                 &mut cabinet,
+                &mut door,
                 &Doubling,
                 &NoGate,
             )

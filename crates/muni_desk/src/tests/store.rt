@@ -4,7 +4,7 @@ ghost use Rattle.std.specs.Prelude.{◌≡◌, None};
 
 use super::{sink, store_cases, words_of};
 use crate::{Status, desk};
-use muni_edge::{MemSink, MemSource, NoGate};
+use muni_edge::{MemDoor, MemLink, MemSink, MemSource, NoGate};
 use muni_keep::{Cabinet, MemCabinet, MemKeeper};
 use muni_multi::Doubling;
 use std::alloc::Global;
@@ -30,6 +30,17 @@ const REPORT: [&str; 3] = [
     "3,confirmed,T0002,1,100.725,4.001,2025-01-01,10197.50\n",
 ];
 
+const REQUEST: &[u8] = b"GET /lists/ALPHA HTTP/1.1\r\nHost: localhost\r\n\r\n";
+
+const LIST: &str = "HTTP/1.1 200 OK\r
+Content-Type: text/plain\r
+Content-Length: 66\r
+Connection: close\r
+\r
+T0001 1 LIVE 25000 100.725 4.000
+T0002 1 LIVE 10000 100.725 4.001
+";
+
 // Which takes of the input, puts of the output, fetches of the cabinet and calls of the keeper fail.
 #[derive(Clone, Copy)]
 struct Failing<'a> {
@@ -51,9 +62,10 @@ const NONE_FAILS: Failing<'static> = Failing {
 struct Outcome {
     status: Status,
     output: MemSink,
+    door: MemDoor,
 }
 
-// How words end over an input, and what they write.
+// How words end over an input, which also waits at the door, and what they write.
 fn ask<R: Threads + Sync, C: Cabinet>(
     rt: &R,
     alloc: Global,
@@ -69,6 +81,9 @@ fn ask<R: Threads + Sync, C: Cabinet>(
     let words = words_of(alloc, line)?;
     let mut input = MemSource::new(alloc, text, takes)?;
     let mut output = sink(alloc, 4096, puts)?;
+    let mut links = Vec::new(alloc);
+    links.push(MemLink::new(alloc, text, 1024, &[], &[])?)?;
+    let mut door = MemDoor::new(alloc, links, &[])?;
     let status = desk(
         rt,
         alloc,
@@ -76,10 +91,15 @@ fn ask<R: Threads + Sync, C: Cabinet>(
         &mut input,
         &mut output,
         cabinet,
+        &mut door,
         &Doubling,
         &NoGate,
     );
-    Ok(Outcome { status, output })
+    Ok(Outcome {
+        status,
+        output,
+        door,
+    })
 }
 
 // How two commands over a new cabinet end, one after the other. Only at the first does anything fail.
@@ -143,7 +163,7 @@ fn is_answered_so<R: Threads + Sync>(
     let base = bytes_of(alloc, base)?;
     let text = bytes_of(alloc, text)?;
     let wanted = bytes_of(alloc, wanted)?;
-    let (_, Outcome { status, output }) = ask_twice(
+    let (_, Outcome { status, output, .. }) = ask_twice(
         rt,
         alloc,
         NONE_FAILS,
@@ -169,7 +189,7 @@ fn commands_over_a_store_end_as_they_should(rt: HostRuntime) -> Result<(), Fail>
             count = count.wrapping_add(1);
         }
     }
-    assert_eq!(rt; count, 181);
+    assert_eq!(rt; count, 206);
     Ok(())
 }
 
@@ -315,5 +335,16 @@ fn an_input_has_4_194_304_bytes_at_most(rt: HostRuntime) -> Result<(), Fail> {
     let (outcome, _) = ask_twice(&rt, rt.alloc(), NONE_FAILS, line, ("help", b""))?;
     assert_eq!(rt; outcome.status, Status::TooLarge);
     assert!(rt; outcome.output.bytes().is_empty());
+    Ok(())
+}
+
+#[test]
+fn a_connection_is_answered_over_the_tables_of_an_import(rt: HostRuntime) -> Result<(), Fail> {
+    let line = "serve --store=S --port=8080 --connections=2";
+    let (_, outcome) = ask_twice(&rt, rt.alloc(), NONE_FAILS, (IMPORT, ROWS), (line, REQUEST))?;
+    assert_eq!(rt; outcome.status, Status::Done);
+    assert!(rt; outcome.output.bytes().is_empty());
+    let link = outcome.door.served().first().ok_or("a link")?;
+    assert_eq!(rt; link.written(), LIST.as_bytes());
     Ok(())
 }

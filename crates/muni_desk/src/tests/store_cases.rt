@@ -25,6 +25,25 @@ import --store=S --positions=alpha||2|
 import --store=S x||2|
 import --store=xxxxxxxxxxxxxxxxxxxxxxxxxxxxxxxxxxxxxxxxxxxxxxxxxxxxxxxxxxxxxxxxxxxxxxxxxxxxxxxxxxxxxxxxxxxxxxxxxxxxxxxxxxxxxxxxxxxxxxxxxxxxxxxxxxxxxxxxxxxxxxxxxxxxxxxxxxxxxxxxxxxxxxxxxxxxxxxxxxxxxxxxxxxxxxxxxxxxxxxx||0|
 import --store=xxxxxxxxxxxxxxxxxxxxxxxxxxxxxxxxxxxxxxxxxxxxxxxxxxxxxxxxxxxxxxxxxxxxxxxxxxxxxxxxxxxxxxxxxxxxxxxxxxxxxxxxxxxxxxxxxxxxxxxxxxxxxxxxxxxxxxxxxxxxxxxxxxxxxxxxxxxxxxxxxxxxxxxxxxxxxxxxxxxxxxxxxxxxxxxxxxxxxxxxx||2|
+serve --store=S --port=8080 --connections=1||0|
+serve --workers=16 --connections=01000000 --port=65535 --store=S||0|
+serve --store=S --port=0 --connections=1||2|
+serve --store=S --port=65536 --connections=1||2|
+serve --store=S --port=8080 --connections=0||2|
+serve --store=S --port=8080 --connections=1000001||2|
+serve --store=S --port=8080||2|
+serve --port=8080 --connections=1||2|
+serve --store=S --port=8080 --connections=1 --desk=A||2|
+serve --store=S --port=000000000000000008080 --connections=1||2|
+serve --store=S --port=+80 --connections=1||2|
+positions --store=S --desk=ALPHA||0|
+positions --desk=ALPHA --store=S||0|
+positions --store=S||2|
+positions --desk=ALPHA||2|
+positions --store=S --desk=alpha||2|
+positions --store=S --desk=ALPHA --workers=1||2|
+positions --store=S --desk=ALPHA --desk=BETA||2|
+mark --store=S||2|
 confirm --ref=T1 --desk=ALPHA --store=S||3|REFUSED 2 UnknownTrade~
 confirm --store=S --desk=ALPHA||2|
 confirm --store=S --desk=alpha --ref=T1||2|
@@ -143,10 +162,15 @@ confirm --store=S --desk=ALPHA --ref=T0002||0|CONFIRMATION 1~DESK ALPHA~REFERENC
 confirm --store=S --desk=ALPHA --ref=T0009||3|REFUSED 2 UnknownTrade~
 confirm --store=R --desk=ALPHA --ref=T0001||3|REFUSED 2 UnknownTrade~
 confirm --store=S --desk=BETA --ref=T0001||3|REFUSED 2 UnknownTrade~
+positions --store=S --desk=ALPHA||0|123456AA3 2 25000 10000 15000 15296.25~
+positions --store=S --desk=BETA||0|
+positions --store=R --desk=ALPHA||0|
 # Over a trade that was corrected and canceled
 base issue,123456AA3,RIVERTON WATER 5S 2025,periodic,2020-01-01,2020-07-01,2025-01-01,5,~trade,ALPHA,T0001,123456AA3,buy,25000,2024-04-01,yield,4~trade,ALPHA,T0002,123456AA3,sell,10000,2024-04-01,price,100.725~correct,ALPHA,T0001,2,123456AA3,buy,30000,2024-04-01,yield,4~cancel,ALPHA,T0001,3~
 confirm --store=S --desk=ALPHA --ref=T0001||0|CANCELED CONFIRMATION 3~DESK ALPHA~REFERENCE T0001~BOUGHT 30000~CUSIP 123456AA3~ISSUE RIVERTON WATER 5S 2025~COUPON 5.0000000~DATED 2020-01-01~MATURITY 2025-01-01~SETTLEMENT 2024-04-01~PRICE 100.725 COMPUTED~YIELD 4.000 GIVEN~REDEMPTION 2025-01-01 100.000000 MATURITY~ACCRUED DAYS 90~PRINCIPAL 30217.50~ACCRUED 375.00~TOTAL 30592.50~
 confirm --store=S --desk=ALPHA --ref=T0002||0|CONFIRMATION 1~DESK ALPHA~REFERENCE T0002~SOLD 10000~CUSIP 123456AA3~ISSUE RIVERTON WATER 5S 2025~COUPON 5.0000000~DATED 2020-01-01~MATURITY 2025-01-01~SETTLEMENT 2024-04-01~PRICE 100.725 GIVEN~YIELD 4.001 COMPUTED~REDEMPTION 2025-01-01 100.000000 MATURITY~ACCRUED DAYS 90~PRINCIPAL 10072.50~ACCRUED 125.00~TOTAL 10197.50~
+positions --store=S --desk=ALPHA||0|123456AA3 1 0 10000 -10000 -10197.50~
+positions --store=S --desk=BETA||0|
 import --store=S|correct,ALPHA,T0001,2,123456AA3,buy,30000,2024-04-01,yield,4~cancel,ALPHA,T0001,3~|0|1,confirmed,T0001,2,100.725,4.000,2025-01-01,30592.50~2,confirmed,T0001,3,100.725,4.000,2025-01-01,30592.50~
 import --store=S|trade,ALPHA,T0001,123456AA3,buy,25000,2024-04-01,yield,4~correct,ALPHA,T0001,2,123456AA3,buy,1,2024-04-01,yield,4~cancel,ALPHA,T0001,3~|0|1,confirmed,T0001,1,100.725,4.000,2025-01-01,25493.75~2,refused,3,Conflict~3,confirmed,T0001,3,100.725,4.000,2025-01-01,30592.50~
 import --store=S|issue,123456AA3,RIVERTON WATER 5S 2025,periodic,2020-01-01,2020-07-01,2025-01-01,5,~trade,ALPHA,T0001,123456AA3,buy,25000,2024-04-01,yield,4~trade,ALPHA,T0002,123456AA3,sell,10000,2024-04-01,price,100.725~|0|1,added,123456AA3~2,confirmed,T0001,1,100.725,4.000,2025-01-01,25493.75~3,confirmed,T0002,1,100.725,4.001,2025-01-01,10197.50~
@@ -164,6 +188,7 @@ confirm --store=S --desk=D1 --ref=d2||0|CONFIRMATION 1~DESK D1~REFERENCE d2~SOLD
 confirm --store=S --desk=D1 --ref=c1||0|CONFIRMATION 1~DESK D1~REFERENCE c1~BOUGHT 250000~CUSIP 56789CB43~ISSUE DALE 4S~COUPON 4.0000000~DATED 2022-01-01~MATURITY 2044-01-01~SETTLEMENT 2024-01-01~PRICE 108.584 COMPUTED~YIELD 3.000 GIVEN~REDEMPTION 2034-01-01 100.000000 PAR OPTION~ACCRUED DAYS 0~PRINCIPAL 271460.00~ACCRUED 0.00~TOTAL 271460.00~
 confirm --store=S --desk=D1 --ref=c2||0|CORRECTED CONFIRMATION 2~DESK D1~REFERENCE c2~BOUGHT 250000~CUSIP 56789CB43~ISSUE DALE 4S~COUPON 4.0000000~DATED 2022-01-01~MATURITY 2044-01-01~SETTLEMENT 2024-01-01~PRICE 108.584 GIVEN~YIELD 1.946 COMPUTED~REDEMPTION 2034-01-01 100.000000 PAR OPTION~ACCRUED DAYS 0~PRINCIPAL 271460.00~ACCRUED 0.00~COMMISSION 25000.00~TOTAL 296460.00~
 confirm --store=S --desk=D1 --ref=n1||0|CANCELED CONFIRMATION 2~DESK D1~REFERENCE n1~BOUGHT 10000~CUSIP 67890AN54~ISSUE ELM NOTE~COUPON 4.0000000~DATED 2024-01-01~MATURITY 2024-12-31~BASIS ACTUAL/365~SETTLEMENT 2024-07-01~PRICE 100.464 COMPUTED~YIELD 3.000 GIVEN~REDEMPTION 2024-12-31 100.000000 MATURITY~ACCRUED DAYS 182~PRINCIPAL 10046.40~ACCRUED 199.45~TOTAL 10245.85~
+positions --store=S --desk=D1||0|23456ZZ14 2 5000 5000 0 -5.85~34567AR29 2 10000 10000 0 150.00~45678DN37 2 100000 100000 0 125.00~56789CB43 2 500000 0 500000 567920.00~
 # Rows at random over four issues
 base issue,123456AA3,N,periodic,2020-01-01,2020-07-01,2025-01-01,5,~issue,23456ZZ14,N,zero,2020-01-01,,2030-01-01,,~issue,34567AR29,N,at-redemption,2024-01-01,,2025-01-01,4,~issue,45678DN37,N,discount,2024-01-01,,2024-12-20,,~
 import --store=S|issue,34567AR29,N,at-redemption,2024-01-01,,2025-01-01,4,^trade,A,u,123456AA3,buy,1,2024-04-01,yield,-1,^cancel,A,t,3|0|1,added,34567AR29~2,confirmed,u,1,104.529,-1.000,2025-01-01,1.06~3,refused,2,UnknownTrade~

@@ -1,0 +1,66 @@
+//! A listener on this machine as a door.
+
+ghost use Rattle.std.specs.Prelude.{◌≡◌, None};
+
+use crate::link::StreamLink;
+use muni_edge::{Door, Failed};
+use std::io::{Read, Write};
+use std::net::{IpAddr, Ipv4Addr, Net, OpenListener, SocketAddr, TcpListener};
+
+/// A listener at 127.0.0.1, which other machines cannot reach. It does not tell which links it gives.
+#[derive(Drop)]
+pub struct LoopbackDoor<'a, R: Net> {
+    net: &'a R,
+    listener: Option<R::Listener>,
+    faults: u64,
+}
+
+impl<'a, R: Net> LoopbackDoor<'a, R> {
+    /// A door that is bound to no port.
+    pub fn new(net: &'a R) -> LoopbackDoor<'a, R> {
+        LoopbackDoor {
+            net,
+            listener: None,
+            faults: 0,
+        }
+    }
+}
+
+impl<'a, R: Net> Door for LoopbackDoor<'a, R>
+where
+    <R::Listener as OpenListener>::Stream: Read + Write,
+{
+    type L = StreamLink<<R::Listener as OpenListener>::Stream>;
+
+    ghost state = { λ _. None };
+
+    ghost faults = { λ door. door.faults };
+
+    fn bind(&mut self, port: u16) -> Result<(), Failed> {
+        let address = SocketAddr::new(IpAddr::V4(Ipv4Addr::LOCALHOST), port);
+        match TcpListener::bind(self.net, address) {
+            Ok(listener) => {
+                self.listener = Some(listener);
+                Ok(())
+            }
+            Err(_) => {
+                self.faults = self.faults.saturating_add(1);
+                Err(Failed)
+            }
+        }
+    }
+
+    fn accept(&mut self) -> Result<Option<Self::L>, Failed> {
+        if let Some(listener) = &self.listener {
+            // An accept that a signal interrupts is made again by `std`.
+            if let Ok((stream, _)) = listener.accept() {
+                return Ok(Some(StreamLink::new(stream)));
+            }
+        }
+        self.faults = self.faults.saturating_add(1);
+        Err(Failed)
+    }
+
+    /// The stream is closed.
+    fn hand_back(&mut self, _link: Self::L) {}
+}

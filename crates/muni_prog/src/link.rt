@@ -1,0 +1,82 @@
+//! A stream as a connection.
+
+ghost use Rattle.std.specs.Prelude.{◌≡◌, ◌≤◌, None, length, refl, IfOk};
+
+use muni_edge::{Failed, Link, Sink, Source};
+use std::io::{self, ErrorKind, Read, Write};
+
+/// Bytes are taken from the stream as they come, and put to it at once. It does not tell them.
+#[derive(Drop)]
+pub struct StreamLink<S> {
+    stream: S,
+    read_faults: u64,
+    write_faults: u64,
+}
+
+impl<S> StreamLink<S> {
+    pub fn new(stream: S) -> StreamLink<S> {
+        StreamLink {
+            stream,
+            read_faults: 0,
+            write_faults: 0,
+        }
+    }
+}
+
+impl<S: Read> Source for StreamLink<S> {
+    ghost left = { λ _. None };
+
+    ghost faults = { λ link. link.read_faults };
+
+    ghost take_keeps = { λ old new. new.write_faults ≡ old.write_faults };
+
+    fn take(&mut self, room: &mut [u8]) -> Result<usize, Failed> {
+        match read_on(&mut self.stream, room) {
+            Ok(count) => Ok(count),
+            Err(_) => {
+                self.read_faults = self.read_faults.saturating_add(1);
+                Err(Failed)
+            }
+        }
+    }
+}
+
+/// A read that a signal interrupts is made again.
+fn read_on<R: Read>(reader: &mut R, room: &mut [u8]) -> io::Result<usize>
+    ensures { IfOk result (λ count. count ≤ length room.old) }
+{
+    for _ in 0..u64::MAX {
+        match reader.read(room) {
+            Ok(count) => return Ok(count),
+            Err(error) if error.kind() == ErrorKind::Interrupted => {}
+            Err(error) => return Err(error),
+        }
+    }
+    Err(io::Error::from(ErrorKind::Interrupted))
+}
+
+impl<S: Write> Sink for StreamLink<S> {
+    ghost bytes = { λ _. None };
+
+    ghost faults = { λ link. link.write_faults };
+
+    ghost put_keeps = { λ old new. new.read_faults ≡ old.read_faults };
+
+    fn put(&mut self, piece: &[u8]) -> Result<(), Failed> {
+        if self.stream.write_all(piece).is_err() || self.stream.flush().is_err() {
+            self.write_faults = self.write_faults.saturating_add(1);
+            return Err(Failed);
+        }
+        Ok(())
+    }
+}
+
+impl<S: Read + Write> Link for StreamLink<S> {
+    ghost take_keeps_bytes = { λ old new same. refl };
+
+    ghost take_keeps_faults = { λ old new same. same };
+
+    ghost put_keeps_left = { λ old new same. refl };
+
+    ghost put_keeps_faults = { λ old new same. same };
+}
