@@ -6,6 +6,7 @@ _muni_options() {
     quote) echo --kind --dated --first --maturity --settle --coupon --yield --price --rate --call --days --par --workers ;;
     import) echo --store --workers ;;
     confirm) echo --store --desk --ref ;;
+    serve) echo --store --port --connections --workers ;;
     drill) echo --count --seed --workers ;;
     esac
 }
@@ -21,7 +22,7 @@ _muni() {
     local word=${COMP_WORDS[COMP_CWORD]} before=${COMP_WORDS[COMP_CWORD - 1]} choices='' option place
     COMPREPLY=()
     if [ "$COMP_CWORD" -eq 1 ]; then
-        choices='quote-one quote import confirm drill help'
+        choices='quote-one quote import confirm serve drill help'
     elif [ "$word" = = ]; then
         # bash takes `--kind=zero` for three words.
         choices=$(_muni_values "$before")
