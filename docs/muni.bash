@@ -4,9 +4,10 @@
 _muni_options() {
     case $1 in
     quote) echo --kind --dated --first --maturity --settle --coupon --yield --price --rate --call --days --par --workers ;;
-    import) echo --store --workers ;;
+    import) echo --store --workers --positions ;;
     confirm) echo --store --desk --ref ;;
     serve) echo --store --port --connections --workers ;;
+    positions) echo --store --desk ;;
     drill) echo --count --seed --workers ;;
     esac
 }
@@ -22,7 +23,7 @@ _muni() {
     local word=${COMP_WORDS[COMP_CWORD]} before=${COMP_WORDS[COMP_CWORD - 1]} choices='' option place
     COMPREPLY=()
     if [ "$COMP_CWORD" -eq 1 ]; then
-        choices='quote-one quote import confirm serve drill help'
+        choices='quote-one quote import confirm serve drill positions help'
     elif [ "$word" = = ]; then
         # bash takes `--kind=zero` for three words.
         choices=$(_muni_values "$before")
