@@ -2,6 +2,7 @@
 
 ghost use Rattle.std.specs.Prelude.{◌≡◌, None};
 
+use crate::reading::read_on;
 use muni_edge::{Failed, Source};
 use std::io;
 
@@ -26,7 +27,7 @@ impl<R: io::Read> Source for Input<R> {
     ghost faults = { λ input. input.faults };
 
     fn take(&mut self, room: &mut [u8]) -> Result<usize, Failed> {
-        match self.reader.read(room) {
+        match read_on(&mut self.reader, room) {
             Ok(count) => Ok(count),
             Err(_) => {
                 self.faults = self.faults.saturating_add(1);

@@ -1,9 +1,10 @@
 //! A stream as a connection.
 
-ghost use Rattle.std.specs.Prelude.{◌≡◌, ◌≤◌, None, length, refl, IfOk};
+ghost use Rattle.std.specs.Prelude.{◌≡◌, None, refl};
 
+use crate::reading::read_on;
 use muni_edge::{Failed, Link, Sink, Source};
-use std::io::{self, ErrorKind, Read, Write};
+use std::io::{Read, Write};
 
 /// Bytes are taken from the stream as they come, and put to it at once. It does not tell them.
 #[derive(Drop)]
@@ -39,20 +40,6 @@ impl<S: Read> Source for StreamLink<S> {
             }
         }
     }
-}
-
-/// A read that a signal interrupts is made again.
-fn read_on<R: Read>(reader: &mut R, room: &mut [u8]) -> io::Result<usize>
-    ensures { IfOk result (λ count. count ≤ length room.old) }
-{
-    for _ in 0..u64::MAX {
-        match reader.read(room) {
-            Ok(count) => return Ok(count),
-            Err(error) if error.kind() == ErrorKind::Interrupted => {}
-            Err(error) => return Err(error),
-        }
-    }
-    Err(io::Error::from(ErrorKind::Interrupted))
 }
 
 impl<S: Write> Sink for StreamLink<S> {
