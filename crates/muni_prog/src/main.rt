@@ -24,8 +24,8 @@ fn main(rt: HostRuntime) -> ExitCode {
         Ok(words) => {
             let mut input = Input::new(rt.reader());
             let mut output = Output::new(io::writer(&rt));
-            let mut door = LoopbackDoor::new(&rt);
             let mut cabinet = SqlCabinet::new(&rt);
+            let mut door = LoopbackDoor::new(&rt);
             desk(
                 &rt,
                 rt.alloc(),

@@ -163,14 +163,9 @@ fn is_answered_so<R: Threads + Sync>(
     let base = bytes_of(alloc, base)?;
     let text = bytes_of(alloc, text)?;
     let wanted = bytes_of(alloc, wanted)?;
-    let (_, Outcome { status, output, .. }) = ask_twice(
-        rt,
-        alloc,
-        NONE_FAILS,
-        (IMPORT, &base),
-        (words, &text),
-    )?;
-    Ok(status.number() == number.parse::<u8>()? && output.bytes() == wanted.as_slice())
+    let (_, outcome) = ask_twice(rt, alloc, NONE_FAILS, (IMPORT, &base), (words, &text))?;
+    let is_status = outcome.status.number() == number.parse::<u8>()?;
+    Ok(is_status && outcome.output.bytes() == wanted.as_slice())
 }
 
 #[test]
