@@ -4,7 +4,7 @@
 _muni_options() {
     case $1 in
     quote) echo --kind --dated --first --maturity --settle --coupon --yield --price --rate --call --days --par --workers ;;
-    import) echo --store --workers --positions ;;
+    import) echo --store --workers ;;
     confirm) echo --store --desk --ref ;;
     serve) echo --store --port --connections --workers ;;
     positions) echo --store --desk ;;
