@@ -9,7 +9,7 @@ use Rattle.muni_disk.specs.declared.past.Piece.{Piece}
 use Rattle.muni_disk.specs.declared.past.Step.{Step}
 use Rattle.muni_disk.specs.declared.past.Step.TheVariants.{Read, Write, Synced, Unsynced}
 use Rattle.muni_disk.specs.declared.past.MadeCall.{MadeCall}
-use Rattle.muni_disk.specs.Past.{is_in, unsure_after, is_unsure, synced_after, synced_bytes, IsImage, IsStopped, CanKeep}
+use Rattle.muni_disk.specs.Past.{is_in, unsure_after, is_unsure, synced_after, synced_bytes, IsImage, IsStopped}
 use Rattle.muni_disk.specs.Moments.{WasImage}
 use Rattle.muni_disk.proofs.Elapsed.{elapses}
 
@@ -39,26 +39,26 @@ or_false false b e = (refl, e)
 or_false true b e = absurd (cc e)
 
 module _ (first bytes : List ℕ) (rest : List MadeCall) (call : MadeCall) (kept : ℕ) (before : IsImage first rest call.before.items) (i : ℕ) where
-  by_step : (step : Step) → CanKeep kept step → IsStopped call.before.items kept bytes step → unsure_after step (is_unsure rest i) i ≡ false → byte_at bytes i ≡ byte_at (synced_after call step (synced_bytes first rest)) i
-  by_step Read can stopped sure = ap (λ (b : List ℕ). byte_at b i) stopped ∙ before.each i sure
-  by_step Synced can stopped sure = ap (λ (b : List ℕ). byte_at b i) stopped
-  by_step Unsynced can stopped sure = ap (λ (b : List ℕ). byte_at b i) stopped ∙ before.each i sure
-  by_step (Write piece) can stopped sure =
+  by_step : (step : Step) → IsStopped call.before.items kept bytes step → unsure_after step (is_unsure rest i) i ≡ false → byte_at bytes i ≡ byte_at (synced_after call step (synced_bytes first rest)) i
+  by_step Read stopped sure = ap (λ (b : List ℕ). byte_at b i) stopped ∙ before.each i sure
+  by_step Synced stopped sure = ap (λ (b : List ℕ). byte_at b i) stopped
+  by_step Unsynced stopped sure = ap (λ (b : List ℕ). byte_at b i) stopped ∙ before.each i sure
+  by_step (Write piece) stopped sure =
       let parts = or_false (is_in piece i) (is_unsure rest i) sure in
       let kept_there : byte_at bytes i ≡ byte_at call.before.items i = elim (cases_lt i piece.place) [
         | inl below ↦ stopped.1.before i below
         | inr from ↦ elim (cases_lt i (piece.place + length piece.bytes.items)) [
           | inl within ↦ let t : is_in piece i ≡ true = grind (arith, nat_tests, from, within) in absurd (cc (t, parts.0))
-          | inr past_it ↦ stopped.1.after i (omega (arith, past_it, can))
+          | inr past_it ↦ stopped.1.after i (omega (arith, past_it))
         ]
       ] in
       kept_there ∙ before.each i parts.1
 
-pub stopped_image : (first bytes : List ℕ) (past : List MadeCall) (number kept : ℕ) (call : MadeCall) → number < length past → slice_get past (length past - 1 - number) ≡ Some call → CanKeep kept call.step
+pub stopped_image : (first bytes : List ℕ) (past : List MadeCall) (number kept : ℕ) (call : MadeCall) → number < length past → slice_get past (length past - 1 - number) ≡ Some call
     → IsTrue first past → IsStopped call.before.items kept bytes call.step → WasImage first past number bytes
-stopped_image first bytes past number kept call made is can was stopped =
+stopped_image first bytes past number kept call made is was stopped =
     let k = length past - 1 - number in
-    let image : IsImage first (call ∷ drop (k + 1) past) bytes = record { each = λ i sure. by_step first bytes (drop (k + 1) past) call kept (was k call is) i call.step can stopped sure } in
+    let image : IsImage first (call ∷ drop (k + 1) past) bytes = record { each = λ i sure. by_step first bytes (drop (k + 1) past) call kept (was k call is) i call.step stopped sure } in
     record { back = k; since = omega (arith, made); was = subst (λ (l : List MadeCall). IsImage first l bytes) (sym (drop_get past k call is)) image }
 
 abbrev pub Sure : List ℕ → List ℕ → List MadeCall → Type 0

@@ -1,5 +1,5 @@
 -- The calls of a disk in memory, the latest first.
-use Rattle.std.specs.Prelude.{◌≡◌, ℕ, ◌+◌, ◌-◌, ◌≤◌, ◌&&◌, ◌||◌, nat_le, nat_lt, Bool, false, List, [], ◌∷◌, take, length, Option, slice_get}
+use Rattle.std.specs.Prelude.{◌≡◌, ℕ, ◌+◌, ◌-◌, ◌&&◌, ◌||◌, nat_le, nat_lt, min, Bool, false, List, [], ◌∷◌, take, length, Option, slice_get}
 use Rattle.muni_disk.specs.Bytes.{byte_at, StandsAt, IsSameOutside}
 use Rattle.muni_disk.specs.declared.past.Piece.{Piece}
 use Rattle.muni_disk.specs.declared.past.Step.{Step}
@@ -38,17 +38,14 @@ synced_bytes first (call ∷ past) = synced_after call call.step (synced_bytes f
 pub record IsImage (first : List ℕ) (past : List MadeCall) (image : List ℕ) : Type 0 where
   pub each : (i : ℕ) → is_unsure past i ≡ false → byte_at image i ≡ byte_at (synced_bytes first past) i
 
--- a stop can keep so many bytes of what the call was to write
-abbrev pub CanKeep : ℕ → Step → Type 0
-CanKeep kept (Write piece) = kept ≤ length piece.bytes.items
-CanKeep kept Read = Unit {0}
-CanKeep kept Synced = Unit {0}
-CanKeep kept Unsynced = Unit {0}
+-- so many bytes of a piece, or all where it has fewer
+abbrev pub kept_in : ℕ → Piece → ℕ
+kept_in kept piece = min kept (length piece.bytes.items)
 
 -- what the disk read as before the call, with so many bytes of what the call was to write over it
 abbrev pub IsStopped : List ℕ → ℕ → List ℕ → Step → Type 0
 IsStopped before kept bytes (Write piece) =
-    StandsAt piece.place (take kept piece.bytes.items) bytes × IsSameOutside piece.place kept before bytes
+    StandsAt piece.place (take (kept_in kept piece) piece.bytes.items) bytes × IsSameOutside piece.place (kept_in kept piece) before bytes
 IsStopped before kept bytes Read = bytes ≡ before
 IsStopped before kept bytes Synced = bytes ≡ before
 IsStopped before kept bytes Unsynced = bytes ≡ before

@@ -1,9 +1,9 @@
 //! A disk in memory.
 
-ghost use Rattle.std.specs.Prelude.{◌≡◌, ◌≤◌, ◌+◌, ◌<◌, ℕ, Some, [], drop, slice_get, IfSome, false, length, IfOk};
+ghost use Rattle.std.specs.Prelude.{◌≡◌, ◌≤◌, ◌+◌, ◌<◌, ℕ, Some, Err, [], drop, slice_get, IfSome, false, length, IfOk, OnErr};
 ghost use Rattle.muni_disk.specs.Bytes.{byte_at};
 ghost use Rattle.muni_disk.specs.declared.past.MadeCall.{MadeCall};
-ghost use Rattle.muni_disk.specs.Past.{is_unsure, synced_bytes, IsImage, call_of, CanKeep, IsStopped};
+ghost use Rattle.muni_disk.specs.Past.{is_unsure, synced_bytes, IsImage, call_of, IsStopped};
 ghost use Rattle.muni_disk.specs.Moments.{WasImage, at_present, is_present};
 
 use crate::bytes::{fill, overlaid};
@@ -32,17 +32,15 @@ pub struct MemDisk {
 
 /// The bytes that a stop within a call leaves, where so many bytes of its piece were written.
 fn stopped(alloc: Global, call: &MadeCall, kept: usize) -> Result<Vec<u8>, AllocError>
-    requires { CanKeep kept call.now.step }
     ensures { IfOk result
         (λ bytes. IsStopped call.now.before.items kept bytes.items call.now.step) }
 {
     match &call.step {
-        Step::Write(piece) => overlaid(
-            alloc,
-            &call.before,
-            piece.place as usize,
-            &piece.bytes[..kept],
-        ),
+        Step::Write(piece) => {
+            let kept = kept.min(piece.bytes.len());
+            let part = &piece.bytes[..kept];
+            overlaid(alloc, &call.before, piece.place as usize, part)
+        }
         Step::Read | Step::Synced | Step::Unsynced => call.before.to_vec(alloc),
     }
 }
@@ -54,6 +52,7 @@ impl MemDisk {
         ensures fresh { IfOk result (λ disk. disk.past.items ≡ []) }
         ensures failing { IfOk result (λ disk. disk.failing.items ≡ failing.now) }
         ensures uncounted { IfOk result (λ disk. disk.faults ≡ 0) }
+        ensures memory { OnErr result (result ≡ Err DiskFault.NoMemory) }
     {
         Ok(MemDisk {
             alloc,
@@ -73,22 +72,21 @@ impl MemDisk {
     }
 
     /// The disk that a stop within the call of a number leaves, where so many bytes of what that
-    /// call was to write were written. At the number of calls made it is the disk as it is now. No
-    /// call of it fails.
+    /// call was to write were written, or all where it had fewer. Where no call has that number it
+    /// is the disk as it is now. No call of it fails.
     pub fn after_stop(&self, number: usize, kept: usize) -> Result<MemDisk, DiskFault>
-        requires made { number ≤ length self.now.past.items }
-        requires kept { IfSome (call_of self.now.past.items number) (λ call. CanKeep kept call.step) }
         ensures stopped { IfOk result (λ disk. number < length self.now.past.items
             → IfSome (call_of self.now.past.items number)
             (λ call. IsStopped call.before.items kept disk.bytes.items call.step)) }
-        ensures present { IfOk result (λ disk. number ≡ length self.now.past.items
+        ensures present { IfOk result (λ disk. length self.now.past.items ≤ number
             → disk.bytes.items ≡ self.now.bytes.items) }
         ensures fresh { IfOk result (λ disk.
             (disk.past.items ≡ []) × (disk.failing.items ≡ []) × (disk.faults ≡ 0)) }
+        ensures memory { OnErr result (result ≡ Err DiskFault.NoMemory) }
 
         // It is an image that a stop since that call may have left.
-        ensures image { IfOk result
-            (λ disk. WasImage self.now.first.items self.now.past.items number disk.bytes.items) }
+        ensures image { IfOk result (λ disk. number ≤ length self.now.past.items
+            → WasImage self.now.first.items self.now.past.items number disk.bytes.items) }
     {
         let bytes = self.stopped_at(number, kept)?;
         Ok(MemDisk {
@@ -102,15 +100,13 @@ impl MemDisk {
     }
 
     fn stopped_at(&self, number: usize, kept: usize) -> Result<Vec<u8>, AllocError>
-        requires made { number ≤ length self.now.past.items }
-        requires kept { IfSome (call_of self.now.past.items number) (λ call. CanKeep kept call.step) }
         ensures stopped { IfOk result (λ bytes. number < length self.now.past.items
             → IfSome (call_of self.now.past.items number)
             (λ call. IsStopped call.before.items kept bytes.items call.step)) }
-        ensures present { IfOk result (λ bytes. number ≡ length self.now.past.items
+        ensures present { IfOk result (λ bytes. length self.now.past.items ≤ number
             → bytes.items ≡ self.now.bytes.items) }
-        ensures image { IfOk result
-            (λ bytes. WasImage self.now.first.items self.now.past.items number bytes.items) }
+        ensures image { IfOk result (λ bytes. number ≤ length self.now.past.items
+            → WasImage self.now.first.items self.now.past.items number bytes.items) }
     {
         let calls = self.past.len();
         if number >= calls {

@@ -10,6 +10,8 @@ use std::fs::{File, OpenOptions};
 use std::io;
 
 /// A shelf over files: the journal of a name is the file of that name with `.journal` added.
+///
+/// A file is locked while its disk is out, and one that another process has is refused at once.
 #[derive(Drop)]
 pub struct FileShelf<'a> {
     rt: &'a HostRuntime,
@@ -58,7 +60,11 @@ impl<'a> FileShelf<'a> {
             return Err(io::Error::from(io::ErrorKind::InvalidInput));
         };
         let path = format!(in self.rt.alloc(); "{name}.journal")?;
-        open(self.rt, &path)
+        let file = open(self.rt, &path)?;
+        if file.try_lock().is_err() {
+            return Err(io::Error::from(io::ErrorKind::WouldBlock));
+        }
+        Ok(file)
     }
 }
 

@@ -1,5 +1,5 @@
 -- The number of the next version, from the last one.
-use Rattle.std.proofs.Common.{◌≡◌, ℕ, ◌+◌, Option, Some, None, sym, ap}
+use Rattle.std.proofs.Common.{◌≡◌, ℕ, ◌+◌, Option, Some, None, ap}
 use Rattle.std.specs.Option.{option_map, unwrap_or}
 use Rattle.muni_msg.specs.declared.version.Version.{Version}
 use Rattle.muni_keep.specs.History.{History, count, next_number}

@@ -3,3 +3,4 @@ pub mod GoesOn
 pub mod JournalImages
 pub mod KeptLemmas
 pub mod SlotLemmas
+pub mod ToldLemmas

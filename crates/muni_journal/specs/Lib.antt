@@ -2,4 +2,4 @@ pub mod Puts
 pub mod Journal
 pub mod Stops
 pub mod Reading
-pub mod Lent
+pub mod Told

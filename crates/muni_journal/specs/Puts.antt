@@ -1,5 +1,5 @@
 -- Puts on the tables of the desk.
-use Rattle.std.specs.Prelude.{ℕ, ◌==◌, Bool, Option, Some, None, if◌then◌else◌, is_none}
+use Rattle.std.specs.Prelude.{◌==◌, Bool, Option, Some, None, if◌then◌else◌, is_none}
 use Rattle.muni_keep.specs.History.{next_number}
 use Rattle.muni_keep.specs.Tables.{Tables, issue_at, trade_at, with_issue, with_version}
 use Rattle.muni_record.specs.declared.put.Put.{Put}

@@ -1,12 +1,10 @@
 //! The cabinet that lends keepers over the journals of a shelf.
 
-ghost use Rattle.std.specs.Prelude.{◌≡◌, ◌≤◌, ℕ, List, Some, None, is_some, IfOk, IfErr, IfSome, IsSome, OnOk, OnErr, IsErrOf};
+ghost use Rattle.std.specs.Prelude.{◌≡◌, ◌≢◌, ◌≤◌, ℕ, List, Some, None, is_some, IfOk, IfErr, IfSome, OnOk, OnErr, IsErrOf};
 ghost use Rattle.std.specs.Option.{option_map, ForSome};
-ghost use Rattle.muni_edge.specs.Calls.{raised};
 ghost use Rattle.muni_edge.specs.Sink.{Rose};
-ghost use Rattle.muni_disk.specs.Disk.{ReadsAs};
-ghost use Rattle.muni_journal.specs.Journal.{tables_of};
-ghost use Rattle.muni_journal.specs.Lent.{lent_name};
+ghost use Rattle.muni_keep.specs.Tables.{no_tables};
+ghost use Rattle.muni_journal.specs.Told.{off_shelf, told_of};
 
 use crate::fetching::FetchFault;
 use crate::keeper::JournalKeeper;
@@ -30,7 +28,8 @@ struct Unreleased<D: Disk> {
     held: Held<D>,
 }
 
-/// Lends keepers over the journals of a shelf, one at a time. It tells no tables.
+/// Lends keepers over the journals of a shelf, one at a time. Where the disk of a name tells what it
+/// reads as, and that stands for tables, it tells these.
 ///
 /// A keeper that comes back with a failed put that cannot be taken back is held, and the next fetch of
 /// its name lends it again. A fetch of another name first tries to let it go.
@@ -41,16 +40,26 @@ pub struct JournalCabinet<S: Shelf> {
     out: Option<Vec<u8>>,
     held: Option<Held<S::D>>,
     faults: u64,
-    ghost lent: { S.out shelf ≡ lent_name (option_map (λ name. name.items) out) (option_map (λ h. h.name.items) held) },
+    // The disk of the keeper that is out or held is off the shelf.
+    ghost lent: { S.out shelf ≡ option_map (λ off. off.0) (off_shelf (option_map (λ name. name.items) out) (option_map (λ h. (h.name.items, h.keeper.kept)) held)) },
     ghost one: { ForSome out (λ _. held ≡ None) },
+    ghost alike: { ForSome held (λ h. is_some (S.told shelf h.name.items) ≡ is_some (S.D.bytes h.keeper.disk)) },
 }
 
 /// Takes a failed put back, and puts the disk of a held keeper back on its shelf.
 fn release<S: Shelf>(shelf: &mut S, held: Held<S::D>) -> Result<(), Unreleased<S::D>>
-    requires { S.out shelf.old ≡ Some held.name.items }
+    requires out { S.out shelf.old ≡ Some held.name.items }
+    requires alike { is_some (S.told shelf.old held.name.items) ≡ is_some (S.D.bytes held.keeper.disk) }
+
     ensures back { OnOk result (S.out shelf.new ≡ None) }
-    ensures out { OnErr result (S.out shelf.new ≡ S.out shelf.old) }
+    // The tables of each name stay.
+    ensures told { OnOk result ((name : List ℕ) → told_of None (S.told shelf.new) name
+        ≡ told_of (Some (held.name.items, held.keeper.kept)) (S.told shelf.old) name) }
+    ensures unchanged { OnErr result (shelf.new ≡ shelf.old) }
     ensures name { IfErr result (λ unreleased. unreleased.held.name.items ≡ held.name.items) }
+    ensures tables { IfErr result (λ unreleased. unreleased.held.keeper.kept ≡ held.keeper.kept) }
+    ensures disk { IfErr result (λ unreleased.
+        is_some (S.D.bytes unreleased.held.keeper.disk) ≡ is_some (S.D.bytes held.keeper.disk)) }
 {
     let Held { name, keeper } = held;
     match keeper.into_disk() {
@@ -97,31 +106,47 @@ impl<S: Shelf> JournalCabinet<S> {
             faults: 0,
         }
     }
-}
 
-/// The keeper over the journal of a name, whose disk the shelf then has lent.
-fn fetch_journal<S: Shelf>(
-    alloc: Global,
-    shelf: &mut S,
-    name: &[u8],
-) -> Result<JournalKeeper<S::D>, FetchFault>
-    requires { S.out shelf.old ≡ None }
-    ensures stands { IfOk result (λ keeper. (c : List ℕ) → ReadsAs (S.told shelf.old name.now) c
-        → tables_of c ≡ Some keeper.kept) }
-    ensures count { IfOk result (λ keeper. keeper.faults ≡ 0) }
-    ensures out { OnOk result (S.out shelf.new ≡ Some name.now) }
-    ensures none_out { OnErr result (S.out shelf.new ≡ None) }
-{
-    let disk = match shelf.take(name) {
-        Ok(disk) => disk,
-        Err(fault) => return Err(FetchFault::Disk(fault)),
-    };
-    match open(alloc, disk) {
-        Ok(keeper) => Ok(keeper),
-        Err(unfetched) => {
-            let Unfetched { fault, disk } = unfetched;
-            shelf.put_back(name, disk);
-            Err(fault)
+    /// Lends the keeper over the journal of a name. No keeper may be out or held.
+    fn lend(&mut self, name: Vec<u8>) -> Result<JournalKeeper<S::D>, KeepFault>
+        requires none_out { self.old.out ≡ None }
+        requires none_held { self.old.held ≡ None }
+
+        ensures tables { IfOk result (λ keeper.
+            IfSome (told_of None (S.told self.old.shelf) name.items) (λ t. keeper.kept ≡ t)) }
+        ensures count { IfOk result (λ keeper. keeper.faults ≡ 0) }
+        ensures out { OnOk result (option_map (λ out. out.items) self.new.out ≡ Some name.items) }
+        ensures alike { IfOk result (λ keeper.
+            is_some (S.told self.new.shelf name.items) ≡ is_some (S.D.bytes keeper.disk)) }
+
+        ensures tells { OnOk result ((other : List ℕ)
+            → is_some (told_of (Some (name.items, no_tables)) (S.told self.new.shelf) other)
+            ≡ is_some (told_of None (S.told self.old.shelf) other)) }
+        ensures others { OnOk result ((other : List ℕ) → other ≢ name.items
+            → told_of (Some (name.items, no_tables)) (S.told self.new.shelf) other
+            ≡ told_of None (S.told self.old.shelf) other) }
+        ensures unchanged { OnErr result ((other : List ℕ)
+            → told_of None (S.told self.new.shelf) other ≡ told_of None (S.told self.old.shelf) other) }
+
+        ensures lent_out { OnErr result (self.new.out ≡ None) }
+        ensures held { self.new.held ≡ None }
+        ensures later { self.old.faults ≤ self.new.faults }
+        ensures failed { IsErrOf result KeepFault.Failed → Rose self.old.faults self.new.faults }
+    {
+        let disk = match self.shelf.take(&name) {
+            Ok(disk) => disk,
+            Err(fault) => return Err(counted(&mut self.faults, fault)),
+        };
+        match open(self.alloc, disk) {
+            Ok(keeper) => {
+                self.out = Some(name);
+                Ok(keeper)
+            }
+            Err(unfetched) => {
+                let Unfetched { fault, disk } = unfetched;
+                self.shelf.put_back(&name, disk);
+                Err(counted(&mut self.faults, disk_fault(fault)))
+            }
         }
     }
 }
@@ -135,57 +160,37 @@ fn disk_fault(fault: FetchFault) -> DiskFault {
 }
 
 impl<S: Shelf> Cabinet for JournalCabinet<S> {
-    ghost use Rattle.std.specs.Prelude.{None};
     ghost use Rattle.std.specs.Option.{option_map};
+    ghost use Rattle.muni_journal.specs.Told.{off_shelf, told_of, mark_of};
 
     type K = JournalKeeper<S::D>;
 
-    ghost told = { λ _ _. None };
+    ghost told = { λ cabinet. told_of (off_shelf (option_map (λ name. name.items) cabinet.out) (option_map (λ h. (h.name.items, h.keeper.kept)) cabinet.held)) (S.told cabinet.shelf) };
 
     ghost faults = { λ cabinet. cabinet.faults };
 
-    ghost out = { λ cabinet. option_map (λ name. (name.items, 0)) cabinet.out };
+    ghost out = { λ cabinet. option_map (λ name. (name.items, mark_of (S.told cabinet.shelf name.items))) cabinet.out };
 
-    fn fetch(&mut self, name: &[u8]) -> Result<JournalKeeper<S::D>, KeepFault>
-        requires { self.old.out ≡ None }
-
-        // The tables are those for which the disk of the name stands, if no keeper is held.
-        ensures stands { IfOk result (λ keeper. self.old.held ≡ None
-            → (c : List ℕ) → ReadsAs (S.told self.old.shelf name.now) c
-            → tables_of c ≡ Some keeper.kept) }
-        ensures count { IfOk result (λ keeper. keeper.faults ≡ 0) }
-        ensures out { OnOk result (option_map (λ out. out.items) self.new.out ≡ Some name.now) }
-        ensures none_out { OnErr result (self.new.out ≡ None) }
-        ensures later { self.old.faults ≤ self.new.faults }
-        ensures failed { IsErrOf result KeepFault.Failed → Rose self.old.faults self.new.faults }
-    {
-        let out = name.to_vec(self.alloc)?;
-        if let Some(held) = self.held.take() {
-            if held.name.as_slice() == name {
-                self.out = Some(out);
-                return Ok(held.keeper.uncounted());
-            }
-            if let Err(unreleased) = release(&mut self.shelf, held) {
+    fn fetch(&mut self, name: &[u8]) -> Result<JournalKeeper<S::D>, KeepFault> {
+        let name = name.to_vec(self.alloc)?;
+        let Some(held) = self.held.take() else {
+            return self.lend(name);
+        };
+        if held.name.as_slice() == name.as_slice() {
+            self.out = Some(name);
+            return Ok(held.keeper.uncounted());
+        }
+        match release(&mut self.shelf, held) {
+            Ok(()) => self.lend(name),
+            Err(unreleased) => {
                 let Unreleased { fault, held } = unreleased;
                 self.held = Some(held);
-                return Err(counted(&mut self.faults, fault));
+                Err(counted(&mut self.faults, fault))
             }
-        }
-        match fetch_journal(self.alloc, &mut self.shelf, name) {
-            Ok(keeper) => {
-                self.out = Some(out);
-                Ok(keeper)
-            }
-            Err(fault) => Err(counted(&mut self.faults, disk_fault(fault))),
         }
     }
 
-    fn give_back(&mut self, keeper: JournalKeeper<S::D>)
-        requires { IsSome self.old.out }
-
-        ensures none_out { self.new.out ≡ None }
-        ensures counted { self.new.faults ≡ raised self.old.faults keeper.faults }
-    {
+    fn give_back(&mut self, keeper: JournalKeeper<S::D>) {
         self.faults = self.faults.saturating_add(keeper.faults);
         let Some(name) = self.out.take() else {
             return;

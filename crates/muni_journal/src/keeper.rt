@@ -1,6 +1,6 @@
 //! The keeper over a journal.
 
-ghost use Rattle.std.specs.Prelude.{◌≡◌, ◌≢◌, ◌<◌, ◌≤◌, ◌+◌, ◌^◌, ◌⊎◌, Some, None, Ok, true, List, ℕ, length, IfOk, OnOk, OnErr, IsErrOf};
+ghost use Rattle.std.specs.Prelude.{◌≡◌, ◌≢◌, ◌<◌, ◌≤◌, ◌+◌, ◌^◌, ◌⊎◌, Some, None, Ok, true, List, ℕ, length, is_some, IfOk, OnOk, OnErr, IsErrOf};
 ghost use Rattle.std.specs.Option.{ForSome, ForNone};
 ghost use Rattle.muni_edge.specs.Sink.{Rose};
 ghost use Rattle.muni_keep.specs.History.{next_number};
@@ -12,6 +12,7 @@ ghost use Rattle.muni_record.specs.declared.put.Put.TheVariants as put;
 ghost use Rattle.muni_journal.specs.Puts.{is_next, after};
 ghost use Rattle.muni_journal.specs.Journal.{journal_of, piece_of as spec_piece};
 ghost use Rattle.muni_journal.specs.Stops.{IsInDoubt, StandsFor};
+ghost use Rattle.muni_journal.specs.Told.{mark_of};
 
 use crate::fetching::LIMIT;
 use crate::kept::Kept;
@@ -48,6 +49,7 @@ impl<D: Disk> JournalKeeper<D> {
         ensures kept { OnErr result (self.new.in_doubt ≡ self.old.in_doubt) }
         ensures stops { StopsLeave D.clock D.since self.old.disk self.new.disk
             (StandsFor self.old.kept self.old.in_doubt None) }
+        ensures tells { is_some (D.bytes self.new.disk) ≡ is_some (D.bytes self.old.disk) }
         ensures cause { HasCause (D.faults self.old.disk) (D.faults self.new.disk) result }
     {
         if self.in_doubt.is_some() {
@@ -73,6 +75,7 @@ impl<D: Disk> JournalKeeper<D> {
         ensures faults { self.new.faults ≡ self.old.faults }
         ensures stops { StopsLeave D.clock D.since self.old.disk self.new.disk
             (StandsFor self.old.kept None (Some put.now)) }
+        ensures tells { is_some (D.bytes self.new.disk) ≡ is_some (D.bytes self.old.disk) }
         ensures cause { HasCause (D.faults self.old.disk) (D.faults self.new.disk) result }
     {
         match put_slot(&mut self.disk, self.gate, piece) {
@@ -122,6 +125,7 @@ impl<D: Disk> JournalKeeper<D> {
         ensures unchanged { OnErr result (self.new.kept ≡ self.old.kept) }
         ensures stops { StopsLeave D.clock D.since self.old.disk self.new.disk
             (StandsFor self.old.kept self.old.in_doubt (Some put.now)) }
+        ensures tells { is_some (D.bytes self.new.disk) ≡ is_some (D.bytes self.old.disk) }
         ensures later { self.old.faults ≤ self.new.faults }
         ensures failed { IsErrOf result KeepFault.Failed → Rose self.old.faults self.new.faults }
         // It counts only failures of its disk, and puts whose slot would end past the limit.
@@ -162,11 +166,13 @@ fn copy_key(key: &Key) -> Key
 }
 
 impl<D: Disk> Keeper for JournalKeeper<D> {
+    ghost use Rattle.muni_journal.specs.Told.{mark_of};
+
     ghost tables = { λ keeper. Some keeper.kept };
 
     ghost faults = { λ keeper. keeper.faults };
 
-    ghost mark = { λ _. 0 };
+    ghost mark = { λ keeper. mark_of (D.bytes keeper.disk) };
 
     fn issue(&mut self, cusip: &[u8; 9]) -> Result<Option<Issue>, KeepFault> {
         self.kept.issue(cusip)
@@ -179,6 +185,7 @@ impl<D: Disk> Keeper for JournalKeeper<D> {
         ensures unchanged { OnErr result (self.new.kept ≡ self.old.kept) }
         ensures stops { StopsLeave D.clock D.since self.old.disk self.new.disk
             (StandsFor self.old.kept self.old.in_doubt (Some (put.Issue issue.now))) }
+        ensures tells { is_some (D.bytes self.new.disk) ≡ is_some (D.bytes self.old.disk) }
         ensures later { self.old.faults ≤ self.new.faults }
         ensures failed { IsErrOf result KeepFault.Failed → Rose self.old.faults self.new.faults }
     {
@@ -202,6 +209,7 @@ impl<D: Disk> Keeper for JournalKeeper<D> {
         ensures unchanged { OnErr result (self.new.kept ≡ self.old.kept) }
         ensures stops { StopsLeave D.clock D.since self.old.disk self.new.disk
             (StandsFor self.old.kept self.old.in_doubt (Some (put.Version key.now number version.now))) }
+        ensures tells { is_some (D.bytes self.new.disk) ≡ is_some (D.bytes self.old.disk) }
         ensures later { self.old.faults ≤ self.new.faults }
         ensures failed { IsErrOf result KeepFault.Failed → Rose self.old.faults self.new.faults }
     {

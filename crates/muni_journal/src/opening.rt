@@ -1,6 +1,6 @@
 //! Opens a journal.
 
-ghost use Rattle.std.specs.Prelude.{◌≡◌, ◌<◌, ◌^◌, List, ℕ, Some, None, IfOk, IfErr};
+ghost use Rattle.std.specs.Prelude.{◌≡◌, ◌<◌, ◌^◌, List, ℕ, Some, None, is_some, IfOk, IfErr};
 ghost use Rattle.muni_edge.specs.Sink.{Rose};
 ghost use Rattle.muni_disk.specs.Disk.{ReadsAs};
 ghost use Rattle.muni_journal.specs.Journal.{Place, journal_of, tables_of};
@@ -86,7 +86,10 @@ impl<D: Disk> JournalKeeper<D> {
     pub(crate) fn into_disk(self) -> Result<D, Unsettled<D>>
         ensures stands { IfOk result (λ disk. (c : List ℕ) → ReadsAs (D.bytes disk) c
             → tables_of c ≡ Some self.kept) }
+        ensures tells { IfOk result (λ disk. is_some (D.bytes disk) ≡ is_some (D.bytes self.disk)) }
         ensures kept { IfErr result (λ unsettled. unsettled.keeper.kept ≡ self.kept) }
+        ensures disk { IfErr result (λ unsettled.
+            is_some (D.bytes unsettled.keeper.disk) ≡ is_some (D.bytes self.disk)) }
     {
         let mut keeper = self;
         if let Err(fault) = keeper.settle() {
@@ -99,6 +102,7 @@ impl<D: Disk> JournalKeeper<D> {
     /// The same keeper with no fault counted.
     pub(crate) fn uncounted(self) -> JournalKeeper<D>
         ensures tables { result.kept ≡ self.kept }
+        ensures disk { result.disk ≡ self.disk }
         ensures count { result.faults ≡ 0 }
     {
         let mut keeper = self;

@@ -1,4 +1,4 @@
-use Rattle.std.proofs.Common.{◌≡◌, ℕ, List, Option, refl, sym, ◌∙◌, subst, arith}
+use Rattle.std.proofs.Common.{ℕ, List, Option, refl, sym, ◌∙◌, subst, arith}
 use Rattle.muni_keep.specs.Tables.{Tables}
 use Rattle.muni_disk.specs.Bytes.{byte_at}
 use Rattle.muni_disk.specs.Disk.{ReadsAs}

@@ -1,10 +1,10 @@
-use Rattle.std.proofs.Common.{◌≡◌, true, ℕ, List, Option, Some, None, sym, ◌∙◌, subst, arith, rules}
+use Rattle.std.proofs.Common.{◌≡◌, true, None, arith, rules}
 use Rattle.std.specs.Prelude.{is_some}
 use Rattle.muni_disk.specs.Bytes.{IsSameOutside}
-use Rattle.muni_disk.specs.Disk.{StopsLeave, ComesFrom}
+use Rattle.muni_disk.specs.Disk.{ComesFrom}
 use Rattle.muni_journal.specs.Journal.{Place}
 use Rattle.muni_journal.specs.Stops.{StandsFor}
-use Rattle.muni_journal.proofs.JournalImages.{doubt_stops_by, taken_back_by, doubt_kept, run_of}
+use Rattle.muni_journal.proofs.JournalImages.{doubt_stops_by, taken_back_by, run_of}
 use Rattle.muni_journal.proofs.keeper.JournalKeeper.settle.Goals as goal
 
 pub returns-in_err-take_back-clause-stops : goal.returns-in_err-take_back-clause-stops
