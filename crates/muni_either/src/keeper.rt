@@ -1,0 +1,77 @@
+//! A keeper of one of two kinds.
+
+use arrayvec::ArrayVec;
+use muni_keep::{KeepFault, Keeper};
+use muni_msg::{DeskName, Key, Line, Reference, Version};
+use muni_terms::Issue;
+
+/// A keeper of one of two kinds.
+#[derive(Drop)]
+pub enum EitherKeeper<K, L> {
+    First(K),
+    Second(L),
+}
+
+impl<K: Keeper, L: Keeper> Keeper for EitherKeeper<K, L> {
+    ghost use Rattle.std.specs.Prelude.{◌+◌, ◌*◌};
+    ghost use Rattle.muni_either.specs.Side.{by_side};
+
+    ghost tables = { by_side K.tables L.tables };
+
+    ghost faults = { by_side K.faults L.faults };
+
+    ghost mark = { by_side (λ keeper. 2 * K.mark keeper) (λ keeper. 2 * L.mark keeper + 1) };
+
+    fn issue(&mut self, cusip: &[u8; 9]) -> Result<Option<Issue>, KeepFault> {
+        match self {
+            EitherKeeper::First(keeper) => keeper.issue(cusip),
+            EitherKeeper::Second(keeper) => keeper.issue(cusip),
+        }
+    }
+
+    fn put_issue(&mut self, issue: &Issue) -> Result<(), KeepFault> {
+        match self {
+            EitherKeeper::First(keeper) => keeper.put_issue(issue),
+            EitherKeeper::Second(keeper) => keeper.put_issue(issue),
+        }
+    }
+
+    fn version(&mut self, key: &Key, number: u32) -> Result<Option<Version>, KeepFault> {
+        match self {
+            EitherKeeper::First(keeper) => keeper.version(key, number),
+            EitherKeeper::Second(keeper) => keeper.version(key, number),
+        }
+    }
+
+    fn last(&mut self, key: &Key) -> Result<Option<(u32, Version)>, KeepFault> {
+        match self {
+            EitherKeeper::First(keeper) => keeper.last(key),
+            EitherKeeper::Second(keeper) => keeper.last(key),
+        }
+    }
+
+    fn put_version(&mut self, key: &Key, number: u32, version: &Version) -> Result<(), KeepFault> {
+        match self {
+            EitherKeeper::First(keeper) => keeper.put_version(key, number, version),
+            EitherKeeper::Second(keeper) => keeper.put_version(key, number, version),
+        }
+    }
+
+    fn trades(&mut self, desk: &DeskName) -> Result<u32, KeepFault> {
+        match self {
+            EitherKeeper::First(keeper) => keeper.trades(desk),
+            EitherKeeper::Second(keeper) => keeper.trades(desk),
+        }
+    }
+
+    fn page(
+        &mut self,
+        desk: &DeskName,
+        after: &Option<Reference>,
+    ) -> Result<ArrayVec<Line, 50>, KeepFault> {
+        match self {
+            EitherKeeper::First(keeper) => keeper.page(desk, after),
+            EitherKeeper::Second(keeper) => keeper.page(desk, after),
+        }
+    }
+}
