@@ -10,6 +10,7 @@ mod rows;
 #[cfg(test)]
 mod tests;
 
+pub use calls::read_calls;
 pub use laws::{last_fields_may_be_left_out, texts_have_one_list_of_rows};
 pub use reader::RowReader;
 pub use report::report_row;

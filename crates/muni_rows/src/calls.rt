@@ -1,19 +1,18 @@
 //! The calls of an issue in one column.
 
-ghost use Rattle.std.specs.Prelude.{◌≡◌, ◌==◌, ◌<◌, ◌≤◌, ◌+◌, ◌++◌, ◌∷◌, drop, length, position, IfSome};
+ghost use Rattle.std.specs.Prelude.{◌≡◌, ◌≤◌, ◌+◌, ◌++◌, drop, length};
 ghost use Rattle.std.specs.Option.{option_map};
 ghost use Rattle.std.specs.Str.{bytes_eq};
 ghost use Rattle.arrayvec.specs.ArrayVec.{array_vec_len};
 ghost use Rattle.muni_dec.specs.Decimal.{decimal_text};
 ghost use Rattle.muni_days.specs.Day.{civil, day_text};
-ghost use Rattle.muni_import.specs.Calls.{cut_at_blanks, cut_behind, few_calls, calls_field};
 ghost use Rattle.muni_rows.specs.Calls as spec;
 
 use arrayvec::ArrayVec;
 use muni_days::Day;
 use muni_dec::Price;
 use muni_dec::text::push;
-use muni_msg::read_call;
+use muni_import::read_calls;
 use muni_terms::Call;
 
 /// Room for the text of 40 calls, with a blank before each.
@@ -96,51 +95,4 @@ fn is_text_of(text: &[u8], calls: &ArrayVec<Call, 40>) -> bool
 {
     let written = print_calls(calls.as_slice());
     without_first(&written) == text
-}
-
-/// At most 40 calls, as `2027-01-01:102.000000 2028-01-01:100.000000`. An empty text names none.
-#[tactic(auto, unfolding(muni_import::specs::Calls::calls_field))]
-fn read_calls(text: &[u8]) -> Option<ArrayVec<Call, 40>>
-    ensures { option_map (λ calls. calls.items) result ≡ calls_field text.now }
-{
-    if text.is_empty() {
-        return Some(ArrayVec::new());
-    }
-    read_some_calls(text)
-}
-
-fn read_some_calls(text: &[u8]) -> Option<ArrayVec<Call, 40>>
-    ensures { option_map (λ calls. calls.items) result ≡ few_calls (cut_at_blanks text.now) }
-{
-    let mut calls = ArrayVec::new();
-    let mut rest = text;
-    for count in 0..40usize {
-        let _count = count;
-        let (call, behind) = split_at_blank(rest);
-        calls.push(read_call(call)?);
-        let Some(behind) = behind else {
-            return Some(calls);
-        };
-        rest = behind;
-    }
-    None
-}
-
-// What stands before the first blank, and behind it where there is one.
-#[tactic(auto, using(muni_import::proofs::BlankLemmas::cut_at, muni_import::proofs::BlankLemmas::uncut))]
-fn split_at_blank(text: &[u8]) -> (&[u8], Option<&[u8]>)
-    ensures { cut_at_blanks text.now
-        ≡ result.0.now ∷ cut_behind (option_map (λ behind. behind.now) result.1) }
-{
-    match find_blank(text) {
-        Some(blank) => (&text[..blank], Some(&text[blank + 1..])),
-        None => (text, None),
-    }
-}
-
-fn find_blank(text: &[u8]) -> Option<usize>
-    ensures value { result ≡ position (λ b. b == 32) text.now }
-    ensures inside { IfSome result (λ blank. blank < length text.now) }
-{
-    text.iter().position(|b| *b == b' ')
 }

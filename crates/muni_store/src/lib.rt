@@ -8,6 +8,8 @@ pub mod laws;
 mod moving;
 mod rows;
 mod schema;
+#[cfg(test)]
+mod tests;
 mod trade_counts;
 
 pub use cabinet::SqlCabinet;

@@ -1,126 +1,142 @@
 //! The rows of the tables that had no columns for a basis and a commission, moved to those that have.
 
-use crate::rows::{done, if_found, number_at, text_at};
-use crate::schema::{Database, fault_of, has_table};
+use crate::rows::{number_at, text_at};
+use crate::schema::{Database, answered, has_table, if_found};
 use muni_keep::KeepFault;
 use muni_rows::{issue_1, version_1};
+use sqlite::types::ValueRef;
 use sqlite::{File, FileStore, Row, Transaction, params};
 
 type Moving<'a> = Transaction<'a, FileStore<File>>;
+
+#[derive(Clone, Copy)]
+enum OldTable {
+    Issues,
+    Versions,
+}
 
 /// Moves the rows of the old tables, where the file has them, in one transaction a table. Where a row
 /// is not that of a checked value, its table stays as it was.
 pub(crate) fn move_old_rows(database: &mut Database) -> Result<(), KeepFault> {
     if has_table(database, "issues")? {
-        move_issues(database)?;
+        move_table(database, OldTable::Issues)?;
     }
     if has_table(database, "versions")? {
-        move_versions(database)?;
+        move_table(database, OldTable::Versions)?;
     }
     Ok(())
 }
 
-fn move_issues(database: &mut Database) -> Result<(), KeepFault> {
+fn move_table(database: &mut Database, table: OldTable) -> Result<(), KeepFault> {
     if !database.is_autocommit() {
         return Err(KeepFault::Failed);
     }
     let mut moving = database.transaction();
-    for _ in 0..u64::MAX {
-        let row = moving.query_row(
-            "SELECT cusip, name, kind, dated, first, maturity, coupon, calls FROM issues LIMIT 1",
-            params![],
-        );
-        let Some(row) = if_found(row)? else {
-            break;
-        };
-        move_issue(&mut moving, &row)?;
-    }
-    moving.commit().map_err(|error| fault_of(error))
+    move_rows(&mut moving, table)?;
+    answered(moving.commit())
 }
 
-fn move_issue(moving: &mut Moving<'_>, row: &Row) -> Result<(), KeepFault> {
-    if !is_issue(row)? {
+fn move_rows(moving: &mut Moving<'_>, table: OldTable) -> Result<(), KeepFault> {
+    for _ in 0..u64::MAX {
+        let moved = match table {
+            OldTable::Issues => move_issue(moving)?,
+            OldTable::Versions => move_version(moving)?,
+        };
+        if !moved {
+            break;
+        }
+    }
+    Ok(())
+}
+
+// Moves an issue, if one is left.
+fn move_issue(moving: &mut Moving<'_>) -> Result<bool, KeepFault> {
+    let row = first_row(
+        moving,
+        "SELECT cusip, name, kind, dated, first, maturity, coupon, calls FROM issues LIMIT 1",
+    )?;
+    let Some(row) = row else {
+        return Ok(false);
+    };
+    if !is_issue(&row)? {
         return Err(KeepFault::Failed);
     }
-    let cusip = text_at(row, 0)?;
-    done(moving.execute(
+    let cusip = text_at(&row, 0)?;
+    write(
+        moving,
         "INSERT INTO issues_2 (cusip, name, kind, dated, first, maturity, coupon, calls, basis)
          SELECT cusip, name, kind, dated, first, maturity, coupon, calls, 0
          FROM issues WHERE cusip = ?1",
-        params![&cusip],
-    ))?;
-    done(moving.execute("DELETE FROM issues WHERE cusip = ?1", params![&cusip]))
+        params![cusip],
+    )?;
+    write(
+        moving,
+        "DELETE FROM issues WHERE cusip = ?1",
+        params![cusip],
+    )?;
+    Ok(true)
 }
 
 fn is_issue(row: &Row) -> Result<bool, KeepFault> {
     let issue = issue_1(
-        &text_at(row, 0)?,
-        &text_at(row, 1)?,
+        text_at(row, 0)?,
+        text_at(row, 1)?,
         number_at(row, 2)?,
-        &text_at(row, 3)?,
-        &text_at(row, 4)?,
-        &text_at(row, 5)?,
+        text_at(row, 3)?,
+        text_at(row, 4)?,
+        text_at(row, 5)?,
         number_at(row, 6)?,
-        &text_at(row, 7)?,
+        text_at(row, 7)?,
     );
     Ok(issue.is_some())
 }
 
-fn move_versions(database: &mut Database) -> Result<(), KeepFault> {
-    if !database.is_autocommit() {
+// Moves a version of a trade, if one is left.
+fn move_version(moving: &mut Moving<'_>) -> Result<bool, KeepFault> {
+    let row = first_row(
+        moving,
+        "SELECT desk, reference, number, act, cusip, side, par, settle, basis, value, price, yld,
+         redemption, at_price, label, days, principal, accrued, total FROM versions LIMIT 1",
+    )?;
+    let Some(row) = row else {
+        return Ok(false);
+    };
+    if !is_version(&row)? {
         return Err(KeepFault::Failed);
     }
-    let mut moving = database.transaction();
-    for _ in 0..u64::MAX {
-        let row = moving.query_row(
-            "SELECT desk, reference, number, act, cusip, side, par, settle, basis, value, price, yld,
-             redemption, at_price, label, days, principal, accrued, total FROM versions LIMIT 1",
-            params![],
-        );
-        let Some(row) = if_found(row)? else {
-            break;
-        };
-        move_version(&mut moving, &row)?;
-    }
-    moving.commit().map_err(|error| fault_of(error))
-}
-
-fn move_version(moving: &mut Moving<'_>, row: &Row) -> Result<(), KeepFault> {
-    if !is_version(row)? {
-        return Err(KeepFault::Failed);
-    }
-    let desk = text_at(row, 0)?;
-    let reference = text_at(row, 1)?;
-    let number = number_at(row, 2)?;
-    done(moving.execute(
+    let key = params![text_at(&row, 0)?, text_at(&row, 1)?, number_at(&row, 2)?];
+    write(
+        moving,
         "INSERT INTO versions_2 (desk, reference, number, act, cusip, side, par, settle, basis, value,
          price, yld, redemption, at_price, label, days, principal, accrued, total, fee, commission)
          SELECT desk, reference, number, act, cusip, side, par, settle, basis, value, price, yld,
          redemption, at_price, label, days, principal, accrued, total, 0, 0
          FROM versions WHERE desk = ?1 AND reference = ?2 AND number = ?3",
-        params![&desk, &reference, number],
-    ))?;
-    done(moving.execute(
+        key,
+    )?;
+    write(
+        moving,
         "DELETE FROM versions WHERE desk = ?1 AND reference = ?2 AND number = ?3",
-        params![&desk, &reference, number],
-    ))
+        key,
+    )?;
+    Ok(true)
 }
 
 fn is_version(row: &Row) -> Result<bool, KeepFault> {
     let version = version_1(
-        &text_at(row, 0)?,
-        &text_at(row, 1)?,
+        text_at(row, 0)?,
+        text_at(row, 1)?,
         number_at(row, 2)?,
         number_at(row, 3)?,
-        &text_at(row, 4)?,
+        text_at(row, 4)?,
         number_at(row, 5)?,
         number_at(row, 6)?,
-        &text_at(row, 7)?,
+        text_at(row, 7)?,
         number_at(row, 8)?,
         number_at(row, 9)?,
         number_at(row, 10)?,
         number_at(row, 11)?,
-        &text_at(row, 12)?,
+        text_at(row, 12)?,
         number_at(row, 13)?,
         number_at(row, 14)?,
         number_at(row, 15)?,
@@ -129,4 +145,17 @@ fn is_version(row: &Row) -> Result<bool, KeepFault> {
         number_at(row, 18)?,
     );
     Ok(version.is_some())
+}
+
+fn first_row(moving: &mut Moving<'_>, query: &str) -> Result<Option<Row>, KeepFault> {
+    if_found(moving.query_row(query, params![]))
+}
+
+fn write(
+    moving: &mut Moving<'_>,
+    statement: &str,
+    params: &[ValueRef<'_>],
+) -> Result<(), KeepFault> {
+    let _ = answered(moving.execute(statement, params))?;
+    Ok(())
 }

@@ -1,11 +1,12 @@
 //! The statements on the tables.
 
-use crate::schema::{Database, fault_of, text};
+use crate::schema::{Database, answered, first_row, text, write};
 use muni_keep::KeepFault;
 use muni_msg::{DeskName, Given, Key, Reference, Version};
 use muni_rows::{issue_2, issue_columns, version_2, version_columns};
 use muni_terms::Issue;
-use sqlite::{Error, Row, params};
+use sqlite::types::ValueRef;
+use sqlite::{Row, params};
 
 /// The issue of a CUSIP, if it is kept.
 pub(crate) fn find_issue(
@@ -16,12 +17,13 @@ pub(crate) fn find_issue(
     let Ok(cusip) = text(cusip) else {
         return Ok(None);
     };
-    let row = database.query_row(
+    let row = first_row(
+        database,
         "SELECT cusip, name, kind, dated, first, maturity, coupon, calls, basis
          FROM issues_2 WHERE cusip = ?1",
         params![cusip],
-    );
-    match if_found(row)? {
+    )?;
+    match row {
         Some(row) => Ok(Some(read_issue(&row)?)),
         None => Ok(None),
     }
@@ -30,7 +32,8 @@ pub(crate) fn find_issue(
 /// Keeps an issue.
 pub(crate) fn insert_issue(database: &mut Database, issue: &Issue) -> Result<(), KeepFault> {
     let columns = issue_columns(issue);
-    done(database.execute(
+    write(
+        database,
         "INSERT INTO issues_2 (cusip, name, kind, dated, first, maturity, coupon, calls, basis)
          VALUES (?1, ?2, ?3, ?4, ?5, ?6, ?7, ?8, ?9)",
         params![
@@ -44,7 +47,7 @@ pub(crate) fn insert_issue(database: &mut Database, issue: &Issue) -> Result<(),
             text(columns.calls())?,
             columns.basis,
         ],
-    ))
+    )
 }
 
 /// The version of a trade with this number, if it is kept.
@@ -53,7 +56,8 @@ pub(crate) fn find_version(
     key: &Key,
     number: u32,
 ) -> Result<Option<Version>, KeepFault> {
-    let row = database.query_row(
+    let row = first_row(
+        database,
         "SELECT desk, reference, number, act, cusip, side, par, settle, basis, value, price, yld,
          redemption, at_price, label, days, principal, accrued, total, fee, commission
          FROM versions_2 WHERE desk = ?1 AND reference = ?2 AND number = ?3",
@@ -62,7 +66,7 @@ pub(crate) fn find_version(
             text(key.reference.bytes())?,
             number,
         ],
-    );
+    )?;
     match version_in(row)? {
         Some((_, version)) => Ok(Some(version)),
         None => Ok(None),
@@ -74,12 +78,13 @@ pub(crate) fn find_last(
     database: &mut Database,
     key: &Key,
 ) -> Result<Option<(u32, Version)>, KeepFault> {
-    let row = database.query_row(
+    let row = first_row(
+        database,
         "SELECT desk, reference, number, act, cusip, side, par, settle, basis, value, price, yld,
          redemption, at_price, label, days, principal, accrued, total, fee, commission
          FROM versions_2 WHERE desk = ?1 AND reference = ?2 ORDER BY number DESC LIMIT 1",
         params![text(key.desk.bytes())?, text(key.reference.bytes())?],
-    );
+    )?;
     version_in(row)
 }
 
@@ -91,7 +96,8 @@ pub(crate) fn insert_version(
     version: &Version,
 ) -> Result<(), KeepFault> {
     let columns = version_columns(version);
-    done(database.execute(
+    write(
+        database,
         "INSERT INTO versions_2 (desk, reference, number, act, cusip, side, par, settle, basis, value,
          price, yld, redemption, at_price, label, days, principal, accrued, total, fee, commission)
          VALUES (?1, ?2, ?3, ?4, ?5, ?6, ?7, ?8, ?9, ?10, ?11, ?12, ?13, ?14, ?15, ?16, ?17, ?18, ?19,
@@ -119,16 +125,17 @@ pub(crate) fn insert_version(
             columns.fee,
             columns.commission,
         ],
-    ))
+    )
 }
 
 /// How many trades of a desk are kept. Each has a first version.
 pub(crate) fn count_trades(database: &mut Database, desk: &DeskName) -> Result<u32, KeepFault> {
-    let row = database.query_row(
+    let row = first_row(
+        database,
         "SELECT COUNT(*) FROM versions_2 WHERE desk = ?1 AND number = 1",
         params![text(desk.bytes())?],
-    );
-    match if_found(row)? {
+    )?;
+    match row {
         Some(row) => Ok(u32::try_from(number_at(&row, 0)?).unwrap_or(u32::MAX)),
         None => Err(KeepFault::Failed),
     }
@@ -144,12 +151,11 @@ pub(crate) fn references_after(
         Some(reference) => reference.bytes(),
         None => b"",
     };
-    let rows = database.query_all(
+    answered(database.query_all(
         "SELECT reference FROM versions_2 WHERE desk = ?1 AND reference > ?2 AND number = 1
          ORDER BY reference LIMIT 50",
         params![text(desk.bytes())?, text(after)?],
-    );
-    rows.map_err(|error| fault_of(error))
+    ))
 }
 
 /// The reference in the first column of a row.
@@ -160,35 +166,24 @@ pub(crate) fn read_reference(row: &Row) -> Result<Reference, KeepFault> {
     }
 }
 
-/// What a statement answered, or `None` where it found no row.
-pub(crate) fn if_found(row: Result<Row, Error>) -> Result<Option<Row>, KeepFault> {
-    match row {
-        Ok(row) => Ok(Some(row)),
-        Err(Error::QueryReturnedNoRows) => Ok(None),
-        Err(error) => Err(fault_of(error)),
-    }
-}
-
-/// A statement that writes was carried out.
-pub(crate) fn done(written: Result<usize, Error>) -> Result<(), KeepFault> {
-    match written {
-        Ok(_) => Ok(()),
-        Err(error) => Err(fault_of(error)),
-    }
-}
-
 /// The text in a column.
-pub(crate) fn text_at(row: &Row, at: usize) -> Result<String, KeepFault> {
-    row.get(at).map_err(|error| fault_of(error))
+pub(crate) fn text_at(row: &Row, at: usize) -> Result<&str, KeepFault> {
+    match row.get_ref(at) {
+        Ok(ValueRef::Text(bytes)) => text(bytes),
+        _ => Err(KeepFault::Failed),
+    }
 }
 
 /// The number in a column.
 pub(crate) fn number_at(row: &Row, at: usize) -> Result<i64, KeepFault> {
-    row.get(at).map_err(|error| fault_of(error))
+    match row.get_ref(at) {
+        Ok(ValueRef::Int(number)) => Ok(number),
+        _ => Err(KeepFault::Failed),
+    }
 }
 
-fn version_in(row: Result<Row, Error>) -> Result<Option<(u32, Version)>, KeepFault> {
-    let Some(row) = if_found(row)? else {
+fn version_in(row: Option<Row>) -> Result<Option<(u32, Version)>, KeepFault> {
+    let Some(row) = row else {
         return Ok(None);
     };
     let (_, number, version) = read_version(&row)?;
@@ -197,14 +192,14 @@ fn version_in(row: Result<Row, Error>) -> Result<Option<(u32, Version)>, KeepFau
 
 fn read_issue(row: &Row) -> Result<Issue, KeepFault> {
     let issue = issue_2(
-        &text_at(row, 0)?,
-        &text_at(row, 1)?,
+        text_at(row, 0)?,
+        text_at(row, 1)?,
         number_at(row, 2)?,
-        &text_at(row, 3)?,
-        &text_at(row, 4)?,
-        &text_at(row, 5)?,
+        text_at(row, 3)?,
+        text_at(row, 4)?,
+        text_at(row, 5)?,
         number_at(row, 6)?,
-        &text_at(row, 7)?,
+        text_at(row, 7)?,
         number_at(row, 8)?,
     );
     issue.ok_or(KeepFault::Failed)
@@ -212,19 +207,19 @@ fn read_issue(row: &Row) -> Result<Issue, KeepFault> {
 
 fn read_version(row: &Row) -> Result<(Key, u32, Version), KeepFault> {
     let kept = version_2(
-        &text_at(row, 0)?,
-        &text_at(row, 1)?,
+        text_at(row, 0)?,
+        text_at(row, 1)?,
         number_at(row, 2)?,
         number_at(row, 3)?,
-        &text_at(row, 4)?,
+        text_at(row, 4)?,
         number_at(row, 5)?,
         number_at(row, 6)?,
-        &text_at(row, 7)?,
+        text_at(row, 7)?,
         number_at(row, 8)?,
         number_at(row, 9)?,
         number_at(row, 10)?,
         number_at(row, 11)?,
-        &text_at(row, 12)?,
+        text_at(row, 12)?,
         number_at(row, 13)?,
         number_at(row, 14)?,
         number_at(row, 15)?,

@@ -2,9 +2,10 @@
 
 ghost use Rattle.std.specs.Prelude.{◌≡◌, ◌↔◌};
 
-use crate::rows::{done, if_found, number_at};
+use crate::rows::number_at;
 use muni_keep::KeepFault;
-use sqlite::{Connection, Error, ErrorCode, File, FileStore, params};
+use sqlite::types::ValueRef;
+use sqlite::{Connection, Error, ErrorCode, File, FileStore, Row, params};
 
 /// A store that is open.
 pub(crate) type Database = Connection<FileStore<File>>;
@@ -50,7 +51,7 @@ const VERSIONS: &str = "CREATE TABLE versions_2 (
 /// Opens the store in a file, and makes the file and the tables where there are none.
 pub(crate) fn open(rt: &HostRuntime, name: &[u8]) -> Result<Database, KeepFault> {
     let path = text(name)?;
-    let mut database = Connection::open(rt, path).map_err(|error| fault_of(error))?;
+    let mut database = answered(Connection::open(rt, path))?;
     make_table(&mut database, "issues_2", ISSUES)?;
     make_table(&mut database, "versions_2", VERSIONS)?;
     Ok(database)
@@ -60,18 +61,55 @@ fn make_table(database: &mut Database, name: &str, statement: &str) -> Result<()
     if has_table(database, name)? {
         return Ok(());
     }
-    done(database.execute(statement, params![]))
+    write(database, statement, params![])
 }
 
 /// Whether the file has a table of this name.
 pub(crate) fn has_table(database: &mut Database, name: &str) -> Result<bool, KeepFault> {
-    let row = database.query_row(
+    let row = first_row(
+        database,
         "SELECT COUNT(*) FROM sqlite_schema WHERE type = 'table' AND name = ?1",
         params![name],
-    );
-    match if_found(row)? {
+    )?;
+    match row {
         Some(row) => Ok(number_at(&row, 0)? > 0),
         None => Ok(false),
+    }
+}
+
+/// The first row that a query finds, if it finds one.
+pub(crate) fn first_row(
+    database: &mut Database,
+    query: &str,
+    params: &[ValueRef<'_>],
+) -> Result<Option<Row>, KeepFault> {
+    if_found(database.query_row(query, params))
+}
+
+/// Carries out a statement that writes.
+pub(crate) fn write(
+    database: &mut Database,
+    statement: &str,
+    params: &[ValueRef<'_>],
+) -> Result<(), KeepFault> {
+    let _ = answered(database.execute(statement, params))?;
+    Ok(())
+}
+
+/// The row that a query found, if it found one.
+pub(crate) fn if_found(row: Result<Row, Error>) -> Result<Option<Row>, KeepFault> {
+    match row {
+        Ok(row) => Ok(Some(row)),
+        Err(Error::QueryReturnedNoRows) => Ok(None),
+        Err(error) => Err(fault_of(error)),
+    }
+}
+
+/// What `sqlite` answered, or the fault of its refusal.
+pub(crate) fn answered<T>(answer: Result<T, Error>) -> Result<T, KeepFault> {
+    match answer {
+        Ok(value) => Ok(value),
+        Err(error) => Err(fault_of(error)),
     }
 }
 
