@@ -1,0 +1,2 @@
+mod FewLemmas
+mod ImportingLemmas

@@ -1,6 +1,10 @@
 //! What the desk does over a store with the positions of a desk beside it.
 #![tactic(auto)]
 
+mod importing;
 mod listing;
+#[cfg(test)]
+mod tests;
 
+pub use importing::import_with_positions;
 pub use listing::positions;

@@ -74,7 +74,7 @@ fn fetch_lines<C: Cabinet>(
 }
 
 // The lines of a desk that is watched from now on.
-fn watched_lines<K: Keeper>(
+pub(crate) fn watched_lines<K: Keeper>(
     alloc: Global,
     keeper: &mut Positioned<K>,
     desk: &DeskName,

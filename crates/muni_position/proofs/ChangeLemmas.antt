@@ -1,5 +1,5 @@
 -- The holdings of a desk after a put.
-use Rattle.std.proofs.Common.{◌≡◌, ◌+◌, ◌≤◌, ◌^◌, ◌-◌, min, ℕ, Bool, true, false, cond, List, map, Option, Some, None, Result, Ok, Err, refl, sym, ap, subst, ◌∙◌, arith}
+use Rattle.std.proofs.Common.{◌≡◌, ◌+◌, ◌≤◌, ◌^◌, ◌-◌, min, ℕ, Bool, true, false, cond, List, map, Option, Some, None, Result, Ok, Err, refl, sym, ap, subst, inl, inr, ◌⊎◌, ◌∙◌, arith}
 use Rattle.std.specs.Prelude.{IfSome, OnOk, OnErr}
 use Rattle.std.specs.Option.{unwrap_or, option_map}
 use Rattle.std.specs.Ordering.{eq_by_cmp}
@@ -11,7 +11,7 @@ use Rattle.muni_msg.specs.declared.command.Key.{Key}
 use Rattle.muni_msg.specs.declared.version.Version.{Version}
 use Rattle.muni_keep.specs.Tables.{Tables, last_at, with_version}
 use Rattle.muni_keep.specs.Trades.{by_bytes, own, put_own}
-use Rattle.muni_position.specs.Change.{IsChange, IsMoved, after_change, named_before}
+use Rattle.muni_position.specs.Change.{IsChange, IsMoved, HasNoRoom, HasNoRoomFor, after_change, held_after, named_before}
 use Rattle.muni_position.specs.Positions.{last_versions, position_of}
 use Rattle.muni_position.specs.Holding.{nothing, share, share_of_last, plus, holding_of, position_in, IsInRange}
 use Rattle.muni_position.specs.Holdings.{Holdings, kept, AreInRange, AreOf, AreRight, is_watched}
@@ -105,3 +105,36 @@ pub told_position : (watched : Option (List ℕ)) (told : Option Tables) (holdin
 told_position None told holdings cusip position right is = tt
 told_position (Some desk) None holdings cusip position right is = tt
 told_position (Some desk) (Some t) holdings cusip position right is = is ∙ ap position_in (right desk t refl refl cusip) ∙ position_is cusip (last_versions desk t)
+
+-- what the desk holds after a put is what the shares of its versions move
+after_moved : (desk : List ℕ) (holdings : Holdings) (key : Key) (version : Version) (last : Option (ℕ × Version)) (told : Tables) (cusip : List ℕ)
+    → key.desk ≡ desk → AreOf (last_versions desk told) holdings → last ≡ last_at told key → IsMoved cusip last version (kept holdings cusip) (held_after cusip key version told)
+after_moved desk holdings key version last told cusip name right found =
+    ap (λ l. plus (held_after cusip key version told) (share_of_last cusip l)) found
+    ∙ holding_after cusip key version told
+    ∙ ap (λ h. plus h (share cusip version)) (ap (λ d. holding_of cusip (last_versions d told)) name ∙ sym (right cusip))
+
+-- so where no holding in its range comes after a put, the desk has no room for it
+pub none_fits : (watched : Option (List ℕ)) (told : Option Tables) (holdings : Holdings) (key : Key) (version : Version) (last : Option (ℕ × Version)) (before cusip : List ℕ)
+    → is_watched watched key.desk ≡ true → AreRight watched told holdings → IfSome told (λ t. last ≡ last_at t key)
+    → HasNoRoom holdings last version before ⊎ HasNoRoom holdings last version cusip → IfSome told (λ t. HasNoRoomFor watched key version t)
+none_fits watched None holdings key version last before cusip tested right found none = tt
+none_fits None (Some told) holdings key version last before cusip tested right found none = absurd (cc tested)
+none_fits (Some desk) (Some told) holdings key version last before cusip tested right found (inl none) =
+    (tested, (before, λ range. none _ range (after_moved desk holdings key version last told before (watched_is (Some desk) desk key.desk tested refl) (right desk told refl refl) found)))
+none_fits (Some desk) (Some told) holdings key version last before cusip tested right found (inr none) =
+    (tested, (cusip, λ range. none _ range (after_moved desk holdings key version last told cusip (watched_is (Some desk) desk key.desk tested refl) (right desk told refl refl) found)))
+
+-- and where it was put the desk had room
+pub had_room : (watched : Option (List ℕ)) (told now : Option Tables) (holdings : Holdings) (key : Key) (version : Version)
+    → AreInRange holdings → AreRight watched now holdings → now ≡ option_map (with_version key version) told → IfSome told (λ t. ¬ (HasNoRoomFor watched key version t))
+had_room watched None now holdings key version range right is = tt
+had_room None (Some told) now holdings key version range right is = λ none. absurd (cc none.0)
+had_room (Some desk) (Some told) now holdings key version range right is = λ none.
+    let name : key.desk ≡ desk = watched_is (Some desk) desk key.desk none.0 refl in
+    none.1.1 (subst IsInRange (right key.desk (with_version key version told) (ap Some (sym name)) is none.1.0) (range none.1.0))
+
+-- a desk that is not watched needs none
+pub none_needed : (watched : Option (List ℕ)) (told : Option Tables) (key : Key) (version : Version) → is_watched watched key.desk ≡ false → IfSome told (λ t. ¬ (HasNoRoomFor watched key version t))
+none_needed watched None key version tested = tt
+none_needed watched (Some told) key version tested = λ none. absurd (cc (tested, none.0))

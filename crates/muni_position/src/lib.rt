@@ -9,6 +9,8 @@ mod line;
 mod pages;
 mod position;
 mod positioned;
+#[cfg(test)]
+mod tests;
 
 pub use laws::positions_are_those_held;
 pub use line::position_line;

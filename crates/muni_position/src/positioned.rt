@@ -7,6 +7,7 @@ ghost use Rattle.muni_edge.specs.Sink.{Rose};
 ghost use Rattle.muni_keep.specs.History.{next_number};
 ghost use Rattle.muni_keep.specs.Tables.{Tables, issue_at, trade_at, version_at, last_at, trade_count, page_at, with_issue, with_version};
 ghost use Rattle.muni_position.specs.Holding.{IsInRange, holding_of, position_in};
+ghost use Rattle.muni_position.specs.Change.{HasNoRoomFor};
 ghost use Rattle.muni_position.specs.Holdings.{AreInRange, AreRight, HasFew, kept};
 ghost use Rattle.muni_position.specs.Holdings as spec;
 ghost use Rattle.std.specs.Range.Bound.{bound_map};
@@ -139,9 +140,9 @@ impl<K: Keeper> Positioned<K> {
         let mut text = Vec::new(alloc);
         let mut line = ArrayVec::new();
         for (cusip, _) in self.holdings.range((bound_past(&None), Bound::Unbounded)) {
-            let holding = kept(&self.holdings, cusip);
-            if holding.live > 0 {
-                position_line(cusip, &holding.position(), &mut line);
+            let held = kept(&self.holdings, cusip);
+            if held.live > 0 {
+                position_line(cusip, &held.position(), &mut line);
                 if text.extend_from_slice(line.as_slice()).is_err() {
                     return Err(NoMemory);
                 }
@@ -172,23 +173,80 @@ impl<K: Keeper> Keeper for Positioned<K> {
 
     ghost mark = { λ keeper. K.mark keeper.inner };
 
-    fn issue(&mut self, cusip: &[u8; 9]) -> Result<Option<Issue>, KeepFault> {
+    fn issue(&mut self, cusip: &[u8; 9]) -> Result<Option<Issue>, KeepFault>
+        ensures found { IfOk result (λ issue. IfSome (K.tables self.old.inner) (λ t. issue ≡ issue_at t cusip.now)) }
+        ensures unchanged { K.tables self.new.inner ≡ K.tables self.old.inner }
+        ensures later { K.faults self.old.inner + self.old.faults ≤ K.faults self.new.inner + self.new.faults }
+        ensures failed { IsErrOf result KeepFault.Failed
+            → Rose (K.faults self.old.inner + self.old.faults) (K.faults self.new.inner + self.new.faults) }
+        ensures mark { K.mark self.new.inner ≡ K.mark self.old.inner }
+        ensures desk { self.new.desk ≡ self.old.desk }
+        ensures own { self.new.faults ≡ self.old.faults }
+    {
         self.inner.issue(cusip)
     }
 
-    fn put_issue(&mut self, issue: &Issue) -> Result<(), KeepFault> {
+    fn put_issue(&mut self, issue: &Issue) -> Result<(), KeepFault>
+        requires { IfSome (K.tables self.old.inner) (λ t. issue_at t issue.now.cusip ≡ None) }
+
+        ensures kept { OnOk result
+            (K.tables self.new.inner ≡ option_map (with_issue issue.now) (K.tables self.old.inner)) }
+        ensures unchanged { OnErr result (K.tables self.new.inner ≡ K.tables self.old.inner) }
+        ensures later { K.faults self.old.inner + self.old.faults ≤ K.faults self.new.inner + self.new.faults }
+        ensures failed { IsErrOf result KeepFault.Failed
+            → Rose (K.faults self.old.inner + self.old.faults) (K.faults self.new.inner + self.new.faults) }
+        ensures mark { K.mark self.new.inner ≡ K.mark self.old.inner }
+        ensures desk { self.new.desk ≡ self.old.desk }
+        ensures own { self.new.faults ≡ self.old.faults }
+    {
         self.inner.put_issue(issue)
     }
 
-    fn version(&mut self, key: &Key, number: u32) -> Result<Option<Version>, KeepFault> {
+    fn version(&mut self, key: &Key, number: u32) -> Result<Option<Version>, KeepFault>
+        ensures found { IfOk result (λ version. IfSome (K.tables self.old.inner) (λ t. version ≡ version_at t key.now number)) }
+        ensures unchanged { K.tables self.new.inner ≡ K.tables self.old.inner }
+        ensures later { K.faults self.old.inner + self.old.faults ≤ K.faults self.new.inner + self.new.faults }
+        ensures failed { IsErrOf result KeepFault.Failed
+            → Rose (K.faults self.old.inner + self.old.faults) (K.faults self.new.inner + self.new.faults) }
+        ensures mark { K.mark self.new.inner ≡ K.mark self.old.inner }
+        ensures desk { self.new.desk ≡ self.old.desk }
+        ensures own { self.new.faults ≡ self.old.faults }
+    {
         self.inner.version(key, number)
     }
 
-    fn last(&mut self, key: &Key) -> Result<Option<(u32, Version)>, KeepFault> {
+    fn last(&mut self, key: &Key) -> Result<Option<(u32, Version)>, KeepFault>
+        ensures found { IfOk result (λ last. IfSome (K.tables self.old.inner) (λ t. last ≡ last_at t key.now)) }
+        ensures unchanged { K.tables self.new.inner ≡ K.tables self.old.inner }
+        ensures later { K.faults self.old.inner + self.old.faults ≤ K.faults self.new.inner + self.new.faults }
+        ensures failed { IsErrOf result KeepFault.Failed
+            → Rose (K.faults self.old.inner + self.old.faults) (K.faults self.new.inner + self.new.faults) }
+        ensures mark { K.mark self.new.inner ≡ K.mark self.old.inner }
+        ensures desk { self.new.desk ≡ self.old.desk }
+        ensures own { self.new.faults ≡ self.old.faults }
+    {
         self.inner.last(key)
     }
 
-    fn put_version(&mut self, key: &Key, number: u32, version: &Version) -> Result<(), KeepFault> {
+    fn put_version(&mut self, key: &Key, number: u32, version: &Version) -> Result<(), KeepFault>
+        requires { IfSome (K.tables self.old.inner) (λ t. number ≡ next_number (trade_at t key.now)) }
+
+        ensures kept { OnOk result
+            (K.tables self.new.inner ≡ option_map (with_version key.now version.now) (K.tables self.old.inner)) }
+        ensures unchanged { OnErr result (K.tables self.new.inner ≡ K.tables self.old.inner) }
+        ensures later { K.faults self.old.inner + self.old.faults ≤ K.faults self.new.inner + self.new.faults }
+        ensures failed { IsErrOf result KeepFault.Failed
+            → Rose (K.faults self.old.inner + self.old.faults) (K.faults self.new.inner + self.new.faults) }
+        ensures mark { K.mark self.new.inner ≡ K.mark self.old.inner }
+        ensures desk { self.new.desk ≡ self.old.desk }
+        ensures totals { OnErr result ((cusip : List ℕ) → kept self.new.holdings cusip ≡ kept self.old.holdings cusip) }
+
+        // Its own count rises only where the desk that is watched has no room, and then nothing is put.
+        ensures own { self.new.faults ≢ self.old.faults
+            → IfSome (K.tables self.old.inner) (λ t. HasNoRoomFor self.old.desk key.now version.now t) }
+        ensures room { OnOk result
+            (IfSome (K.tables self.old.inner) (λ t. ¬ (HasNoRoomFor self.old.desk key.now version.now t))) }
+    {
         if !self.watches(&key.desk) {
             return self.inner.put_version(key, number, version);
         }
@@ -203,7 +261,16 @@ impl<K: Keeper> Keeper for Positioned<K> {
         Ok(())
     }
 
-    fn trades(&mut self, desk: &DeskName) -> Result<u32, KeepFault> {
+    fn trades(&mut self, desk: &DeskName) -> Result<u32, KeepFault>
+        ensures found { IfOk result (λ count. IfSome (K.tables self.old.inner) (λ t. count ≡ trade_count t desk.now)) }
+        ensures unchanged { K.tables self.new.inner ≡ K.tables self.old.inner }
+        ensures later { K.faults self.old.inner + self.old.faults ≤ K.faults self.new.inner + self.new.faults }
+        ensures failed { IsErrOf result KeepFault.Failed
+            → Rose (K.faults self.old.inner + self.old.faults) (K.faults self.new.inner + self.new.faults) }
+        ensures mark { K.mark self.new.inner ≡ K.mark self.old.inner }
+        ensures desk { self.new.desk ≡ self.old.desk }
+        ensures own { self.new.faults ≡ self.old.faults }
+    {
         self.inner.trades(desk)
     }
 
@@ -211,7 +278,17 @@ impl<K: Keeper> Keeper for Positioned<K> {
         &mut self,
         desk: &DeskName,
         after: &Option<Reference>,
-    ) -> Result<ArrayVec<Line, 50>, KeepFault> {
+    ) -> Result<ArrayVec<Line, 50>, KeepFault>
+        ensures found { IfOk result
+            (λ lines. IfSome (K.tables self.old.inner) (λ t. lines.items ≡ page_at t desk.now after.now)) }
+        ensures unchanged { K.tables self.new.inner ≡ K.tables self.old.inner }
+        ensures later { K.faults self.old.inner + self.old.faults ≤ K.faults self.new.inner + self.new.faults }
+        ensures failed { IsErrOf result KeepFault.Failed
+            → Rose (K.faults self.old.inner + self.old.faults) (K.faults self.new.inner + self.new.faults) }
+        ensures mark { K.mark self.new.inner ≡ K.mark self.old.inner }
+        ensures desk { self.new.desk ≡ self.old.desk }
+        ensures own { self.new.faults ≡ self.old.faults }
+    {
         self.inner.page(desk, after)
     }
 }
