@@ -3,12 +3,12 @@
 
 mod line;
 mod portfolio;
-mod pricer;
 mod pricing;
 mod reader;
+#[cfg(test)]
+mod tests;
 
 pub use line::{mark_line, total};
 pub use portfolio::{LIMIT, mark};
-pub use pricer::Pricer;
 pub use pricing::{MarkSaid, marks};
 pub use reader::read_marks;

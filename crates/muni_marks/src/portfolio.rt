@@ -4,6 +4,7 @@ ghost use Rattle.std.specs.Prelude.{◌≡◌, ◌≤◌, ◌<◌, None, ℕ, Li
 ghost use Rattle.std.specs.List.{AllByRecursion};
 ghost use Rattle.std.specs.BTreeMap as tree;
 ghost use Rattle.std.specs.BTreeSet as set;
+ghost use Rattle.muni_book.specs.Answers.{IsRightAnswer};
 ghost use Rattle.muni_edge.specs.Sink.{Rose, Wrote, WrotePart};
 ghost use Rattle.muni_keep.specs.Trades.{by_bytes};
 ghost use Rattle.muni_marks.specs.Line as lines;
@@ -11,7 +12,6 @@ ghost use Rattle.muni_marks.specs.Marks as spec;
 ghost use Rattle.muni_marks.specs.Portfolio.{AreFetched, AreKnown, IsKnownNext, IsPortfolioText, IsMarkEnd, WasReadWhole};
 
 use crate::line::{mark_line, total, total_line};
-use crate::pricer::Pricer;
 use crate::pricing::{MarkSaid, marks};
 use crate::reader::read_marks;
 use arrayvec::ArrayVec;
@@ -19,6 +19,7 @@ use muni_edge::{NoMemory, Sink, Source};
 use muni_import::RowFault;
 use muni_keep::{Cabinet, KeepFault, Keeper};
 use muni_msg::Asked;
+use muni_multi::Encloser;
 use muni_office::{End, InputFault, read_input};
 use muni_terms::Issue;
 use std::alloc::Global;
@@ -33,22 +34,22 @@ pub const LIMIT: usize = 1_048_576;
 ///
 /// The input is read whole before the store is fetched, and each CUSIP is asked for once. Nothing is
 /// written before all rows are marked.
-pub fn mark<R: Threads + Sync, I: Source, O: Sink, C: Cabinet, P: Pricer + Sync>(
+pub fn mark<R: Threads + Sync, I: Source, O: Sink, C: Cabinet, E: Encloser + Sync>(
     rt: &R,
     alloc: Global,
     store: &[u8],
     input: &mut I,
     output: &mut O,
     cabinet: &mut C,
-    pricer: &P,
+    encloser: &E,
 ) -> End
     requires { C.out cabinet.old ≡ None }
 
     // What is written, where the input and the cabinet tell what they hold.
     ensures done { result ≡ End.Done → IfSome (I.left input.old) (λ text. IfSome (C.told cabinet.old store.now) (λ t.
-        Wrote (IsPortfolioText (P.prices pricer.now) t text) (O.bytes output.old) (O.bytes output.new))) }
+        Wrote (IsPortfolioText (IsRightAnswer (E.ends encloser.now)) t text) (O.bytes output.old) (O.bytes output.new))) }
     ensures write { result ≡ End.WriteFault → IfSome (I.left input.old) (λ text. IfSome (C.told cabinet.old store.now) (λ t.
-        WrotePart (IsPortfolioText (P.prices pricer.now) t text) (O.bytes output.old) (O.bytes output.new))) }
+        WrotePart (IsPortfolioText (IsRightAnswer (E.ends encloser.now)) t text) (O.bytes output.old) (O.bytes output.new))) }
     ensures store { result ≡ End.StoreFault → output.new ≡ output.old }
     ensures memory { result ≡ End.NoMemory → output.new ≡ output.old }
 
@@ -74,7 +75,7 @@ pub fn mark<R: Threads + Sync, I: Source, O: Sink, C: Cabinet, P: Pricer + Sync>
         Err(InputFault::TooLarge) => return End::TooLarge,
         Err(InputFault::NoMemory) => return End::NoMemory,
     };
-    match marked_text(rt, alloc, store, text.as_slice(), cabinet, pricer) {
+    match marked_text(rt, alloc, store, text.as_slice(), cabinet, encloser) {
         Ok(lines) => match output.put(lines.as_slice()) {
             Ok(()) => End::Done,
             Err(_) => End::WriteFault,
@@ -85,25 +86,25 @@ pub fn mark<R: Threads + Sync, I: Source, O: Sink, C: Cabinet, P: Pricer + Sync>
 }
 
 // The lines of the rows of a text, and the total.
-fn marked_text<R: Threads + Sync, C: Cabinet, P: Pricer + Sync>(
+fn marked_text<R: Threads + Sync, C: Cabinet, E: Encloser + Sync>(
     rt: &R,
     alloc: Global,
     store: &[u8],
     text: &[u8],
     cabinet: &mut C,
-    pricer: &P,
+    encloser: &E,
 ) -> Result<Vec<u8>, KeepFault>
     requires none_out { C.out cabinet.old ≡ None }
     requires limit { length text.now ≤ 1_048_576 }
     ensures lines { IfOk result (λ lines. IfSome (C.told cabinet.old store.now)
-        (λ t. IsPortfolioText (P.prices pricer.now) t text.now lines.items)) }
+        (λ t. IsPortfolioText (IsRightAnswer (E.ends encloser.now)) t text.now lines.items)) }
     ensures tables { (other : List ℕ) → C.told cabinet.new other ≡ C.told cabinet.old other }
     ensures none_out { C.out cabinet.new ≡ None }
     ensures failed { IsErrOf result KeepFault.Failed → Rose (C.faults cabinet.old) (C.faults cabinet.new) }
 {
     let rows = read_marks(alloc, text)?;
     let issues = fetch_issues(alloc, store, rows.as_slice(), cabinet)?;
-    let said = marks(rt, alloc, rows.as_slice(), &issues, pricer)?;
+    let said = marks(rt, alloc, rows.as_slice(), &issues, encloser)?;
     Ok(said_text(alloc, said.as_slice())?)
 }
 

@@ -3,15 +3,19 @@
 ghost use Rattle.std.specs.Prelude.{◌≡◌, IfOk};
 ghost use Rattle.std.specs.List.{AllZip};
 ghost use Rattle.std.specs.BTreeMap as tree;
+ghost use denote.Param.Send.{IsSync};
+ghost use Rattle.rayon.specs.Lists.{chunks_of};
+ghost use Rattle.muni_book.specs.Answers.{IsRightAnswer};
 ghost use Rattle.muni_keep.specs.Trades.{by_bytes};
 ghost use Rattle.muni_marks.specs.Marks as spec;
 
-use crate::pricer::Pricer;
+use muni_book::figures;
 use muni_days::Day;
 use muni_dec::{Cents, Price3};
-use muni_edge::NoMemory;
+use muni_edge::{NoGate, NoMemory};
 use muni_import::RowFault;
 use muni_msg::{Asked, Refusal};
+use muni_multi::Encloser;
 use muni_terms::Issue;
 use rayon::prelude::*;
 use std::alloc::Global;
@@ -38,12 +42,13 @@ pub enum MarkSaid {
 
 // What is said of one row, by nothing but the row and its issue.
 #[tactic(auto, unfolding(crate::specs::Marks::IsMark))]
-fn mark<P: Pricer>(
+fn mark<R: Threads + Sync, E: Encloser + Sync>(
+    rt: &R,
     row: &Result<Asked, RowFault>,
     issues: &BTreeMap<[u8; 9], Issue>,
-    pricer: &P,
+    encloser: &E,
 ) -> MarkSaid
-    ensures { spec.IsMark (P.prices pricer.now) (tree.get by_bytes issues.now) row.now result }
+    ensures { spec.IsMark (IsRightAnswer (E.ends encloser.now)) (tree.get by_bytes issues.now) row.now result }
 {
     match row {
         Err(fault) => MarkSaid::Bad(*fault),
@@ -51,15 +56,20 @@ fn mark<P: Pricer>(
             None => MarkSaid::Refused {
                 number: Refusal::UnknownIssue.number(),
             },
-            Some(issue) => priced(issue, asked, pricer),
+            Some(issue) => priced(rt, issue, asked, encloser),
         },
     }
 }
 
-fn priced<P: Pricer>(issue: &Issue, asked: &Asked, pricer: &P) -> MarkSaid
-    ensures { spec.IsPriced (P.prices pricer.now) issue.now asked.now result }
+fn priced<R: Threads + Sync, E: Encloser + Sync>(
+    rt: &R,
+    issue: &Issue,
+    asked: &Asked,
+    encloser: &E,
+) -> MarkSaid
+    ensures { spec.IsPriced (IsRightAnswer (E.ends encloser.now)) issue.now asked.now result }
 {
-    match pricer.price(issue, asked) {
+    match figures(rt, issue, asked, 1, encloser, &NoGate) {
         Ok(figures) => MarkSaid::Marked {
             cusip: asked.cusip,
             price: figures.price,
@@ -72,26 +82,82 @@ fn priced<P: Pricer>(issue: &Issue, asked: &Asked, pricer: &P) -> MarkSaid
     }
 }
 
+// The rows of a block, and the fewest rows that are worth a thread of their own.
+const BLOCK: usize = 2_048;
+
+const FEW: usize = 64;
+
 /// What is said of each row, by the issues that are kept under their CUSIPs.
 ///
-/// The rows are priced on all processors.
-pub fn marks<R: Threads + Sync, P: Pricer + Sync>(
+/// The rows are priced on all processors, each as the book prices a trade with one worker. They are
+/// shared out in blocks, and each block is shared out again, so that long and short rows even out.
+pub fn marks<R: Threads + Sync, E: Encloser + Sync>(
     rt: &R,
     alloc: Global,
     rows: &[Result<Asked, RowFault>],
     issues: &BTreeMap<[u8; 9], Issue>,
-    pricer: &P,
+    encloser: &E,
 ) -> Result<Vec<MarkSaid>, NoMemory>
     ensures { IfOk result (λ said.
-        AllZip (spec.IsMark (P.prices pricer.now) (tree.get by_bytes issues.now)) rows.now said.items) }
+        AllZip (spec.IsMark (IsRightAnswer (E.ends encloser.now)) (tree.get by_bytes issues.now)) rows.now said.items) }
+{
+    let blocks = marks_in_blocks(rt, alloc, rows, issues, encloser)?;
+    let mut said = Vec::new(alloc);
+    for block in blocks.as_slice() {
+        if said.extend_from_slice(block.as_slice()).is_err() {
+            return Err(NoMemory);
+        }
+    }
+    Ok(said)
+}
+
+// What is said of the rows of each block.
+fn marks_in_blocks<R: Threads + Sync, E: Encloser + Sync>(
+    rt: &R,
+    alloc: Global,
+    rows: &[Result<Asked, RowFault>],
+    issues: &BTreeMap<[u8; 9], Issue>,
+    encloser: &E,
+) -> Result<Vec<Vec<MarkSaid>>, NoMemory>
+    ensures { IfOk result (λ blocks. AllZip (λ rows block.
+        AllZip (spec.IsMark (IsRightAnswer (E.ends encloser.now)) (tree.get by_bytes issues.now)) rows block.items) (chunks_of 2_048 rows.now) blocks.items) }
+{
+    let blocks = rows
+        .par_chunks(BLOCK)
+        .with_min_len(1)
+        .map(
+            |block: &[Result<Asked, RowFault>]| -> Result<Vec<MarkSaid>, NoMemory>
+                requires { IsSync R.row × IsSync E.row }
+                ensures { IfOk result (λ said.
+                    AllZip (spec.IsMark (IsRightAnswer (E.ends encloser.entry.now)) (tree.get by_bytes issues.entry.now)) block.now said.items) }
+            { marks_of_block(rt, alloc, block, issues, encloser) },
+        )
+        .collect::<Result<Vec<Vec<MarkSaid>>, NoMemory>>(rt, alloc);
+    match blocks {
+        Ok(blocks) => blocks,
+        Err(_) => Err(NoMemory),
+    }
+}
+
+// What is said of each row of a block.
+fn marks_of_block<R: Threads + Sync, E: Encloser + Sync>(
+    rt: &R,
+    alloc: Global,
+    rows: &[Result<Asked, RowFault>],
+    issues: &BTreeMap<[u8; 9], Issue>,
+    encloser: &E,
+) -> Result<Vec<MarkSaid>, NoMemory>
+    ensures { IfOk result (λ said.
+        AllZip (spec.IsMark (IsRightAnswer (E.ends encloser.now)) (tree.get by_bytes issues.now)) rows.now said.items) }
 {
     let said = rows
         .par_iter()
-        .with_min_len(1)
+        .with_min_len(FEW)
         .map(
             |row: &Result<Asked, RowFault>| -> MarkSaid
-                ensures { spec.IsMark (P.prices pricer.entry.now) (tree.get by_bytes issues.entry.now) row.now result }
-            { mark(row, issues, pricer) },
+                requires { IsSync R.row × IsSync E.row }
+                ensures { spec.IsMark (IsRightAnswer (E.ends encloser.entry.now)) (tree.get by_bytes issues.entry.now) row.now result }
+            { mark(rt, row, issues, encloser) },
         )
         .collect(rt, alloc);
     match said {
