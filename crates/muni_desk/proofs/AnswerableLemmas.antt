@@ -5,7 +5,7 @@ use Rattle.muni_dec.proofs.NumberLemmas.{reading-number}
 use Rattle.muni_desk.specs.Command.{command_of, IsAnswerable}
 use Rattle.muni_desk.specs.WordLaws.{IsSaid}
 use Rattle.muni_desk.specs.declared.command.DeskCommand.{DeskCommand}
-use Rattle.muni_desk.specs.declared.command.DeskCommand.TheVariants.{QuoteOne, Quote, Import, Confirm, Serve, Positions, Drill, Help}
+use Rattle.muni_desk.specs.declared.command.DeskCommand.TheVariants.{QuoteOne, Quote, Import, Confirm, Serve, Positions, Mark, Drill, Help}
 use Rattle.muni_desk.specs.declared.command.CommandLine.{CommandLine}
 use Rattle.muni_desk.proofs.LineLawLemmas.{read-line}
 
@@ -16,10 +16,11 @@ said-answerable (name ∷ words) (QuoteOne request) workers said =
     let year : nat_le 1902 request.next.year ≡ true = grind (arith, nat_tests, said.1.year_at_least) in
     rw (day, year) refl
 said-answerable (name ∷ words) (Quote request) workers said = tt
-said-answerable (name ∷ words) (Import store) workers said = tt
+said-answerable (name ∷ words) (Import store listed) workers said = tt
 said-answerable (name ∷ words) (Confirm store key) workers said = tt
 said-answerable (name ∷ words) (Serve store port connections) workers said = tt
 said-answerable (name ∷ words) (Positions store desk) workers said = tt
+said-answerable (name ∷ words) (Mark store) workers said = tt
 said-answerable (name ∷ words) Help workers said = tt
 said-answerable (name ∷ words) (Drill request) workers said =
     let count = said.1.count in

@@ -8,23 +8,24 @@ use Rattle.muni_desk.specs.DrillOptions.{drill_of}
 use Rattle.muni_desk.specs.Help.{help_of}
 use Rattle.muni_desk.specs.QuoteOne.{quote_one_of}
 use Rattle.muni_desk.specs.QuoteOptions.{quote_of}
-use Rattle.muni_desk.specs.StoreOptions.{import_of, confirm_of, serve_of, positions_of}
+use Rattle.muni_desk.specs.StoreOptions.{import_of, confirm_of, serve_of, positions_of, mark_of}
 use Rattle.muni_desk.specs.WordLaws.{IsCommandLine, IsSaid}
 use Rattle.muni_desk.specs.declared.command.CommandLine.{CommandLine}
 use Rattle.muni_desk.specs.declared.command.DeskCommand.{DeskCommand}
-use Rattle.muni_desk.specs.declared.command.DeskCommand.TheVariants.{QuoteOne, Quote, Import, Confirm, Serve, Positions, Drill, Help}
+use Rattle.muni_desk.specs.declared.command.DeskCommand.TheVariants.{QuoteOne, Quote, Import, Confirm, Serve, Positions, Mark, Drill, Help}
 use Rattle.muni_desk.proofs.CommandLawLemmas.{same-text, read-quote, quote-read, read-drill, drill-read, read-quote_one, quote_one-read}
-use Rattle.muni_desk.proofs.StoreLawLemmas.{read-import, import-read, read-confirm, confirm-read, read-serve, serve-read, read-positions, positions-read, read-help, help-read}
+use Rattle.muni_desk.proofs.StoreLawLemmas.{read-import, import-read, read-confirm, confirm-read, read-serve, serve-read, read-positions, positions-read, read-mark, mark-read, read-help, help-read}
 
-read-store-by : (name : List ℕ) (words : List (List ℕ)) (line : CommandLine) (imported confirmed served listed : Bool) → bytes_eq name (codes "import") ≡ imported → bytes_eq name (codes "confirm") ≡ confirmed → bytes_eq name (codes "serve") ≡ served → bytes_eq name (codes "positions") ≡ listed → (if imported then import_of words else (if confirmed then confirm_of words else (if served then serve_of words else (if listed then positions_of words else None)))) ≡ Some line → IsCommandLine (name ∷ words) line
-read-store-by name words line true confirmed served listed is_import is_confirm is_serve is_positions is = read-import words name line (same-text name (codes "import") is_import) is
-read-store-by name words line false true served listed is_import is_confirm is_serve is_positions is = read-confirm words name line (same-text name (codes "confirm") is_confirm) is
-read-store-by name words line false false true listed is_import is_confirm is_serve is_positions is = read-serve words name line (same-text name (codes "serve") is_serve) is
-read-store-by name words line false false false true is_import is_confirm is_serve is_positions is = read-positions words name line (same-text name (codes "positions") is_positions) is
-read-store-by name words line false false false false is_import is_confirm is_serve is_positions is = absurd (none-some line is)
+read-store-by : (name : List ℕ) (words : List (List ℕ)) (line : CommandLine) (imported confirmed served listed marked : Bool) → bytes_eq name (codes "import") ≡ imported → bytes_eq name (codes "confirm") ≡ confirmed → bytes_eq name (codes "serve") ≡ served → bytes_eq name (codes "positions") ≡ listed → bytes_eq name (codes "mark") ≡ marked → (if imported then import_of words else (if confirmed then confirm_of words else (if served then serve_of words else (if listed then positions_of words else (if marked then mark_of words else None))))) ≡ Some line → IsCommandLine (name ∷ words) line
+read-store-by name words line true confirmed served listed marked is_import is_confirm is_serve is_positions is_mark is = read-import words name line (same-text name (codes "import") is_import) is
+read-store-by name words line false true served listed marked is_import is_confirm is_serve is_positions is_mark is = read-confirm words name line (same-text name (codes "confirm") is_confirm) is
+read-store-by name words line false false true listed marked is_import is_confirm is_serve is_positions is_mark is = read-serve words name line (same-text name (codes "serve") is_serve) is
+read-store-by name words line false false false true marked is_import is_confirm is_serve is_positions is_mark is = read-positions words name line (same-text name (codes "positions") is_positions) is
+read-store-by name words line false false false false true is_import is_confirm is_serve is_positions is_mark is = read-mark words name line (same-text name (codes "mark") is_mark) is
+read-store-by name words line false false false false false is_import is_confirm is_serve is_positions is_mark is = absurd (none-some line is)
 
 read-over-store : (name : List ℕ) (words : List (List ℕ)) (line : CommandLine) → over_store_of name words ≡ Some line → IsCommandLine (name ∷ words) line
-read-over-store name words line is = read-store-by name words line (bytes_eq name (codes "import")) (bytes_eq name (codes "confirm")) (bytes_eq name (codes "serve")) (bytes_eq name (codes "positions")) refl refl refl refl is
+read-over-store name words line is = read-store-by name words line (bytes_eq name (codes "import")) (bytes_eq name (codes "confirm")) (bytes_eq name (codes "serve")) (bytes_eq name (codes "positions")) (bytes_eq name (codes "mark")) refl refl refl refl refl is
 
 read-by : (name : List ℕ) (words : List (List ℕ)) (line : CommandLine) (one quoted drilled helped : Bool) → bytes_eq name (codes "quote-one") ≡ one → bytes_eq name (codes "quote") ≡ quoted → bytes_eq name (codes "drill") ≡ drilled → bytes_eq name (codes "help") ≡ helped → (if one then quote_one_of words else (if quoted then quote_of words else (if drilled then drill_of words else (if helped then help_of words else over_store_of name words)))) ≡ Some line → IsCommandLine (name ∷ words) line
 read-by name words line true quoted drilled helped is_one is_quote is_drill is_help is = read-quote_one words name line (same-text name (codes "quote-one") is_one) is
@@ -41,12 +42,14 @@ said-read : (name : List ℕ) (words : List (List ℕ)) (command : DeskCommand) 
 said-read name words (QuoteOne request) workers said =
     ap (λ name. command_of (name ∷ words)) said.0 ∙ quote_one-read words request said.1 ∙ (λ i. Some (record { command = QuoteOne request; workers = sym said.2 i }))
 said-read name words (Quote request) workers said = ap (λ name. command_of (name ∷ words)) said.0 ∙ quote-read words request workers said.1
-said-read name words (Import store) workers said = ap (λ name. command_of (name ∷ words)) said.0 ∙ import-read words store workers said.1
+said-read name words (Import store listed) workers said = ap (λ name. command_of (name ∷ words)) said.0 ∙ import-read words store listed workers said.1
 said-read name words (Confirm store key) workers said =
     ap (λ name. command_of (name ∷ words)) said.0 ∙ confirm-read words store key said.1 ∙ (λ i. Some (record { command = Confirm store key; workers = sym said.2 i }))
 said-read name words (Serve store port connections) workers said = ap (λ name. command_of (name ∷ words)) said.0 ∙ serve-read words store port connections workers said.1
 said-read name words (Positions store desk) workers said =
     ap (λ name. command_of (name ∷ words)) said.0 ∙ positions-read words store desk said.1 ∙ (λ i. Some (record { command = Positions store desk; workers = sym said.2 i }))
+said-read name words (Mark store) workers said =
+    ap (λ name. command_of (name ∷ words)) said.0 ∙ mark-read words store said.1 ∙ (λ i. Some (record { command = Mark store; workers = sym said.2 i }))
 said-read name words (Drill request) workers said = ap (λ name. command_of (name ∷ words)) said.0 ∙ drill-read words request workers said.1
 said-read name words Help workers said =
     ap (λ name. command_of (name ∷ words)) said.0 ∙ help-read words said.1 ∙ (λ i. Some (record { command = Help; workers = sym said.2 i }))

@@ -1,6 +1,6 @@
 -- What the words behind the names of the commands over a store and `help` are read as, against the rule of the command line.
 use Rattle.std.proofs.Common.{◌≡◌, ℕ, ◌≤◌, true, List, [], ◌∷◌, Option, Some, None, length, refl, sym, ap, ◌∙◌, subst, arith}
-use Rattle.std.specs.Prelude.{All, codes, nat_le}
+use Rattle.std.specs.Prelude.{All, codes, nat_le, option_map}
 use Rattle.std.specs.Bool.{Decides}
 use Rattle.std.specs.Char.{is_ascii_graphic, is_ascii_alphanumeric}
 use Rattle.std.specs.List.{list_all}
@@ -14,14 +14,14 @@ use Rattle.muni_msg.specs.Names.{is_desk_letter}
 use Rattle.muni_msg.specs.declared.command.Key.{Key}
 use Rattle.muni_desk.specs.Words.{◌>>=◌, are_options, value_of}
 use Rattle.muni_desk.specs.QuoteOptions.{workers_of}
-use Rattle.muni_desk.specs.StoreOptions.{import_options, confirm_options, serve_options, positions_options, is_store_name, store_reading, store_of, import_line, import_of, confirm_line, confirm_of, serve_line, serve_of, positions_line, positions_of}
+use Rattle.muni_desk.specs.StoreOptions.{import_options, confirm_options, serve_options, positions_options, mark_options, is_store_name, store_reading, store_of, listed_in, listed_of, import_line, import_of, confirm_line, confirm_of, serve_line, serve_of, positions_line, positions_of, mark_line, mark_of}
 use Rattle.muni_desk.specs.Help.{help_of}
-use Rattle.muni_desk.specs.WordLaws.{IsCommandLine, IsImport, IsConfirm, IsServe, IsPositions, IsSingle, SaysStore}
+use Rattle.muni_desk.specs.WordLaws.{IsCommandLine, IsImport, IsConfirm, IsServe, IsPositions, IsMark, IsSingle, SaysPositions, SaysStore}
 use Rattle.muni_desk.specs.declared.command.CommandLine.{CommandLine}
-use Rattle.muni_desk.specs.declared.command.DeskCommand.TheVariants.{Import, Confirm, Serve, Positions, Help}
+use Rattle.muni_desk.specs.declared.command.DeskCommand.TheVariants.{Import, Confirm, Serve, Positions, Mark, Help}
 use Rattle.muni_desk.proofs.CommandLawLemmas.{read-ok, ok-read, read-option, option-read, read-workers, workers-read}
-use Rattle.muni_desk.proofs.OptionalLemmas.{bind-some, some-bind, if-some, when-true}
-use Rattle.muni_desk.proofs.WordLawLemmas.{both, options-read, are-options, found-says, says-found}
+use Rattle.muni_desk.proofs.OptionalLemmas.{bind-some, some-bind, map-some, ok-some, if-some, when-true}
+use Rattle.muni_desk.proofs.WordLawLemmas.{both, options-read, are-options, found-says, says-found, none-lacks, lacks-none}
 
 -- ---- the name of a store
 byte-decides : (b : ℕ) → Decides (is_ascii_graphic b) ((33 ≤ b) × (b ≤ 126))
@@ -49,32 +49,47 @@ store-read words store single said =
     (when-true (is_store_name store.items) (Some (record { items = store.items })) store test refl)
 
 -- ---- `import`
-abbrev import_from : ArrayVec ℕ → ℕ → CommandLine
-import_from store workers = record { command = Import store; workers = workers }
+abbrev import_from : ArrayVec ℕ → Option (List ℕ) → ℕ → CommandLine
+import_from store listed workers = record { command = Import store listed; workers = workers }
+
+read-listed : (words : List (List ℕ)) (listed : Option (List ℕ)) (found : Option (List ℕ)) → value_of (codes "--positions=") words ≡ found → listed_in found ≡ Some listed → SaysPositions words listed
+read-listed words listed None is read = subst (SaysPositions words) (same_Some None listed read) (none-lacks (codes "--positions=") words is)
+read-listed words listed (Some text) is read =
+    let desk = map-some Some (result_ok (name_reading is_desk_letter 16 text)) listed read in
+    subst (SaysPositions words) desk.2
+    (record { text = text; stands = found-says (codes "--positions=") text words is; is_read = ok-some (name_reading is_desk_letter 16 text) desk.0 desk.1 })
+
+listed-read : (words : List (List ℕ)) (listed : Option (List ℕ)) → IsSingle words (codes "--positions=") → SaysPositions words listed → listed_of words ≡ Some listed
+listed-read words None single lacks = ap listed_in (lacks-none (codes "--positions=") words lacks)
+listed-read words (Some desk) single read =
+    ap listed_in (says-found (codes "--positions=") read.text words single read.stands) ∙ ap (λ r. option_map Some (result_ok r)) read.is_read
 
 pub read-import : (words : List (List ℕ)) (name : List ℕ) (line : CommandLine) → name ≡ codes "import" → import_of words ≡ Some line → IsCommandLine (name ∷ words) line
 read-import words name line named is =
     let options_read = if-some (are_options import_options import_options words) (import_line words) line is in
     let stand = options-read import_options import_options words options_read.0 in
     let store = bind-some _ (store_of words) line options_read.1 in
-    let workers = bind-some _ (workers_of words) line store.2 in
-    subst (IsCommandLine (name ∷ words)) (same_Some (import_from store.0 workers.0) line workers.2) (
+    let listed = bind-some _ (listed_of words) line store.2 in
+    let workers = bind-some _ (workers_of words) line listed.2 in
+    subst (IsCommandLine (name ∷ words)) (same_Some (import_from store.0 listed.0 workers.0) line workers.2) (
       named,
       record {
         known = stand.0;
         single = stand.1;
         named = read-store words store.0 store.1;
+        positions = read-listed words listed.0 (value_of (codes "--positions=") words) refl listed.1;
         at_once = read-workers words workers.0 (value_of (codes "--workers=") words) refl workers.1;
       },
     )
 
-pub import-read : (words : List (List ℕ)) (store : ArrayVec ℕ) (workers : ℕ) → IsImport words store workers → import_of words ≡ Some (record { command = Import store; workers = workers })
-import-read words store workers said =
-    let line = import_from store workers in
+pub import-read : (words : List (List ℕ)) (store : ArrayVec ℕ) (listed : Option (List ℕ)) (workers : ℕ) → IsImport words store listed workers → import_of words ≡ Some (record { command = Import store listed; workers = workers })
+import-read words store listed workers said =
+    let line = import_from store listed workers in
     when-true (are_options import_options import_options words) (import_line words) line (are-options import_options import_options words said.known said.single)
     (some-bind _ (store_of words) store line (store-read words store (said.single 0 [] (omega arith)) said.named)
+    (some-bind _ (listed_of words) listed line (listed-read words listed (said.single 2 [] (omega arith)) said.positions)
     (some-bind _ (workers_of words) workers line (workers-read words workers (said.single 1 [] (omega arith)) said.at_once)
-    refl))
+    refl)))
 
 -- ---- `confirm`
 abbrev confirm_from : ArrayVec ℕ → List ℕ → List ℕ → CommandLine
@@ -182,6 +197,25 @@ positions-read words store desk said =
     (some-bind _ (store_of words) store line (store-read words store (said.single 0 [] (omega arith)) said.named)
     (some-bind _ (desk_of words) desk line (ok-read (name_reading is_desk_letter 16) words (codes "--desk=") desk (said.single 1 [] (omega arith)) said.desk_named)
     refl))
+
+-- ---- `mark`
+abbrev mark_from : ArrayVec ℕ → CommandLine
+mark_from store = record { command = Mark store; workers = 1 }
+
+pub read-mark : (words : List (List ℕ)) (name : List ℕ) (line : CommandLine) → name ≡ codes "mark" → mark_of words ≡ Some line → IsCommandLine (name ∷ words) line
+read-mark words name line named is =
+    let options_read = if-some (are_options mark_options mark_options words) (mark_line words) line is in
+    let stand = options-read mark_options mark_options words options_read.0 in
+    let store = bind-some _ (store_of words) line options_read.1 in
+    subst (IsCommandLine (name ∷ words)) (same_Some (mark_from store.0) line store.2)
+    (named, record { known = stand.0; single = stand.1; named = read-store words store.0 store.1 }, refl)
+
+pub mark-read : (words : List (List ℕ)) (store : ArrayVec ℕ) → IsMark words store → mark_of words ≡ Some (record { command = Mark store; workers = 1 })
+mark-read words store said =
+    let line = mark_from store in
+    when-true (are_options mark_options mark_options words) (mark_line words) line (are-options mark_options mark_options words said.known said.single)
+    (some-bind _ (store_of words) store line (store-read words store (said.single 0 [] (omega arith)) said.named)
+    refl)
 
 -- ---- `help`
 pub read-help : (words : List (List ℕ)) (name : List ℕ) (line : CommandLine) → name ≡ codes "help" → help_of words ≡ Some line → IsCommandLine (name ∷ words) line

@@ -22,7 +22,7 @@ use Rattle.muni_desk.specs.QuoteOne.{is_next}
 use Rattle.muni_desk.specs.Request.{IsAnswered}
 use Rattle.muni_desk.specs.Sums.{Answered, summary_text}
 use Rattle.muni_desk.specs.declared.command.DeskCommand.{DeskCommand}
-use Rattle.muni_desk.specs.declared.command.DeskCommand.TheVariants.{QuoteOne, Quote, Import, Confirm, Serve, Positions, Drill, Help}
+use Rattle.muni_desk.specs.declared.command.DeskCommand.TheVariants.{QuoteOne, Quote, Import, Confirm, Serve, Positions, Mark, Drill, Help}
 use Rattle.muni_desk.specs.declared.drill.options.DrillRequest.{DrillRequest}
 use Rattle.muni_desk.specs.declared.quote_one.QuoteOneRequest.{QuoteOneRequest}
 use Rattle.muni_desk.specs.declared.request.QuoteRequest.{QuoteRequest}
@@ -113,7 +113,8 @@ answer-unique ends (QuoteOne request) answer other next is also = answer-by answ
 answer-unique ends (Quote request) answer other fine is also = answer-by answer other (quote-same ends request answer.status other.status answer.text.items other.text.items is also)
 answer-unique ends (Drill request) answer other few is also = answer-by answer other (drill-same ends request answer.status other.status answer.text.items other.text.items is also)
 answer-unique ends Help answer other fine is also = answer-by answer other (help-same answer.status other.status answer.text.items other.text.items is also)
-answer-unique ends (Import store) answer other fine is also = absurd is
+answer-unique ends (Import store listed) answer other fine is also = absurd is
 answer-unique ends (Confirm store key) answer other fine is also = absurd is
 answer-unique ends (Serve store port connections) answer other fine is also = absurd is
 answer-unique ends (Positions store desk) answer other fine is also = absurd is
+answer-unique ends (Mark store) answer other fine is also = absurd is

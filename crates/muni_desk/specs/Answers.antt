@@ -13,7 +13,7 @@ use Rattle.muni_desk.specs.Help.{help_text}
 use Rattle.muni_desk.specs.QuoteOne.{IsPriced}
 use Rattle.muni_desk.specs.Request.{IsAnswered}
 use Rattle.muni_desk.specs.declared.command.DeskCommand.{DeskCommand}
-use Rattle.muni_desk.specs.declared.command.DeskCommand.TheVariants.{QuoteOne, Quote, Import, Confirm, Serve, Positions, Drill, Help}
+use Rattle.muni_desk.specs.declared.command.DeskCommand.TheVariants.{QuoteOne, Quote, Import, Confirm, Serve, Positions, Mark, Drill, Help}
 use Rattle.muni_desk.specs.declared.drill.options.DrillRequest.{DrillRequest}
 use Rattle.muni_desk.specs.declared.quote_one.QuoteOneRequest.{QuoteOneRequest}
 use Rattle.muni_desk.specs.declared.request.QuoteRequest.{QuoteRequest}
@@ -55,9 +55,10 @@ IsHelpText status text = ⊥
 abbrev pub IsAnswer : (ends : PaymentSeries → ℤ → WorthEnds) → DeskCommand → Answer → Type 0
 IsAnswer ends (QuoteOne request) answer = IsQuoteOneText request answer.status answer.text.items
 IsAnswer ends (Quote request) answer = IsQuoteText ends request answer.status answer.text.items
-IsAnswer ends (Import store) answer = ⊥
+IsAnswer ends (Import store listed) answer = ⊥
 IsAnswer ends (Confirm store key) answer = ⊥
 IsAnswer ends (Serve store port connections) answer = ⊥
 IsAnswer ends (Positions store desk) answer = ⊥
+IsAnswer ends (Mark store) answer = ⊥
 IsAnswer ends (Drill request) answer = IsDrillText ends request answer.status answer.text.items
 IsAnswer ends Help answer = IsHelpText answer.status answer.text.items

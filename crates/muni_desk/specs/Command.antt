@@ -6,9 +6,9 @@ use Rattle.muni_desk.specs.DrillOptions.{drill_of}
 use Rattle.muni_desk.specs.QuoteOne.{is_next, quote_one_of}
 use Rattle.muni_desk.specs.Help.{help_of}
 use Rattle.muni_desk.specs.QuoteOptions.{quote_of}
-use Rattle.muni_desk.specs.StoreOptions.{import_of, confirm_of, serve_of, positions_of}
+use Rattle.muni_desk.specs.StoreOptions.{import_of, confirm_of, serve_of, positions_of, mark_of}
 use Rattle.muni_desk.specs.declared.command.DeskCommand.{DeskCommand}
-use Rattle.muni_desk.specs.declared.command.DeskCommand.TheVariants.{QuoteOne, Quote, Import, Confirm, Serve, Positions, Drill, Help}
+use Rattle.muni_desk.specs.declared.command.DeskCommand.TheVariants.{QuoteOne, Quote, Import, Confirm, Serve, Positions, Mark, Drill, Help}
 use Rattle.muni_desk.specs.declared.command.CommandLine.{CommandLine}
 
 -- the command over a store of that name, and of the words behind it
@@ -17,7 +17,8 @@ over_store_of name words =
     if bytes_eq name (codes "import") then import_of words
     else (if bytes_eq name (codes "confirm") then confirm_of words
     else (if bytes_eq name (codes "serve") then serve_of words
-    else (if bytes_eq name (codes "positions") then positions_of words else None)))
+    else (if bytes_eq name (codes "positions") then positions_of words
+    else (if bytes_eq name (codes "mark") then mark_of words else None))))
 
 -- the command of words: the first is its name, and those behind it say what it is asked for
 abbrev pub command_of : List (List ℕ) → Option CommandLine
@@ -32,9 +33,10 @@ command_of (name ∷ words) =
 abbrev pub IsAnswerable : DeskCommand → Type 0
 IsAnswerable (QuoteOne request) = is_next (civil request.next) ≡ true
 IsAnswerable (Quote request) = ⊤
-IsAnswerable (Import store) = ⊤
+IsAnswerable (Import store listed) = ⊤
 IsAnswerable (Confirm store key) = ⊤
 IsAnswerable (Serve store port connections) = ⊤
 IsAnswerable (Positions store desk) = ⊤
+IsAnswerable (Mark store) = ⊤
 IsAnswerable (Drill request) = request.count ≤ 1_000
 IsAnswerable Help = ⊤

@@ -1,6 +1,6 @@
 -- The command `drill`: a book of generated trades, and the summary of the answers to them.
 -- `ends` are those that the encloser gives to payments and a yield.
-use Rattle.std.specs.Prelude.{◌≡◌, ℕ, zero, suc, ◌+◌, ◌-◌, ◌*◌, ◌<◌, min, List, [], ◌∷◌, ◌++◌, length, slice_index_or, ℤ}
+use Rattle.std.specs.Prelude.{◌≡◌, ℕ, zero, suc, ◌*◌, ◌%◌, ◌<◌, Bool, eqb, MatchBool, List, [], ◌∷◌, ◌++◌, length, slice_index_or, ℤ}
 use Rattle.muni_rule.specs.Payments.{PaymentSeries}
 use Rattle.muni_rule.specs.WorthEnds.{WorthEnds}
 use Rattle.muni_desk.specs.Generator.{IsGenerated, state_after}
@@ -33,30 +33,31 @@ abbrev pub IsSummary : (ends : PaymentSeries → ℤ → WorthEnds) → DrillReq
 IsSummary ends request text =
     (book : List Answered) × IsBook ends request.seed request.count book × (text ≡ summary_text book)
 
--- so many trades of the book from a place on, each with the right answer to it
-abbrev pub IsPart : (ends : PaymentSeries → ℤ → WorthEnds) → (seed first count : ℕ) → List Answered → Type 0
-IsPart ends seed first zero part = part ≡ []
-IsPart ends seed first (suc count) part =
-    (earlier : List Answered) × (last : Answered) × IsPart ends seed first count earlier
-    × IsDrilled ends seed (first + count) last × (part ≡ earlier ++ last ∷ [])
+-- the earlier trades, and behind them the one at a place
+abbrev pub IsFollowed : (ends : PaymentSeries → ℤ → WorthEnds) → (seed place : ℕ) → (earlier part : List Answered) → Type 0
+IsFollowed ends seed place earlier part =
+    (last : Answered) × IsDrilled ends seed place last × (part ≡ earlier ++ last ∷ [])
+
+-- those of the first so many trades that stand at the chosen places, each with the right answer to it
+abbrev pub IsPart : (ends : PaymentSeries → ℤ → WorthEnds) → (chosen : ℕ → Bool) → (seed count : ℕ) → List Answered → Type 0
+IsPart ends chosen seed zero part = part ≡ []
+IsPart ends chosen seed (suc count) part =
+    (earlier : List Answered) × IsPart ends chosen seed count earlier
+    × MatchBool (chosen count) (IsFollowed ends seed count earlier part) (part ≡ earlier)
 
 -- sums over that part
-pub record IsBlock (ends : PaymentSeries → ℤ → WorthEnds) (seed first count : ℕ) (sums : Sums) : Type 0 where
+pub record IsShare (ends : PaymentSeries → ℤ → WorthEnds) (chosen : ℕ → Bool) (seed count : ℕ) (sums : Sums) : Type 0 where
   pub part : List Answered
-  pub is_part : IsPart ends seed first count part
+  pub is_part : IsPart ends chosen seed count part
   pub summed : AreSums part sums
   pub small : AreSmall sums
-  pub size : sums.trades ≡ count
 
--- where a block begins, of blocks of one size up to the last
-abbrev pub cut : ℕ → ℕ → ℕ → ℕ
-cut count size i = min (size * i) count
+-- the trades are dealt out to the workers in turn, and a worker has the one at this place
+abbrev pub is_dealt : (workers worker place : ℕ) → Bool
+is_dealt workers worker place = eqb (place % workers) worker
 
-abbrev pub IsBlockAt : (ends : PaymentSeries → ℤ → WorthEnds) → (seed count size i : ℕ) → Sums → Type 0
-IsBlockAt ends seed count size i sums =
-    IsBlock ends seed (cut count size i) (cut count size (i + 1) - cut count size i) sums
-
--- the sums of each block
-abbrev pub AreBlocks : (ends : PaymentSeries → ℤ → WorthEnds) → (seed count size : ℕ) → List Sums → Type 0
-AreBlocks ends seed count size blocks =
-    (i : ℕ) (d : Sums) → i < length blocks → IsBlockAt ends seed count size i (slice_index_or blocks i d)
+-- the sums of each worker
+abbrev pub AreShares : (ends : PaymentSeries → ℤ → WorthEnds) → (seed count : ℕ) → List Sums → Type 0
+AreShares ends seed count shares =
+    (worker : ℕ) (d : Sums) → worker < length shares
+    → IsShare ends (is_dealt (length shares) worker) seed count (slice_index_or shares worker d)

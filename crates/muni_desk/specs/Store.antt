@@ -1,13 +1,15 @@
 -- What a command over a store leaves on the objects that it is lent, by its status.
 use Rattle.std.specs.Prelude.{◌≡◌, ◌≢◌, ◌<◌, ◌≤◌, ◌⊎◌, ℕ, ⊤, List, length, Option, IfSome}
-use Rattle.muni_edge.specs.Sink.{Rose, HasWritten, HasWrittenPart}
+use Rattle.muni_edge.specs.Sink.{Rose, HasWritten, HasWrittenPart, Wrote, WrotePart}
 use Rattle.muni_keep.specs.Tables.{Tables}
 use Rattle.muni_step.specs.Step.{Pricing}
 use Rattle.muni_import.specs.Rows.{rows_of}
 use Rattle.muni_msg.specs.declared.command.Key.{Key}
 use Rattle.muni_office.specs.Confirm.{confirmed}
 use Rattle.muni_office.specs.Import.{Did, DidFirst, DidPart}
+use Rattle.muni_blotter.specs.Importing.{DidAll, DidSome}
 use Rattle.muni_blotter.specs.Listing.{MayNotSum, positions_text}
+use Rattle.muni_marks.specs.Portfolio.{IsPortfolioText}
 use Rattle.muni_desk.specs.Status.{status_of}
 use Rattle.muni_desk.specs.declared.status.Status.{Status}
 use Rattle.muni_desk.specs.declared.status.Status.TheVariants.{Done, Refused, ReadFault, WriteFault, StoreFault, NoMemory, TooLarge}
@@ -60,6 +62,22 @@ Imported Prices store ReadFault old new = Rose old.input_faults new.input_faults
 Imported Prices store TooLarge old new = IfSome old.input (λ text. 4_194_304 < length text)
 Imported Prices store status old new = ⊥
 
+-- An import with the positions of a desk behind its report. More trades of the desk than are summed are
+-- told as a fault of the store.
+abbrev pub ImportedWith : Pricing → (store desk : List ℕ) → Status → Objects → Objects → Type 0
+ImportedWith Prices store desk Done old new =
+    OfTold store old (λ text tables. DidAll Prices desk text tables (new.tables store) old.output new.output)
+    × IfSome old.input (λ text. length text ≤ 4_194_304)
+ImportedWith Prices store desk WriteFault old new =
+    OfTold store old (λ text tables. DidSome Prices desk text tables (new.tables store) old.output new.output)
+    × IfSome old.input (λ text. length text ≤ 4_194_304)
+    × Rose old.output_faults new.output_faults
+ImportedWith Prices store desk StoreFault old new =
+    OfTold store old (λ text tables. DidFirst Prices text tables (new.tables store) old.output new.output)
+    × IfSome old.input (λ text. length text ≤ 4_194_304)
+    × (Rose old.cabinet_faults new.cabinet_faults ⊎ MayNotSum desk (old.tables store))
+ImportedWith Prices store desk status old new = Imported Prices store status old new
+
 -- the confirmation of the last version of a trade was written, or why there is none
 abbrev pub WritesConfirmed : List ℕ → Key → Status → Objects → Objects → Type 0
 WritesConfirmed store key status old new =
@@ -89,3 +107,19 @@ Listed store desk StoreFault old new =
     Rose old.cabinet_faults new.cabinet_faults ⊎ MayNotSum desk (old.tables store)
 Listed store desk NoMemory old new = ⊤
 Listed store desk status old new = ⊥
+
+-- marks of a portfolio: what is written, and which object has failed
+abbrev pub Marks : Pricing → List ℕ → Status → Objects → Objects → Type 0
+Marks Prices store Done old new =
+    OfTold store old (λ text tables. Wrote (IsPortfolioText Prices tables text) old.output new.output)
+    × IfSome old.input (λ text. length text ≤ 1_048_576)
+Marks Prices store WriteFault old new =
+    OfTold store old (λ text tables. WrotePart (IsPortfolioText Prices tables text) old.output new.output)
+    × IfSome old.input (λ text. length text ≤ 1_048_576)
+    × Rose old.output_faults new.output_faults
+Marks Prices store StoreFault old new =
+    IfSome old.input (λ text. length text ≤ 1_048_576) × Rose old.cabinet_faults new.cabinet_faults
+Marks Prices store ReadFault old new = Rose old.input_faults new.input_faults
+Marks Prices store TooLarge old new = IfSome old.input (λ text. 1_048_576 < length text)
+Marks Prices store NoMemory old new = ⊤
+Marks Prices store status old new = ⊥

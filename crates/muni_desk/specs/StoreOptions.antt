@@ -1,5 +1,5 @@
 -- The options of the commands over a store.
-use Rattle.std.specs.Prelude.{ℕ, Bool, ◌&&◌, nat_le, if◌then◌else◌, List, length, [], ◌∷◌, codes, Option, Some, None}
+use Rattle.std.specs.Prelude.{ℕ, Bool, ◌&&◌, nat_le, if◌then◌else◌, List, length, [], ◌∷◌, codes, Option, Some, None, option_map}
 use Rattle.std.specs.Char.{is_ascii_graphic, is_ascii_alphanumeric}
 use Rattle.std.specs.List.{list_all}
 use Rattle.std.specs.Result.{result_ok}
@@ -9,12 +9,12 @@ use Rattle.muni_msg.specs.NameReading.{name_reading}
 use Rattle.muni_msg.specs.Names.{is_desk_letter}
 use Rattle.muni_desk.specs.QuoteOptions.{workers_of}
 use Rattle.muni_desk.specs.Words.{◌>>=◌, are_options, value_of}
-use Rattle.muni_desk.specs.declared.command.DeskCommand.TheVariants.{Import, Confirm, Serve, Positions}
+use Rattle.muni_desk.specs.declared.command.DeskCommand.TheVariants.{Import, Confirm, Serve, Positions, Mark}
 use Rattle.muni_desk.specs.declared.command.CommandLine.{CommandLine}
 
 -- all options, each of which stands once at most
 abbrev pub import_options : List (List ℕ)
-import_options = codes "--store=" ∷ codes "--workers=" ∷ []
+import_options = codes "--store=" ∷ codes "--workers=" ∷ codes "--positions=" ∷ []
 
 abbrev pub confirm_options : List (List ℕ)
 confirm_options = codes "--store=" ∷ codes "--desk=" ∷ codes "--ref=" ∷ []
@@ -24,6 +24,9 @@ serve_options = codes "--store=" ∷ codes "--port=" ∷ codes "--connections=" 
 
 abbrev pub positions_options : List (List ℕ)
 positions_options = codes "--store=" ∷ codes "--desk=" ∷ []
+
+abbrev pub mark_options : List (List ℕ)
+mark_options = codes "--store=" ∷ []
 
 -- a text names a store: at most 200 bytes, which print and are no blank
 abbrev pub is_store_name : List ℕ → Bool
@@ -35,12 +38,22 @@ store_reading text = if is_store_name text then Some (record { items = text }) e
 abbrev pub store_of : List (List ℕ) → Option (ArrayVec ℕ)
 store_of words = value_of (codes "--store=") words >>= λ text. store_reading text
 
--- an import into a store, and how many workers may compute
+-- the desk whose positions are asked for, if those of any are
+abbrev pub listed_in : Option (List ℕ) → Option (Option (List ℕ))
+listed_in (Some text) = option_map Some (result_ok (name_reading is_desk_letter 16 text))
+listed_in None = Some None
+
+abbrev pub listed_of : List (List ℕ) → Option (Option (List ℕ))
+listed_of words = listed_in (value_of (codes "--positions=") words)
+
+-- an import into a store, with the positions of a desk if they are asked for, and how many workers may
+-- compute
 abbrev pub import_line : List (List ℕ) → Option CommandLine
 import_line words = do
   store ← store_of words
+  listed ← listed_of words
   workers ← workers_of words
-  Some (record { command = Import store; workers = workers })
+  Some (record { command = Import store listed; workers = workers })
 
 -- what words ask for that are options of the command
 abbrev pub import_of : List (List ℕ) → Option CommandLine
@@ -82,3 +95,13 @@ positions_line words = do
 abbrev pub positions_of : List (List ℕ) → Option CommandLine
 positions_of words =
     if are_options positions_options positions_options words then positions_line words else None
+
+-- the marks of a portfolio over a store
+abbrev pub mark_line : List (List ℕ) → Option CommandLine
+mark_line words = do
+  store ← store_of words
+  Some (record { command = Mark store; workers = 1 })
+
+abbrev pub mark_of : List (List ℕ) → Option CommandLine
+mark_of words =
+    if are_options mark_options mark_options words then mark_line words else None

@@ -1,5 +1,5 @@
 -- What the words of a command line say, in the rule's own words.
-use Rattle.std.specs.Prelude.{◌≡◌, ◌≢◌, ◌<◌, ◌≤◌, ◌↔◌, ◌⊎◌, ℕ, List, [], ◌∷◌, ◌++◌, length, map, filter, All, Contains, codes, Some, None, Ok}
+use Rattle.std.specs.Prelude.{◌≡◌, ◌≢◌, ◌<◌, ◌≤◌, ◌↔◌, ◌⊎◌, ℕ, List, [], ◌∷◌, ◌++◌, length, map, filter, All, Contains, codes, Option, Some, None, Ok}
 use Rattle.std.specs.Char.{is_ascii_alphanumeric}
 use Rattle.std.specs.List.{AllZip}
 use Rattle.arrayvec.specs.ArrayVec.{ArrayVec}
@@ -22,10 +22,10 @@ use Rattle.muni_msg.specs.declared.command.Key.{Key}
 use Rattle.muni_desk.specs.Words.{word, is_option}
 use Rattle.muni_desk.specs.QuoteOptions.{options, single_options}
 use Rattle.muni_desk.specs.DrillOptions as drill
-use Rattle.muni_desk.specs.StoreOptions.{import_options, confirm_options, serve_options, positions_options}
+use Rattle.muni_desk.specs.StoreOptions.{import_options, confirm_options, serve_options, positions_options, mark_options}
 use Rattle.muni_desk.specs.Command.{command_of}
 use Rattle.muni_desk.specs.declared.command.DeskCommand.{DeskCommand}
-use Rattle.muni_desk.specs.declared.command.DeskCommand.TheVariants.{QuoteOne, Quote, Import, Confirm, Serve, Positions, Drill, Help}
+use Rattle.muni_desk.specs.declared.command.DeskCommand.TheVariants.{QuoteOne, Quote, Import, Confirm, Serve, Positions, Mark, Drill, Help}
 use Rattle.muni_desk.specs.declared.command.CommandLine.{CommandLine}
 use Rattle.muni_desk.specs.declared.drill.options.DrillRequest.{DrillRequest}
 use Rattle.muni_desk.specs.declared.quote_one.QuoteOneRequest.{QuoteOneRequest}
@@ -171,11 +171,19 @@ pub record SaysStore (words : List (List ℕ)) (store : ArrayVec ℕ) : Type 0 w
   pub few : length store.items ≤ 200
   pub bytes : All (λ b. (33 ≤ b) × (b ≤ 126)) store.items
 
--- words behind `import`: a store, and from 1 to 16 workers, and one where no number is given
-pub record IsImport (words : List (List ℕ)) (store : ArrayVec ℕ) (workers : ℕ) : Type 0 where
+-- the desk whose positions are asked for, if those of any are
+abbrev pub SaysPositions : List (List ℕ) → Option (List ℕ) → Type 0
+SaysPositions words None = Lacks words (codes "--positions=")
+SaysPositions words (Some desk) =
+    Reads words (codes "--positions=") (λ text. name_reading is_desk_letter 16 text ≡ Ok desk)
+
+-- words behind `import`: a store, the desk whose positions are asked for, if any, and from 1 to 16
+-- workers, and one where no number is given
+pub record IsImport (words : List (List ℕ)) (store : ArrayVec ℕ) (listed : Option (List ℕ)) (workers : ℕ) : Type 0 where
   pub known : All (IsKnown import_options) words
   pub single : All (IsSingle words) import_options
   pub named : SaysStore words store
+  pub positions : SaysPositions words listed
   pub at_once :
       ReadsOr words (codes "--workers=") (λ text. number_reading 20 1 16 text ≡ Some workers)
       (workers ≡ 1)
@@ -214,6 +222,12 @@ pub record IsPositions (words : List (List ℕ)) (store : ArrayVec ℕ) (desk : 
   pub desk_named :
       Reads words (codes "--desk=") (λ text. name_reading is_desk_letter 16 text ≡ Ok desk)
 
+-- words behind `mark`: a store
+pub record IsMark (words : List (List ℕ)) (store : ArrayVec ℕ) : Type 0 where
+  pub known : All (IsKnown mark_options) words
+  pub single : All (IsSingle words) mark_options
+  pub named : SaysStore words store
+
 -- ---- the options of `drill`
 -- words behind `drill`: up to 1,000 trades, a seed below 2^64, and from 1 to 16 workers
 pub record IsDrill (words : List (List ℕ)) (request : DrillRequest) (workers : ℕ) : Type 0 where
@@ -248,14 +262,16 @@ IsSaid (name ∷ words) (QuoteOne request) workers =
     (name ≡ codes "quote-one") × IsQuoteOne words request × (workers ≡ 1)
 IsSaid (name ∷ words) (Quote request) workers =
     (name ≡ codes "quote") × IsQuote words request workers
-IsSaid (name ∷ words) (Import store) workers =
-    (name ≡ codes "import") × IsImport words store workers
+IsSaid (name ∷ words) (Import store listed) workers =
+    (name ≡ codes "import") × IsImport words store listed workers
 IsSaid (name ∷ words) (Confirm store key) workers =
     (name ≡ codes "confirm") × IsConfirm words store key × (workers ≡ 1)
 IsSaid (name ∷ words) (Serve store port connections) workers =
     (name ≡ codes "serve") × IsServe words store port connections workers
 IsSaid (name ∷ words) (Positions store desk) workers =
     (name ≡ codes "positions") × IsPositions words store desk × (workers ≡ 1)
+IsSaid (name ∷ words) (Mark store) workers =
+    (name ≡ codes "mark") × IsMark words store × (workers ≡ 1)
 IsSaid (name ∷ words) (Drill request) workers =
     (name ≡ codes "drill") × IsDrill words request workers
 IsSaid (name ∷ words) Help workers =

@@ -9,7 +9,7 @@ use crate::help::read_help;
 use crate::quote_one::{QuoteOneRequest, read_quote_one};
 use crate::quote_options::read_quote;
 use crate::request::QuoteRequest;
-use crate::store_options::{read_confirm, read_import, read_positions, read_serve};
+use crate::store_options::{read_confirm, read_import, read_mark, read_positions, read_serve};
 use arrayvec::ArrayVec;
 use muni_msg::{DeskName, Key};
 
@@ -20,10 +20,12 @@ pub enum DeskCommand {
     QuoteOne(QuoteOneRequest),
     /// The figures of a security.
     Quote(QuoteRequest),
-    /// To apply the rows of the input to the tables of a store. A name of a store has 1 to 200
-    /// printing bytes, none of which is a blank.
+    /// To apply the rows of the input to the tables of a store, and to list the positions of a desk
+    /// behind them where one is named. A name of a store has 1 to 200 printing bytes, none of which is
+    /// a blank.
     Import {
         store: ArrayVec<u8, 200>,
+        listed: Option<DeskName>,
     },
     /// The confirmation of a trade that a store keeps.
     Confirm {
@@ -34,6 +36,10 @@ pub enum DeskCommand {
     Positions {
         store: ArrayVec<u8, 200>,
         desk: DeskName,
+    },
+    /// What the rows of the input are worth, by the issues that a store keeps.
+    Mark {
+        store: ArrayVec<u8, 200>,
     },
     /// To serve so many connections that come in by a port, over the tables of a store.
     Serve {
@@ -81,6 +87,7 @@ fn read_over_store(name: &str, options: &[String]) -> Option<CommandLine>
         "confirm" => read_confirm(options),
         "serve" => read_serve(options),
         "positions" => read_positions(options),
+        "mark" => read_mark(options),
         _ => None,
     }
 }

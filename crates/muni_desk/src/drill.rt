@@ -1,7 +1,7 @@
 //! The command `drill`: the sums over a book of trades that is generated from a number.
 
-ghost use Rattle.std.specs.Prelude.{◌≡◌, ◌-◌, ◌*◌, ◌<◌, ◌≤◌, length};
-ghost use Rattle.muni_desk.specs.Drill.{IsSummary, IsSummed, IsBlock, IsBlockAt, AreBlocks, cut};
+ghost use Rattle.std.specs.Prelude.{◌≡◌, ◌≤◌, length};
+ghost use Rattle.muni_desk.specs.Drill.{IsSummary, IsSummed, IsShare, AreShares, is_dealt};
 
 mod generator;
 mod options;
@@ -33,7 +33,8 @@ pub fn summary_of<R: Threads + Sync, E: Encloser + Sync, G: Gate + Sync>(
     sums.lines()
 }
 
-// The trades are shared out in blocks, one for each worker.
+// The trades are dealt out to the workers in turn, since the trades of one stretch of the book take longer
+// than those of another.
 fn sums_of<R: Threads + Sync, E: Encloser + Sync, G: Gate + Sync>(
     rt: &R,
     request: DrillRequest,
@@ -45,104 +46,78 @@ fn sums_of<R: Threads + Sync, E: Encloser + Sync, G: Gate + Sync>(
     requires workers { (1 ≤ workers) × (workers ≤ 16) }
     ensures { IsSummed (E.ends encloser.now) request.seed request.count result }
 {
-    let size = request.count.div_ceil(u64::from(workers));
-    let mut blocks = [Sums::new(); 16];
-    let blocks = &mut blocks[..workers as usize];
-    sum_blocks(rt, blocks, request, size, encloser, gate);
-    joined(blocks, request, size, encloser)
+    let mut shares = [Sums::new(); 16];
+    let shares = &mut shares[..workers as usize];
+    sum_shares(rt, shares, request, encloser, gate);
+    joined(shares, request, encloser)
 }
 
 // All workers are started once.
-fn sum_blocks<R: Threads + Sync, E: Encloser + Sync, G: Gate + Sync>(
+fn sum_shares<R: Threads + Sync, E: Encloser + Sync, G: Gate + Sync>(
     rt: &R,
-    blocks: &mut [Sums],
+    shares: &mut [Sums],
     request: DrillRequest,
-    size: u64,
     encloser: &E,
     gate: &G,
 )
-    requires few { (1 ≤ length blocks.old) × (length blocks.old ≤ 16) }
+    requires few { (1 ≤ length shares.old) × (length shares.old ≤ 16) }
     requires count { request.count ≤ 1_000 }
-    requires size { size ≤ 1_000 }
-    ensures len { length blocks.new ≡ length blocks.old }
-    ensures each { AreBlocks (E.ends encloser.now) request.seed request.count size blocks.new }
+    ensures len { length shares.new ≡ length shares.old }
+    ensures each { AreShares (E.ends encloser.now) request.seed request.count shares.new }
 {
-    let workers = blocks.len();
+    let workers = shares.len();
     thread::for_each_mut(
         rt,
-        blocks,
+        shares,
         workers,
-        &|i: usize, sums: &mut Sums|
-            requires { (i < 16) × (request.count ≤ 1_000) × (size ≤ 1_000) }
-            ensures { IsBlockAt (E.ends encloser.entry.now) request.seed request.count size i
-                sums.exit.now }
+        &|worker: usize, sums: &mut Sums|
+            requires { (1 ≤ workers) × (request.count ≤ 1_000) }
+            ensures { IsShare (E.ends encloser.entry.now) (is_dealt workers worker) request.seed
+                request.count sums.exit.now }
         {
-            *sums = block(rt, request, size, i, encloser, gate);
+            *sums = share(rt, request, workers, worker, encloser, gate);
         },
     );
 }
 
-fn block<R: Threads + Sync, E: Encloser + Sync, G: Gate + Sync>(
+// Each trade is answered with one worker: that a thread is started costs more than an answer.
+fn share<R: Threads + Sync, E: Encloser + Sync, G: Gate + Sync>(
     rt: &R,
     request: DrillRequest,
-    size: u64,
-    i: usize,
+    workers: usize,
+    worker: usize,
     encloser: &E,
     gate: &G,
 ) -> Sums
-    requires few { i < 16 }
+    requires some { 1 ≤ workers }
     requires count { request.count ≤ 1_000 }
-    requires size { size ≤ 1_000 }
-    ensures { IsBlockAt (E.ends encloser.now) request.seed request.count size i result }
+    ensures { IsShare (E.ends encloser.now) (is_dealt workers worker) request.seed request.count
+        result }
 {
-    let first = cut(request.count, size, i);
-    let end = cut(request.count, size, i + 1);
-    sums_between(rt, request.seed, first, end, encloser, gate)
-}
-
-// The place at which a block begins.
-fn cut(count: u64, size: u64, i: usize) -> u64
-    requires few { i ≤ 16 }
-    requires size { size ≤ 1_000 }
-    ensures { result ≡ cut count size i }
-{
-    (size * i as u64).min(count)
-}
-
-// Each trade is answered with one worker: that a thread is started costs more than an answer.
-fn sums_between<R: Threads + Sync, E: Encloser + Sync, G: Gate + Sync>(
-    rt: &R,
-    seed: u64,
-    first: u64,
-    end: u64,
-    encloser: &E,
-    gate: &G,
-) -> Sums
-    requires order { first ≤ end }
-    requires few { end ≤ 1_000 }
-    ensures { IsBlock (E.ends encloser.now) seed first (end - first) result }
-{
-    let mut generator = Generator::behind(seed, first);
+    let mut generator = Generator::new(request.seed);
     let mut sums = Sums::new();
-    for place in first..end {
-        let QuoteRequest { row, asked } = generator.trade();
-        let maturity = row.maturity;
-        let answer = answer_of(rt, row, &asked, 1, encloser, gate);
-        sums.add(maturity, &answer);
+    for place in 0..request.count as usize {
+        if place % workers == worker {
+            let QuoteRequest { row, asked } = generator.trade();
+            let maturity = row.maturity;
+            let answer = answer_of(rt, row, &asked, 1, encloser, gate);
+            sums.add(maturity, &answer);
+        } else {
+            generator.pass();
+        }
     }
     sums
 }
 
-fn joined<E: Encloser>(blocks: &[Sums], request: DrillRequest, size: u64, encloser: &E) -> Sums
-    requires few { length blocks.now ≤ 16 }
+fn joined<E: Encloser>(shares: &[Sums], request: DrillRequest, encloser: &E) -> Sums
+    requires few { (1 ≤ length shares.now) × (length shares.now ≤ 16) }
     requires count { request.count ≤ 1_000 }
-    requires each { AreBlocks (E.ends encloser.now) request.seed request.count size blocks.now }
-    requires all { request.count ≤ size * length blocks.now }
+    requires each { AreShares (E.ends encloser.now) request.seed request.count shares.now }
     ensures { IsSummed (E.ends encloser.now) request.seed request.count result }
 {
     let mut sums = Sums::new();
-    for (i, block) in blocks.iter().enumerate() {
-        sums = sums.plus(block);
+    for (worker, share) in shares.iter().enumerate() {
+        sums = sums.plus(share);
     }
     sums
 }

@@ -12,9 +12,10 @@ ghost use Rattle.muni_desk.specs.Written.{TellsFaults};
 use crate::answers::{drill_answer, help_answer, quote_answer, quote_one_answer};
 use crate::command::read;
 use crate::{Answer, CommandLine, DeskCommand, Status};
-use muni_blotter::positions;
+use muni_blotter::{import_with_positions, positions};
 use muni_edge::{Door, Gate, Sink, Source};
 use muni_keep::Cabinet;
+use muni_marks::mark;
 use muni_multi::Encloser;
 use muni_office::{confirm, import};
 use muni_server::serve;
@@ -27,9 +28,10 @@ use std::thread::Threads;
 /// to redemption. `quote` and options in any order give the figures of a security, whose worth with more
 /// than six months left comes from the encloser. `drill` and options in any order price a generated book
 /// of trades, and give the sums. `import` applies the rows of the input to the tables of a store, and
-/// writes a line on each. `confirm` writes the confirmation of a trade that a store keeps. `serve` answers
-/// the requests of connections that come in by a door. `positions` writes what a desk holds of each
-/// security. `help` names the commands. Memory is taken by the four commands over a store alone.
+/// writes a line on each, and behind them the positions of a desk where one is named. `confirm` writes
+/// the confirmation of a trade that a store keeps. `serve` answers the requests of connections that come
+/// in by a door. `positions` writes what a desk holds of each security, and `mark` what the rows of a
+/// portfolio are worth. `help` names the commands. Memory is taken by the commands over a store alone.
 // Yields are looked for by as many threads as the words name workers, and the gate is told when they
 // begin (tested).
 pub fn desk<
@@ -117,9 +119,14 @@ fn carry_out<
         DeskCommand::Quote(request) => {
             say(&quote_answer(rt, request, workers, encloser, gate), output)
         }
-        DeskCommand::Import { store } => Status::of(import(
-            rt, alloc, &store, workers, input, output, cabinet, encloser, gate,
-        )),
+        DeskCommand::Import { store, listed } => match listed {
+            Some(desk) => Status::of(import_with_positions(
+                rt, alloc, &store, &desk, workers, input, output, cabinet, encloser, gate,
+            )),
+            None => Status::of(import(
+                rt, alloc, &store, workers, input, output, cabinet, encloser, gate,
+            )),
+        },
         DeskCommand::Confirm { store, key } => Status::of(confirm(&store, &key, output, cabinet)),
         DeskCommand::Serve {
             store,
@@ -139,6 +146,9 @@ fn carry_out<
         )),
         DeskCommand::Positions { store, desk } => {
             Status::of(positions(alloc, &store, &desk, output, cabinet))
+        }
+        DeskCommand::Mark { store } => {
+            Status::of(mark(rt, alloc, &store, input, output, cabinet, encloser))
         }
         DeskCommand::Drill(request) => {
             say(&drill_answer(rt, request, workers, encloser, gate), output)

@@ -25,11 +25,15 @@ const PORT: &[u8] = b"--port=";
 
 const CONNECTIONS: &[u8] = b"--connections=";
 
-const IMPORT: [&[u8]; 2] = [STORE, WORKERS];
+const POSITIONS_OF: &[u8] = b"--positions=";
+
+const IMPORT: [&[u8]; 3] = [STORE, WORKERS, POSITIONS_OF];
 
 const CONFIRM: [&[u8]; 3] = [STORE, DESK, REF];
 
 const POSITIONS: [&[u8]; 2] = [STORE, DESK];
+
+const MARK: [&[u8]; 1] = [STORE];
 
 const SERVE: [&[u8]; 4] = [STORE, PORT, CONNECTIONS, WORKERS];
 
@@ -43,11 +47,22 @@ pub fn read_import(words: &[String]) -> Option<CommandLine>
         return None;
     }
     let store = read_store(value_of(words, STORE)?)?;
+    let listed = read_listed(words)?;
     let workers = read_workers(words)?;
     Some(CommandLine {
-        command: DeskCommand::Import { store },
+        command: DeskCommand::Import { store, listed },
         workers,
     })
+}
+
+// The desk whose positions are asked for, if those of any are.
+fn read_listed(words: &[String]) -> Option<Option<DeskName>>
+    ensures { result ≡ spec.listed_of (map string_bytes words.now) }
+{
+    match value_of(words, POSITIONS_OF) {
+        Some(text) => Some(Some(DeskName::read(text).ok()?)),
+        None => Some(None),
+    }
 }
 
 /// What words ask for, where they are options of `confirm`, in any order.
@@ -107,6 +122,22 @@ pub fn read_positions(words: &[String]) -> Option<CommandLine>
     let desk = DeskName::read(value_of(words, DESK)?).ok()?;
     Some(CommandLine {
         command: DeskCommand::Positions { store, desk },
+        workers: 1,
+    })
+}
+
+/// What words ask for, where they are options of `mark`.
+pub fn read_mark(words: &[String]) -> Option<CommandLine>
+    ensures command { result ≡ spec.mark_of (map string_bytes words.now) }
+    ensures answerable { IfSome result (λ line. IsAnswerable line.command) }
+    ensures workers { IfSome result (λ line. line.workers ≡ 1) }
+{
+    if !are_options(words, &MARK, &MARK) {
+        return None;
+    }
+    let store = read_store(value_of(words, STORE)?)?;
+    Some(CommandLine {
+        command: DeskCommand::Mark { store },
         workers: 1,
     })
 }

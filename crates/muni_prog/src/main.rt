@@ -1,5 +1,5 @@
-//! The program: the words that it was started with, the real input and output, a cabinet of files, a
-//! door on this machine, and the encloser.
+//! The program: the words that it was started with, the real input and output, cabinets of files and of
+//! journals, a door on this machine, and the encloser.
 #![tactic(auto)]
 
 mod door;
@@ -12,10 +12,13 @@ use door::LoopbackDoor;
 use input::Input;
 use muni_desk::{Status, desk};
 use muni_edge::NoGate;
+use muni_either::Either;
+use muni_file::FileShelf;
+use muni_journal::JournalCabinet;
 use muni_multi::Doubling;
 use muni_store::SqlCabinet;
 use output::Output;
-use std::io::Input as _;
+use std::io::{ErrorKind, Input as _};
 use std::process::ExitCode;
 use std::{env, io};
 
@@ -24,7 +27,8 @@ fn main(rt: HostRuntime) -> ExitCode {
         Ok(words) => {
             let mut input = Input::new(rt.reader());
             let mut output = Output::new(io::writer(&rt));
-            let mut cabinet = SqlCabinet::new(&rt);
+            let journals = JournalCabinet::new(rt.alloc(), FileShelf::new(&rt));
+            let mut cabinet = Either::new(SqlCabinet::new(&rt), journals);
             let mut door = LoopbackDoor::new(&rt);
             desk(
                 &rt,
@@ -45,11 +49,21 @@ fn main(rt: HostRuntime) -> ExitCode {
 
 // Words that are no text are no command.
 fn words(rt: &HostRuntime) -> Result<Vec<String>, Status> {
-    let Ok(args) = env::args(rt) else {
-        return Err(Status::Usage);
+    let args = match env::args(rt) {
+        Ok(args) => args,
+        Err(error) => return Err(unread(error)),
     };
     match args.skip(1).collect::<Vec<String>>(rt.alloc()) {
         Ok(words) => Ok(words),
         Err(_) => Err(Status::NoMemory),
+    }
+}
+
+// The end where the words could not be read.
+fn unread(error: io::Error) -> Status {
+    if error.kind() == ErrorKind::OutOfMemory {
+        Status::NoMemory
+    } else {
+        Status::Usage
     }
 }

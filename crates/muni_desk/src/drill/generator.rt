@@ -43,18 +43,6 @@ impl Generator {
         Generator { state: seed }
     }
 
-    /// A generator that has made so many trades from a seed.
-    pub fn behind(seed: u64, trades: u64) -> Generator
-        requires { trades ≤ 1_000 }
-        ensures { result ≡ spec.state_after seed (7 * trades) }
-    {
-        let mut generator = Generator::new(seed);
-        for draws in 0..7 * trades {
-            let _ = generator.draw();
-        }
-        generator
-    }
-
     #[tactic(auto, unfolding(crate::specs::Generator::next_state, crate::specs::Generator::drawn))]
     fn draw(&mut self) -> u64
         ensures state { self.new ≡ spec.next_state self.old }
@@ -72,6 +60,15 @@ impl Generator {
         let row = self.row();
         let asked = self.asked();
         QuoteRequest { row, asked }
+    }
+
+    /// Passes over the trade that the next seven draws make.
+    pub fn pass(&mut self)
+        ensures { self.new ≡ spec.state_after self.old 7 }
+    {
+        for draws in 0..7u64 {
+            let _ = self.draw();
+        }
     }
 
     fn row(&mut self) -> IssueRow

@@ -13,7 +13,7 @@ drill --count=5 --seed=18446744073709551615 --workers=3|0|DRILL 5/PRINTED 4/UNDE
 # In any order, with zeros in front
 drill --seed=7 --workers=0016 --count=0020|0|DRILL 20/PRINTED 11/UNDECIDED 0/OUTSIDE 9/YIELDS 46113/ACCRUED 64573.25/CALLED 2
 drill --workers=00000000000000000001 --seed=00000000000000000007 --count=00000000000000000001|0|DRILL 1/PRINTED 0/UNDECIDED 0/OUTSIDE 1/YIELDS 0/ACCRUED 0.00/CALLED 0
-# More workers than trades, as many, and blocks of unlike sizes
+# More workers than trades, as many, and shares of unlike sizes
 drill --count=0 --seed=7 --workers=16|0|DRILL 0/PRINTED 0/UNDECIDED 0/OUTSIDE 0/YIELDS 0/ACCRUED 0.00/CALLED 0
 drill --count=1 --seed=7 --workers=16|0|DRILL 1/PRINTED 0/UNDECIDED 0/OUTSIDE 1/YIELDS 0/ACCRUED 0.00/CALLED 0
 drill --count=15 --seed=7 --workers=16|0|DRILL 15/PRINTED 8/UNDECIDED 0/OUTSIDE 7/YIELDS 32618/ACCRUED 31957.90/CALLED 1

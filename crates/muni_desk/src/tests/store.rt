@@ -1,4 +1,4 @@
-//! Imports, confirmations and the help text, by the words that ask for them.
+//! Commands over a store and the help text, by the words that ask for them.
 
 ghost use Rattle.std.specs.Prelude.{◌≡◌, None};
 
@@ -14,9 +14,13 @@ use std::thread::Threads;
 
 const IMPORT: &str = "import --store=S";
 
+const LISTED: &str = "import --store=S --positions=ALPHA";
+
 const FIRST: &str = "confirm --store=S --desk=ALPHA --ref=T0001";
 
 const SECOND: &str = "confirm --store=S --desk=ALPHA --ref=T0002";
+
+const MARK: &str = "mark --store=S";
 
 const ROWS: &[u8] =
     b"issue,123456AA3,RIVERTON WATER 5S 2025,periodic,2020-01-01,2020-07-01,2025-01-01,5,
@@ -184,7 +188,7 @@ fn commands_over_a_store_end_as_they_should(rt: HostRuntime) -> Result<(), Fail>
             count = count.wrapping_add(1);
         }
     }
-    assert_eq!(rt; count, 206);
+    assert_eq!(rt; count, 228);
     Ok(())
 }
 
@@ -281,6 +285,11 @@ fn each_object_that_fails_has_its_status(rt: HostRuntime) -> Result<(), Fail> {
             [Status::StoreFault, Status::Refused],
         ),
         (
+            LISTED,
+            [none, none, none, first],
+            [Status::StoreFault, Status::Refused],
+        ),
+        (
             FIRST,
             [first, none, first, none],
             [Status::StoreFault, Status::Refused],
@@ -292,6 +301,21 @@ fn each_object_that_fails_has_its_status(rt: HostRuntime) -> Result<(), Fail> {
         ),
         (
             FIRST,
+            [none, first, none, none],
+            [Status::WriteFault, Status::Refused],
+        ),
+        (
+            MARK,
+            [second, none, first, none],
+            [Status::ReadFault, Status::StoreFault],
+        ),
+        (
+            MARK,
+            [none, none, first, none],
+            [Status::StoreFault, Status::Refused],
+        ),
+        (
+            MARK,
             [none, first, none, none],
             [Status::WriteFault, Status::Refused],
         ),
@@ -315,21 +339,34 @@ fn each_object_that_fails_has_its_status(rt: HostRuntime) -> Result<(), Fail> {
     Ok(())
 }
 
-#[test]
-fn an_input_has_4_194_304_bytes_at_most(rt: HostRuntime) -> Result<(), Fail> {
-    let mut text = Vec::new(rt.alloc());
-    for _ in 0..4_194_304u32 {
+// How a command ends over an input of so many equal bytes, and what it writes.
+fn asked_of_bytes<R: Threads + Sync>(
+    rt: &R,
+    alloc: Global,
+    line: &str,
+    count: u32,
+) -> Result<Outcome, Fail> {
+    let mut text = Vec::new(alloc);
+    for _ in 0..count {
         text.push(b'a')?;
     }
-    let line = (IMPORT, text.as_slice());
-    let (outcome, _) = ask_twice(&rt, rt.alloc(), NONE_FAILS, line, ("help", b""))?;
-    assert_eq!(rt; outcome.status, Status::Done);
-    assert_eq!(rt; outcome.output.bytes(), b"1,bad,2,1\n".as_slice());
-    text.push(b'a')?;
-    let line = (IMPORT, text.as_slice());
-    let (outcome, _) = ask_twice(&rt, rt.alloc(), NONE_FAILS, line, ("help", b""))?;
-    assert_eq!(rt; outcome.status, Status::TooLarge);
-    assert!(rt; outcome.output.bytes().is_empty());
+    let (outcome, _) = ask_twice(rt, alloc, NONE_FAILS, (line, &text), ("help", b""))?;
+    Ok(outcome)
+}
+
+#[test]
+fn an_input_has_a_greatest_length(rt: HostRuntime) -> Result<(), Fail> {
+    for (line, greatest, written) in [
+        (IMPORT, 4_194_304, "1,bad,2,1\n"),
+        (MARK, 1_048_576, "1,bad,1\nTOTAL,0,0.00\n"),
+    ] {
+        let outcome = asked_of_bytes(&rt, rt.alloc(), line, greatest)?;
+        assert_eq!(rt; outcome.status, Status::Done);
+        assert_eq!(rt; outcome.output.bytes(), written.as_bytes());
+        let outcome = asked_of_bytes(&rt, rt.alloc(), line, greatest + 1)?;
+        assert_eq!(rt; outcome.status, Status::TooLarge);
+        assert!(rt; outcome.output.bytes().is_empty());
+    }
     Ok(())
 }
 

@@ -22,6 +22,11 @@ import --store=S --workers=17||2|
 import --store=S --workers=0||2|
 import --store=S --store=S||2|
 import --store=S --positions=alpha||2|
+import --store=S --positions=ALPHA||0|
+import --positions=ALPHA --workers=2 --store=S||0|
+import --store=S --positions=||2|
+import --positions=ALPHA||2|
+import --store=S --positions=A --positions=A||2|
 import --store=S x||2|
 import --store=xxxxxxxxxxxxxxxxxxxxxxxxxxxxxxxxxxxxxxxxxxxxxxxxxxxxxxxxxxxxxxxxxxxxxxxxxxxxxxxxxxxxxxxxxxxxxxxxxxxxxxxxxxxxxxxxxxxxxxxxxxxxxxxxxxxxxxxxxxxxxxxxxxxxxxxxxxxxxxxxxxxxxxxxxxxxxxxxxxxxxxxxxxxxxxxxxxxxxxxx||0|
 import --store=xxxxxxxxxxxxxxxxxxxxxxxxxxxxxxxxxxxxxxxxxxxxxxxxxxxxxxxxxxxxxxxxxxxxxxxxxxxxxxxxxxxxxxxxxxxxxxxxxxxxxxxxxxxxxxxxxxxxxxxxxxxxxxxxxxxxxxxxxxxxxxxxxxxxxxxxxxxxxxxxxxxxxxxxxxxxxxxxxxxxxxxxxxxxxxxxxxxxxxxxx||2|
@@ -43,7 +48,11 @@ positions --desk=ALPHA||2|
 positions --store=S --desk=alpha||2|
 positions --store=S --desk=ALPHA --workers=1||2|
 positions --store=S --desk=ALPHA --desk=BETA||2|
-mark --store=S||2|
+mark --store=S||0|TOTAL,0,0.00~
+mark||2|
+mark --store=||2|
+mark --store=S --store=S||2|
+mark --store=S --workers=1||2|
 confirm --ref=T1 --desk=ALPHA --store=S||3|REFUSED 2 UnknownTrade~
 confirm --store=S --desk=ALPHA||2|
 confirm --store=S --desk=alpha --ref=T1||2|
@@ -54,6 +63,7 @@ confirm --store=S --desk=ABCDEFGHIJKLMNOPQ --ref=T1||2|
 confirm --store=S --desk=ALPHA --ref=abcdefghijklmnopqrstu||2|
 # One text
 base
+import --store=S --positions=ALPHA|issue,123456AA3,RIVERTON WATER 5S 2025,periodic,2020-01-01,2020-07-01,2025-01-01,5,~trade,ALPHA,T0001,123456AA3,buy,25000,2024-04-01,yield,4~trade,ALPHA,T0002,123456AA3,sell,10000,2024-04-01,price,100.725~|0|1,added,123456AA3~2,confirmed,T0001,1,100.725,4.000,2025-01-01,25493.75~3,confirmed,T0002,1,100.725,4.001,2025-01-01,10197.50~123456AA3 2 25000 10000 15000 15296.25~
 import --store=S||0|
 import --store=S|issue,123456AA3,RIVERTON WATER 5S 2025,periodic,2020-01-01,2020-07-01,2025-01-01,5,~trade,ALPHA,T0001,123456AA3,buy,25000,2024-04-01,yield,4~trade,ALPHA,T0002,123456AA3,sell,10000,2024-04-01,price,100.725~|0|1,added,123456AA3~2,confirmed,T0001,1,100.725,4.000,2025-01-01,25493.75~3,confirmed,T0002,1,100.725,4.001,2025-01-01,10197.50~
 import --store=S|issue,123456AA3,RIVERTON WATER 5S 2025,periodic,2020-01-01,2020-07-01,2025-01-01,5,~trade,ALPHA,T0001,123456AA3,buy,25000,2024-04-01,yield,4~trade,ALPHA,T0002,123456AA3,sell,10000,2024-04-01,price,100.725~trade,ALPHA,T0003,1234|0|1,added,123456AA3~2,confirmed,T0001,1,100.725,4.000,2025-01-01,25493.75~3,confirmed,T0002,1,100.725,4.001,2025-01-01,10197.50~4,bad,1~
@@ -165,6 +175,16 @@ confirm --store=S --desk=BETA --ref=T0001||3|REFUSED 2 UnknownTrade~
 positions --store=S --desk=ALPHA||0|123456AA3 2 25000 10000 15000 15296.25~
 positions --store=S --desk=BETA||0|
 positions --store=R --desk=ALPHA||0|
+import --store=S --positions=ALPHA|cancel,ALPHA,T0002,2|0|1,confirmed,T0002,2,100.725,4.001,2025-01-01,10197.50~123456AA3 1 25000 0 25000 25493.75~
+import --store=S --positions=BETA|cancel,ALPHA,T0002,2|0|1,confirmed,T0002,2,100.725,4.001,2025-01-01,10197.50~
+import --store=S --positions=ALPHA||0|123456AA3 2 25000 10000 15000 15296.25~
+import --store=S --positions=ALPHA|correct,ALPHA,T0001,2,123456AA3,sell,30000,2024-04-01,yield,4~trade,BETA,T0001,123456AA3,buy,5000,2024-04-01,yield,4~trade,ALPHA,T0003,123456AA3,buy,1,2024-04-01~|0|1,confirmed,T0001,2,100.725,4.000,2025-01-01,30592.50~2,confirmed,T0001,1,100.725,4.000,2025-01-01,5098.75~3,bad,1~123456AA3 2 0 40000 -40000 -40790.00~
+mark --store=S|123456AA3,25000,2024-04-01,4~123456AA3,10000,2024-04-01,4~000000000,1,2024-04-01,4~|0|1,marked,123456AA3,100.725,2025-01-01,25493.75~2,marked,123456AA3,100.725,2025-01-01,10197.50~3,refused,1,UnknownIssue~TOTAL,2,35691.25~
+mark --store=S||0|TOTAL,0,0.00~
+mark --store=S|123456AA3,0,2024-04-01,4|0|1,bad,2,2~TOTAL,0,0.00~
+mark --store=S|123456AA3,25000,2024-04-01~123456AA3,25000,2024-04-01,4,~123456AA,1,2024-04-01,4~123456AA3,1,2024-04-31,4~123456AA3,1,2024-04-01,four~123456AA3,25000,2025-01-01,4~|0|1,bad,1~2,bad,1~3,bad,2,1~4,bad,2,3~5,bad,2,4~6,refused,5,SettleOutside~TOTAL,0,0.00~
+mark --store=S|{ef}{bb}{bf}123456AA3,25000,2024-04-01,4^~^~"123456AA3",1,2024-04-01,-1|0|1,marked,123456AA3,100.725,2025-01-01,25493.75~2,marked,123456AA3,104.529,2025-01-01,1.06~TOTAL,2,25494.81~
+mark --store=R|123456AA3,25000,2024-04-01,4~|0|1,refused,1,UnknownIssue~TOTAL,0,0.00~
 # Over a trade that was corrected and canceled
 base issue,123456AA3,RIVERTON WATER 5S 2025,periodic,2020-01-01,2020-07-01,2025-01-01,5,~trade,ALPHA,T0001,123456AA3,buy,25000,2024-04-01,yield,4~trade,ALPHA,T0002,123456AA3,sell,10000,2024-04-01,price,100.725~correct,ALPHA,T0001,2,123456AA3,buy,30000,2024-04-01,yield,4~cancel,ALPHA,T0001,3~
 confirm --store=S --desk=ALPHA --ref=T0001||0|CANCELED CONFIRMATION 3~DESK ALPHA~REFERENCE T0001~BOUGHT 30000~CUSIP 123456AA3~ISSUE RIVERTON WATER 5S 2025~COUPON 5.0000000~DATED 2020-01-01~MATURITY 2025-01-01~SETTLEMENT 2024-04-01~PRICE 100.725 COMPUTED~YIELD 4.000 GIVEN~REDEMPTION 2025-01-01 100.000000 MATURITY~ACCRUED DAYS 90~PRINCIPAL 30217.50~ACCRUED 375.00~TOTAL 30592.50~
@@ -189,6 +209,8 @@ confirm --store=S --desk=D1 --ref=c1||0|CONFIRMATION 1~DESK D1~REFERENCE c1~BOUG
 confirm --store=S --desk=D1 --ref=c2||0|CORRECTED CONFIRMATION 2~DESK D1~REFERENCE c2~BOUGHT 250000~CUSIP 56789CB43~ISSUE DALE 4S~COUPON 4.0000000~DATED 2022-01-01~MATURITY 2044-01-01~SETTLEMENT 2024-01-01~PRICE 108.584 GIVEN~YIELD 1.946 COMPUTED~REDEMPTION 2034-01-01 100.000000 PAR OPTION~ACCRUED DAYS 0~PRINCIPAL 271460.00~ACCRUED 0.00~COMMISSION 25000.00~TOTAL 296460.00~
 confirm --store=S --desk=D1 --ref=n1||0|CANCELED CONFIRMATION 2~DESK D1~REFERENCE n1~BOUGHT 10000~CUSIP 67890AN54~ISSUE ELM NOTE~COUPON 4.0000000~DATED 2024-01-01~MATURITY 2024-12-31~BASIS ACTUAL/365~SETTLEMENT 2024-07-01~PRICE 100.464 COMPUTED~YIELD 3.000 GIVEN~REDEMPTION 2024-12-31 100.000000 MATURITY~ACCRUED DAYS 182~PRINCIPAL 10046.40~ACCRUED 199.45~TOTAL 10245.85~
 positions --store=S --desk=D1||0|23456ZZ14 2 5000 5000 0 -5.85~34567AR29 2 10000 10000 0 150.00~45678DN37 2 100000 100000 0 125.00~56789CB43 2 500000 0 500000 567920.00~
+import --store=S --positions=D1|trade,D1,x1,67890AN54,sell,5000,2024-07-01,yield,3~cancel,D1,a1,2~|0|1,confirmed,x1,1,100.464,3.000,2024-12-31,5122.93~2,confirmed,a1,2,100.463,3.000,2025-01-01,10246.30~23456ZZ14 2 5000 5000 0 -5.85~34567AR29 1 0 10000 -10000 -10096.30~45678DN37 2 100000 100000 0 125.00~56789CB43 2 500000 0 500000 567920.00~67890AN54 1 0 5000 -5000 -5122.93~
+mark --store=S|23456ZZ14,5000,2024-04-01,4~34567AR29,10000,2024-07-01,3~45678DN37,100000,2024-02-29,3~56789CB43,250000,2024-01-01,3~67890AN54,10000,2024-07-01,3~123456AA3,25000,2024-04-01,4~|0|1,marked,23456ZZ14,79.633,2030-01-01,3981.65~2,marked,34567AR29,100.463,2025-01-01,10246.30~3,refused,15,WrongBasis~4,marked,56789CB43,108.584,2034-01-01,271460.00~5,marked,67890AN54,100.464,2024-12-31,10245.85~6,refused,1,UnknownIssue~TOTAL,4,295933.80~
 # Rows at random over four issues
 base issue,123456AA3,N,periodic,2020-01-01,2020-07-01,2025-01-01,5,~issue,23456ZZ14,N,zero,2020-01-01,,2030-01-01,,~issue,34567AR29,N,at-redemption,2024-01-01,,2025-01-01,4,~issue,45678DN37,N,discount,2024-01-01,,2024-12-20,,~
 import --store=S|issue,34567AR29,N,at-redemption,2024-01-01,,2025-01-01,4,^trade,A,u,123456AA3,buy,1,2024-04-01,yield,-1,^cancel,A,t,3|0|1,added,34567AR29~2,confirmed,u,1,104.529,-1.000,2025-01-01,1.06~3,refused,2,UnknownTrade~

@@ -1,7 +1,8 @@
-use Rattle.muni_desk.specs.Drill.{cut}
-use Rattle.muni_desk.proofs.DrillLemmas.{IsJoined}
+use Rattle.std.proofs.Common.{length}
+use Rattle.muni_desk.specs.Drill.{IsShare}
+use Rattle.muni_desk.proofs.DrillLemmas.{is_among}
 use Rattle.muni_desk.proofs.drill.joined.Given as goal
 
--- the sums over the blocks so far
-abbrev pub invariant-loop-i : goal.invariant-loop-i
-invariant-loop-i g l = IsJoined (g.E.Encloser.ends l.encloser) l.fn.request.seed (cut l.fn.request.count l.size l.i) l.sums
+-- the sums of the workers so far
+abbrev pub invariant-loop-worker : goal.invariant-loop-worker
+invariant-loop-worker g l = IsShare (g.E.Encloser.ends l.encloser) (is_among (length l.shares) l.worker) l.fn.request.seed l.fn.request.count l.sums

@@ -1,6 +1,0 @@
-use Rattle.std.proofs.Common.{◌≡◌}
-use Rattle.muni_desk.specs.Generator.{state_after}
-use Rattle.muni_desk.proofs.drill.generator.Generator.behind.Given as goal
-
-abbrev pub invariant-loop-draws : goal.invariant-loop-draws
-invariant-loop-draws l = record { state : l.generator ≡ state_after l.fn.seed l.draws }
