@@ -4,10 +4,11 @@
 _muni_options() {
     case $1 in
     quote) echo --kind --dated --first --maturity --settle --coupon --yield --price --rate --call --days --par --workers ;;
-    import) echo --store --workers ;;
+    import) echo --store --workers --positions ;;
     confirm) echo --store --desk --ref ;;
     serve) echo --store --port --connections --workers ;;
     positions) echo --store --desk ;;
+    mark) echo --store ;;
     drill) echo --count --seed --workers ;;
     esac
 }
@@ -23,7 +24,7 @@ _muni() {
     local word=${COMP_WORDS[COMP_CWORD]} before=${COMP_WORDS[COMP_CWORD - 1]} choices='' option place
     COMPREPLY=()
     if [ "$COMP_CWORD" -eq 1 ]; then
-        choices='quote-one quote import confirm serve drill positions help'
+        choices='quote-one quote import confirm serve drill positions mark help'
     elif [ "$word" = = ]; then
         # bash takes `--kind=zero` for three words.
         choices=$(_muni_values "$before")
