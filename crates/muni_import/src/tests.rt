@@ -2,6 +2,7 @@ mod row_cases;
 
 use crate::{RowFault, read_rows, report_row};
 use arrayvec::ArrayVec;
+use muni_cases::bytes_of;
 use muni_days::{Basis, Day};
 use muni_dec::{Cents, Coupon, Fee, Par, Price, Price3, Yield, Yield3};
 use muni_msg::{
@@ -21,26 +22,6 @@ const NOTE: &[u8] = b"issue,123456AA3,R,discount,2024-01-01,,2024-12-21,,,actual
 const TRADES: &[u8] = b"trade,ALPHA,T0001,123456AA3,buy,25000,2024-04-01,yield,-0.5\n\
     correct,BETA,t2,999999999,000000000,sell,1,2199-12-31,price,100.000001,0.125\n\
     cancel,ALPHA,T0001,00000003\n";
-
-fn bytes_of(alloc: Global, text: &str) -> Result<Vec<u8>, Fail> {
-    let mut bytes = Vec::new(alloc);
-    for (place, piece) in text.split('{').enumerate() {
-        let mut plain = piece;
-        if place > 0 {
-            let (code, rest) = piece.split_once('}').ok_or("a number of a byte")?;
-            bytes.push(u8::from_str_radix(code, 16).ok().ok_or("a byte")?)?;
-            plain = rest;
-        }
-        for byte in plain.bytes() {
-            bytes.push(match byte {
-                b'~' => b'\n',
-                b'^' => b'\r',
-                _ => byte,
-            })?;
-        }
-    }
-    Ok(bytes)
-}
 
 fn is_kind(row: &Result<Command, RowFault>, kind: &str) -> bool {
     match row {
@@ -65,7 +46,7 @@ fn rows_are_commands_or_faults(rt: HostRuntime) -> Result<(), Fail> {
             continue;
         }
         let (text, kinds) = line.split_once('|').ok_or("a case")?;
-        let bytes = bytes_of(rt.alloc(), text)?;
+        let bytes = bytes_of(rt.alloc(), text).ok_or("bytes")?;
         let rows = read_rows(rt.alloc(), &bytes).ok().ok_or("memory")?;
         let mut place = 0usize;
         for kind in kinds.split(' ') {

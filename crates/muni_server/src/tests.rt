@@ -1,33 +1,21 @@
 mod exchange_cases;
-mod pieces;
 
 use crate::{End, Served, answer_one, serve};
 use exchange_cases::CASES;
+use muni_cases::{Pieces, bytes_of};
 use muni_edge::{MemDoor, MemLink, NoGate};
 use muni_keep::{MemCabinet, MemKeeper};
 use muni_multi::Horner;
-use pieces::Pieces;
 use std::alloc::Global;
 use std::test::Fail;
 use std::thread::Threads;
 
-// A text as it comes over a connection.
-fn bytes_of(alloc: Global, text: &str) -> Result<Vec<u8>, Fail> {
-    let mut bytes = Vec::new(alloc);
-    for byte in text.bytes() {
-        bytes.push(match byte {
-            b'~' => b'\n',
-            b'^' => b'\r',
-            _ => byte,
-        })?;
-    }
-    Ok(bytes)
-}
-
 // The request of a case and its answer.
 fn case(alloc: Global, line: &str) -> Result<(Vec<u8>, Vec<u8>), Fail> {
     let (request, answer) = line.split_once('|').ok_or("a case")?;
-    Ok((bytes_of(alloc, request)?, bytes_of(alloc, answer)?))
+    let request = bytes_of(alloc, request).ok_or("bytes")?;
+    let answer = bytes_of(alloc, answer).ok_or("bytes")?;
+    Ok((request, answer))
 }
 
 /// What fails in a run: the calls of the keeper, of the cabinet and of the door, and of the first link
@@ -175,9 +163,9 @@ fn is_answered<R: Threads + Sync>(
     answer: &[u8],
 ) -> Result<bool, Fail> {
     let link = MemLink::new(alloc, request, 9000, &[], &[])?;
-    let mut pieces = Pieces { link, size };
+    let mut pieces = Pieces::new(link, size);
     let served = answer_one(rt, alloc, &mut pieces, keeper, 1, &Horner, &NoGate);
-    Ok(served == wanted && pieces.link.written() == answer)
+    Ok(served == wanted && pieces.written() == answer)
 }
 
 #[test]

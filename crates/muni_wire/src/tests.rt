@@ -1,8 +1,8 @@
-mod pieces;
 mod request_cases;
 
 use crate::{Bad, WireFault, read_request, write_bad, write_reply, write_unavailable};
 use arrayvec::ArrayVec;
+use muni_cases::{Pieces, bytes_of};
 use muni_days::{Basis, Day};
 use muni_dec::{Cents, Coupon, Fee, Par, Price, Price3, Yield, Yield3};
 use muni_edge::{Failed, Link, MemLink};
@@ -11,7 +11,6 @@ use muni_msg::{
     Terms, Version,
 };
 use muni_terms::{Issue, IssueRow, Kind, Label, check};
-use pieces::Pieces;
 use std::alloc::Global;
 use std::test::Fail;
 
@@ -19,26 +18,6 @@ const TRADE: &[u8] =
     b"POST /trades HTTP/1.1\r\nHost: localhost\r\nContent-Type: application/json\r\n\
     Content-Length: 133\r\n\r\n{\"desk\":\"ALPHA\",\"reference\":\"T0001\",\"cusip\":\"123456AA3\",\
     \"side\":\"buy\",\"par\":\"25000\",\"settle\":\"2024-04-01\",\"basis\":\"yield\",\"value\":\"4\"}";
-
-fn bytes_of(alloc: Global, text: &str) -> Result<Vec<u8>, Fail> {
-    let mut bytes = Vec::new(alloc);
-    for (place, piece) in text.split('<').enumerate() {
-        let mut plain = piece;
-        if place > 0 {
-            let (code, rest) = piece.split_once('>').ok_or("a number of a byte")?;
-            bytes.push(u8::from_str_radix(code, 16).ok().ok_or("a byte")?)?;
-            plain = rest;
-        }
-        for byte in plain.bytes() {
-            bytes.push(match byte {
-                b'~' => b'\n',
-                b'^' => b'\r',
-                _ => byte,
-            })?;
-        }
-    }
-    Ok(bytes)
-}
 
 fn link(alloc: Global, bytes: &[u8]) -> Result<MemLink, Fail> {
     Ok(
@@ -88,7 +67,7 @@ fn requests_are_read_however_they_are_cut(rt: HostRuntime) -> Result<(), Fail> {
             continue;
         }
         let (text, wanted) = line.split_once('|').ok_or("a case")?;
-        let bytes = bytes_of(rt.alloc(), text)?;
+        let bytes = bytes_of(rt.alloc(), text).ok_or("bytes")?;
         let mut whole = link(rt.alloc(), &bytes)?;
         assert!(rt; is_read(rt.alloc(), &mut whole, wanted), "{line}");
         for size in [1usize, 2, 7, 4096] {
@@ -315,7 +294,7 @@ fn replies_are_answered_with_their_texts(rt: HostRuntime) -> Result<(), Fail> {
     ] {
         let mut link = link(rt.alloc(), b"")?;
         assert!(rt; write_reply(&mut link, &reply).is_ok());
-        let answer = bytes_of(rt.alloc(), answer)?;
+        let answer = bytes_of(rt.alloc(), answer).ok_or("bytes")?;
         assert_eq!(rt; link.written(), answer.as_slice());
     }
     Ok(())
@@ -342,7 +321,7 @@ fn bad_requests_are_answered_with_their_statuses(rt: HostRuntime) -> Result<(), 
     ] {
         let mut link = link(rt.alloc(), b"")?;
         assert!(rt; write_bad(&mut link, bad).is_ok());
-        let answer = bytes_of(rt.alloc(), answer)?;
+        let answer = bytes_of(rt.alloc(), answer).ok_or("bytes")?;
         assert_eq!(rt; link.written(), answer.as_slice());
     }
     let mut whole = link(rt.alloc(), b"")?;
@@ -351,7 +330,8 @@ fn bad_requests_are_answered_with_their_statuses(rt: HostRuntime) -> Result<(), 
         rt.alloc(),
         "HTTP/1.1 503 Service Unavailable^~Content-Type: text/plain^~Content-Length: 24^~\
         Connection: close^~^~503 Service Unavailable~",
-    )?;
+    )
+    .ok_or("bytes")?;
     assert_eq!(rt; whole.written(), answer.as_slice());
     let mut narrow = MemLink::new(rt.alloc(), b"", 20, &[], &[])
         .ok()

@@ -4,6 +4,7 @@ ghost use Rattle.std.specs.Prelude.{◌≡◌, None};
 
 use super::{sink, store_cases, words_of};
 use crate::{Status, desk};
+use muni_cases::bytes_of;
 use muni_edge::{MemDoor, MemLink, MemSink, MemSource, NoGate};
 use muni_keep::{Cabinet, MemCabinet, MemKeeper};
 use muni_multi::Doubling;
@@ -132,26 +133,6 @@ fn ask_twice<R: Threads + Sync>(
     Ok((before, after))
 }
 
-fn bytes_of(alloc: Global, text: &str) -> Result<Vec<u8>, Fail> {
-    let mut bytes = Vec::new(alloc);
-    for (place, piece) in text.split('{').enumerate() {
-        let mut plain = piece;
-        if place > 0 {
-            let (code, rest) = piece.split_once('}').ok_or("a number of a byte")?;
-            bytes.push(u8::from_str_radix(code, 16).ok().ok_or("a byte")?)?;
-            plain = rest;
-        }
-        for byte in plain.bytes() {
-            bytes.push(match byte {
-                b'~' => b'\n',
-                b'^' => b'\r',
-                _ => byte,
-            })?;
-        }
-    }
-    Ok(bytes)
-}
-
 // Whether a command ends and writes as its line says, behind an import of the base.
 fn is_answered_so<R: Threads + Sync>(
     rt: &R,
@@ -162,11 +143,11 @@ fn is_answered_so<R: Threads + Sync>(
     let (words, rest) = line.split_once('|').ok_or("words")?;
     let (text, rest) = rest.split_once('|').ok_or("an input")?;
     let (number, wanted) = rest.split_once('|').ok_or("a status")?;
-    let words = bytes_of(alloc, words)?;
+    let words = bytes_of(alloc, words).ok_or("bytes")?;
     let words = str::from_utf8(&words).ok().ok_or("words")?;
-    let base = bytes_of(alloc, base)?;
-    let text = bytes_of(alloc, text)?;
-    let wanted = bytes_of(alloc, wanted)?;
+    let base = bytes_of(alloc, base).ok_or("bytes")?;
+    let text = bytes_of(alloc, text).ok_or("bytes")?;
+    let wanted = bytes_of(alloc, wanted).ok_or("bytes")?;
     let (_, outcome) = ask_twice(rt, alloc, NONE_FAILS, (IMPORT, &base), (words, &text))?;
     let is_status = outcome.status.number() == number.parse::<u8>()?;
     Ok(is_status && outcome.output.bytes() == wanted.as_slice())

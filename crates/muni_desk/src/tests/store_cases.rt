@@ -1,21 +1,21 @@
 //! Commands over a store, and how each ends. A line `base ..` is a text that is imported before each
 //! command behind it. A line has the words, the input, the status, and what is written. In a text `~`
-//! stands for LF, `^` for CR, and `{ef}` for the byte with that number.
+//! stands for LF, `^` for CR, and `<ef>` for the byte with that number.
 //!
 //! The values are from an independent exact calculator.
 
 pub const CASES: &str = r#"
 # Words
 base
-help||0|quote-one COUPON NEXT SETTLE REDEMPTION YIELD~quote --kind --dated --maturity --settle --yield{7c}--price{7c}--rate --first --coupon --call --par --workers --days~import --store --workers --positions~confirm --store --desk --ref~serve --store --port --connections --workers~drill --count --seed --workers~positions --store --desk~mark --store~help~
+help||0|quote-one COUPON NEXT SETTLE REDEMPTION YIELD~quote --kind --dated --maturity --settle --yield<7c>--price<7c>--rate --first --coupon --call --par --workers --days~import --store --workers --positions~confirm --store --desk --ref~serve --store --port --connections --workers~drill --count --seed --workers~positions --store --desk~mark --store~help~
 help help||2|
 Help||2|
 help --store=S||2|
 import||2|
 import --store=||2|
-import --store=!{7e}||0|
-import --store={7f}||2|
-import --store={c3}{a9}||2|
+import --store=!<7e>||0|
+import --store=<7f>||2|
+import --store=<c3><a9>||2|
 import --store=S --workers=016||0|
 import --workers=1 --store=S||0|
 import --store=S --workers=17||2|
@@ -68,8 +68,8 @@ import --store=S||0|
 import --store=S|issue,123456AA3,RIVERTON WATER 5S 2025,periodic,2020-01-01,2020-07-01,2025-01-01,5,~trade,ALPHA,T0001,123456AA3,buy,25000,2024-04-01,yield,4~trade,ALPHA,T0002,123456AA3,sell,10000,2024-04-01,price,100.725~|0|1,added,123456AA3~2,confirmed,T0001,1,100.725,4.000,2025-01-01,25493.75~3,confirmed,T0002,1,100.725,4.001,2025-01-01,10197.50~
 import --store=S|issue,123456AA3,RIVERTON WATER 5S 2025,periodic,2020-01-01,2020-07-01,2025-01-01,5,~trade,ALPHA,T0001,123456AA3,buy,25000,2024-04-01,yield,4~trade,ALPHA,T0002,123456AA3,sell,10000,2024-04-01,price,100.725~trade,ALPHA,T0003,1234|0|1,added,123456AA3~2,confirmed,T0001,1,100.725,4.000,2025-01-01,25493.75~3,confirmed,T0002,1,100.725,4.001,2025-01-01,10197.50~4,bad,1~
 import --store=S|issue,123456AA3,RIVERTON WATER 5S 2025,periodic,2020-01-01,2020-07-01,2025-01-01,5,~trade,ALPHA,T0001,123456AA3,buy,25000,2024-04-01,yield,4~trade,ALPHA,T0002,123456AA3,sell,10000,2024-04-01,price,100.725~correct,ALPHA,T0001,2,123456AA3,buy,30000,2024-04-01,yield,4~cancel,ALPHA,T0001,3~|0|1,added,123456AA3~2,confirmed,T0001,1,100.725,4.000,2025-01-01,25493.75~3,confirmed,T0002,1,100.725,4.001,2025-01-01,10197.50~4,confirmed,T0001,2,100.725,4.000,2025-01-01,30592.50~5,confirmed,T0001,3,100.725,4.000,2025-01-01,30592.50~
-import --store=S|{ef}{bb}{bf}issue,123456AA3,RIVERTON WATER 5S 2025,periodic,2020-01-01,2020-07-01,2025-01-01,5,~trade,ALPHA,T0001,123456AA3,buy,25000,2024-04-01,yield,4~trade,ALPHA,T0002,123456AA3,sell,10000,2024-04-01,price,100.725~|0|1,added,123456AA3~2,confirmed,T0001,1,100.725,4.000,2025-01-01,25493.75~3,confirmed,T0002,1,100.725,4.001,2025-01-01,10197.50~
-import --store=S|{ef}{bb}{bf}{ef}{bb}{bf}issue,123456AA3,RIVERTON WATER 5S 2025,periodic,2020-01-01,2020-07-01,2025-01-01,5,~trade,ALPHA,T0001,123456AA3,buy,25000,2024-04-01,yield,4~trade,ALPHA,T0002,123456AA3,sell,10000,2024-04-01,price,100.725~|0|1,bad,2,1~2,refused,1,UnknownIssue~3,refused,1,UnknownIssue~
+import --store=S|<ef><bb><bf>issue,123456AA3,RIVERTON WATER 5S 2025,periodic,2020-01-01,2020-07-01,2025-01-01,5,~trade,ALPHA,T0001,123456AA3,buy,25000,2024-04-01,yield,4~trade,ALPHA,T0002,123456AA3,sell,10000,2024-04-01,price,100.725~|0|1,added,123456AA3~2,confirmed,T0001,1,100.725,4.000,2025-01-01,25493.75~3,confirmed,T0002,1,100.725,4.001,2025-01-01,10197.50~
+import --store=S|<ef><bb><bf><ef><bb><bf>issue,123456AA3,RIVERTON WATER 5S 2025,periodic,2020-01-01,2020-07-01,2025-01-01,5,~trade,ALPHA,T0001,123456AA3,buy,25000,2024-04-01,yield,4~trade,ALPHA,T0002,123456AA3,sell,10000,2024-04-01,price,100.725~|0|1,bad,2,1~2,refused,1,UnknownIssue~3,refused,1,UnknownIssue~
 import --store=S|issue,123456AA3,RIVERTON WATER 5S 2025,periodic,2020-01-01,2020-07-01,2025-01-01,5,^~trade,ALPHA,T0001,123456AA3,buy,25000,2024-04-01,yield,4^~trade,ALPHA,T0002,123456AA3,sell,10000,2024-04-01,price,100.725^~|0|1,added,123456AA3~2,confirmed,T0001,1,100.725,4.000,2025-01-01,25493.75~3,confirmed,T0002,1,100.725,4.001,2025-01-01,10197.50~
 import --store=S|issue,123456AA3,RIVERTON WATER 5S 2025,periodic,2020-01-01,2020-07-01,2025-01-01,5,^trade,ALPHA,T0001,123456AA3,buy,25000,2024-04-01,yield,4^trade,ALPHA,T0002,123456AA3,sell,10000,2024-04-01,price,100.725^|0|1,added,123456AA3~2,confirmed,T0001,1,100.725,4.000,2025-01-01,25493.75~3,confirmed,T0002,1,100.725,4.001,2025-01-01,10197.50~
 import --store=S|issue,123456AA3,RIVERTON WATER 5S 2025,periodic,2020-01-01,2020-07-01,2025-01-01,5,~trade,ALPHA,T0001,123456AA3,buy,25000,2024-04-01,yield,4~trade,ALPHA,T0002,123456AA3,sell,10000,2024-04-01,price,100.725|0|1,added,123456AA3~2,confirmed,T0001,1,100.725,4.000,2025-01-01,25493.75~3,confirmed,T0002,1,100.725,4.001,2025-01-01,10197.50~
@@ -81,8 +81,8 @@ import --store=S|issue,123456AA3,RIVERTON WATER 5S 2025,periodic,2020-01-01,2020
 import --store=S|issue,123456AA3,RIVERTON WATER 5S 2025,periodic,2020-01-01,2020-07-01,2025-01-01,5,,30/360,|0|1,bad,1~
 import --store=S|issue,123456AA3,"RIVERTON, ""5S""",periodic,2020-01-01,2020-07-01,2025-01-01,5,~trade,ALPHA,T0001,123456AA3,buy,25000,2024-04-01,yield,4~|0|1,added,123456AA3~2,confirmed,T0001,1,100.725,4.000,2025-01-01,25493.75~
 import --store=S|issue,123456AA3,"RIVER~TON",periodic,2020-01-01,2020-07-01,2025-01-01,5,~trade,ALPHA,T0001,123456AA3,buy,25000,2024-04-01,yield,4~|0|1,refused,4,BadTerms~2,refused,1,UnknownIssue~
-import --store=S|issue,123456AA3,RIVER{ff}TON,periodic,2020-01-01,2020-07-01,2025-01-01,5,~trade,ALPHA,T0001,123456AA3,buy,25000,2024-04-01,yield,4~|0|1,refused,4,BadTerms~2,refused,1,UnknownIssue~
-import --store=S|issue,123456AA3,{ef}{bb}{bf},periodic,2020-01-01,2020-07-01,2025-01-01,5,|0|1,refused,4,BadTerms~
+import --store=S|issue,123456AA3,RIVER<ff>TON,periodic,2020-01-01,2020-07-01,2025-01-01,5,~trade,ALPHA,T0001,123456AA3,buy,25000,2024-04-01,yield,4~|0|1,refused,4,BadTerms~2,refused,1,UnknownIssue~
+import --store=S|issue,123456AA3,<ef><bb><bf>,periodic,2020-01-01,2020-07-01,2025-01-01,5,|0|1,refused,4,BadTerms~
 import --store=S|issue,123456AA3,,periodic,2020-01-01,2020-07-01,2025-01-01,5,|0|1,bad,2,3~
 import --store=S|issue,123456AA3,NNNNNNNNNNNNNNNNNNNNNNNNNNNNNNNNNNNNNNNNNNNNNNNNNNNNNNNNNNNN,periodic,2020-01-01,2020-07-01,2025-01-01,5,~trade,ALPHA,T0001,123456AA3,buy,25000,2024-04-01,yield,4~|0|1,added,123456AA3~2,confirmed,T0001,1,100.725,4.000,2025-01-01,25493.75~
 import --store=S|issue,123456AA3,NNNNNNNNNNNNNNNNNNNNNNNNNNNNNNNNNNNNNNNNNNNNNNNNNNNNNNNNNNNNN,periodic,2020-01-01,2020-07-01,2025-01-01,5,~trade,ALPHA,T0001,123456AA3,buy,25000,2024-04-01,yield,4~|0|1,bad,2,3~2,refused,1,UnknownIssue~
@@ -108,8 +108,8 @@ import --store=S| trade,ALPHA,T0001,123456AA3,buy,25000,2024-04-01,yield,4|0|1,b
 import --store=S|Trade,ALPHA,T0001,123456AA3,buy,25000,2024-04-01,yield,4|0|1,bad,2,1~
 import --store=S|x~y^~z^w|0|1,bad,2,1~2,bad,2,1~3,bad,2,1~4,bad,2,1~
 import --store=S|,,,,,,,,|0|1,bad,2,1~
-import --store=S|{00}|0|1,bad,2,1~
-import --store=S|{ff}{fe}|0|1,bad,2,1~
+import --store=S|<00>|0|1,bad,2,1~
+import --store=S|<ff><fe>|0|1,bad,2,1~
 import --store=S|a,b~"a,b"~"a~b"~"a""b",c~"a"b,"c~,d"|0|1,bad,2,1~2,bad,2,1~3,bad,2,1~4,bad,2,1~5,bad,2,1~
 # Texts in which a row does not read
 base
@@ -183,7 +183,7 @@ mark --store=S|123456AA3,25000,2024-04-01,4~123456AA3,10000,2024-04-01,4~0000000
 mark --store=S||0|TOTAL,0,0.00~
 mark --store=S|123456AA3,0,2024-04-01,4|0|1,bad,2,2~TOTAL,0,0.00~
 mark --store=S|123456AA3,25000,2024-04-01~123456AA3,25000,2024-04-01,4,~123456AA,1,2024-04-01,4~123456AA3,1,2024-04-31,4~123456AA3,1,2024-04-01,four~123456AA3,25000,2025-01-01,4~|0|1,bad,1~2,bad,1~3,bad,2,1~4,bad,2,3~5,bad,2,4~6,refused,5,SettleOutside~TOTAL,0,0.00~
-mark --store=S|{ef}{bb}{bf}123456AA3,25000,2024-04-01,4^~^~"123456AA3",1,2024-04-01,-1|0|1,marked,123456AA3,100.725,2025-01-01,25493.75~2,marked,123456AA3,104.529,2025-01-01,1.06~TOTAL,2,25494.81~
+mark --store=S|<ef><bb><bf>123456AA3,25000,2024-04-01,4^~^~"123456AA3",1,2024-04-01,-1|0|1,marked,123456AA3,100.725,2025-01-01,25493.75~2,marked,123456AA3,104.529,2025-01-01,1.06~TOTAL,2,25494.81~
 mark --store=R|123456AA3,25000,2024-04-01,4~|0|1,refused,1,UnknownIssue~TOTAL,0,0.00~
 # Over a trade that was corrected and canceled
 base issue,123456AA3,RIVERTON WATER 5S 2025,periodic,2020-01-01,2020-07-01,2025-01-01,5,~trade,ALPHA,T0001,123456AA3,buy,25000,2024-04-01,yield,4~trade,ALPHA,T0002,123456AA3,sell,10000,2024-04-01,price,100.725~correct,ALPHA,T0001,2,123456AA3,buy,30000,2024-04-01,yield,4~cancel,ALPHA,T0001,3~

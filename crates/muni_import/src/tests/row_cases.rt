@@ -1,6 +1,6 @@
 //! CSV texts, and what comes of each of their rows: the name of its command, `1` where the number of
 //! its fields is wrong, and `2:COLUMN` where a field does not read. In a text `~` stands for LF, `^` for
-//! CR, and `{ef}` for the byte with that number.
+//! CR, and `<ef>` for the byte with that number.
 //!
 //! The values were computed outside the program, by another reader of records.
 
@@ -38,19 +38,19 @@ cancel,ALPHA,T0001,3^~cancel,ALPHA,T0001,3^~|cancel cancel
 cancel,ALPHA,T0001,3^^cancel,ALPHA,T0001,3|cancel cancel
 cancel,ALPHA,T0001,3~^cancel,ALPHA,T0001,3|cancel cancel
  ~cancel,ALPHA,T0001,3|2:1 cancel
-{09}~|2:1
+<09>~|2:1
 ,~|2:1
-{00}|2:1
-cancel,ALPHA,T0001,3~{1a}|cancel 2:1
+<00>|2:1
+cancel,ALPHA,T0001,3~<1a>|cancel 2:1
 # A mark of the byte order
-{ef}{bb}{bf}cancel,ALPHA,T0001,3|cancel
-{ef}{bb}{bf}|
-{ef}{bb}{bf}~cancel,ALPHA,T0001,3|cancel
-{ef}{bb}{bf}{ef}{bb}{bf}cancel,ALPHA,T0001,3|2:1
-{ef}{bb}|2:1
-{ef}cancel,ALPHA,T0001,3|2:1
-cancel,ALPHA,T0001,3~{ef}{bb}{bf}cancel,ALPHA,T0001,3|cancel 2:1
-"{ef}{bb}{bf}cancel,ALPHA,T0001,3|2:1
+<ef><bb><bf>cancel,ALPHA,T0001,3|cancel
+<ef><bb><bf>|
+<ef><bb><bf>~cancel,ALPHA,T0001,3|cancel
+<ef><bb><bf><ef><bb><bf>cancel,ALPHA,T0001,3|2:1
+<ef><bb>|2:1
+<ef>cancel,ALPHA,T0001,3|2:1
+cancel,ALPHA,T0001,3~<ef><bb><bf>cancel,ALPHA,T0001,3|cancel 2:1
+"<ef><bb><bf>cancel,ALPHA,T0001,3|2:1
 # Quotes
 "cancel","ALPHA","T0001","3"|cancel
 cancel,ALPHA,T0001,"3"~cancel,ALPHA,T0001,3|cancel cancel
@@ -70,8 +70,8 @@ cancel,ALPHA,T0001, "3"|2:4
 issue,123456AA3,"RIVERTON, WATER",periodic,2020-01-01,2020-07-01,2025-01-01,5,|issue
 issue,123456AA3,"RIVERTON ""5S"" WATER",periodic,2020-01-01,2020-07-01,2025-01-01,5,|issue
 issue,123456AA3,"A~B",periodic,2020-01-01,2020-07-01,2025-01-01,5,|issue
-issue,123456AA3,RIVERTON{ff},periodic,2020-01-01,2020-07-01,2025-01-01,5,|issue
-issue,123456AA3,{c3}{a9},periodic,2020-01-01,2020-07-01,2025-01-01,5,|issue
+issue,123456AA3,RIVERTON<ff>,periodic,2020-01-01,2020-07-01,2025-01-01,5,|issue
+issue,123456AA3,<c3><a9>,periodic,2020-01-01,2020-07-01,2025-01-01,5,|issue
 issue,123456AA3,,periodic,2020-01-01,2020-07-01,2025-01-01,5,|2:3
 issue,123456AA3,"",periodic,2020-01-01,2020-07-01,2025-01-01,5,|2:3
 issue,123456AA3, ,periodic,2020-01-01,2020-07-01,2025-01-01,5,|issue
@@ -194,7 +194,7 @@ issue,123456AA3,RIVERTON WATER 5S 2025,periodic,2020-01-01,2020-07-01,2025-01-01
 issue,123456AA3,RIVERTON WATER 5S 2025,periodic,2020-01-01,2020-07-01,2025-01-01,5, 2022-01-01:102|2:9
 issue,123456AA3,RIVERTON WATER 5S 2025,periodic,2020-01-01,2020-07-01,2025-01-01,5,2022-01-01:102 |2:9
 issue,123456AA3,RIVERTON WATER 5S 2025,periodic,2020-01-01,2020-07-01,2025-01-01,5,2022-01-01:102  2023-01-01:100|2:9
-issue,123456AA3,RIVERTON WATER 5S 2025,periodic,2020-01-01,2020-07-01,2025-01-01,5,2022-01-01:102{09}2023-01-01:100|2:9
+issue,123456AA3,RIVERTON WATER 5S 2025,periodic,2020-01-01,2020-07-01,2025-01-01,5,2022-01-01:102<09>2023-01-01:100|2:9
 issue,123456AA3,RIVERTON WATER 5S 2025,periodic,2020-01-01,2020-07-01,2025-01-01,5,2022-01-01|2:9
 issue,123456AA3,RIVERTON WATER 5S 2025,periodic,2020-01-01,2020-07-01,2025-01-01,5,2022-01-01:|2:9
 issue,123456AA3,RIVERTON WATER 5S 2025,periodic,2020-01-01,2020-07-01,2025-01-01,5,:|2:9

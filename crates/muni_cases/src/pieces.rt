@@ -4,6 +4,7 @@ ghost use Rattle.std.specs.Prelude.{◌≡◌, None};
 
 use muni_edge::{Failed, Link, MemLink, Sink, Source};
 
+/// A connection in memory that hands over at most so many bytes at a time.
 #[derive(Drop)]
 pub struct Pieces {
     link: MemLink,
@@ -11,8 +12,14 @@ pub struct Pieces {
 }
 
 impl Pieces {
+    /// A connection over one in memory, by pieces of at least one byte.
     pub fn new(link: MemLink, size: usize) -> Pieces {
         Pieces { link, size }
+    }
+
+    /// What was written to it.
+    pub fn written(&self) -> &[u8] {
+        self.link.written()
     }
 }
 
