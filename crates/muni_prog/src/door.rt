@@ -2,6 +2,9 @@
 
 ghost use Rattle.std.specs.Prelude.{◌≡◌, None};
 
+#[cfg(test)]
+mod tests;
+
 use crate::link::StreamLink;
 use muni_edge::{Door, Failed};
 use std::io::{Read, Write};
