@@ -76,6 +76,8 @@ impl<'a> Shelf for FileShelf<'a> {
 
     ghost told = { λ _ _. None };
 
+    ghost disk_faults = { λ _ _. 0 };
+
     ghost out = { λ shelf. option_map (λ name. name.items) shelf.out };
 
     ghost faults = { λ shelf. shelf.faults };

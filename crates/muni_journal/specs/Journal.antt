@@ -1,6 +1,6 @@
 -- What a disk stands for: the tables to which the open slots lead, from place 0 up to the first closed
 -- gate. A slot is a gate byte and a record, which is four bytes of length and a body.
-use Rattle.std.specs.Prelude.{ℕ, zero, suc, ◌+◌, ◌==◌, ◌&&◌, Bool, nat_le, List, [], ◌∷◌, ◌++◌, length, Option, Some, None, if◌then◌else◌}
+use Rattle.std.specs.Prelude.{◌≡◌, ◌<◌, ◌^◌, ℕ, zero, suc, ◌+◌, ◌==◌, ◌&&◌, Bool, nat_le, List, [], ◌∷◌, ◌++◌, length, Option, Some, None, if◌then◌else◌}
 use Rattle.std.specs.Option.{option_map, option_and_then}
 use Rattle.muni_keep.specs.Tables.{Tables, no_tables}
 use Rattle.muni_disk.specs.Bytes.{byte_at, bytes_at}
@@ -51,6 +51,10 @@ journal_of bytes = end_from (length bytes + 1) bytes start
 -- the tables for which a disk stands that reads so
 abbrev pub tables_of : List ℕ → Option Tables
 tables_of bytes = option_map (λ (at : Place). at.tables) (journal_of bytes)
+
+-- a disk that reads so is no journal: it stands for no tables, or its slots end past the limit
+abbrev pub IsNoJournal : List ℕ → Type 0
+IsNoJournal bytes = (e : Place) → journal_of bytes ≡ Some e → 2 ^ 40 < e.gate
 
 -- what is written for a put: its record, and the closed gate of the next slot
 unfoldable pub piece_of : Put → List ℕ

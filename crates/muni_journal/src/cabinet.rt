@@ -1,10 +1,11 @@
 //! The cabinet that lends keepers over the journals of a shelf.
 
-ghost use Rattle.std.specs.Prelude.{◌≡◌, ◌≢◌, ◌≤◌, ℕ, List, Some, None, is_some, IfOk, IfErr, IfSome, OnOk, OnErr, IsErrOf};
+ghost use Rattle.std.specs.Prelude.{◌≡◌, ◌≢◌, ◌≤◌, ◌⊎◌, ℕ, List, Some, None, is_some, IfOk, IfErr, IfSome, IsSomeAnd, OnOk, OnErr, IsErrOf};
 ghost use Rattle.std.specs.Option.{option_map, ForSome};
 ghost use Rattle.muni_edge.specs.Sink.{Rose};
 ghost use Rattle.muni_keep.specs.Tables.{no_tables};
-ghost use Rattle.muni_journal.specs.Told.{off_shelf, told_of};
+ghost use Rattle.muni_journal.specs.Journal.{IsNoJournal};
+ghost use Rattle.muni_journal.specs.Told.{off_shelf, told_of, mark_of};
 
 use crate::fetching::FetchFault;
 use crate::keeper::JournalKeeper;
@@ -60,6 +61,13 @@ fn release<S: Shelf>(shelf: &mut S, held: Held<S::D>) -> Result<(), Unreleased<S
     ensures tables { IfErr result (λ unreleased. unreleased.held.keeper.kept ≡ held.keeper.kept) }
     ensures disk { IfErr result (λ unreleased.
         is_some (S.D.bytes unreleased.held.keeper.disk) ≡ is_some (S.D.bytes held.keeper.disk)) }
+    ensures failed { IfErr result (λ unreleased. unreleased.fault ≡ DiskFault.Failed
+        → Rose (S.D.faults held.keeper.disk) (S.D.faults unreleased.held.keeper.disk)) }
+    ensures uncounted { S.faults shelf.new ≡ S.faults shelf.old }
+    ensures others { OnOk result ((other : List ℕ) → other ≢ held.name.items
+        → S.told shelf.new other ≡ S.told shelf.old other) }
+    ensures other_faults { OnOk result ((other : List ℕ) → other ≢ held.name.items
+        → S.disk_faults shelf.new other ≡ S.disk_faults shelf.old other) }
 {
     let Held { name, keeper } = held;
     match keeper.into_disk() {
@@ -79,6 +87,7 @@ fn release<S: Shelf>(shelf: &mut S, held: Held<S::D>) -> Result<(), Unreleased<S
 fn counted(faults: &mut u64, fault: DiskFault) -> KeepFault
     ensures later { faults.old ≤ faults.new }
     ensures failed { result ≡ KeepFault.Failed → Rose faults.old faults.new }
+    ensures cause { faults.new ≢ faults.old → fault ≡ DiskFault.Failed }
 {
     match fault {
         DiskFault::Failed => {
@@ -132,6 +141,11 @@ impl<S: Shelf> JournalCabinet<S> {
         ensures held { self.new.held ≡ None }
         ensures later { self.old.faults ≤ self.new.faults }
         ensures failed { IsErrOf result KeepFault.Failed → Rose self.old.faults self.new.faults }
+        ensures counted { self.new.faults ≢ self.old.faults
+            → Rose (S.faults self.old.shelf) (S.faults self.new.shelf)
+            ⊎ IfSome (S.told self.old.shelf name.items) (λ bytes.
+            Rose (S.disk_faults self.old.shelf name.items) (S.disk_faults self.new.shelf name.items)
+            ⊎ IsNoJournal bytes) }
     {
         let disk = match self.shelf.take(&name) {
             Ok(disk) => disk,
@@ -152,7 +166,10 @@ impl<S: Shelf> JournalCabinet<S> {
 }
 
 /// What stands for no journal counts as a failure of the disk.
-fn disk_fault(fault: FetchFault) -> DiskFault {
+fn disk_fault(fault: FetchFault) -> DiskFault
+    ensures cause { result ≡ DiskFault.Failed
+        → (fault ≡ FetchFault.Disk DiskFault.Failed) ⊎ (fault ≡ FetchFault.NotAJournal) }
+{
     match fault {
         FetchFault::Disk(fault) => fault,
         FetchFault::NotAJournal => DiskFault::Failed,
@@ -171,7 +188,37 @@ impl<S: Shelf> Cabinet for JournalCabinet<S> {
 
     ghost out = { λ cabinet. option_map (λ name. (name.items, mark_of (S.told cabinet.shelf name.items))) cabinet.out };
 
-    fn fetch(&mut self, name: &[u8]) -> Result<JournalKeeper<S::D>, KeepFault> {
+    fn fetch(&mut self, name: &[u8]) -> Result<JournalKeeper<S::D>, KeepFault>
+        requires { self.old.out ≡ None }
+
+        ensures tables { IfOk result (λ keeper.
+            IfSome (⟦<JournalCabinet<S> as Cabinet>⟧.told self.old name.now) (λ t. keeper.kept ≡ t)) }
+        ensures count { IfOk result (λ keeper. keeper.faults ≡ 0) }
+        ensures out { IfOk result (λ keeper. ⟦<JournalCabinet<S> as Cabinet>⟧.out self.new
+            ≡ Some (name.now, mark_of (S.D.bytes keeper.disk))) }
+        ensures tells { (other : List ℕ)
+            → is_some (⟦<JournalCabinet<S> as Cabinet>⟧.told self.new other)
+            ≡ is_some (⟦<JournalCabinet<S> as Cabinet>⟧.told self.old other) }
+        ensures others { (other : List ℕ) → other ≢ name.now
+            → ⟦<JournalCabinet<S> as Cabinet>⟧.told self.new other
+            ≡ ⟦<JournalCabinet<S> as Cabinet>⟧.told self.old other }
+        ensures unchanged { OnErr result ((other : List ℕ)
+            → ⟦<JournalCabinet<S> as Cabinet>⟧.told self.new other
+            ≡ ⟦<JournalCabinet<S> as Cabinet>⟧.told self.old other) }
+        ensures none_out { OnErr result (self.new.out ≡ None) }
+        ensures later { self.old.faults ≤ self.new.faults }
+        ensures failed { IsErrOf result KeepFault.Failed → Rose self.old.faults self.new.faults }
+
+        // It counts a fault only where its shelf failed, the disk of a held keeper did, or the disk of the
+        // name did or is no journal. The last is said of disks that tell what they read as.
+        ensures counted { self.new.faults ≢ self.old.faults
+            → Rose (S.faults self.old.shelf) (S.faults self.new.shelf)
+            ⊎ IsSomeAnd self.old.held (λ h. IsSomeAnd self.new.held (λ still.
+            Rose (S.D.faults h.keeper.disk) (S.D.faults still.keeper.disk)))
+            ⊎ IfSome (S.told self.old.shelf name.now) (λ bytes.
+            Rose (S.disk_faults self.old.shelf name.now) (S.disk_faults self.new.shelf name.now)
+            ⊎ IsNoJournal bytes) }
+    {
         let name = name.to_vec(self.alloc)?;
         let Some(held) = self.held.take() else {
             return self.lend(name);

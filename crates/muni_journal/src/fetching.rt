@@ -6,7 +6,6 @@ ghost use Rattle.muni_keep.specs.Tables.{no_tables};
 ghost use Rattle.muni_disk.specs.Bytes.{byte_at, bytes_at};
 ghost use Rattle.muni_disk.specs.Disk.{ReadsAs, HasCause};
 ghost use Rattle.muni_record.specs.Body.{put_of as spec_put_of};
-ghost use Rattle.muni_journal.specs.Journal.{Place};
 ghost use Rattle.muni_journal.specs.Journal as spec;
 
 use crate::kept::Kept;
@@ -132,7 +131,7 @@ pub(crate) fn read_slots<D: Disk>(disk: &mut D, kept: &mut Kept) -> Result<u64, 
     ensures room { IfOk result (λ gate. gate ≤ 2 ^ 40) }
     // It is no journal only where the disk stands for no tables, or its slots end past the limit.
     ensures none { result ≡ Err FetchFault.NotAJournal → (c : List ℕ) → ReadsAs (D.bytes disk.old) c
-        → (e : Place) → spec.journal_of c ≡ Some e → 2 ^ 40 < e.gate }
+        → spec.IsNoJournal c }
     ensures bytes { D.bytes disk.new ≡ D.bytes disk.old }
     ensures images { (c : List ℕ) → D.image disk.new c → D.image disk.old c }
     ensures later { D.faults disk.old ≤ D.faults disk.new }

@@ -2,6 +2,7 @@
 
 ghost use Rattle.std.specs.Prelude.{◌≡◌, ◌≢◌, ◌<◌, ◌≤◌, ◌+◌, ◌^◌, ◌⊎◌, Some, None, Ok, true, List, ℕ, length, is_some, IfOk, OnOk, OnErr, IsErrOf};
 ghost use Rattle.std.specs.Option.{ForSome, ForNone};
+ghost use Rattle.std.specs.Result.{result_map_both};
 ghost use Rattle.muni_edge.specs.Sink.{Rose};
 ghost use Rattle.muni_keep.specs.History.{next_number};
 ghost use Rattle.muni_keep.specs.Tables.{issue_at, trade_at, version_at, last_at, trade_count, page_at, with_issue, with_version};
@@ -174,7 +175,13 @@ impl<D: Disk> Keeper for JournalKeeper<D> {
 
     ghost mark = { λ keeper. mark_of (D.bytes keeper.disk) };
 
-    fn issue(&mut self, cusip: &[u8; 9]) -> Result<Option<Issue>, KeepFault> {
+    fn issue(&mut self, cusip: &[u8; 9]) -> Result<Option<Issue>, KeepFault>
+        ensures found { result ≡ Ok (issue_at self.old.kept cusip.now) }
+        ensures unchanged { self.new.kept ≡ self.old.kept }
+        ensures disk { self.new.disk ≡ self.old.disk }
+        ensures in_doubt { self.new.in_doubt ≡ self.old.in_doubt }
+        ensures faults { self.new.faults ≡ self.old.faults }
+    {
         self.kept.issue(cusip)
     }
 
@@ -188,16 +195,31 @@ impl<D: Disk> Keeper for JournalKeeper<D> {
         ensures tells { is_some (D.bytes self.new.disk) ≡ is_some (D.bytes self.old.disk) }
         ensures later { self.old.faults ≤ self.new.faults }
         ensures failed { IsErrOf result KeepFault.Failed → Rose self.old.faults self.new.faults }
+        ensures counted { self.new.faults ≢ self.old.faults
+            → Rose (D.faults self.old.disk) (D.faults self.new.disk)
+            ⊎ (2 ^ 40 < self.old.gate + 5 + length (body_of (put.Issue issue.now))) }
     {
         let put = Put::Issue(issue.copy());
         self.put(&put)
     }
 
-    fn version(&mut self, key: &Key, number: u32) -> Result<Option<Version>, KeepFault> {
+    fn version(&mut self, key: &Key, number: u32) -> Result<Option<Version>, KeepFault>
+        ensures found { result ≡ Ok (version_at self.old.kept key.now number) }
+        ensures unchanged { self.new.kept ≡ self.old.kept }
+        ensures disk { self.new.disk ≡ self.old.disk }
+        ensures in_doubt { self.new.in_doubt ≡ self.old.in_doubt }
+        ensures faults { self.new.faults ≡ self.old.faults }
+    {
         self.kept.version(key, number)
     }
 
-    fn last(&mut self, key: &Key) -> Result<Option<(u32, Version)>, KeepFault> {
+    fn last(&mut self, key: &Key) -> Result<Option<(u32, Version)>, KeepFault>
+        ensures found { result ≡ Ok (last_at self.old.kept key.now) }
+        ensures unchanged { self.new.kept ≡ self.old.kept }
+        ensures disk { self.new.disk ≡ self.old.disk }
+        ensures in_doubt { self.new.in_doubt ≡ self.old.in_doubt }
+        ensures faults { self.new.faults ≡ self.old.faults }
+    {
         self.kept.last(key)
     }
 
@@ -212,6 +234,9 @@ impl<D: Disk> Keeper for JournalKeeper<D> {
         ensures tells { is_some (D.bytes self.new.disk) ≡ is_some (D.bytes self.old.disk) }
         ensures later { self.old.faults ≤ self.new.faults }
         ensures failed { IsErrOf result KeepFault.Failed → Rose self.old.faults self.new.faults }
+        ensures counted { self.new.faults ≢ self.old.faults
+            → Rose (D.faults self.old.disk) (D.faults self.new.disk)
+            ⊎ (2 ^ 40 < self.old.gate + 5 + length (body_of (put.Version key.now number version.now))) }
     {
         let put = Put::Version {
             key: copy_key(key),
@@ -221,7 +246,13 @@ impl<D: Disk> Keeper for JournalKeeper<D> {
         self.put(&put)
     }
 
-    fn trades(&mut self, desk: &DeskName) -> Result<u32, KeepFault> {
+    fn trades(&mut self, desk: &DeskName) -> Result<u32, KeepFault>
+        ensures found { result ≡ Ok (trade_count self.old.kept desk.now) }
+        ensures unchanged { self.new.kept ≡ self.old.kept }
+        ensures disk { self.new.disk ≡ self.old.disk }
+        ensures in_doubt { self.new.in_doubt ≡ self.old.in_doubt }
+        ensures faults { self.new.faults ≡ self.old.faults }
+    {
         self.kept.trades(desk)
     }
 
@@ -229,7 +260,14 @@ impl<D: Disk> Keeper for JournalKeeper<D> {
         &mut self,
         desk: &DeskName,
         after: &Option<Reference>,
-    ) -> Result<ArrayVec<Line, 50>, KeepFault> {
+    ) -> Result<ArrayVec<Line, 50>, KeepFault>
+        ensures found { result_map_both (λ lines. lines.items) (λ fault. fault) result
+            ≡ Ok (page_at self.old.kept desk.now after.now) }
+        ensures unchanged { self.new.kept ≡ self.old.kept }
+        ensures disk { self.new.disk ≡ self.old.disk }
+        ensures in_doubt { self.new.in_doubt ≡ self.old.in_doubt }
+        ensures faults { self.new.faults ≡ self.old.faults }
+    {
         self.kept.page(desk, after)
     }
 }

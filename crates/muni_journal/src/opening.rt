@@ -1,9 +1,9 @@
 //! Opens a journal.
 
-ghost use Rattle.std.specs.Prelude.{◌≡◌, ◌<◌, ◌^◌, List, ℕ, Some, None, is_some, IfOk, IfErr};
+ghost use Rattle.std.specs.Prelude.{◌≡◌, List, ℕ, Some, None, is_some, IfOk, IfErr};
 ghost use Rattle.muni_edge.specs.Sink.{Rose};
 ghost use Rattle.muni_disk.specs.Disk.{ReadsAs};
-ghost use Rattle.muni_journal.specs.Journal.{Place, journal_of, tables_of};
+ghost use Rattle.muni_journal.specs.Journal.{IsNoJournal, tables_of};
 
 use crate::fetching::{FetchFault, read_slots};
 use crate::keeper::JournalKeeper;
@@ -34,8 +34,7 @@ pub fn open<D: Disk + Drop>(alloc: Global, disk: D) -> Result<JournalKeeper<D>, 
 
     // It is no journal only where the disk stands for no tables, or its slots end past the limit.
     ensures none { IfErr result (λ unfetched. unfetched.fault ≡ FetchFault.NotAJournal
-        → (c : List ℕ) → ReadsAs (D.bytes disk) c
-        → (e : Place) → journal_of c ≡ Some e → 2 ^ 40 < e.gate) }
+        → (c : List ℕ) → ReadsAs (D.bytes disk) c → IsNoJournal c) }
     ensures failed { IfErr result (λ unfetched. unfetched.fault ≡ FetchFault.Disk DiskFault.Failed
         → Rose (D.faults disk) (D.faults unfetched.disk)) }
 
@@ -90,6 +89,8 @@ impl<D: Disk> JournalKeeper<D> {
         ensures kept { IfErr result (λ unsettled. unsettled.keeper.kept ≡ self.kept) }
         ensures disk { IfErr result (λ unsettled.
             is_some (D.bytes unsettled.keeper.disk) ≡ is_some (D.bytes self.disk)) }
+        ensures failed { IfErr result (λ unsettled. unsettled.fault ≡ DiskFault.Failed
+            → Rose (D.faults self.disk) (D.faults unsettled.keeper.disk)) }
     {
         let mut keeper = self;
         if let Err(fault) = keeper.settle() {

@@ -9,13 +9,18 @@ use Rattle.muni_shelf.specs.declared.mem_shelf.Place.{Place}
 abbrev pub has_place : List Place → List ℕ → Bool
 has_place places name = list_any (λ (place : Place). pointwise nat_eq place.name.items name) places
 
--- what a disk reads as, and nothing where it is out
+-- the disk of a name, where it has one that is not out
+abbrev pub disk_under : List Place → List ℕ → Option MemDisk
+disk_under [] name = None
+disk_under (place ∷ places) name =
+    if pointwise nat_eq place.name.items name then place.disk else disk_under places name
+
+-- what a disk reads as, and nothing where there is none
 abbrev pub bytes_of : Option MemDisk → List ℕ
 bytes_of None = []
 bytes_of (Some disk) = disk.bytes.items
 
--- what the disk of a name reads as, and nothing where it has no place
-abbrev pub bytes_under : List Place → List ℕ → List ℕ
-bytes_under [] name = []
-bytes_under (place ∷ places) name =
-    if pointwise nat_eq place.name.items name then bytes_of place.disk else bytes_under places name
+-- how often a disk has failed
+abbrev pub faults_of : Option MemDisk → ℕ
+faults_of None = 0
+faults_of (Some disk) = disk.faults

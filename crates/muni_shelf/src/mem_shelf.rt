@@ -1,9 +1,9 @@
 //! A shelf in memory.
 
-ghost use Rattle.std.specs.Prelude.{◌≡◌, ◌≢◌, ℕ, List, [], true, false, map, Some, None, Err, IfOk, OnOk, OnErr};
+ghost use Rattle.std.specs.Prelude.{◌≡◌, ◌≢◌, ℕ, List, true, false, map, Some, None, Err, IfOk, OnOk, OnErr};
 ghost use Rattle.std.specs.Option.{ForSome};
 ghost use Rattle.muni_edge.specs.Calls.{none_made};
-ghost use Rattle.muni_shelf.specs.Places.{has_place, bytes_of, bytes_under};
+ghost use Rattle.muni_shelf.specs.Places.{has_place, disk_under};
 
 use crate::shelf::Shelf;
 use muni_disk::{DiskFault, MemDisk};
@@ -31,13 +31,13 @@ pub struct MemShelf {
 fn exchange(places: &mut [Place], name: &[u8], disk: &mut Option<MemDisk>) -> bool
     ensures there { result ≡ has_place places.old name.now }
     ensures places { (other : List ℕ) → has_place places.new other ≡ has_place places.old other }
-    ensures put { result ≡ true → bytes_under places.new name.now ≡ bytes_of disk.old }
-    ensures got { result ≡ true → bytes_of disk.new ≡ bytes_under places.old name.now }
-    ensures none { result ≡ false → bytes_under places.old name.now ≡ [] }
+    ensures put { result ≡ true → disk_under places.new name.now ≡ disk.old }
+    ensures got { result ≡ true → disk.new ≡ disk_under places.old name.now }
+    ensures none { result ≡ false → disk_under places.old name.now ≡ None }
     ensures kept { result ≡ false → disk.new ≡ disk.old }
     ensures unchanged { result ≡ false → places.new ≡ places.old }
     ensures others { (other : List ℕ) → other ≢ name.now
-        → bytes_under places.new other ≡ bytes_under places.old other }
+        → disk_under places.new other ≡ disk_under places.old other }
 {
     let Some((first, rest)) = places.split_first_mut() else {
         return false;
@@ -56,9 +56,9 @@ fn take_out(
     name: &[u8],
 ) -> Result<Option<MemDisk>, AllocError>
     ensures there { OnOk result (has_place places.new.items name.now ≡ true) }
-    ensures disk { IfOk result (λ disk. bytes_of disk ≡ bytes_under places.old.items name.now) }
+    ensures disk { IfOk result (λ disk. disk ≡ disk_under places.old.items name.now) }
     ensures others { OnOk result ((other : List ℕ) → other ≢ name.now
-        → bytes_under places.new.items other ≡ bytes_under places.old.items other) }
+        → disk_under places.new.items other ≡ disk_under places.old.items other) }
     ensures unchanged { OnErr result (places.new.items ≡ places.old.items) }
 {
     let mut disk = None;
@@ -105,11 +105,13 @@ impl MemShelf {
 impl Shelf for MemShelf {
     ghost use Rattle.std.specs.Option.{option_map};
     ghost use Rattle.muni_edge.specs.Calls.{none_made};
-    ghost use Rattle.muni_shelf.specs.Places.{bytes_under};
+    ghost use Rattle.muni_shelf.specs.Places.{disk_under, bytes_of, faults_of};
 
     type D = MemDisk;
 
-    ghost told = { λ shelf name. Some (bytes_under shelf.places.items name) };
+    ghost told = { λ shelf name. Some (bytes_of (disk_under shelf.places.items name)) };
+
+    ghost disk_faults = { λ shelf name. faults_of (disk_under shelf.places.items name) };
 
     ghost out = { λ shelf. option_map (λ name. name.items) shelf.out };
 

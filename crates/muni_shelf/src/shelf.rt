@@ -1,6 +1,6 @@
 //! What lends disks by name.
 
-ghost use Rattle.std.specs.Prelude.{◌≡◌, ◌≢◌, ℕ, List, Option, Some, None, is_some, IfOk, OnOk, OnErr};
+ghost use Rattle.std.specs.Prelude.{◌≡◌, ◌≢◌, ℕ, List, Option, Some, None, is_some, IfOk, IfSome, OnOk, OnErr};
 ghost use Rattle.muni_disk.specs.Disk.{HasCause};
 
 use muni_disk::{Disk, DiskFault};
@@ -13,6 +13,9 @@ pub trait Shelf {
     /// bytes or other.
     ghost told: { Self → List ℕ → Option (List ℕ) };
 
+    /// How often the disk under a name has failed. It is told where the disk tells what it reads as.
+    ghost disk_faults: { Self → List ℕ → ℕ };
+
     /// The name of the disk that is out.
     ghost out: { Self → Option (List ℕ) };
 
@@ -24,12 +27,16 @@ pub trait Shelf {
         requires { out self.old ≡ None }
 
         ensures disk { IfOk result (λ disk. Self.D.bytes disk ≡ told self.old name.now) }
+        ensures disk_faults { IfOk result (λ disk. IfSome (told self.old name.now)
+            (λ _. Self.D.faults disk ≡ disk_faults self.old name.now)) }
         ensures out { OnOk result (out self.new ≡ Some name.now) }
         ensures none_out { OnErr result (out self.new ≡ None) }
 
         // The disks of the other names stay as they are, and after a refusal those of all names.
         ensures tells { (other : List ℕ) → is_some (told self.new other) ≡ is_some (told self.old other) }
         ensures others { (other : List ℕ) → other ≢ name.now → told self.new other ≡ told self.old other }
+        ensures other_faults { (other : List ℕ) → other ≢ name.now
+            → disk_faults self.new other ≡ disk_faults self.old other }
         ensures unchanged { OnErr result ((other : List ℕ) → told self.new other ≡ told self.old other) }
         ensures cause { HasCause (faults self.old) (faults self.new) result };
 
@@ -39,8 +46,12 @@ pub trait Shelf {
 
         ensures disk { is_some (told self.old name.now) ≡ is_some (Self.D.bytes disk)
             → told self.new name.now ≡ Self.D.bytes disk }
+        ensures disk_faults { IfSome (told self.old name.now)
+            (λ _. disk_faults self.new name.now ≡ Self.D.faults disk) }
         ensures none_out { out self.new ≡ None }
         ensures tells { (other : List ℕ) → is_some (told self.new other) ≡ is_some (told self.old other) }
         ensures others { (other : List ℕ) → other ≢ name.now → told self.new other ≡ told self.old other }
+        ensures other_faults { (other : List ℕ) → other ≢ name.now
+            → disk_faults self.new other ≡ disk_faults self.old other }
         ensures uncounted { faults self.new ≡ faults self.old };
 }

@@ -1,7 +1,7 @@
 use Rattle.std.proofs.Common.{◌≡◌, refl, sym, ap, ◌∙◌, rules, List, [], ◌∷◌, ◌++◌, None, length}
 use Rattle.muni_shelf.specs.declared.mem_shelf.Place.{Place}
-use Rattle.muni_shelf.specs.Places.{has_place, bytes_under}
-use Rattle.muni_shelf.proofs.PlaceLemmas.{has_new, others_read, one_more}
+use Rattle.muni_shelf.specs.Places.{has_place, disk_under}
+use Rattle.muni_shelf.proofs.PlaceLemmas.{has_new, others_have, one_more}
 use Rattle.muni_shelf.proofs.mem_shelf.take_out.Goals as goal
 
 pub returns-clause-there : goal.returns-clause-there
@@ -21,4 +21,4 @@ returns-clause-others c other differs =
     let named : place.name.items ≡ c.args.name.now = search rules in
     let long : old.len ≡ length old.items = search rules in
     let pushed = one_more old.len old.items c.exchange.new.places c.push.new.self.items place c.in_ok-push.ensures.items (c.if-exchange.ensures.unchanged refl ∙ c.deref_mut.ensures.value) long in
-    ap (λ (places : List Place). bytes_under places other) pushed ∙ others_read old.items place other (λ same. differs (same ∙ named))
+    ap (λ (places : List Place). disk_under places other) pushed ∙ others_have old.items place other (λ same. differs (same ∙ named))
