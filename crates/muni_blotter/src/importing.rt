@@ -5,16 +5,17 @@ ghost use Rattle.muni_book.specs.Answers.{IsRightAnswer};
 ghost use Rattle.muni_edge.specs.Sink.{Rose, HasWritten, HasWrittenPart};
 ghost use Rattle.muni_office.specs.End.{IsImportEnd, IsRowsEnd, WasRead};
 ghost use Rattle.muni_office.specs.Import.{DidFirst};
+ghost use Rattle.muni_position.specs.Holdings.{HasTooMany};
 ghost use Rattle.muni_blotter.specs.Importing.{DidAll, DidSome};
 ghost use Rattle.muni_blotter.specs.Listing.{MayNotSum, IsListingEnd, positions_text};
 
-use crate::listing::watched_lines;
+use crate::listing::lines_of;
 use muni_edge::{Gate, Sink, Source};
 use muni_keep::{Cabinet, KeepFault, Keeper};
 use muni_msg::DeskName;
 use muni_multi::Encloser;
 use muni_office::{End, InputFault, LIMIT, import_rows, read_input};
-use muni_position::{Positioned, over};
+use muni_position::{Positioned, follow, over};
 use std::alloc::Global;
 use std::thread::Threads;
 
@@ -60,6 +61,10 @@ pub fn import_with_positions<
         × IfSome (I.left input.old) (λ text. 4_194_304 < length text) }
     ensures limit { WasRead result → IfSome (I.left input.old) (λ text. length text ≤ 4_194_304) }
 
+    // Where the desk has more trades than are summed, no row is done.
+    ensures too_many { IfSome (C.told cabinet.old store.now) (λ t. HasTooMany desk.now t
+        → (C.told cabinet.new store.now ≡ C.told cabinet.old store.now) × (output.new ≡ output.old)) }
+
     // The tables of other stores stay as they are, and no keeper stays out.
     ensures others { (other : List ℕ) → other ≢ store.now → C.told cabinet.new other ≡ C.told cabinet.old other }
     ensures none_out { C.out cabinet.new ≡ None }
@@ -89,8 +94,8 @@ pub fn import_with_positions<
     end
 }
 
-// The rows of a text over a keeper, whose desk is summed before the first, and its positions behind
-// the report on the last.
+// The rows of a text over a keeper whose desk is watched before the first, and its positions behind the
+// report on the last.
 fn import_and_list<R: Threads + Sync, K: Keeper, O: Sink, E: Encloser + Sync, G: Gate + Sync>(
     rt: &R,
     alloc: Global,
@@ -113,6 +118,8 @@ fn import_and_list<R: Threads + Sync, K: Keeper, O: Sink, E: Encloser + Sync, G:
         DidFirst (IsRightAnswer (E.ends encloser.now)) text.now t (K.tables result.1) (O.bytes output.old) (O.bytes output.new)) }
     ensures write { result.0 ≡ End.WriteFault → IfSome (K.tables keeper) (λ t.
         DidSome (IsRightAnswer (E.ends encloser.now)) desk.now text.now t (K.tables result.1) (O.bytes output.old) (O.bytes output.new)) }
+    ensures too_many { IfSome (K.tables keeper) (λ t. HasTooMany desk.now t
+        → (K.tables result.1 ≡ K.tables keeper) × (output.new ≡ output.old)) }
     ensures store_fault { result.0 ≡ End.StoreFault → Rose (K.faults keeper) (K.faults result.1)
         ⊎ MayNotSum desk.now (K.tables keeper) }
     ensures write_fault { result.0 ≡ End.WriteFault → Rose (O.faults output.old) (O.faults output.new) }
@@ -125,27 +132,28 @@ fn import_and_list<R: Threads + Sync, K: Keeper, O: Sink, E: Encloser + Sync, G:
         Err(KeepFault::Failed) => return (End::StoreFault, positioned.back()),
         Err(KeepFault::NoMemory) => return (End::NoMemory, positioned.back()),
     }
-    let mut keeper = positioned.back();
-    match import_rows(
+    let mut following = follow(positioned);
+    let end = import_rows(
         rt,
         alloc,
         text,
-        &mut keeper,
+        &mut following,
         output,
         workers,
         encloser,
         gate,
-    ) {
+    );
+    let mut positioned = following.back();
+    match end {
         End::Done => {
-            let mut positioned = over(alloc, keeper);
             let end = list(alloc, desk, &mut positioned, output);
             (end, positioned.back())
         }
-        end => (end, keeper),
+        end => (end, positioned.back()),
     }
 }
 
-// The positions of a desk that is watched from now on.
+// The positions of a desk, which is watched anew where its watch was lost.
 fn list<K: Keeper, O: Sink>(
     alloc: Global,
     desk: &DeskName,
@@ -167,7 +175,7 @@ fn list<K: Keeper, O: Sink>(
     ensures write_fault { result ≡ End.WriteFault → Rose (O.faults output.old) (O.faults output.new) }
     ensures others { IsListingEnd result }
 {
-    match watched_lines(alloc, keeper, desk) {
+    match lines_of(alloc, keeper, desk) {
         Ok(lines) => match output.put(lines.as_slice()) {
             Ok(()) => End::Done,
             Err(_) => End::WriteFault,

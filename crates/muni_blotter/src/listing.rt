@@ -68,13 +68,13 @@ fn fetch_lines<C: Cabinet>(
         ⊎ MayNotSum desk.now (C.told cabinet.old store.now) }
 {
     let mut positioned = over(alloc, cabinet.fetch(store)?);
-    let lines = watched_lines(alloc, &mut positioned, desk);
+    let lines = lines_of(alloc, &mut positioned, desk);
     cabinet.give_back(positioned.back());
     lines
 }
 
-// The lines of a desk that is watched from now on.
-pub(crate) fn watched_lines<K: Keeper>(
+// The lines of a desk, which is watched from now on where it is not yet.
+pub(crate) fn lines_of<K: Keeper>(
     alloc: Global,
     keeper: &mut Positioned<K>,
     desk: &DeskName,
@@ -88,6 +88,8 @@ pub(crate) fn watched_lines<K: Keeper>(
         → Rose (K.faults keeper.old.inner) (K.faults keeper.new.inner)
         ⊎ MayNotSum desk.now (K.tables keeper.old.inner) }
 {
-    keeper.watch(desk)?;
+    if !keeper.watches(desk) {
+        keeper.watch(desk)?;
+    }
     Ok(keeper.lines(alloc)?)
 }

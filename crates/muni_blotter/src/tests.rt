@@ -2,7 +2,7 @@
 
 ghost use Rattle.std.specs.Prelude.{◌≡◌, None};
 
-use crate::positions;
+use crate::{import_with_positions, positions};
 use muni_edge::{MemSink, MemSource, NoGate};
 use muni_keep::{Cabinet, MemCabinet, MemKeeper};
 use muni_msg::DeskName;
@@ -103,6 +103,59 @@ fn each_fault_ends_the_list_with_nothing_written(rt: HostRuntime) -> Result<(), 
         let (end, output) = list(alloc, b"ALPHA", &[], &mut cabinet)?;
         assert_eq!(rt; end, End::Done);
         assert_eq!(rt; output.bytes(), BEFORE);
+    }
+    Ok(())
+}
+
+const LISTED: &[u8] = b"1,added,123456AA3
+2,confirmed,T0001,1,100.725,4.000,2025-01-01,25493.75
+3,confirmed,T0002,1,100.725,4.001,2025-01-01,10197.50
+123456AA3 2 25000 10000 15000 15296.25
+";
+
+// How an import with the positions of ALPHA ends where a call of the keeper fails, and what it writes.
+fn import_listed<R: Threads + Sync>(
+    rt: &R,
+    alloc: Global,
+    call: u64,
+) -> Result<(End, MemSink), Fail> {
+    let desk = DeskName::read(b"ALPHA").ok().ok_or("a desk")?;
+    let mut keepers = Vec::new(alloc);
+    keepers.push((b"S".to_vec(alloc)?, MemKeeper::new(alloc, &[call])?))?;
+    let mut cabinet = MemCabinet::new(alloc, keepers, &[])?;
+    let mut input = MemSource::new(alloc, ROWS, &[])?;
+    let mut output = MemSink::new(alloc, 4096, &[])?;
+    let end = import_with_positions(
+        rt,
+        alloc,
+        b"S",
+        &desk,
+        1,
+        &mut input,
+        &mut output,
+        &mut cabinet,
+        &Doubling,
+        &NoGate,
+    );
+    Ok((end, output))
+}
+
+// One page is asked for before the first row, and none behind the last: the last call is the put of the
+// third row.
+#[test]
+fn the_lines_behind_a_report_take_no_call(rt: HostRuntime) -> Result<(), Fail> {
+    for (call, wanted, length) in [
+        (0u64, End::StoreFault, 0usize),
+        (1, End::StoreFault, 0),
+        (2, End::StoreFault, 0),
+        (3, End::StoreFault, 18),
+        (12, End::StoreFault, 72),
+        (13, End::Done, 165),
+    ] {
+        let (end, output) = import_listed(&rt, rt.alloc(), call)?;
+        assert_eq!(rt; end, wanted);
+        assert_eq!(rt; output.bytes().len(), length);
+        assert!(rt; LISTED.starts_with(output.bytes()));
     }
     Ok(())
 }

@@ -1,5 +1,5 @@
 -- The holdings of a desk after a put.
-use Rattle.std.proofs.Common.{◌≡◌, ◌+◌, ◌≤◌, ◌^◌, ◌-◌, min, ℕ, Bool, true, false, cond, List, map, Option, Some, None, Result, Ok, Err, refl, sym, ap, subst, inl, inr, ◌⊎◌, ◌∙◌, arith}
+use Rattle.std.proofs.Common.{◌≡◌, ℕ, true, false, cond, List, map, Option, Some, None, Result, Ok, Err, refl, sym, ap, subst, inl, inr, ◌⊎◌, ◌∙◌}
 use Rattle.std.specs.Prelude.{IfSome, OnOk, OnErr}
 use Rattle.std.specs.Option.{unwrap_or, option_map}
 use Rattle.std.specs.Ordering.{eq_by_cmp}
@@ -58,6 +58,10 @@ watched_is None desk name tested is = absurd (cc tested)
 watched_is (Some watched) desk name tested is =
     let same : watched ≡ desk = cc is in
     sym (tells_apart exact_bytes watched name tested) ∙ same
+
+pub watched_desk : (watched : Option (List ℕ)) (desk : List ℕ) → is_watched watched desk ≡ true → watched ≡ Some desk
+watched_desk None desk tested = absurd (cc tested)
+watched_desk (Some watched) desk tested = ap Some (tells_apart exact_bytes watched desk tested)
 
 -- the holdings are right after a put of the watched desk
 pub right_after : (watched : Option (List ℕ)) (told now : Option Tables) (old new : Holdings) (key : Key) (version : Version) (last : Option (ℕ × Version))

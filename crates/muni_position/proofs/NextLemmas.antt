@@ -1,7 +1,7 @@
 -- The positions of a desk in the order of their CUSIPs.
-use Rattle.std.proofs.Common.{arith, ◌≡◌, ◌<◌, ◌≤◌, ◌++◌, append_assoc, ℕ, zero, suc, Bool, true, false, cond, List, [], ◌∷◌, length, map, Option, Some, None, refl, sym, ap, subst, ◌∙◌}
-use Rattle.std.specs.Prelude.{◌&&◌, not, IfSome, is_some, slice_get, nat_lt, T}
-use Rattle.std.specs.List.{filter, list_any, AllByRecursion}
+use Rattle.std.proofs.Common.{arith, ◌≡◌, ◌<◌, ◌≤◌, ◌++◌, append_assoc, ℕ, suc, Bool, true, false, cond, List, [], ◌∷◌, length, map, Option, Some, None, refl, sym, ap, subst, ◌∙◌}
+use Rattle.std.specs.Prelude.{◌&&◌, IfSome, is_some, slice_get, nat_lt, T}
+use Rattle.std.specs.List.{filter, AllByRecursion}
 use Rattle.std.specs.List.Sorted.{IsStrictlySortedBy}
 use Rattle.std.specs.Map.{keys_of, lookup}
 use Rattle.std.specs.Option.{unwrap_or}
@@ -14,7 +14,7 @@ use Rattle.std.specs.BTreeMap.{is_at}
 use Rattle.std.specs.BTreeMap.Range.{entries_between, range_contains}
 use Rattle.std.specs.Cmp.{eq_by_cmp_equiv}
 use Rattle.std.specs.Cmp.Lexicographic.{nat_list_cmp_total}
-use Rattle.std.specs.FinMap.{from_entries, entries, entries_sorted, get-entries, get-from_entries, find, is_sorted}
+use Rattle.std.specs.FinMap.{from_entries, entries_sorted, get-entries, get-from_entries, find, is_sorted}
 use Rattle.std.specs.FinMap.Entries.{below_all, same_entries}
 use Rattle.std.proofs.lemmas.Bool.Decides.{nat_tests}
 use Rattle.std.proofs.lemmas.List.Elements.{filter_agree}
@@ -26,7 +26,7 @@ use Rattle.muni_msg.specs.declared.version.Version.{Version}
 use Rattle.muni_keep.specs.Tables.{Tables}
 use Rattle.muni_keep.specs.Trades.{by_bytes, is_past}
 use Rattle.muni_position.specs.Positions.{is_live, counts, last_versions, position_of, positions_of, past}
-use Rattle.muni_position.specs.Holding.{nothing, holding_of, position_in}
+use Rattle.muni_position.specs.Holding.{nothing, position_in}
 use Rattle.muni_position.specs.Holdings.{Holdings, kept, AreOf, AreRight, bound_past}
 use Rattle.muni_position.specs.Line.{position_line, position_lines}
 use Rattle.muni_position.specs.Laws.{AreThoseHeld, if_live}

@@ -1,5 +1,5 @@
 -- The holdings of a desk after a put.
-use Rattle.std.proofs.Common.{◌≡◌, ℕ, ◌+◌, Bool, true, false, cond, List, [], ◌∷◌, map, Option, Some, None, refl, sym, ap, subst, ◌∙◌, arith}
+use Rattle.std.proofs.Common.{◌≡◌, ℕ, ◌+◌, Bool, true, false, cond, List, [], ◌∷◌, map, Option, Some, None, refl, sym, ap, ◌∙◌}
 use Rattle.std.specs.Prelude.{◌&&◌, T}
 use Rattle.std.specs.Option.{unwrap_or, option_map}
 use Rattle.std.specs.List.{sum_by, AllByRecursion}
@@ -8,7 +8,7 @@ use Rattle.std.specs.Map.{keys_of, values_of, lookup}
 use Rattle.std.specs.BTreeMap.{is_at, insert_entry}
 use Rattle.std.specs.declared.cmp.Ordering.{Ordering}
 use Rattle.std.specs.declared.cmp.Ordering.TheVariants.{Less, Equal, Greater}
-use Rattle.std.specs.Ordering.{eq_by_cmp, is_lt, match_ordering}
+use Rattle.std.specs.Ordering.{is_lt, match_ordering}
 use Rattle.std.specs.Cmp.{eq_by_cmp_equiv}
 use Rattle.std.specs.Cmp.Lexicographic.{nat_list_cmp_total}
 use Rattle.std.specs.FinMap.{FinMap, empty, get, insert, entries, find, put, is_sorted, entries_sorted, get-entries, get-insert, entries-insert}

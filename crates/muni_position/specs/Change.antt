@@ -1,5 +1,5 @@
 -- How a put changes the holdings of a desk.
-use Rattle.std.specs.Prelude.{◌≡◌, ◌≢◌, ℕ, Bool, true, List, Option, Some, None, if◌then◌else◌}
+use Rattle.std.specs.Prelude.{◌≡◌, ℕ, true, List, Option, Some, None, if◌then◌else◌}
 use Rattle.std.specs.Ordering.{eq_by_cmp}
 use Rattle.muni_msg.specs.declared.version.Version.{Version}
 use Rattle.muni_msg.specs.declared.command.Key.{Key}

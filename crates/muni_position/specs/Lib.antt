@@ -4,3 +4,4 @@ pub mod Holdings
 pub mod Laws
 pub mod Line
 pub mod Positions
+pub mod Watching

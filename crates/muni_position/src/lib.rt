@@ -2,6 +2,7 @@
 #![tactic(auto)]
 
 mod change;
+mod following;
 mod holding;
 mod holdings;
 mod laws;
@@ -11,7 +12,9 @@ mod position;
 mod positioned;
 #[cfg(test)]
 mod tests;
+mod unput;
 
+pub use following::{Following, follow};
 pub use laws::positions_are_those_held;
 pub use line::position_line;
 pub use position::Position;

@@ -19,6 +19,7 @@ use crate::holdings::{Holdings, kept};
 use crate::line::position_line;
 use crate::pages::sum_desk;
 use crate::position::Position;
+use crate::unput::Unput;
 use arrayvec::ArrayVec;
 use muni_edge::NoMemory;
 use muni_keep::{KeepFault, Keeper};
@@ -34,7 +35,7 @@ use std::ops::Bound;
 #[derive(Drop)]
 pub struct Positioned<K: Keeper> {
     alloc: Global,
-    inner: K,
+    pub(crate) inner: K,
     faults: u64,
     desk: Option<DeskName>,
     holdings: Holdings,
@@ -83,8 +84,9 @@ impl<K: Keeper> Positioned<K> {
         // Its own count rises only where the desk has too many trades, and then it is refused.
         ensures own { IfSome (K.tables self.old.inner) (λ t. HasFew desk.now t → self.new.faults ≡ self.old.faults) }
         ensures few { OnOk result (IfSome (K.tables self.old.inner) (λ t. HasFew desk.now t)) }
+        ensures kept { OnOk result (self.new.faults ≡ self.old.faults) }
     {
-        self.desk = None;
+        self.unwatch();
         let Some(holdings) = sum_desk(self.alloc, &mut self.inner, desk)? else {
             self.faults = self.faults.saturating_add(1);
             return Err(KeepFault::Failed);
@@ -167,6 +169,8 @@ impl<K: Keeper> Positioned<K> {
 }
 
 impl<K: Keeper> Keeper for Positioned<K> {
+    ghost use Rattle.muni_position.specs.Watching.{KeepsWatch};
+
     ghost tables = { λ keeper. K.tables keeper.inner };
 
     ghost faults = { λ keeper. K.faults keeper.inner + keeper.faults };
@@ -176,12 +180,7 @@ impl<K: Keeper> Keeper for Positioned<K> {
     fn issue(&mut self, cusip: &[u8; 9]) -> Result<Option<Issue>, KeepFault>
         ensures found { IfOk result (λ issue. IfSome (K.tables self.old.inner) (λ t. issue ≡ issue_at t cusip.now)) }
         ensures unchanged { K.tables self.new.inner ≡ K.tables self.old.inner }
-        ensures later { K.faults self.old.inner + self.old.faults ≤ K.faults self.new.inner + self.new.faults }
-        ensures failed { IsErrOf result KeepFault.Failed
-            → Rose (K.faults self.old.inner + self.old.faults) (K.faults self.new.inner + self.new.faults) }
-        ensures mark { K.mark self.new.inner ≡ K.mark self.old.inner }
-        ensures desk { self.new.desk ≡ self.old.desk }
-        ensures own { self.new.faults ≡ self.old.faults }
+        ensures watch { KeepsWatch result self.old self.new }
     {
         self.inner.issue(cusip)
     }
@@ -192,12 +191,7 @@ impl<K: Keeper> Keeper for Positioned<K> {
         ensures kept { OnOk result
             (K.tables self.new.inner ≡ option_map (with_issue issue.now) (K.tables self.old.inner)) }
         ensures unchanged { OnErr result (K.tables self.new.inner ≡ K.tables self.old.inner) }
-        ensures later { K.faults self.old.inner + self.old.faults ≤ K.faults self.new.inner + self.new.faults }
-        ensures failed { IsErrOf result KeepFault.Failed
-            → Rose (K.faults self.old.inner + self.old.faults) (K.faults self.new.inner + self.new.faults) }
-        ensures mark { K.mark self.new.inner ≡ K.mark self.old.inner }
-        ensures desk { self.new.desk ≡ self.old.desk }
-        ensures own { self.new.faults ≡ self.old.faults }
+        ensures watch { KeepsWatch result self.old self.new }
     {
         self.inner.put_issue(issue)
     }
@@ -205,12 +199,7 @@ impl<K: Keeper> Keeper for Positioned<K> {
     fn version(&mut self, key: &Key, number: u32) -> Result<Option<Version>, KeepFault>
         ensures found { IfOk result (λ version. IfSome (K.tables self.old.inner) (λ t. version ≡ version_at t key.now number)) }
         ensures unchanged { K.tables self.new.inner ≡ K.tables self.old.inner }
-        ensures later { K.faults self.old.inner + self.old.faults ≤ K.faults self.new.inner + self.new.faults }
-        ensures failed { IsErrOf result KeepFault.Failed
-            → Rose (K.faults self.old.inner + self.old.faults) (K.faults self.new.inner + self.new.faults) }
-        ensures mark { K.mark self.new.inner ≡ K.mark self.old.inner }
-        ensures desk { self.new.desk ≡ self.old.desk }
-        ensures own { self.new.faults ≡ self.old.faults }
+        ensures watch { KeepsWatch result self.old self.new }
     {
         self.inner.version(key, number)
     }
@@ -218,12 +207,7 @@ impl<K: Keeper> Keeper for Positioned<K> {
     fn last(&mut self, key: &Key) -> Result<Option<(u32, Version)>, KeepFault>
         ensures found { IfOk result (λ last. IfSome (K.tables self.old.inner) (λ t. last ≡ last_at t key.now)) }
         ensures unchanged { K.tables self.new.inner ≡ K.tables self.old.inner }
-        ensures later { K.faults self.old.inner + self.old.faults ≤ K.faults self.new.inner + self.new.faults }
-        ensures failed { IsErrOf result KeepFault.Failed
-            → Rose (K.faults self.old.inner + self.old.faults) (K.faults self.new.inner + self.new.faults) }
-        ensures mark { K.mark self.new.inner ≡ K.mark self.old.inner }
-        ensures desk { self.new.desk ≡ self.old.desk }
-        ensures own { self.new.faults ≡ self.old.faults }
+        ensures watch { KeepsWatch result self.old self.new }
     {
         self.inner.last(key)
     }
@@ -247,29 +231,20 @@ impl<K: Keeper> Keeper for Positioned<K> {
         ensures room { OnOk result
             (IfSome (K.tables self.old.inner) (λ t. ¬ (HasNoRoomFor self.old.desk key.now version.now t))) }
     {
-        if !self.watches(&key.desk) {
-            return self.inner.put_version(key, number, version);
+        match self.put(key, number, version) {
+            Ok(()) => Ok(()),
+            Err(Unput::Refused(fault)) => Err(fault),
+            Err(Unput::NoRoom) => {
+                self.faults = self.faults.saturating_add(1);
+                Err(KeepFault::Failed)
+            }
         }
-        let last = self.inner.last(key)?;
-        let Some(change) = Change::of(&self.holdings, &last, version) else {
-            self.faults = self.faults.saturating_add(1);
-            return Err(KeepFault::Failed);
-        };
-        change.make_room(&mut self.holdings)?;
-        self.inner.put_version(key, number, version)?;
-        change.make(&mut self.holdings);
-        Ok(())
     }
 
     fn trades(&mut self, desk: &DeskName) -> Result<u32, KeepFault>
         ensures found { IfOk result (λ count. IfSome (K.tables self.old.inner) (λ t. count ≡ trade_count t desk.now)) }
         ensures unchanged { K.tables self.new.inner ≡ K.tables self.old.inner }
-        ensures later { K.faults self.old.inner + self.old.faults ≤ K.faults self.new.inner + self.new.faults }
-        ensures failed { IsErrOf result KeepFault.Failed
-            → Rose (K.faults self.old.inner + self.old.faults) (K.faults self.new.inner + self.new.faults) }
-        ensures mark { K.mark self.new.inner ≡ K.mark self.old.inner }
-        ensures desk { self.new.desk ≡ self.old.desk }
-        ensures own { self.new.faults ≡ self.old.faults }
+        ensures watch { KeepsWatch result self.old self.new }
     {
         self.inner.trades(desk)
     }
@@ -282,23 +257,63 @@ impl<K: Keeper> Keeper for Positioned<K> {
         ensures found { IfOk result
             (λ lines. IfSome (K.tables self.old.inner) (λ t. lines.items ≡ page_at t desk.now after.now)) }
         ensures unchanged { K.tables self.new.inner ≡ K.tables self.old.inner }
-        ensures later { K.faults self.old.inner + self.old.faults ≤ K.faults self.new.inner + self.new.faults }
-        ensures failed { IsErrOf result KeepFault.Failed
-            → Rose (K.faults self.old.inner + self.old.faults) (K.faults self.new.inner + self.new.faults) }
-        ensures mark { K.mark self.new.inner ≡ K.mark self.old.inner }
-        ensures desk { self.new.desk ≡ self.old.desk }
-        ensures own { self.new.faults ≡ self.old.faults }
+        ensures watch { KeepsWatch result self.old self.new }
     {
         self.inner.page(desk, after)
     }
 }
 
 impl<K: Keeper> Positioned<K> {
+    ghost use Rattle.std.specs.Prelude.{Err, IsTrue};
     ghost use Rattle.muni_position.specs.Holdings.{is_watched};
 
-    // Whether a desk is the one that is watched.
-    fn watches(&self, desk: &DeskName) -> bool
-        ensures { result ≡ is_watched self.now.desk desk.now }
+    /// Puts the next version of a trade and changes the totals by it, where they have room for it.
+    pub(crate) fn put(&mut self, key: &Key, number: u32, version: &Version) -> Result<(), Unput>
+        requires { IfSome (K.tables self.old.inner) (λ t. number ≡ next_number (trade_at t key.now)) }
+
+        ensures kept { OnOk result
+            (K.tables self.new.inner ≡ option_map (with_version key.now version.now) (K.tables self.old.inner)) }
+        ensures unchanged { OnErr result (K.tables self.new.inner ≡ K.tables self.old.inner) }
+        ensures later { K.faults self.old.inner ≤ K.faults self.new.inner }
+        ensures failed { result ≡ Err (Unput.Refused KeepFault.Failed)
+            → Rose (K.faults self.old.inner) (K.faults self.new.inner) }
+        ensures mark { K.mark self.new.inner ≡ K.mark self.old.inner }
+        ensures desk { self.new.desk ≡ self.old.desk }
+        ensures own { self.new.faults ≡ self.old.faults }
+        ensures totals { OnErr result ((cusip : List ℕ) → kept self.new.holdings cusip ≡ kept self.old.holdings cusip) }
+
+        // Where the tables are told, it has no room exactly where the desk that is watched has none.
+        ensures no_room { result ≡ Err Unput.NoRoom
+            → IfSome (K.tables self.old.inner) (λ t. HasNoRoomFor self.old.desk key.now version.now t) }
+        ensures room { OnOk result
+            (IfSome (K.tables self.old.inner) (λ t. ¬ (HasNoRoomFor self.old.desk key.now version.now t))) }
+    {
+        if !self.watches(&key.desk) {
+            return Ok(self.inner.put_version(key, number, version)?);
+        }
+        let last = self.inner.last(key)?;
+        let Some(change) = Change::of(&self.holdings, &last, version) else {
+            return Err(Unput::NoRoom);
+        };
+        change.make_room(&mut self.holdings)?;
+        self.inner.put_version(key, number, version)?;
+        change.make(&mut self.holdings);
+        Ok(())
+    }
+
+    /// Watches no desk from now on.
+    pub(crate) fn unwatch(&mut self)
+        ensures inner { self.new.inner ≡ self.old.inner }
+        ensures desk { self.new.desk ≡ None }
+        ensures own { self.new.faults ≡ self.old.faults }
+    {
+        self.desk = None;
+    }
+
+    /// Whether a desk is the one that is watched.
+    pub fn watches(&self, desk: &DeskName) -> bool
+        ensures tested { result ≡ is_watched self.now.desk desk.now }
+        ensures watched { IsTrue result → self.now.desk ≡ Some desk.now }
     {
         match &self.desk {
             Some(watched) => watched == desk,

@@ -2,9 +2,9 @@
 
 mod put_cases;
 
-ghost use Rattle.std.specs.Prelude.{◌≡◌, IsSome};
+ghost use Rattle.std.specs.Prelude.{IsSome};
 
-use crate::{Positioned, over, position_line};
+use crate::{Positioned, follow, over, position_line};
 use arrayvec::ArrayVec;
 use muni_dec::{Cents, Par};
 use muni_keep::{KeepFault, Keeper, MemKeeper};
@@ -41,9 +41,7 @@ fn version(act: Act, cusip: [u8; 9], side: Side, par: Par, total: Cents) -> Vers
 }
 
 // Puts the next version of a trade.
-fn put<K: Keeper>(keeper: &mut Positioned<K>, key: &Key, version: &Version) -> Result<(), KeepFault>
-    ensures { keeper.new.desk ≡ keeper.old.desk }
-{
+fn put<K: Keeper>(keeper: &mut K, key: &Key, version: &Version) -> Result<(), KeepFault> {
     match keeper.last(key)? {
         None => keeper.put_version(key, 1, version),
         Some((u32::MAX, _)) => Err(KeepFault::NoMemory),
@@ -165,20 +163,13 @@ fn a_desk_holds_what_its_trades_come_to_from_wherever_it_is_watched(
 // A keeper with 120 trades of ALPHA that is not watched yet, of which this call fails.
 fn many_trades(alloc: Global, failing: u64) -> Result<Positioned<MemKeeper>, Fail> {
     let mut keeper = over(alloc, MemKeeper::new(alloc, &[failing])?);
-    let one = version(
-        Act::Entered,
-        *b"123456AA3",
-        Side::Sell,
-        Par::new(5),
-        Cents::new(501),
-    );
     for tens in b'A'..=b'L' {
         for units in b'0'..=b'9' {
             let key = Key {
                 desk: desk("ALPHA")?,
                 reference: reference(&[tens, units])?,
             };
-            put(&mut keeper, &key, &one)?;
+            put(&mut keeper, &key, &sale())?;
         }
     }
     Ok(keeper)
@@ -231,5 +222,71 @@ fn totals_stay_where_a_put_fails(rt: HostRuntime) -> Result<(), Fail> {
         let alpha = desk("ALPHA")?;
         assert_eq!(rt; inner.trades(&alpha)?, 1);
     }
+    Ok(())
+}
+
+// The trade of ALPHA of a place.
+fn trade_of(place: u32) -> Result<Key, Fail> {
+    let mut name = [b'0'; 6];
+    let mut rest = place;
+    for digit in name.iter_mut().rev() {
+        *digit = b'0' + (rest % 10) as u8;
+        rest /= 10;
+    }
+    Ok(Key {
+        desk: desk("ALPHA")?,
+        reference: reference(&name)?,
+    })
+}
+
+fn sale() -> Version {
+    version(
+        Act::Entered,
+        *b"123456AA3",
+        Side::Sell,
+        Par::new(5),
+        Cents::new(501),
+    )
+}
+
+// Puts as many trades as a desk may have.
+fn fill<K: Keeper>(keeper: &mut K) -> Result<(), Fail> {
+    for place in 0..100_000u32 {
+        put(keeper, &trade_of(place)?, &sale())?;
+    }
+    Ok(())
+}
+
+const FULL: &[u8] = b"123456AA3 100000 0 500000 -500000 -501000.00\n";
+
+#[test]
+fn a_trade_for_which_there_is_no_room_is_refused(rt: HostRuntime) -> Result<(), Fail> {
+    let mut keeper = over(rt.alloc(), MemKeeper::new(rt.alloc(), &[])?);
+    keeper.watch(&desk("ALPHA")?)?;
+    fill(&mut keeper)?;
+    let refused = put(&mut keeper, &trade_of(100_000)?, &sale());
+    assert_eq!(rt; refused, Err(KeepFault::Failed));
+    let lines = lines(rt.alloc(), &keeper)?;
+    assert_eq!(rt; lines.as_slice(), FULL);
+    let mut inner = keeper.back();
+    assert_eq!(rt; inner.trades(&desk("ALPHA")?)?, 100_000);
+    Ok(())
+}
+
+#[test]
+fn or_it_is_put_and_ends_the_watch(rt: HostRuntime) -> Result<(), Fail> {
+    let mut keeper = over(rt.alloc(), MemKeeper::new(rt.alloc(), &[])?);
+    keeper.watch(&desk("ALPHA")?)?;
+    let mut following = follow(keeper);
+    fill(&mut following)?;
+    let keeper = following.back();
+    let lines = lines(rt.alloc(), &keeper)?;
+    assert_eq!(rt; lines.as_slice(), FULL);
+    let mut following = follow(keeper);
+    put(&mut following, &trade_of(100_000)?, &sale())?;
+    let mut keeper = following.back();
+    assert!(rt; keeper.watched().is_none());
+    assert_eq!(rt; keeper.trades(&desk("ALPHA")?)?, 100_001);
+    assert_eq!(rt; keeper.watch(&desk("ALPHA")?), Err(KeepFault::Failed));
     Ok(())
 }

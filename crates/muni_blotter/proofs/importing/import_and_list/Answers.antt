@@ -1,4 +1,4 @@
-use Rattle.std.proofs.Common.{◌⊎◌, refl, sym, ap, subst, ◌∙◌, IfSome}
+use Rattle.std.proofs.Common.{◌⊎◌, sym, ap, subst, ◌∙◌, IfSome}
 use Rattle.muni_book.specs.Answers.{IsRightAnswer}
 use Rattle.muni_edge.specs.Sink.{Rose}
 use Rattle.muni_import.specs.Rows.{rows_of}
@@ -27,11 +27,11 @@ returns-in-Done-clause-store_fault g c = λ is.
     let rows = rows_of c.args.text.now in
     let desk = c.args.desk.now in
     let had = g.O.Sink.bytes c.args.output.now in
-    let reported = g.O.Sink.bytes c.import_rows.new.output in
-    let keeper = c.import_rows.new.keeper in
+    let reported = g.O.Sink.bytes c.import_rows-end.new.output in
+    let keeper = c.import_rows-end.new.keeper.positioned.inner in
     let last = c.back-in-Done.result in
-    let start = ap tables c.back-keeper.ensures ∙ c.in-Ok.ensures.unchanged ∙ ap tables c.over-positioned.ensures.inner in
-    let did = subst (λ o. IfSome o (λ t. Did prices rows t (tables keeper) had reported)) start (c.in-Done.ensures.done refl) in
-    let fault = subst (λ k. Rose (faults k) (faults c.list-end.new.keeper.inner) ⊎ MayNotSum desk (tables k)) c.over-positioned-in-Done.ensures.inner (c.list-end.ensures.store_fault is) in
+    let start = ap (λ k. tables k.inner) c.follow-following.ensures ∙ c.in-Ok.ensures.unchanged ∙ ap tables c.over-positioned.ensures.inner in
+    let did = subst (λ o. IfSome o (λ t. Did prices rows t (tables keeper) had reported)) start (c.import_rows-end.ensures.done c.in-Done.is) in
+    let fault = subst (λ k. Rose (faults k.inner) (faults c.list-end.new.keeper.inner) ⊎ MayNotSum desk (tables k.inner)) c.back-positioned.ensures.same (c.list-end.ensures.store_fault is) in
     fault-behind prices desk rows (tables c.args.keeper) (tables keeper) had reported (faults c.args.keeper) (faults keeper) (faults last) c.requires.faults did
     (subst (λ k. Rose (faults keeper) (faults k) ⊎ MayNotSum desk (tables keeper)) (sym c.back-in-Done.ensures) fault)

@@ -7,7 +7,7 @@ returns-clause-tables g c =
     let fetched = c.in_ok-fetch.ensures in
     let back = c.give_back.ensures in
     let keeper = c.in_ok-fetch.field-0 in
-    let same = ap g.C.K.Keeper.tables c.back.ensures ∙ c.watched_lines-lines.ensures.unchanged ∙ ap g.C.K.Keeper.tables c.over-positioned.ensures.inner in
+    let same = ap g.C.K.Keeper.tables c.back.ensures ∙ c.lines_of-lines.ensures.unchanged ∙ ap g.C.K.Keeper.tables c.over-positioned.ensures.inner in
     nothing-changes c.args.store.now (g.C.K.Keeper.mark keeper) (g.C.Cabinet.told c.args.cabinet.now) (g.C.Cabinet.told c.fetch.new.self) (g.C.Cabinet.told c.give_back.new.self)
     (g.C.Cabinet.out c.fetch.new.self) (g.C.K.Keeper.tables keeper) (g.C.K.Keeper.tables c.back.result)
     fetched.tells back.tells fetched.out fetched.others back.others fetched.tables same back.tables

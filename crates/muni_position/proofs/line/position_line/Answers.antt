@@ -1,5 +1,3 @@
-use Rattle.std.proofs.Common.{◌++◌, ap, ◌∙◌, [], ◌∷◌}
-use Rattle.muni_dec.specs.Line.{behind_blanks}
 use Rattle.muni_position.specs.Line.{position_line}
 use Rattle.muni_position.proofs.LineLemmas.{six_parts}
 use Rattle.muni_position.proofs.line.position_line.Goals as goal

@@ -1,5 +1,5 @@
-use Rattle.std.proofs.Common.{◌≡◌, ℕ, ap, ◌∙◌, arith}
-use Rattle.muni_position.specs.Holding.{plus, share}
+use Rattle.std.proofs.Common.{ap, ◌∙◌, arith}
+use Rattle.muni_position.specs.Holding.{plus}
 use Rattle.muni_position.specs.Holdings.{kept}
 use Rattle.muni_position.specs.declared.holding.Holding.{Holding}
 use Rattle.muni_position.proofs.SumLemmas.{added, share_one}

@@ -1,4 +1,4 @@
-use Rattle.std.proofs.Common.{◌≡◌, ◌≤◌, ℕ, arith}
+use Rattle.std.proofs.Common.{arith}
 use Rattle.muni_position.specs.Holdings.{kept}
 use Rattle.muni_position.proofs.SumLemmas.{no_lines, line_more}
 use Rattle.muni_position.proofs.pages.add_lines.Goals as goal

@@ -1,12 +1,11 @@
-use Rattle.std.proofs.Common.{◌≡◌, ◌≤◌, ◌+◌, ◌-◌, ℕ, List, Some, length, refl, sym, ap, subst, ◌∙◌, arith}
+use Rattle.std.proofs.Common.{◌≡◌, ◌+◌, ◌-◌, Some, length, refl, sym, ap, subst, ◌∙◌, arith}
 use Rattle.std.specs.Prelude.{IfSome, slice_get}
 use Rattle.std.proofs.lemmas.Option.{slice_get_within}
-use Rattle.muni_keep.specs.Tables.{Tables, page_at}
+use Rattle.muni_keep.specs.Tables.{page_at}
 use Rattle.muni_position.specs.Holding.{IsInRange}
-use Rattle.muni_position.specs.Holdings.{kept}
 use Rattle.muni_position.specs.declared.holding.Holding.{Holding}
 use Rattle.muni_position.proofs.SumLemmas.{kept_none, nothing_in_range}
-use Rattle.muni_position.proofs.PageLemmas.{IsSummed, none_read, each, told_read, told_many}
+use Rattle.muni_position.proofs.PageLemmas.{none_read, each, told_read, told_many}
 use Rattle.muni_position.proofs.pages.sum_desk.Goals as goal
 
 pub pages-init : goal.pages-init
