@@ -1,5 +1,6 @@
 -- What is said of a row.
 use Rattle.std.specs.Prelude.{◌≡◌, ℕ, List, Option, Some, None, Result, Ok, Err}
+use Rattle.std.specs.List.{AllZip}
 use Rattle.muni_terms.specs.declared.row.IssueRow.{IssueRow}
 use Rattle.muni_msg.specs.Refusal.{number_of}
 use Rattle.muni_msg.specs.declared.asked.Asked.{Asked}
@@ -33,3 +34,7 @@ IsMarkBy Prices (Some issue) asked said = IsPriced Prices issue asked said
 unfoldable pub IsMark : Pricing → (List ℕ → Option IssueRow) → Result Asked RowFault → MarkSaid → Type 0
 IsMark Prices kept (Err fault) said = said ≡ Bad fault
 IsMark Prices kept (Ok asked) said = IsMarkBy Prices (kept asked.cusip) asked said
+
+-- what is said of rows, of each by itself
+abbrev pub AreMarks : Pricing → (List ℕ → Option IssueRow) → List (Result Asked RowFault) → List MarkSaid → Type 0
+AreMarks Prices kept rows said = AllZip (IsMark Prices kept) rows said

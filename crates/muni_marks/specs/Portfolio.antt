@@ -1,6 +1,6 @@
 -- The marks of a portfolio over the tables of a desk.
 use Rattle.std.specs.Prelude.{◌≡◌, ℕ, Bool, true, List, Option, IsSome, Result, Ok, Err, ⊤}
-use Rattle.std.specs.List.{AllByRecursion, AllZip}
+use Rattle.std.specs.List.{AllByRecursion}
 use Rattle.muni_terms.specs.declared.row.IssueRow.{IssueRow}
 use Rattle.muni_msg.specs.declared.asked.Asked.{Asked}
 use Rattle.muni_keep.specs.Tables.{Tables, issue_at}
@@ -8,7 +8,7 @@ use Rattle.muni_import.specs.declared.row.RowFault.{RowFault}
 use Rattle.muni_office.specs.declared.end.End.{End}
 use Rattle.muni_office.specs.declared.end.End.TheVariants.{Done, Refused, ReadFault, WriteFault, StoreFault, NoMemory, TooLarge}
 use Rattle.muni_marks.specs.Line.{marks_text}
-use Rattle.muni_marks.specs.Marks.{Pricing, IsMark}
+use Rattle.muni_marks.specs.Marks.{Pricing, AreMarks}
 use Rattle.muni_marks.specs.Rows.{AreRows}
 use Rattle.muni_marks.specs.declared.pricing.MarkSaid.{MarkSaid}
 
@@ -40,7 +40,7 @@ pub record IsPortfolioText (Prices : Pricing) (tables : Tables) (text : List ℕ
   pub rows : List (Result Asked RowFault)
   pub said : List MarkSaid
   pub read : AreRows text rows
-  pub marks : AllZip (IsMark Prices (issue_at tables)) rows said
+  pub marks : AreMarks Prices (issue_at tables) rows said
   pub written : lines ≡ marks_text said
 
 -- how a portfolio may end

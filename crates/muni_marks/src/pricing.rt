@@ -99,7 +99,7 @@ pub fn marks<R: Threads + Sync, E: Encloser + Sync>(
     encloser: &E,
 ) -> Result<Vec<MarkSaid>, NoMemory>
     ensures { IfOk result (λ said.
-        AllZip (spec.IsMark (IsRightAnswer (E.ends encloser.now)) (tree.get by_bytes issues.now)) rows.now said.items) }
+        spec.AreMarks (IsRightAnswer (E.ends encloser.now)) (tree.get by_bytes issues.now) rows.now said.items) }
 {
     let blocks = marks_in_blocks(rt, alloc, rows, issues, encloser)?;
     let mut said = Vec::new(alloc);
@@ -120,7 +120,7 @@ fn marks_in_blocks<R: Threads + Sync, E: Encloser + Sync>(
     encloser: &E,
 ) -> Result<Vec<Vec<MarkSaid>>, NoMemory>
     ensures { IfOk result (λ blocks. AllZip (λ rows block.
-        AllZip (spec.IsMark (IsRightAnswer (E.ends encloser.now)) (tree.get by_bytes issues.now)) rows block.items) (chunks_of 2_048 rows.now) blocks.items) }
+        spec.AreMarks (IsRightAnswer (E.ends encloser.now)) (tree.get by_bytes issues.now) rows block.items) (chunks_of 2_048 rows.now) blocks.items) }
 {
     let blocks = rows
         .par_chunks(BLOCK)
@@ -129,7 +129,7 @@ fn marks_in_blocks<R: Threads + Sync, E: Encloser + Sync>(
             |block: &[Result<Asked, RowFault>]| -> Result<Vec<MarkSaid>, NoMemory>
                 requires { IsSync R.row × IsSync E.row }
                 ensures { IfOk result (λ said.
-                    AllZip (spec.IsMark (IsRightAnswer (E.ends encloser.entry.now)) (tree.get by_bytes issues.entry.now)) block.now said.items) }
+                    spec.AreMarks (IsRightAnswer (E.ends encloser.entry.now)) (tree.get by_bytes issues.entry.now) block.now said.items) }
             { marks_of_block(rt, alloc, block, issues, encloser) },
         )
         .collect::<Result<Vec<Vec<MarkSaid>>, NoMemory>>(rt, alloc);
@@ -148,7 +148,7 @@ fn marks_of_block<R: Threads + Sync, E: Encloser + Sync>(
     encloser: &E,
 ) -> Result<Vec<MarkSaid>, NoMemory>
     ensures { IfOk result (λ said.
-        AllZip (spec.IsMark (IsRightAnswer (E.ends encloser.now)) (tree.get by_bytes issues.now)) rows.now said.items) }
+        spec.AreMarks (IsRightAnswer (E.ends encloser.now)) (tree.get by_bytes issues.now) rows.now said.items) }
 {
     let said = rows
         .par_iter()
