@@ -7,7 +7,7 @@ use Rattle.muni_book.specs.Answers.{IsRightAnswer}
 use Rattle.muni_desk.specs.Answers.{IsAnswer}
 use Rattle.muni_server.specs.Serves.{Traffic}
 use Rattle.muni_desk.specs.Serving.{DoorTold, Served}
-use Rattle.muni_desk.specs.Store.{Objects, KeepsOthers, Imported, ImportedWith, Confirmed, Listed, Marks}
+use Rattle.muni_desk.specs.Store.{Objects, KeepsOthers, Imported, ImportedWith, DoesNoneOfTooMany, Confirmed, Listed, Marks}
 use Rattle.muni_desk.specs.Written.{WritesAnswer, TellsFaults}
 use Rattle.muni_desk.specs.declared.command.DeskCommand.{DeskCommand}
 use Rattle.muni_desk.specs.declared.command.DeskCommand.TheVariants.{QuoteOne, Quote, Import, Confirm, Serve, Positions, Mark, Drill, Help}
@@ -29,6 +29,7 @@ pub record Imports (ends : PaymentSeries → ℤ → WorthEnds) (store : List �
 -- and the positions of a desk are listed behind the report on them
 pub record ImportsWith (ends : PaymentSeries → ℤ → WorthEnds) (store desk : List ℕ) (status : Status) (old new : Objects) : Type 0 where
   pub imported : ImportedWith (IsRightAnswer ends) store desk status old new
+  pub too_many : DoesNoneOfTooMany store desk old new
   pub others : KeepsOthers store old new
 
 -- what the command does, where a door tells of each of its links by `told`

@@ -10,6 +10,7 @@ use Rattle.muni_office.specs.Import.{Did, DidFirst, DidPart}
 use Rattle.muni_blotter.specs.Importing.{DidAll, DidSome}
 use Rattle.muni_blotter.specs.Listing.{MayNotSum, positions_text}
 use Rattle.muni_marks.specs.Portfolio.{IsPortfolioText}
+use Rattle.muni_position.specs.Holdings.{HasTooMany}
 use Rattle.muni_desk.specs.Status.{status_of}
 use Rattle.muni_desk.specs.declared.status.Status.{Status}
 use Rattle.muni_desk.specs.declared.status.Status.TheVariants.{Done, Refused, ReadFault, WriteFault, StoreFault, NoMemory, TooLarge}
@@ -77,6 +78,12 @@ ImportedWith Prices store desk StoreFault old new =
     × IfSome old.input (λ text. length text ≤ 4_194_304)
     × (Rose old.cabinet_faults new.cabinet_faults ⊎ MayNotSum desk (old.tables store))
 ImportedWith Prices store desk status old new = Imported Prices store status old new
+
+-- where a desk has more trades than are summed, no row is done
+abbrev pub DoesNoneOfTooMany : (store desk : List ℕ) → Objects → Objects → Type 0
+DoesNoneOfTooMany store desk old new =
+    IfSome (old.tables store) (λ tables. HasTooMany desk tables
+    → (new.tables store ≡ old.tables store) × (new.output ≡ old.output))
 
 -- the confirmation of the last version of a trade was written, or why there is none
 abbrev pub WritesConfirmed : List ℕ → Key → Status → Objects → Objects → Type 0
