@@ -7,7 +7,7 @@ use crate::file_disk::FileDisk;
 use muni_disk::DiskFault;
 use muni_shelf::Shelf;
 use std::fs::{File, OpenOptions};
-use std::io;
+use std::io::{self, ErrorKind};
 
 /// A shelf over files: the journal of a name is the file of that name with `.journal` added.
 ///
@@ -30,8 +30,9 @@ fn folder(path: &str) -> &str {
 
 /// Opens a file for reading and writing. Where it is made, its folder is synced.
 fn open(rt: &HostRuntime, path: &str) -> io::Result<File> {
-    if let Ok(file) = OpenOptions::new().read(true).write(true).open(rt, path) {
-        return Ok(file);
+    match OpenOptions::new().read(true).write(true).open(rt, path) {
+        Err(error) if error.kind() == ErrorKind::NotFound => {}
+        opened => return opened,
     }
     let file = OpenOptions::new()
         .read(true)
@@ -57,12 +58,12 @@ impl<'a> FileShelf<'a> {
 
     fn open(&self, name: &[u8]) -> io::Result<File> {
         let Ok(name) = str::from_utf8(name) else {
-            return Err(io::Error::from(io::ErrorKind::InvalidInput));
+            return Err(io::Error::from(ErrorKind::InvalidInput));
         };
         let path = format!(in self.rt.alloc(); "{name}.journal")?;
         let file = open(self.rt, &path)?;
         if file.try_lock().is_err() {
-            return Err(io::Error::from(io::ErrorKind::WouldBlock));
+            return Err(io::Error::from(ErrorKind::WouldBlock));
         }
         Ok(file)
     }
@@ -89,6 +90,7 @@ impl<'a> Shelf for FileShelf<'a> {
                 self.out = Some(out);
                 Ok(FileDisk::new(file))
             }
+            Err(error) if error.kind() == ErrorKind::OutOfMemory => Err(DiskFault::NoMemory),
             Err(_) => {
                 self.faults = self.faults.saturating_add(1);
                 Err(DiskFault::Failed)
