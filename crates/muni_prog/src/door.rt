@@ -20,7 +20,10 @@ pub struct LoopbackDoor<'a, R: Net> {
 
 impl<'a, R: Net> LoopbackDoor<'a, R> {
     /// A door that is bound to no port.
-    pub fn new(net: &'a R) -> LoopbackDoor<'a, R> {
+    pub fn new(net: &'a R) -> LoopbackDoor<'a, R>
+        ensures unbound { result.listener ≡ None }
+        ensures faults { result.faults ≡ 0 }
+    {
         LoopbackDoor {
             net,
             listener: None,

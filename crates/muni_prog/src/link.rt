@@ -15,7 +15,10 @@ pub struct StreamLink<S> {
 }
 
 impl<S> StreamLink<S> {
-    pub fn new(stream: S) -> StreamLink<S> {
+    pub fn new(stream: S) -> StreamLink<S>
+        ensures reads { result.read_faults ≡ 0 }
+        ensures writes { result.write_faults ≡ 0 }
+    {
         StreamLink {
             stream,
             read_faults: 0,

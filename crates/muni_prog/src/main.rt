@@ -2,6 +2,9 @@
 //! journals, a door on this machine, and the encloser.
 #![tactic(auto)]
 
+ghost use Rattle.std.specs.Prelude.{◌≡◌, ◌≢◌};
+ghost use Rattle.std.specs.IoError.{error_kind};
+
 mod door;
 mod input;
 mod link;
@@ -60,7 +63,10 @@ fn words(rt: &HostRuntime) -> Result<Vec<String>, Status> {
 }
 
 // The end where the words could not be read.
-fn unread(error: io::Error) -> Status {
+fn unread(error: io::Error) -> Status
+    ensures memory { error_kind error ≡ ErrorKind.OutOfMemory → result ≡ Status.NoMemory }
+    ensures other { error_kind error ≢ ErrorKind.OutOfMemory → result ≡ Status.Usage }
+{
     if error.kind() == ErrorKind::OutOfMemory {
         Status::NoMemory
     } else {
