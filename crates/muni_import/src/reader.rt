@@ -1,6 +1,7 @@
 //! The rows of a text, read one after another.
 
-ghost use Rattle.std.specs.Prelude.{◌≡◌, Some, None, IfOk, IfSome, OnErr};
+ghost use Rattle.std.specs.Prelude.{◌≡◌, false, Some, None, IfOk, IfSome, OnErr};
+ghost use Rattle.muni_import.specs.Reader.{rows_left, IsSound};
 ghost use Rattle.muni_import.specs.Rows.{rows_of, IsNext};
 
 use crate::row::{RowFault, read_row};
@@ -31,17 +32,33 @@ impl<'a> Model for RowReader<'a> {
     ghost invariant = { λ r. (r.ended ≡ true) ⊎ IsSound r.reader };
 }
 
+// A reader of the records of a text, which would keep copies of the first one. It is given an empty
+// header row in its place.
+#[tactic(auto, unfolding(crate::specs::Rows::rows_of, crate::specs::Rows::rows_from))]
+fn records(alloc: Global, text: &[u8]) -> Reader<&[u8]>
+    ensures sound { IsSound result }
+    ensures left { rows_left false result ≡ Some (rows_of text.now) }
+{
+    let mut reader = ReaderBuilder::new()
+        .has_headers(true)
+        .flexible(true)
+        .from_reader(alloc, text);
+    match reader.set_byte_headers(ByteRecord::new(alloc)) {
+        Ok(()) => reader,
+        Err(_) => ReaderBuilder::new()
+            .has_headers(false)
+            .flexible(true)
+            .from_reader(alloc, text),
+    }
+}
+
 impl<'a> RowReader<'a> {
     /// A reader of the rows of a text.
-    #[tactic(auto, unfolding(crate::specs::Rows::rows_of, crate::specs::Rows::rows_from))]
     pub fn new(alloc: Global, text: &'a [u8]) -> RowReader<'a>
         ensures { result ≡ Some (rows_of text.now) }
     {
         RowReader {
-            reader: ReaderBuilder::new()
-                .has_headers(false)
-                .flexible(true)
-                .from_reader(alloc, text),
+            reader: records(alloc, text),
             record: ByteRecord::new(alloc),
             ended: false,
         }
