@@ -1,6 +1,6 @@
 -- The rows of a portfolio, the issues that they name, and their lines.
-use Rattle.std.proofs.Common.{◌≡◌, ◌≤◌, ◌<◌, ℕ, zero, suc, ◌+◌, Bool, true, false, cond, List, [], ◌∷◌, ◌++◌, length, map, take, drop, get_or, Option, Some, None, Result, Ok, Err, refl, sym, ap, subst, ◌∙◌, arith, append_assoc}
-use Rattle.std.specs.Prelude.{IfSome, IsSome, is_some, ⊤}
+use Rattle.std.proofs.Common.{◌≡◌, ◌≤◌, ◌<◌, ℕ, ◌+◌, Bool, true, false, cond, List, [], ◌∷◌, ◌++◌, length, map, take, get_or, Option, Some, None, Result, Ok, Err, refl, sym, ap, subst, ◌∙◌, arith}
+use Rattle.std.specs.Prelude.{IfSome, IsSome, is_some}
 use Rattle.std.specs.List.{AllByRecursion, AllZip}
 use Rattle.std.specs.BTreeMap.{is_at}
 use Rattle.std.proofs.lemmas.List.{length-map, take_more}
@@ -18,7 +18,6 @@ use Rattle.muni_keep.specs.Tables.{Tables, issue_at}
 use Rattle.muni_keep.specs.Trades.{by_bytes}
 use Rattle.muni_import.specs.declared.row.RowFault.{RowFault}
 use Rattle.muni_import.specs.Row as import_row
-use Rattle.muni_import.specs.Rows.{rows_of}
 use Rattle.muni_import.proofs.LawLemmas.{text-has-no-others}
 use Rattle.muni_import.proofs.RowLemmas.{few-rows}
 use Rattle.muni_marks.specs.Rows.{AreRows, row_of}
@@ -26,7 +25,6 @@ use Rattle.muni_marks.specs.Line.{HasName, marks_text}
 use Rattle.muni_marks.specs.Marks.{Pricing, IsMark, IsMarkBy, said_of}
 use Rattle.muni_marks.specs.Portfolio.{IsKnown, AreKnown, IsKnownNext, IsFetched, AreFetched, IsPortfolioText}
 use Rattle.muni_marks.specs.declared.pricing.MarkSaid.{MarkSaid}
-use Rattle.muni_marks.specs.declared.pricing.MarkSaid.TheVariants.{Marked, Refused, Bad}
 
 -- there are no more rows than bytes
 pub few : (text : List ℕ) (rows : List (Result Asked RowFault)) → AreRows text rows → length rows ≤ length text

@@ -1,4 +1,4 @@
-use Rattle.std.proofs.Common.{◌≡◌, ap, sym, subst, ◌∙◌, take, length, arith}
+use Rattle.std.proofs.Common.{ap, sym, subst, ◌∙◌, take, length, arith}
 use Rattle.std.specs.List.{AllZip, flat_map}
 use Rattle.std.specs.BTreeMap as tree
 use Rattle.std.proofs.lemmas.List.{take_all}

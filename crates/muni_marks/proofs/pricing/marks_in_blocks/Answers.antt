@@ -1,4 +1,4 @@
-use Rattle.std.proofs.Common.{◌≡◌, ap, ◌∙◌, subst, max}
+use Rattle.std.proofs.Common.{ap, ◌∙◌, subst, max}
 use Rattle.std.specs.Prelude.{IfOk}
 use Rattle.std.specs.List.{AllZip}
 use Rattle.std.specs.BTreeMap as tree
