@@ -3,8 +3,6 @@
 
 mod importing;
 mod listing;
-#[cfg(test)]
-mod tests;
 
 pub use importing::import_with_positions;
 pub use listing::positions;

@@ -6,8 +6,6 @@ mod fault;
 mod laws;
 mod runs;
 mod steps;
-#[cfg(test)]
-mod tests;
 mod trade;
 
 pub use answers::figures;

@@ -4,8 +4,6 @@
 
 mod figures;
 mod refusal;
-#[cfg(test)]
-mod tests;
 mod trade;
 
 pub use figures::figure_lines;

@@ -12,8 +12,6 @@ mod quote_options;
 mod request;
 mod status;
 mod store_options;
-#[cfg(test)]
-mod tests;
 mod words;
 
 pub use command::{CommandLine, DeskCommand, read};

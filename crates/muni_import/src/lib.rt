@@ -7,8 +7,6 @@ mod reader;
 mod report;
 mod row;
 mod rows;
-#[cfg(test)]
-mod tests;
 
 pub use calls::read_calls;
 pub use laws::{last_fields_may_be_left_out, texts_have_one_list_of_rows};

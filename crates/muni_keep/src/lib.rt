@@ -10,8 +10,6 @@ mod mem_cabinet;
 mod mem_keeper;
 mod page;
 mod store_name;
-#[cfg(test)]
-mod tests;
 mod trade;
 mod trades;
 

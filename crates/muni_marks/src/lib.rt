@@ -5,8 +5,6 @@ mod line;
 mod portfolio;
 mod pricing;
 mod reader;
-#[cfg(test)]
-mod tests;
 
 pub use line::{mark_line, total};
 pub use portfolio::{LIMIT, mark};

@@ -18,6 +18,3 @@ pub use horner::{Horner, sums_are_narrow};
 pub use muni_rule::Verdict;
 pub use price::{PriceAnswer, at_most_one_price_is_right, printed_price, printed_price_at};
 pub use verdicts::{at_least, at_least_at, more, more_at};
-
-#[cfg(test)]
-mod tests;

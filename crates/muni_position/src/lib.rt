@@ -10,8 +10,6 @@ mod line;
 mod pages;
 mod position;
 mod positioned;
-#[cfg(test)]
-mod tests;
 mod unput;
 
 pub use following::{Following, follow};

@@ -27,6 +27,3 @@ pub use prices::lowest_price;
 pub use range::out_of_range;
 pub use redemptions::candidates;
 pub use yields::lowest_yield;
-
-#[cfg(test)]
-mod tests;

@@ -7,8 +7,6 @@ mod connections;
 mod end;
 pub mod laws;
 mod served;
-#[cfg(test)]
-mod tests;
 
 pub use answers::answer_one;
 pub use connections::serve;

@@ -8,8 +8,6 @@ pub mod laws;
 mod moving;
 mod rows;
 mod schema;
-#[cfg(test)]
-mod tests;
 mod trade_counts;
 
 pub use cabinet::SqlCabinet;

@@ -9,8 +9,6 @@ mod flows;
 mod issue;
 mod quasi_dates;
 mod row;
-#[cfg(test)]
-mod tests;
 
 pub use accrued::{days_to, half_year_interest, interest};
 pub use cusip::is_cusip;

@@ -13,8 +13,6 @@ mod request;
 mod routes;
 mod status;
 mod taking;
-#[cfg(test)]
-mod tests;
 
 pub use answer::{write_bad, write_reply, write_unavailable};
 pub use fault::{Bad, WireFault};

@@ -9,6 +9,3 @@ mod printed;
 pub use bracket::{Bracket, searches_are_in_order};
 pub use outcome::{Outcome, at_most_one_yield_is_right};
 pub use printed::printed_yield;
-
-#[cfg(test)]
-mod tests;

@@ -1,0 +1,9 @@
+//! Rows, requests and confirmations, as their formats have them. Nothing of it is in the program.
+#![tactic(auto)]
+
+#[cfg(test)]
+mod confirmations;
+#[cfg(test)]
+mod requests;
+#[cfg(test)]
+mod rows;

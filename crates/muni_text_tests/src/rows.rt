@@ -1,0 +1,228 @@
+mod row_cases;
+
+use arrayvec::ArrayVec;
+use muni_cases::bytes_of;
+use muni_days::{Basis, Day};
+use muni_dec::{Cents, Coupon, Fee, Par, Price, Price3, Yield, Yield3};
+use muni_import::{RowFault, read_rows, report_row};
+use muni_msg::{
+    Act, Asked, Command, DeskName, Figures, Given, Key, Reference, Refusal, Reply, Side, Terms,
+    Version,
+};
+use muni_terms::{Call, IssueRow, Kind, Label, check};
+use std::alloc::Global;
+use std::test::Fail;
+
+const ISSUE: &[u8] =
+    b"issue,123456AA3,\"RIVERTON, 5S\",periodic,2020-01-01,2020-07-01,2045-01-01,5,\
+    2025-01-01:102.5 2030-07-01:100,30/360\n";
+
+const NOTE: &[u8] = b"issue,123456AA3,R,discount,2024-01-01,,2024-12-21,,,actual/365\n";
+
+const TRADES: &[u8] = b"trade,ALPHA,T0001,123456AA3,buy,25000,2024-04-01,yield,-0.5\n\
+    correct,BETA,t2,999999999,000000000,sell,1,2199-12-31,price,100.000001,0.125\n\
+    cancel,ALPHA,T0001,00000003\n";
+
+fn is_kind(row: &Result<Command, RowFault>, kind: &str) -> bool {
+    match row {
+        Ok(Command::AddIssue(_)) => kind == "issue",
+        Ok(Command::Enter { .. }) => kind == "trade",
+        Ok(Command::Correct { .. }) => kind == "correct",
+        Ok(Command::Cancel { .. }) => kind == "cancel",
+        Ok(_) => false,
+        Err(RowFault::FieldCount) => kind == "1",
+        Err(RowFault::BadField { column }) => match kind.strip_prefix("2:") {
+            Some(text) => text.parse::<u32>().ok() == Some(*column),
+            None => false,
+        },
+    }
+}
+
+#[test]
+fn rows_are_commands_or_faults(rt: HostRuntime) -> Result<(), Fail> {
+    let mut count = 0usize;
+    for line in row_cases::CASES.lines() {
+        if line.is_empty() || line.starts_with("# ") {
+            continue;
+        }
+        let (text, kinds) = line.split_once('|').ok_or("a case")?;
+        let bytes = bytes_of(rt.alloc(), text).ok_or("bytes")?;
+        let rows = read_rows(rt.alloc(), &bytes).ok().ok_or("memory")?;
+        let mut place = 0usize;
+        for kind in kinds.split(' ') {
+            if kind.is_empty() {
+                continue;
+            }
+            let row = rows.get(place).ok_or("a row")?;
+            assert!(rt; is_kind(row, kind), "{line}");
+            place = place.wrapping_add(1);
+        }
+        assert_eq!(rt; place, rows.len(), "{line}");
+        count = count.wrapping_add(1);
+    }
+    assert!(rt; count >= 120);
+    Ok(())
+}
+
+fn day(text: &str) -> Result<Day, Fail> {
+    Ok(Day::read(text.as_bytes()).ok().ok_or("a day")?)
+}
+
+fn price(text: &str) -> Result<Price, Fail> {
+    Ok(Price::read(text.as_bytes()).ok().ok_or("a price")?)
+}
+
+fn key(desk: &[u8], reference: &[u8]) -> Result<Key, Fail> {
+    Ok(Key {
+        desk: DeskName::read(desk).ok().ok_or("a desk")?,
+        reference: Reference::read(reference).ok().ok_or("a reference")?,
+    })
+}
+
+fn bond() -> Result<IssueRow, Fail> {
+    let mut name = ArrayVec::new();
+    let _ = name.try_extend_from_slice(b"RIVERTON, 5S");
+    let mut calls = ArrayVec::new();
+    for (date, at) in [("2025-01-01", "102.5"), ("2030-07-01", "100")] {
+        let _ = calls.try_push(Call {
+            date: day(date)?,
+            price: price(at)?,
+        });
+    }
+    Ok(IssueRow {
+        cusip: *b"123456AA3",
+        name,
+        kind: Kind::Periodic {
+            first: day("2020-07-01")?,
+        },
+        basis: Basis::Thirty360,
+        dated: day("2020-01-01")?,
+        maturity: day("2045-01-01")?,
+        coupon: Coupon::read(b"5").ok().ok_or("a coupon")?,
+        calls,
+    })
+}
+
+#[test]
+fn a_row_says_the_terms_of_an_issue(rt: HostRuntime) -> Result<(), Fail> {
+    let rows = read_rows(rt.alloc(), ISSUE).ok().ok_or("memory")?;
+    let Some(Ok(Command::AddIssue(row))) = rows.get(0) else {
+        return Err("an issue")?;
+    };
+    assert!(rt; *row == bond()?);
+    let rows = read_rows(rt.alloc(), NOTE).ok().ok_or("memory")?;
+    let Some(Ok(Command::AddIssue(row))) = rows.get(0) else {
+        return Err("a note")?;
+    };
+    assert!(rt; row.kind == Kind::Discount);
+    assert!(rt; row.basis == Basis::Actual365);
+    assert_eq!(rt; row.coupon.units(), 0);
+    Ok(())
+}
+
+#[test]
+fn rows_say_the_terms_of_trades(rt: HostRuntime) -> Result<(), Fail> {
+    let rows = read_rows(rt.alloc(), TRADES).ok().ok_or("memory")?;
+    let (Some(Ok(trade)), Some(Ok(correction)), Some(Ok(cancel))) = (
+        rows.get(0),
+        rows.get(1),
+        rows.get(2),
+    ) else {
+        return Err("three rows")?;
+    };
+    let entered = Terms {
+        asked: Asked {
+            cusip: *b"123456AA3",
+            par: Par::of(25_000).ok_or("a par")?,
+            settle: day("2024-04-01")?,
+            given: Given::AtYield(Yield::of(-5_000).ok_or("a yield")?),
+            side: Side::Buy,
+            fee: Fee::ZERO,
+        },
+    };
+    let corrected = Terms {
+        asked: Asked {
+            cusip: *b"000000000",
+            par: Par::of(1).ok_or("a par")?,
+            settle: day("2199-12-31")?,
+            given: Given::AtPrice(price("100.000001")?),
+            side: Side::Sell,
+            fee: Fee::of(125).ok_or("a fee")?,
+        },
+    };
+    assert!(rt;
+        matches!(trade, Command::Enter { key: k, terms }
+        if *k == key(b"ALPHA", b"T0001")? && *terms == entered)
+    );
+    assert!(rt;
+        matches!(correction, Command::Correct { key: k, number: 999_999_999, terms }
+        if *k == key(b"BETA", b"t2")? && *terms == corrected)
+    );
+    assert!(rt;
+        matches!(cancel, Command::Cancel { key: k, number: 3 }
+        if *k == key(b"ALPHA", b"T0001")?)
+    );
+    Ok(())
+}
+
+fn confirmed() -> Result<Reply, Fail> {
+    let asked = Asked {
+        cusip: *b"123456AA3",
+        par: Par::of(25_000).ok_or("a par")?,
+        settle: day("2024-04-01")?,
+        given: Given::AtYield(Yield::of(40_000).ok_or("a yield")?),
+        side: Side::Buy,
+        fee: Fee::ZERO,
+    };
+    let figures = Figures {
+        price: Price3::of(100_725).ok_or("a price")?,
+        yld: Yield3::of(4_000).ok_or("a yield")?,
+        redemption: day("2025-01-01")?,
+        at: Price::PAR,
+        label: Label::Maturity,
+        days: 90,
+        principal: Cents::of(2_518_125).ok_or("cents")?,
+        accrued: Cents::of(31_250).ok_or("cents")?,
+        commission: Cents::ZERO,
+        total: Cents::of(2_549_375).ok_or("cents")?,
+    };
+    Ok(Reply::Confirmed {
+        issue: check(bond()?).ok().ok_or("an issue")?,
+        key: key(b"ALPHA", b"T0001")?,
+        number: 1,
+        version: Version {
+            act: Act::Entered,
+            terms: Terms { asked },
+            figures,
+        },
+    })
+}
+
+#[test]
+fn each_row_has_a_line(rt: HostRuntime) -> Result<(), Fail> {
+    let added = Reply::Added {
+        cusip: *b"123456AA3",
+    };
+    let refused = Reply::Refused(Refusal::WrongNumber { next: 4 });
+    let mut text = ArrayVec::new();
+    text.push(b'x');
+    for (place, said, line) in [
+        (1, Ok(added), "1,added,123456AA3\n"),
+        (
+            2,
+            Ok(confirmed()?),
+            "2,confirmed,T0001,1,100.725,4.000,2025-01-01,25493.75\n",
+        ),
+        (30, Ok(refused), "30,refused,12,WrongNumber\n"),
+        (4, Err(RowFault::FieldCount), "4,bad,1\n"),
+        (
+            u32::MAX,
+            Err(RowFault::BadField { column: 11 }),
+            "4294967295,bad,2,11\n",
+        ),
+    ] {
+        report_row(place, &said, &mut text);
+        assert_eq!(rt; text.as_slice(), line.as_bytes(), "{line}");
+    }
+    Ok(())
+}
