@@ -13,7 +13,7 @@ use muni_terms::Boundary;
 
 /// What the figures are that are compared.
 #[derive(Clone, Copy, Debug, PartialEq, Eq)]
-pub(crate) enum FigureKind {
+pub enum FigureKind {
     /// Prices, in thousandths of a dollar per 100 of par.
     Price,
     /// Yields, in thousandths of a percent.
@@ -22,7 +22,7 @@ pub(crate) enum FigureKind {
 
 impl FigureKind {
     /// The least figure at which a candidate may be unsure.
-    pub(crate) fn least_unsure(self) -> i32
+    pub fn least_unsure(self) -> i32
         ensures { result ≡ spec.least_unsure self }
     {
         match self {

@@ -9,13 +9,10 @@ ghost use Rattle.muni_sched.specs.Ranks.{rank, decided_by, IsRanked};
 
 use crate::figure::FigureKind;
 
-#[cfg(test)]
-mod tests;
-
 /// What is known of a candidate's price or yield. A figure is its number of thousandths, of a
 /// dollar or of a percent.
 #[derive(Clone, Copy, Debug, PartialEq, Eq, Default)]
-pub(crate) enum Outcome {
+pub enum Outcome {
     /// This figure is printed.
     Print(i32),
     /// This figure is reached, and it is open whether the next one is. At the least figure that may
@@ -32,7 +29,7 @@ pub(crate) enum Outcome {
 
 /// The lowest figure, or why there is none. Candidates are counted from 0 in order of date.
 #[derive(Clone, Copy, Debug, PartialEq, Eq)]
-pub(crate) enum Lowest {
+pub enum Lowest {
     /// The figure, which the candidate is the first to print.
     Low { thousandths: i32, candidate: usize },
     /// It is open whether the candidate reaches the next figure.
@@ -47,7 +44,7 @@ pub(crate) enum Lowest {
 
 /// The lowest figure over the outcomes of the candidates, in order of date. With no candidate it is
 /// `Above`.
-pub(crate) fn lowest_of(outcomes: &[Outcome], kind: FigureKind) -> Lowest
+pub fn lowest_of(outcomes: &[Outcome], kind: FigureKind) -> Lowest
     requires { All (IsOf kind) outcomes.now }
     ensures lowest { IsLowest (figures.least_unsure kind) outcomes.now result }
     ensures ranked { IsRanked (figures.least_unsure kind) outcomes.now result }

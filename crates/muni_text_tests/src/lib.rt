@@ -2,7 +2,7 @@
 #![tactic(auto)]
 
 #[cfg(test)]
-mod confirmations;
+mod lines;
 #[cfg(test)]
 mod requests;
 #[cfg(test)]

@@ -1,9 +1,10 @@
+//! The lowest of outcomes, some of them unsure.
+
 ghost use Rattle.std.specs.Prelude.{All, IfOk};
 ghost use Rattle.muni_sched.specs.Figures.{IsOf};
 
-use super::{Lowest, Outcome, lowest_of};
-use crate::figure::FigureKind;
 use arrayvec::ArrayVec;
+use muni_sched::{FigureKind, Lowest, Outcome, lowest_of};
 use std::process::Abort;
 use std::str::SplitWhitespace;
 use std::test::Fail;
