@@ -156,16 +156,6 @@ impl<D: Disk> JournalKeeper<D> {
     {}
 }
 
-/// A key of equal value.
-fn copy_key(key: &Key) -> Key
-    ensures { result ≡ key.now }
-{
-    Key {
-        desk: key.desk.copy(),
-        reference: key.reference.copy(),
-    }
-}
-
 impl<D: Disk> Keeper for JournalKeeper<D> {
     ghost use Rattle.muni_journal.specs.Told.{mark_of};
 
@@ -239,7 +229,7 @@ impl<D: Disk> Keeper for JournalKeeper<D> {
             ⊎ (2 ^ 40 < self.old.gate + 5 + length (body_of (put.Version key.now number version.now))) }
     {
         let put = Put::Version {
-            key: copy_key(key),
+            key: key.copy(),
             number,
             version: *version,
         };

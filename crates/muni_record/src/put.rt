@@ -29,20 +29,10 @@ impl Put {
                 number,
                 version,
             } => Put::Version {
-                key: copy_key(key),
+                key: key.copy(),
                 number: *number,
                 version: *version,
             },
         }
-    }
-}
-
-/// A key of equal value.
-pub(crate) fn copy_key(key: &Key) -> Key
-    ensures { result ≡ key.now }
-{
-    Key {
-        desk: key.desk.copy(),
-        reference: key.reference.copy(),
     }
 }
