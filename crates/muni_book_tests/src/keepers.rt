@@ -3,23 +3,10 @@
 ghost use Rattle.std.specs.Prelude.{◌≡◌, None};
 
 use muni_keep::{Cabinet, KeepFault, Keeper, MemCabinet, MemKeeper};
-use muni_msg::{Act, DeskName, Key, Reference, Version};
-use muni_samples::Table;
+use muni_msg::{Act, Key, Version};
+use muni_samples::{key, worked_issue};
 use muni_terms::Issue;
 use std::test::Fail;
-
-fn issue() -> Result<Issue, Fail> {
-    let line = "periodic dated=2020-01-01 first=2020-07-01 maturity=2025-01-01 coupon=5";
-    let sample = Table::new().sample(line).ok_or("a sample")?;
-    Ok(sample.issue().ok_or("an issue")?)
-}
-
-fn key(desk: &[u8], reference: &[u8]) -> Result<Key, Fail> {
-    Ok(Key {
-        desk: DeskName::read(desk).ok().ok_or("a desk")?,
-        reference: Reference::read(reference).ok().ok_or("a reference")?,
-    })
-}
 
 fn version(act: Act) -> Version {
     Version {
@@ -59,8 +46,8 @@ fn make_calls<K: Keeper>(keeper: &mut K, issue: &Issue, key: &Key) -> Result<(),
 
 #[test]
 fn each_call_of_a_keeper_fails_where_it_is_listed(rt: HostRuntime) -> Result<(), Fail> {
-    let issue = issue()?;
-    let key = key(b"ALPHA", b"T0001")?;
+    let issue = worked_issue().ok_or("an issue")?;
+    let key = key("ALPHA", "T0001").ok_or("a key")?;
     for listed in 0..7_u64 {
         let mut keeper = MemKeeper::new(rt.alloc(), &[listed])?;
         assert_eq!(rt;
@@ -83,10 +70,14 @@ fn a_page_has_each_trade_by_its_last_version_in_the_order_of_references(
     rt: HostRuntime,
 ) -> Result<(), Fail> {
     let mut keeper = MemKeeper::new(rt.alloc(), &[])?;
-    for reference in [b"T2".as_slice(), b"T10", b"T1", b"T10"] {
-        add_version(&mut keeper, &key(b"ALPHA", reference)?, Act::Entered)?;
+    for reference in ["T2", "T10", "T1", "T10"] {
+        add_version(
+            &mut keeper,
+            &key("ALPHA", reference).ok_or("a key")?,
+            Act::Entered,
+        )?;
     }
-    let Key { desk, reference } = key(b"ALPHA", b"T1")?;
+    let Key { desk, reference } = key("ALPHA", "T1").ok_or("a key")?;
     let page = keeper.page(&desk, &Some(reference))?;
     let wanted = [(b"T10".as_slice(), 2), (b"T2", 1)];
     assert_eq!(rt; page.len(), wanted.len());
@@ -115,7 +106,7 @@ fn lend_twice<C: Cabinet>(cabinet: &mut C, name: &[u8], key: &Key) -> Result<u32
 
 #[test]
 fn a_cabinet_lends_the_keeper_that_it_took_back(rt: HostRuntime) -> Result<(), Fail> {
-    let key = key(b"ALPHA", b"T0001")?;
+    let key = key("ALPHA", "T0001").ok_or("a key")?;
     let mut keepers = Vec::new(rt.alloc());
     let keeper = MemKeeper::new(rt.alloc(), &[4])?;
     keepers.push((b"S".to_vec(rt.alloc())?, keeper))?;

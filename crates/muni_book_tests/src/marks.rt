@@ -13,19 +13,12 @@ use muni_keep::{Keeper, MemCabinet, MemKeeper};
 use muni_marks::{LIMIT, MarkSaid, mark, mark_line, marks, read_marks, total};
 use muni_multi::Doubling;
 use muni_office::End;
-use muni_samples::Table;
-use muni_terms::Issue;
+use muni_samples::worked_issue;
 use portfolio_cases::CASES;
 use std::alloc::Global;
 use std::collections::BTreeMap;
 use std::test::Fail;
 use std::thread::Threads;
-
-fn issue() -> Result<Issue, Fail> {
-    let line = "periodic dated=2020-01-01 first=2020-07-01 maturity=2025-01-01 coupon=5";
-    let sample = Table::new().sample(line).ok_or("a sample")?;
-    Ok(sample.issue().ok_or("an issue")?)
-}
 
 // Which takes of the input, puts of the output, fetches of the cabinet and calls of the keeper fail.
 #[derive(Clone, Copy)]
@@ -50,7 +43,7 @@ fn cabinet(alloc: Global, failing: &Failing) -> Result<MemCabinet, Fail>
     ensures { IfOk result (λ cabinet. cabinet.out ≡ None) }
 {
     let mut keeper = MemKeeper::new(alloc, &[failing.call])?;
-    let issue = issue()?;
+    let issue = worked_issue().ok_or("an issue")?;
     if keeper.issue(&issue.row().cusip)?.is_none() {
         keeper.put_issue(&issue)?;
     }
@@ -177,7 +170,7 @@ fn equal_rows_have_equal_marks(rt: HostRuntime) -> Result<(), Fail> {
         text.extend_from_slice(b"123456AA3,25000,2024-04-01,4\n")?;
     }
     let mut issues = BTreeMap::new(rt.alloc());
-    issues.insert(*b"123456AA3", issue()?)?;
+    issues.insert(*b"123456AA3", worked_issue().ok_or("an issue")?)?;
     let rows = read_marks(rt.alloc(), &text)?;
     let said = marks(&rt, rt.alloc(), rows.as_slice(), &issues, &Doubling)?;
     let wanted = MarkSaid::Marked {

@@ -5,6 +5,7 @@ ghost use Rattle.muni_multi.specs.HornerLaws.{horner-encloses, horner-narrow};
 
 mod price_cases;
 
+use crate::terms::{is_shared, price};
 use arrayvec::ArrayVec;
 use muni_dec::{Price, Yield};
 use muni_multi::{Doubling, Encloser, Horner, PriceAnswer, Verdict, at_least, more, printed_price};
@@ -14,10 +15,6 @@ use muni_terms::Flows;
 use price_cases::CASES;
 use std::cell::Cell;
 use std::test::Fail;
-
-fn price(text: &str) -> Result<Price, Fail> {
-    Ok(Price::read(text.as_bytes()).ok().ok_or("a price")?)
-}
 
 fn yield_of(units: i64) -> Result<Yield, Fail>
     ensures { IfOk result IsManyPeriodsBoundary }
@@ -171,8 +168,6 @@ fn a_worth_is_less_than_a_billionth_of_a_dollar_wide(rt: HostRuntime) -> Result<
     }
     Ok(())
 }
-
-fn is_shared<T: Send + Sync>(_shared: &T) {}
 
 #[test]
 fn threads_can_share_an_encloser(rt: HostRuntime) -> Result<(), Fail> {

@@ -15,7 +15,7 @@ fn coupon(text: &str) -> Result<Coupon, Fail> {
     Ok(Coupon::read(text.as_bytes()).ok().ok_or("a coupon")?)
 }
 
-fn price(text: &str) -> Result<Price, Fail> {
+pub fn price(text: &str) -> Result<Price, Fail> {
     Ok(Price::read(text.as_bytes()).ok().ok_or("a price")?)
 }
 
@@ -297,7 +297,7 @@ fn payments_without_coupons_are_those_computed_outside(rt: HostRuntime) -> Resul
     Ok(())
 }
 
-fn is_shared<T: Send + Sync>(_shared: &T) {}
+pub fn is_shared<T: Send + Sync>(_shared: &T) {}
 
 #[test]
 fn threads_can_share_an_issue(rt: HostRuntime) -> Result<(), Fail> {

@@ -4,6 +4,7 @@ ghost use Rattle.muni_multi.specs.HornerLaws.{horner-encloses, horner-narrow};
 
 mod yield_cases;
 
+use crate::terms::is_shared;
 use muni_dec::Price;
 use muni_edge::Steps;
 use muni_multi::{Doubling, Encloser, Horner};
@@ -173,5 +174,3 @@ fn narrows(rt: &impl Abort, bracket: &mut Bracket) -> Result<(), Fail> {
     assert!(rt; low <= bracket.low() && bracket.high() <= high);
     Ok(())
 }
-
-fn is_shared<T: Send + Sync>(_thing: &T) {}

@@ -5,11 +5,15 @@
 //! issue is its kind (`periodic`, `zero`, `at-redemption` or `discount`), `dated=`, `first=`,
 //! `maturity=`, `coupon=` and `call=DATE:PRICE`, once for each call, and for a note of that basis
 //! `actual/365`; `settle=` is a settlement.
+//!
+//! Beside the tables stands the trade that is worked by hand.
 #![tactic(auto)]
 
 mod issue;
 mod table;
 #[cfg(test)]
 mod tests;
+mod worked;
 
 pub use table::{Sample, Table};
+pub use worked::{key, worked_figures, worked_issue, worked_reply, worked_terms, worked_version};

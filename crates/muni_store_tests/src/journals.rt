@@ -13,8 +13,9 @@ use muni_edge::NoGate;
 use muni_import::{read_rows, report_row};
 use muni_journal::{JournalKeeper, open};
 use muni_keep::Keeper;
-use muni_msg::{Command, DeskName, Key, Reference, Reply};
+use muni_msg::{Command, Reply};
 use muni_multi::Horner;
+use muni_samples::key;
 use std::alloc::Global;
 use std::test::Fail;
 use std::thread::Threads;
@@ -62,18 +63,10 @@ const JOURNAL: &[u8] = b"\x01\x00\x00\x00\x34\
     \x02\xfa\xf0\x80\x00\
     \x00";
 
-/// The key of a trade of the desk ALPHA.
-fn key(reference: &str) -> Option<Key> {
-    Some(Key {
-        desk: DeskName::read(b"ALPHA").ok()?,
-        reference: Reference::read(reference.as_bytes()).ok()?,
-    })
-}
-
 /// The command of a row. Beside the rows of an import there is one that confirms a trade.
 fn command(alloc: Global, row: &str) -> Option<Command> {
     if let Some(reference) = row.strip_prefix("confirm,") {
-        let key = key(reference)?;
+        let key = key("ALPHA", reference)?;
         return Some(Command::Confirm { key });
     }
     read_rows(alloc, row.as_bytes()).ok()?.pop()?.ok()
@@ -212,7 +205,7 @@ fn leaves<R: Threads + Sync>(
 #[test]
 fn a_stop_keeps_a_trade_whole_or_not_at_all(rt: HostRuntime) -> Result<(), Fail> {
     let alloc = rt.alloc();
-    let key = key("T0001").ok_or("a key")?;
+    let key = key("ALPHA", "T0001").ok_or("a key")?;
     let mut keeper = empty(alloc, &[]).ok_or("a journal")?;
     assert!(rt; is_said(&rt, alloc, &mut keeper, ISSUE, "added,123456AA3\n"));
     let begin = keeper.disk().calls();
@@ -293,7 +286,7 @@ fn are_said_over<R: Threads + Sync>(
 
 #[test]
 fn a_failed_call_and_a_stop_lose_nothing_that_was_answered(rt: HostRuntime) -> Result<(), Fail> {
-    let key = key("T0001").ok_or("a key")?;
+    let key = key("ALPHA", "T0001").ok_or("a key")?;
     // The sixteen calls of the four puts.
     for failing in 2..18_u64 {
         let mut keeper = empty(rt.alloc(), &[failing]).ok_or("a journal")?;

@@ -1,68 +1,17 @@
 mod confirmation_cases;
 mod confirmations;
 
+use crate::rows::day;
 use arrayvec::ArrayVec;
 use muni_confirm::{figure_lines, refusal_line};
-use muni_days::{Basis, Day};
-use muni_dec::{Cents, Coupon, Fee, Par, Price, Price3, Yield, Yield3};
-use muni_msg::{Act, Asked, Figures, Given, Kept, Range, Refusal, Side, Terms, Version};
-use muni_terms::{Boundary, Issue, IssueRow, Kind, Label, TermsFault, check};
+use muni_dec::{Cents, Fee, Price, Price3, Yield, Yield3};
+use muni_msg::{Act, Figures, Given, Kept, Range, Refusal};
+use muni_samples::{worked_figures, worked_issue, worked_version};
+use muni_terms::{Boundary, Label, TermsFault};
 use std::test::Fail;
-
-fn day(text: &str) -> Result<Day, Fail> {
-    Ok(Day::read(text.as_bytes()).ok().ok_or("a day")?)
-}
 
 fn yld(text: &str) -> Result<Yield, Fail> {
     Ok(Yield::read(text.as_bytes()).ok().ok_or("a yield")?)
-}
-
-// Par of 100 of a bond with a coupon of 5, at a yield of 4, with 90 days to redemption.
-fn figures() -> Result<Figures, Fail> {
-    Ok(Figures {
-        price: Price3::of(100_725).ok_or("a price")?,
-        yld: Yield3::of(4_000).ok_or("a yield")?,
-        redemption: day("2025-01-01")?,
-        at: Price::of(100_000_000).ok_or("a price")?,
-        label: Label::Maturity,
-        days: 90,
-        principal: Cents::of(10_073).ok_or("cents")?,
-        accrued: Cents::of(125).ok_or("cents")?,
-        commission: Cents::ZERO,
-        total: Cents::of(10_198).ok_or("cents")?,
-    })
-}
-
-fn version() -> Result<Version, Fail> {
-    let asked = Asked {
-        cusip: *b"123456AA3",
-        par: Par::of(100).ok_or("a par")?,
-        settle: day("2024-04-01")?,
-        given: Given::AtYield(yld("4")?),
-        side: Side::Buy,
-        fee: Fee::ZERO,
-    };
-    Ok(Version {
-        act: Act::Entered,
-        terms: Terms { asked },
-        figures: figures()?,
-    })
-}
-
-fn issue() -> Result<Issue, Fail> {
-    let mut name = ArrayVec::new();
-    let _ = name.try_extend_from_slice(b"RIVERTON WATER");
-    let row = IssueRow {
-        cusip: *b"123456AA3",
-        name,
-        kind: Kind::Discount,
-        basis: Basis::Thirty360,
-        dated: day("2024-01-01")?,
-        maturity: day("2024-04-01")?,
-        coupon: Coupon::of(0).ok_or("a coupon")?,
-        calls: ArrayVec::new(),
-    };
-    Ok(check(row).ok().ok_or("an issue")?)
 }
 
 #[test]
@@ -70,7 +19,7 @@ fn figures_at_a_yield_have_seven_lines(rt: HostRuntime) -> Result<(), Fail> {
     let mut text = ArrayVec::new();
     text.push(b'x');
     figure_lines(
-        &figures()?,
+        &worked_figures().ok_or("figures")?,
         &Given::AtYield(yld("4")?),
         Fee::ZERO,
         &mut text,
@@ -81,9 +30,9 @@ fn figures_at_a_yield_have_seven_lines(rt: HostRuntime) -> Result<(), Fail> {
 YIELD 4.000 GIVEN
 REDEMPTION 2025-01-01 100.000000 MATURITY
 ACCRUED DAYS 90
-PRINCIPAL 100.73
-ACCRUED 1.25
-TOTAL 101.98
+PRINCIPAL 25181.25
+ACCRUED 312.50
+TOTAL 25493.75
 "
             .as_slice()
     );
@@ -101,7 +50,7 @@ fn figures_at_a_discount_rate_have_a_line_for_it(rt: HostRuntime) -> Result<(), 
         principal: Cents::of(9_925_000).ok_or("cents")?,
         accrued: Cents::of(0).ok_or("cents")?,
         total: Cents::of(9_925_000).ok_or("cents")?,
-        ..figures()?
+        ..worked_figures().ok_or("figures")?
     };
     let mut text = ArrayVec::new();
     figure_lines(&note, &Given::AtRate(yld("3")?), Fee::ZERO, &mut text);
@@ -127,7 +76,7 @@ fn a_given_price_and_a_call_are_named(rt: HostRuntime) -> Result<(), Fail> {
         yld: Yield3::of(-5).ok_or("a yield")?,
         at: Price::of(101_500_000).ok_or("a price")?,
         label: Label::Call,
-        ..figures()?
+        ..worked_figures().ok_or("figures")?
     };
     let price = Price::of(100_725_000).ok_or("a price")?;
     let mut text = ArrayVec::new();
@@ -138,9 +87,9 @@ fn a_given_price_and_a_call_are_named(rt: HostRuntime) -> Result<(), Fail> {
 YIELD -0.005 COMPUTED
 REDEMPTION 2025-01-01 101.500000 CALL
 ACCRUED DAYS 90
-PRINCIPAL 100.73
-ACCRUED 1.25
-TOTAL 101.98
+PRINCIPAL 25181.25
+ACCRUED 312.50
+TOTAL 25493.75
 "
             .as_slice()
     );
@@ -154,10 +103,9 @@ fn a_commission_has_a_line_behind_accrued_interest(rt: HostRuntime) -> Result<()
         price: Price3::of(100_625).ok_or("a price")?,
         yld: Yield3::of(4_135).ok_or("a yield")?,
         principal: Cents::of(2_515_625).ok_or("cents")?,
-        accrued: Cents::of(31_250).ok_or("cents")?,
         commission: Cents::of(25).ok_or("cents")?,
         total: Cents::of(2_546_900).ok_or("cents")?,
-        ..figures()?
+        ..worked_figures().ok_or("figures")?
     };
     let price = Price::of(100_625_000).ok_or("a price")?;
     let mut text = ArrayVec::new();
@@ -222,7 +170,7 @@ fn each_refusal_has_a_line(rt: HostRuntime) -> Result<(), Fail> {
     let date = day("2024-02-29")?;
     let kept = Kept::Version {
         number: 99,
-        version: version()?,
+        version: worked_version(Act::Entered).ok_or("a version")?,
     };
     let price = Boundary::Price(Price3::of(100_726).ok_or("a price")?);
     let mut text = ArrayVec::new();
@@ -230,7 +178,7 @@ fn each_refusal_has_a_line(rt: HostRuntime) -> Result<(), Fail> {
         (Refusal::UnknownIssue, "REFUSED 1 UnknownIssue\n"),
         (Refusal::UnknownTrade, "REFUSED 2 UnknownTrade\n"),
         (
-            Refusal::Conflict(Kept::Issue(issue()?)),
+            Refusal::Conflict(Kept::Issue(worked_issue().ok_or("an issue")?)),
             "REFUSED 3 Conflict issue\n",
         ),
         (Refusal::Conflict(kept), "REFUSED 3 Conflict version 99\n"),

@@ -2,14 +2,9 @@ mod request_cases;
 
 use arrayvec::ArrayVec;
 use muni_cases::{Pieces, bytes_of};
-use muni_days::{Basis, Day};
-use muni_dec::{Cents, Coupon, Fee, Par, Price, Price3, Yield, Yield3};
 use muni_edge::{Failed, Link, MemLink};
-use muni_msg::{
-    Act, Asked, Command, DeskName, Figures, Given, Key, Line, Reference, Refusal, Reply, Side,
-    Terms, Version,
-};
-use muni_terms::{Issue, IssueRow, Kind, Label, check};
+use muni_msg::{Act, Command, Line, Refusal, Reply};
+use muni_samples::{key, worked_figures, worked_reply, worked_terms, worked_version};
 use muni_wire::{Bad, WireFault, read_request, write_bad, write_reply, write_unavailable};
 use std::alloc::Global;
 use std::test::Fail;
@@ -152,77 +147,10 @@ fn bodies_are_read_up_to_their_limit(rt: HostRuntime) -> Result<(), Fail> {
     Ok(())
 }
 
-fn day(text: &str) -> Result<Day, Fail> {
-    Ok(Day::read(text.as_bytes()).ok().ok_or("a day")?)
-}
-
-fn asked(par: u64) -> Result<Asked, Fail> {
-    Ok(Asked {
-        cusip: *b"123456AA3",
-        par: Par::of(par).ok_or("a par")?,
-        settle: day("2024-04-01")?,
-        given: Given::AtYield(Yield::of(40_000).ok_or("a yield")?),
-        side: Side::Buy,
-        fee: Fee::ZERO,
-    })
-}
-
-fn figures() -> Result<Figures, Fail> {
-    Ok(Figures {
-        price: Price3::of(100_725).ok_or("a price")?,
-        yld: Yield3::of(4_000).ok_or("a yield")?,
-        redemption: day("2025-01-01")?,
-        at: Price::of(100_000_000).ok_or("a price")?,
-        label: Label::Maturity,
-        days: 90,
-        principal: Cents::of(2_518_125).ok_or("cents")?,
-        accrued: Cents::of(31_250).ok_or("cents")?,
-        commission: Cents::ZERO,
-        total: Cents::of(2_549_375).ok_or("cents")?,
-    })
-}
-
-fn version() -> Result<Version, Fail> {
-    Ok(Version {
-        act: Act::Entered,
-        terms: Terms {
-            asked: asked(25_000)?,
-        },
-        figures: figures()?,
-    })
-}
-
-fn issue() -> Result<Issue, Fail> {
-    let mut name = ArrayVec::new();
-    let _ = name.try_extend_from_slice(b"RIVERTON WATER 5S 2025");
-    let row = IssueRow {
-        cusip: *b"123456AA3",
-        name,
-        kind: Kind::Periodic {
-            first: day("2020-07-01")?,
-        },
-        basis: Basis::Thirty360,
-        dated: day("2020-01-01")?,
-        maturity: day("2025-01-01")?,
-        coupon: Coupon::of(50_000_000).ok_or("a coupon")?,
-        calls: ArrayVec::new(),
-    };
-    Ok(check(row).ok().ok_or("an issue")?)
-}
-
-fn reference() -> Result<Reference, Fail> {
-    Ok(Reference::read(b"T0001").ok().ok_or("a reference")?)
-}
-
-fn confirmed() -> Result<Reply, Fail> {
-    Ok(Reply::Confirmed {
-        issue: issue()?,
-        key: Key {
-            desk: DeskName::read(b"ALPHA").ok().ok_or("a desk")?,
-            reference: reference()?,
-        },
-        number: 1,
-        version: version()?,
+fn quoted() -> Result<Reply, Fail> {
+    Ok(Reply::Quoted {
+        asked: worked_terms().ok_or("terms")?.asked,
+        figures: worked_figures().ok_or("figures")?,
     })
 }
 
@@ -230,9 +158,9 @@ fn listed() -> Result<Reply, Fail> {
     let mut lines = ArrayVec::new();
     for act in [Act::Corrected, Act::Canceled] {
         let line = Line {
-            reference: reference()?,
+            reference: key("ALPHA", "T0001").ok_or("a key")?.reference,
             number: 2,
-            version: Version { act, ..version()? },
+            version: worked_version(act).ok_or("a version")?,
         };
         let _ = lines.try_push(line);
     }
@@ -250,7 +178,7 @@ fn replies_are_answered_with_their_texts(rt: HostRuntime) -> Result<(), Fail> {
             ADDED 123456AA3~",
         ),
         (
-            confirmed()?,
+            worked_reply().ok_or("a reply")?,
             "HTTP/1.1 200 OK^~Content-Type: text/plain^~Content-Length: 324^~Connection: close^~^~\
             CONFIRMATION 1~DESK ALPHA~REFERENCE T0001~BOUGHT 25000~CUSIP 123456AA3~\
             ISSUE RIVERTON WATER 5S 2025~COUPON 5.0000000~DATED 2020-01-01~MATURITY 2025-01-01~\
@@ -259,10 +187,7 @@ fn replies_are_answered_with_their_texts(rt: HostRuntime) -> Result<(), Fail> {
             ACCRUED 312.50~TOTAL 25493.75~",
         ),
         (
-            Reply::Quoted {
-                asked: asked(25_000)?,
-                figures: figures()?,
-            },
+            quoted()?,
             "HTTP/1.1 200 OK^~Content-Type: text/plain^~Content-Length: 148^~Connection: close^~^~\
             PRICE 100.725 COMPUTED~YIELD 4.000 GIVEN~REDEMPTION 2025-01-01 100.000000 MATURITY~\
             ACCRUED DAYS 90~PRINCIPAL 25181.25~ACCRUED 312.50~TOTAL 25493.75~",

@@ -3,13 +3,11 @@ mod row_cases;
 use arrayvec::ArrayVec;
 use muni_cases::bytes_of;
 use muni_days::{Basis, Day};
-use muni_dec::{Cents, Coupon, Fee, Par, Price, Price3, Yield, Yield3};
+use muni_dec::{Coupon, Fee, Par, Price, Yield};
 use muni_import::{RowFault, read_rows, report_row};
-use muni_msg::{
-    Act, Asked, Command, DeskName, Figures, Given, Key, Reference, Refusal, Reply, Side, Terms,
-    Version,
-};
-use muni_terms::{Call, IssueRow, Kind, Label, check};
+use muni_msg::{Asked, Command, Given, Refusal, Reply, Side, Terms};
+use muni_samples::{key, worked_reply, worked_terms};
+use muni_terms::{Call, IssueRow, Kind};
 use std::alloc::Global;
 use std::test::Fail;
 
@@ -64,19 +62,12 @@ fn rows_are_commands_or_faults(rt: HostRuntime) -> Result<(), Fail> {
     Ok(())
 }
 
-fn day(text: &str) -> Result<Day, Fail> {
+pub fn day(text: &str) -> Result<Day, Fail> {
     Ok(Day::read(text.as_bytes()).ok().ok_or("a day")?)
 }
 
 fn price(text: &str) -> Result<Price, Fail> {
     Ok(Price::read(text.as_bytes()).ok().ok_or("a price")?)
-}
-
-fn key(desk: &[u8], reference: &[u8]) -> Result<Key, Fail> {
-    Ok(Key {
-        desk: DeskName::read(desk).ok().ok_or("a desk")?,
-        reference: Reference::read(reference).ok().ok_or("a reference")?,
-    })
 }
 
 fn bond() -> Result<IssueRow, Fail> {
@@ -130,14 +121,12 @@ fn rows_say_the_terms_of_trades(rt: HostRuntime) -> Result<(), Fail> {
     ) else {
         return Err("three rows")?;
     };
+    let first = key("ALPHA", "T0001").ok_or("a key")?;
+    let second = key("BETA", "t2").ok_or("a key")?;
     let entered = Terms {
         asked: Asked {
-            cusip: *b"123456AA3",
-            par: Par::of(25_000).ok_or("a par")?,
-            settle: day("2024-04-01")?,
             given: Given::AtYield(Yield::of(-5_000).ok_or("a yield")?),
-            side: Side::Buy,
-            fee: Fee::ZERO,
+            ..worked_terms().ok_or("terms")?.asked
         },
     };
     let corrected = Terms {
@@ -152,50 +141,17 @@ fn rows_say_the_terms_of_trades(rt: HostRuntime) -> Result<(), Fail> {
     };
     assert!(rt;
         matches!(trade, Command::Enter { key: k, terms }
-        if *k == key(b"ALPHA", b"T0001")? && *terms == entered)
+        if *k == first && *terms == entered)
     );
     assert!(rt;
         matches!(correction, Command::Correct { key: k, number: 999_999_999, terms }
-        if *k == key(b"BETA", b"t2")? && *terms == corrected)
+        if *k == second && *terms == corrected)
     );
     assert!(rt;
         matches!(cancel, Command::Cancel { key: k, number: 3 }
-        if *k == key(b"ALPHA", b"T0001")?)
+        if *k == first)
     );
     Ok(())
-}
-
-fn confirmed() -> Result<Reply, Fail> {
-    let asked = Asked {
-        cusip: *b"123456AA3",
-        par: Par::of(25_000).ok_or("a par")?,
-        settle: day("2024-04-01")?,
-        given: Given::AtYield(Yield::of(40_000).ok_or("a yield")?),
-        side: Side::Buy,
-        fee: Fee::ZERO,
-    };
-    let figures = Figures {
-        price: Price3::of(100_725).ok_or("a price")?,
-        yld: Yield3::of(4_000).ok_or("a yield")?,
-        redemption: day("2025-01-01")?,
-        at: Price::PAR,
-        label: Label::Maturity,
-        days: 90,
-        principal: Cents::of(2_518_125).ok_or("cents")?,
-        accrued: Cents::of(31_250).ok_or("cents")?,
-        commission: Cents::ZERO,
-        total: Cents::of(2_549_375).ok_or("cents")?,
-    };
-    Ok(Reply::Confirmed {
-        issue: check(bond()?).ok().ok_or("an issue")?,
-        key: key(b"ALPHA", b"T0001")?,
-        number: 1,
-        version: Version {
-            act: Act::Entered,
-            terms: Terms { asked },
-            figures,
-        },
-    })
 }
 
 #[test]
@@ -210,7 +166,7 @@ fn each_row_has_a_line(rt: HostRuntime) -> Result<(), Fail> {
         (1, Ok(added), "1,added,123456AA3\n"),
         (
             2,
-            Ok(confirmed()?),
+            Ok(worked_reply().ok_or("a reply")?),
             "2,confirmed,T0001,1,100.725,4.000,2025-01-01,25493.75\n",
         ),
         (30, Ok(refused), "30,refused,12,WrongNumber\n"),

@@ -4,17 +4,15 @@ ghost use Rattle.std.specs.Prelude.{◌<◌};
 
 use arrayvec::ArrayVec;
 use muni_book::{BookFault, apply};
-use muni_days::Day;
-use muni_dec::{Cents, Fee, Par, Price, Price3, Yield, Yield3};
+use muni_dec::{Cents, Par};
 use muni_edge::NoGate;
 use muni_keep::{KeepFault, Keeper, MemKeeper};
 use muni_msg::{
-    Act, Asked, Command, DeskName, Figures, Given, Kept, Key, Line, Reference, Refusal, Reply,
-    Side, Terms, Version,
+    Act, Asked, Command, DeskName, Figures, Kept, Key, Line, Reference, Refusal, Reply, Terms,
+    Version,
 };
 use muni_multi::Horner;
-use muni_samples::Table;
-use muni_terms::{Issue, Label};
+use muni_samples::{key, worked_figures, worked_issue, worked_terms};
 use std::test::Fail;
 use std::thread::Threads;
 
@@ -41,36 +39,21 @@ const LARGE: Trade = Trade {
     total: 3_059_250,
 };
 
-fn issue() -> Result<Issue, Fail> {
-    let line = "periodic dated=2020-01-01 first=2020-07-01 maturity=2025-01-01 coupon=5";
-    let sample = Table::new().sample(line).ok_or("a sample")?;
-    Ok(sample.issue().ok_or("an issue")?)
-}
-
 fn terms(cusip: [u8; 9], trade: Trade) -> Result<Terms, Fail> {
     let asked = Asked {
         cusip,
         par: Par::of(trade.par).ok_or("a par")?,
-        settle: Day::of(2024, 4, 1).ok_or("a day")?,
-        given: Given::AtYield(Yield::of(40_000).ok_or("a yield")?),
-        side: Side::Buy,
-        fee: Fee::of(0).ok_or("a commission")?,
+        ..worked_terms().ok_or("terms")?.asked
     };
     Ok(Terms { asked })
 }
 
 fn version(act: Act, trade: Trade) -> Result<Version, Fail> {
     let figures = Figures {
-        price: Price3::of(100_725).ok_or("a price")?,
-        yld: Yield3::of(4_000).ok_or("a yield")?,
-        redemption: Day::of(2025, 1, 1).ok_or("a day")?,
-        at: Price::of(100_000_000).ok_or("a price")?,
-        label: Label::Maturity,
-        days: 90,
         principal: Cents::of(trade.principal).ok_or("cents")?,
         accrued: Cents::of(trade.accrued).ok_or("cents")?,
-        commission: Cents::ZERO,
         total: Cents::of(trade.total).ok_or("cents")?,
+        ..worked_figures().ok_or("figures")?
     };
     Ok(Version {
         act,
@@ -205,17 +188,9 @@ const FULL_TRADE: [Case; 3] = [
     ),
 ];
 
-fn key(desk: &str, reference: &str) -> Result<Key, Fail> {
-    let desk = DeskName::read(desk.as_bytes()).ok().ok_or("a desk")?;
-    let reference = Reference::read(reference.as_bytes())
-        .ok()
-        .ok_or("a reference")?;
-    Ok(Key { desk, reference })
-}
-
 fn command(key: Key, sent: Sent) -> Result<Command, Fail> {
     Ok(match sent {
-        Sent::Issue => Command::AddIssue(issue()?.row().copy()),
+        Sent::Issue => Command::AddIssue(worked_issue().ok_or("an issue")?.row().copy()),
         Sent::Enter(trade) => {
             let terms = terms(*b"123456AA3", trade)?;
             Command::Enter { key, terms }
@@ -254,7 +229,7 @@ fn reply(key: Key, told: Told) -> Result<Reply, Fail> {
             Reply::Added { cusip }
         }
         Told::Confirmed(number, act, trade) => {
-            let issue = issue()?;
+            let issue = worked_issue().ok_or("an issue")?;
             let version = version(act, trade)?;
             Reply::Confirmed {
                 issue,
@@ -341,8 +316,8 @@ fn is_answered<R: Threads + Sync>(
     case: Case,
 ) -> Result<Result<bool, BookFault>, Fail> {
     let (desk, reference, sent, told) = case;
-    let command = command(key(desk, reference)?, sent)?;
-    let told = reply(key(desk, reference)?, told)?;
+    let command = command(key(desk, reference).ok_or("a key")?, sent)?;
+    let told = reply(key(desk, reference).ok_or("a key")?, told)?;
     match apply(rt, keeper, &command, 2, &Horner, &NoGate) {
         Ok(reply) => Ok(Ok(is_same(&reply, &told))),
         Err(fault) => Ok(Err(fault)),
@@ -432,7 +407,7 @@ fn a_full_desk_takes_no_trade_more(rt: HostRuntime) -> Result<(), Fail> {
 #[test]
 fn a_trade_takes_99_versions_and_a_cancel(rt: HostRuntime) -> Result<(), Fail> {
     let mut keeper = MemKeeper::new(rt.alloc(), &[])?;
-    let trade = key("ALPHA", "T0001")?;
+    let trade = key("ALPHA", "T0001").ok_or("a key")?;
     put(&mut keeper, &trade, Act::Entered, SMALL)?;
     for _number in 2..=99_u32 {
         put(&mut keeper, &trade, Act::Corrected, LARGE)?;
