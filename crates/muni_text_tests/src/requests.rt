@@ -90,7 +90,7 @@ fn a_request_that_is_cut_short_is_gone(rt: HostRuntime) -> Result<(), Fail> {
     };
     assert_eq!(rt; key.desk.bytes(), b"ALPHA".as_slice());
     assert_eq!(rt; key.reference.bytes(), b"T0001".as_slice());
-    assert!(rt; terms.asked == asked(25_000)?);
+    assert!(rt; terms == worked_terms().ok_or("terms")?);
     assert_eq!(rt; whole.written().len(), 0);
     Ok(())
 }
