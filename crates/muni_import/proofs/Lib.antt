@@ -1,4 +1,5 @@
 pub mod BlankLemmas
+pub mod ColumnLemmas
 pub mod LawLemmas
 pub mod MachineLemmas
 pub mod RowLemmas

@@ -1,4 +1,5 @@
 pub mod Calls
+pub mod ColumnLaws
 pub mod Fault
 pub mod Reader
 pub mod Report

@@ -4,10 +4,7 @@ use Rattle.std.specs.Char.{is_ascii_alphanumeric}
 use Rattle.std.specs.Result.{result_ok}
 use Rattle.std.specs.Str.{bytes_eq}
 use Rattle.csv.specs.Records.{field_at}
-use Rattle.muni_dec.specs.Digits.{number_reading}
-use Rattle.muni_dec.specs.Values.{par_reading, fee_reading}
-use Rattle.muni_rule.specs.declared.basis.Basis.{Basis}
-use Rattle.muni_rule.specs.declared.basis.Basis.TheVariants.{Thirty360}
+use Rattle.muni_dec.specs.Values.{par_reading}
 use Rattle.muni_days.specs.declared.day.Day.{Day}
 use Rattle.muni_terms.specs.Check.{pays_interest}
 use Rattle.muni_terms.specs.declared.row.IssueRow.{IssueRow}

@@ -1,6 +1,7 @@
 //! What holds of all rows.
 
 ghost use Rattle.std.specs.Prelude.{codes};
+ghost use Rattle.muni_import.specs.ColumnLaws.{NameIsFirst, CountIsSecond, LeastIsTold, OthersAreCommands};
 ghost use Rattle.muni_import.specs.RowLaws.{TextsHaveRows, TextsHaveNoOtherRows, LastMayBeLeftOut};
 
 /// Every text has one list of rows, whatever its bytes.
@@ -15,4 +16,13 @@ pub fn last_fields_may_be_left_out()
     ensures issues { LastMayBeLeftOut (codes "issue") 8 }
     ensures trades { LastMayBeLeftOut (codes "trade") 8 }
     ensures corrections { LastMayBeLeftOut (codes "correct") 9 }
+{}
+
+/// Of a row that is no command the first fault is told: that it has no name, then that it has another
+/// number of fields, then the least column that does not read. Every other row is a command.
+pub fn the_least_bad_column_is_told()
+    ensures name { NameIsFirst }
+    ensures count { CountIsSecond }
+    ensures column { LeastIsTold }
+    ensures commands { OthersAreCommands }
 {}
