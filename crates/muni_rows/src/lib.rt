@@ -4,7 +4,9 @@
 mod calls;
 mod codes;
 mod issue;
+mod laws;
 mod version;
 
 pub use issue::{IssueColumns, issue_1, issue_2, issue_columns};
+pub use laws::versions_are_read_again;
 pub use version::{VersionColumns, version_1, version_2, version_columns};

@@ -1,0 +1,170 @@
+//! Laws of the columns: what is written in them is read from them again.
+
+ghost use Rattle.std.specs.Prelude.{◌≡◌, pos, Some};
+ghost use Rattle.muni_dec.specs.Values.{if_yield, if_printed_yield};
+ghost use Rattle.muni_days.specs.Day.{civil, day_text};
+ghost use Rattle.muni_msg.specs.Fields.{day_in};
+ghost use Rattle.muni_rows.specs.Codes as codes;
+ghost use Rattle.muni_rows.specs.Version as versions;
+
+use muni_days::Day;
+use muni_days::laws::days_are_read_as_they_are_written;
+use muni_dec::{Cents, Fee, Par, Price, Price3, Yield, Yield3};
+use muni_msg::{Act, Asked, Figures, Given, Key, Side, Version};
+use muni_terms::Label;
+
+/// A law: a version of a trade is read again from its columns.
+#[tactic(auto, unfolding(crate::specs::Version::trade_of))]
+pub fn versions_are_read_again(key: &Key, number: u32, version: &Version)
+    ensures { versions.trade_of key.now.desk key.now.reference (pos number)
+        (versions.columns_of version.now) ≡ Some (key.now, number, version.now) }
+{
+    key_is_read_again(key);
+    count_is_read_again(number);
+    version_is_read_again(version);
+}
+
+#[tactic(auto, unfolding(crate::specs::Version::version_of, crate::specs::Version::columns_of))]
+fn version_is_read_again(version: &Version)
+    ensures { versions.version_of (versions.columns_of version.now) ≡ Some version.now }
+{
+    act_is_read_again(version.act);
+    asked_is_read_again(&version.terms.asked);
+    figures_are_read_again(&version.figures);
+}
+
+#[tactic(auto, using(crate::proofs::NameLemmas::name_again), unfolding(crate::specs::Version::key_of))]
+fn key_is_read_again(key: &Key)
+    ensures { versions.key_of key.now.desk key.now.reference ≡ Some key.now }
+{
+    let _desk = key.desk.bytes();
+    let _reference = key.reference.bytes();
+}
+
+#[tactic(auto, unfolding(crate::specs::Version::asked_of))]
+fn asked_is_read_again(asked: &Asked)
+    ensures { versions.asked_of asked.now.cusip (codes.side_code asked.now.side) (pos asked.now.par)
+        (day_text (civil asked.now.settle)) (codes.given_code asked.now.given)
+        (codes.given_units asked.now.given) (pos asked.now.fee) ≡ Some asked.now }
+{
+    given_is_read_again(asked.given);
+    cusip_is_read_again(&asked.cusip);
+    par_is_read_again(asked.par);
+    day_is_read_again(asked.settle);
+    side_is_read_again(asked.side);
+    fee_is_read_again(asked.fee);
+}
+
+#[tactic(auto, unfolding(crate::specs::Version::figures_of))]
+fn figures_are_read_again(figures: &Figures)
+    ensures { versions.figures_of (pos figures.now.price) figures.now.yld
+        (day_text (civil figures.now.redemption)) (pos figures.now.at)
+        (codes.label_code figures.now.label) figures.now.days (pos figures.now.principal)
+        (pos figures.now.accrued) (pos figures.now.total) (pos figures.now.commission)
+        ≡ Some figures.now }
+{
+    printed_price_is_read_again(figures.price);
+    printed_yield_is_read_again(figures.yld);
+    day_is_read_again(figures.redemption);
+    price_is_read_again(figures.at);
+    label_is_read_again(figures.label);
+    days_are_read_again(figures.days);
+    money_is_read_again(figures.principal);
+    money_is_read_again(figures.accrued);
+    money_is_read_again(figures.commission);
+    money_is_read_again(figures.total);
+}
+
+#[tactic(auto, unfolding(crate::specs::Codes::count))]
+fn count_is_read_again(number: u32)
+    ensures { codes.count (pos number) ≡ Some number }
+{}
+
+#[tactic(auto, unfolding(crate::specs::Codes::signed_count))]
+fn days_are_read_again(days: i32)
+    ensures { codes.signed_count days ≡ Some days }
+{}
+
+#[tactic(auto, unfolding(crate::specs::Codes::act_of))]
+fn act_is_read_again(act: Act)
+    ensures { codes.act_of (codes.act_code act) ≡ Some act }
+{}
+
+#[tactic(auto, unfolding(crate::specs::Codes::side_of))]
+fn side_is_read_again(side: Side)
+    ensures { codes.side_of (codes.side_code side) ≡ Some side }
+{}
+
+#[tactic(auto, unfolding(crate::specs::Codes::label_of))]
+fn label_is_read_again(label: Label)
+    ensures { codes.label_of (codes.label_code label) ≡ Some label }
+{}
+
+#[tactic(auto, unfolding(crate::specs::Codes::given_of))]
+fn given_is_read_again(given: Given)
+    ensures { codes.given_of (codes.given_code given) (codes.given_units given) ≡ Some given }
+{
+    match given {
+        Given::AtYield(y) => yield_is_read_again(y),
+        Given::AtPrice(price) => price_is_read_again(price),
+        Given::AtRate(rate) => yield_is_read_again(rate),
+    }
+}
+
+#[tactic(auto, unfolding(crate::specs::Codes::cusip_of))]
+fn cusip_is_read_again(cusip: &[u8; 9])
+    ensures { codes.cusip_of cusip.now ≡ Some cusip.now }
+{}
+
+fn day_is_read_again(date: Day)
+    ensures { day_in (day_text (civil date)) ≡ Some date }
+{
+    days_are_read_as_they_are_written();
+}
+
+fn yield_is_read_again(y: Yield)
+    ensures { if_yield y ≡ Some y }
+{
+    let _range = y.units();
+}
+
+fn printed_yield_is_read_again(y: Yield3)
+    ensures { if_printed_yield y ≡ Some y }
+{
+    let _range = y.units();
+}
+
+#[tactic(auto, unfolding(crate::specs::Codes::price_of))]
+fn price_is_read_again(price: Price)
+    ensures { codes.price_of (pos price) ≡ Some price }
+{
+    let _range = price.units();
+}
+
+#[tactic(auto, unfolding(crate::specs::Codes::printed_price_of))]
+fn printed_price_is_read_again(price: Price3)
+    ensures { codes.printed_price_of (pos price) ≡ Some price }
+{
+    let _range = price.units();
+}
+
+#[tactic(auto, unfolding(crate::specs::Codes::par_of))]
+fn par_is_read_again(par: Par)
+    ensures { codes.par_of (pos par) ≡ Some par }
+{
+    let _range = par.units();
+}
+
+#[tactic(auto, unfolding(crate::specs::Codes::fee_of))]
+fn fee_is_read_again(fee: Fee)
+    ensures { codes.fee_of (pos fee) ≡ Some fee }
+{
+    let _range = fee.units();
+}
+
+#[tactic(auto, unfolding(crate::specs::Codes::money_of))]
+fn money_is_read_again(money: Cents)
+    ensures { codes.money_of (pos money) ≡ Some money }
+{
+    let _range = money.units();
+}
