@@ -1,26 +1,44 @@
 //! Laws of the columns: what is written in them is read from them again.
+//!
+//! A body here reads values only to know the ranges of their types.
 
-ghost use Rattle.std.specs.Prelude.{◌≡◌, pos, Some};
+ghost use Rattle.std.specs.Prelude.{◌≡◌, pos, length, Some};
 ghost use Rattle.muni_dec.specs.Values.{if_yield, if_printed_yield};
 ghost use Rattle.muni_days.specs.Day.{civil, day_text};
 ghost use Rattle.muni_msg.specs.Fields.{day_in};
 ghost use Rattle.muni_rows.specs.Codes as codes;
+ghost use Rattle.muni_rows.specs.Issue as issues;
 ghost use Rattle.muni_rows.specs.Version as versions;
 
 use muni_days::Day;
-use muni_days::laws::days_are_read_as_they_are_written;
 use muni_dec::{Cents, Fee, Par, Price, Price3, Yield, Yield3};
 use muni_msg::{Act, Asked, Figures, Given, Key, Side, Version};
-use muni_terms::Label;
+use muni_terms::{Issue, Label};
 
-/// A law: a version of a trade is read again from its columns.
+/// A law: the columns in which an issue is written are read as that issue.
+pub fn issues_are_read_again(issue: &Issue)
+    ensures { issues.issue_of (issues.columns_of issue.now) ≡ Some issue.now }
+{
+    let row = issue.row();
+    nine_characters(&row.cusip);
+    let _name = row.name.as_slice();
+    let _coupon = row.coupon.units();
+    let _calls = row.calls.as_slice();
+}
+
+fn nine_characters(cusip: &[u8; 9])
+    ensures { length cusip.now ≡ 9 }
+{}
+
+/// A law: the columns in which a version is written are read as that version, with its trade and its
+/// number.
 #[tactic(auto, unfolding(crate::specs::Version::trade_of))]
 pub fn versions_are_read_again(key: &Key, number: u32, version: &Version)
     ensures { versions.trade_of key.now.desk key.now.reference (pos number)
         (versions.columns_of version.now) ≡ Some (key.now, number, version.now) }
 {
     key_is_read_again(key);
-    count_is_read_again(number);
+    number_is_read_again(number);
     version_is_read_again(version);
 }
 
@@ -68,7 +86,7 @@ fn figures_are_read_again(figures: &Figures)
     day_is_read_again(figures.redemption);
     price_is_read_again(figures.at);
     label_is_read_again(figures.label);
-    days_are_read_again(figures.days);
+    day_count_is_read_again(figures.days);
     money_is_read_again(figures.principal);
     money_is_read_again(figures.accrued);
     money_is_read_again(figures.commission);
@@ -76,12 +94,12 @@ fn figures_are_read_again(figures: &Figures)
 }
 
 #[tactic(auto, unfolding(crate::specs::Codes::count))]
-fn count_is_read_again(number: u32)
+fn number_is_read_again(number: u32)
     ensures { codes.count (pos number) ≡ Some number }
 {}
 
 #[tactic(auto, unfolding(crate::specs::Codes::signed_count))]
-fn days_are_read_again(days: i32)
+fn day_count_is_read_again(days: i32)
     ensures { codes.signed_count days ≡ Some days }
 {}
 
@@ -116,11 +134,10 @@ fn cusip_is_read_again(cusip: &[u8; 9])
     ensures { codes.cusip_of cusip.now ≡ Some cusip.now }
 {}
 
+#[tactic(auto, using(crate::proofs::TextLemmas::day_again))]
 fn day_is_read_again(date: Day)
     ensures { day_in (day_text (civil date)) ≡ Some date }
-{
-    days_are_read_as_they_are_written();
-}
+{}
 
 fn yield_is_read_again(y: Yield)
     ensures { if_yield y ≡ Some y }
