@@ -1,6 +1,6 @@
 -- The texts of days and of calls, read again.
-use Rattle.std.proofs.Common.{◌≡◌, ◌≤◌, ◌<◌, ◌+◌, ◌/◌, ◌%◌, ◌^◌, ◌*◌, ℕ, zero, suc, Bool, true, false, cond, not, ◌&&◌, List, [], ◌∷◌, ◌++◌, length, take, drop, map, decimal, position, Option, Some, None, refl, sym, ap, ◌∙◌, subst, arith, Result, Ok, Err}
-use Rattle.std.specs.Prelude.{◌==◌, nat_lt, nat_le, if◌then◌else◌, option_and_then, ⊤}
+use Rattle.std.proofs.Common.{◌≡◌, ◌≤◌, ◌<◌, ◌+◌, ◌/◌, ◌%◌, ◌^◌, ◌*◌, ℕ, zero, suc, Bool, true, false, not, ◌&&◌, List, [], ◌∷◌, ◌++◌, length, map, decimal, position, Some, refl, ap, ◌∙◌, arith, Ok, Err}
+use Rattle.std.specs.Prelude.{◌==◌, nat_lt, nat_le, if◌then◌else◌, ⊤}
 use Rattle.std.specs.Char.{is_ascii_digit}
 use Rattle.std.specs.List.{list_all, position_or_len}
 use Rattle.std.specs.Result.{result_ok}
@@ -11,8 +11,8 @@ use Rattle.std.proofs.lemmas.List.{append-nil, length-map}
 use Rattle.std.proofs.lemmas.List.Folds.{list_all-append}
 use Rattle.std.proofs.lemmas.Slice.Eq.{bytes_eq-Decides}
 use Rattle.muni_rule.specs.Civil.{Civil}
-use Rattle.muni_dec.specs.Decimal.{decimal_text, digits_reading}
-use Rattle.muni_dec.specs.Digits.{are_digits, digits_end, last_digits, number}
+use Rattle.muni_dec.specs.Decimal.{decimal_text}
+use Rattle.muni_dec.specs.Digits.{digits_end, last_digits, number}
 use Rattle.muni_dec.specs.Values.{amount_reading, price_reading}
 use Rattle.muni_dec.specs.declared.fault.DecFault.{DecFault}
 use Rattle.muni_dec.specs.declared.fault.DecFault.TheVariants.{Empty, NotADigit}
@@ -21,7 +21,7 @@ use Rattle.muni_days.specs.Day.{civil, day_text}
 use Rattle.muni_days.specs.declared.day.Day.{Day}
 use Rattle.muni_days.proofs.ReadingLemmas.{text-read}
 use Rattle.muni_terms.specs.declared.row.Call.{Call}
-use Rattle.muni_msg.specs.Fields.{day_in, call_reading, call_reading_at}
+use Rattle.muni_msg.specs.Fields.{day_in, call_reading}
 use Rattle.muni_msg.specs.IssueFields.{calls_reading}
 use Rattle.muni_import.specs.Calls.{cut_at_blanks, calls_field}
 use Rattle.muni_rows.specs.Calls.{call_text, calls_behind_blanks, calls_text, calls_of}
