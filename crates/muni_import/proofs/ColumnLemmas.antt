@@ -68,7 +68,7 @@ made-some : {A B : Type 0} (make : A → B) (reading : Option A) → is_some (op
 made-some make None = refl
 made-some make (Some x) = refl
 
--- a first interest date reads beside a kind as it is told
+-- a first interest date reads exactly where the law says so
 first-by : (empty : Bool) (kind text : List ℕ) → is_kind kind ≡ true → (length text == 0) ≡ empty → is_some (kind_reading kind (if empty then None else Some text)) ≡ (if bytes_eq kind (codes "periodic") then is_day text else empty)
 first-by true kind [] is none = by-kind (λ k. is_some (kind_reading k None) ≡ (if bytes_eq k (codes "periodic") then is_day [] else true)) refl refl refl refl kind is
 first-by true kind (byte ∷ text) is none = absurd (grind (arith, nat_tests, none))
@@ -80,7 +80,7 @@ first-by false kind text is some =
 first-reads : (kind text : List ℕ) → is_kind kind ≡ true → is_some (kind_reading kind (not_empty text)) ≡ is_first_date kind text
 first-reads kind text is = first-by (length text == 0) kind text is refl
 
--- a coupon reads beside a kind that pays no interest, or one that pays some, as it is told
+-- a coupon reads exactly where the law says so
 coupon-by : (none empty reads : Bool) (text : List ℕ) → (length text == 0) ≡ empty → is_ok (coupon_reading text) ≡ reads → is_some (coupon_by (not none) text) ≡ (reads || (none && empty))
 coupon-by none empty reads text is_empty is_read = rw is_empty (by none empty reads is_read) where
   by : (none empty reads : Bool) → is_ok (coupon_reading text) ≡ reads → is_some (if not (not none) && empty then Some 0 else result_ok (coupon_reading text)) ≡ (reads || (none && empty))
@@ -98,7 +98,7 @@ coupon-reads kind text = coupon-by (pays_none kind) (length text == 0) (is_ok (c
 kind-pays : (text : List ℕ) (first : Option (List ℕ)) (kind : Kind) → is_kind text ≡ true → kind_reading text first ≡ Some kind → pays_interest kind ≡ not (pays_none text)
 kind-pays text first kind named =
     by-kind (λ t. kind_reading t first ≡ Some kind → pays_interest kind ≡ not (pays_none t))
-    (periodic first) (zero first) (redemption first) (discount first) text named
+    (periodic first) (zero_kind first) (redemption first) (discount first) text named
   where
     dated : (date : Option Day) → option_map (λ date. Periodic date) date ≡ Some kind → pays_interest kind ≡ true
     dated None is = absurd (none-some kind is)
@@ -108,9 +108,9 @@ kind-pays text first kind named =
     periodic None is = absurd (none-some kind is)
     periodic (Some first) is = dated (day_in first) is
 
-    zero : (first : Option (List ℕ)) → kind_reading (codes "zero") first ≡ Some kind → pays_interest kind ≡ false
-    zero None is = ap pays_interest (sym (same_Some Zero kind is))
-    zero (Some first) is = absurd (none-some kind is)
+    zero_kind : (first : Option (List ℕ)) → kind_reading (codes "zero") first ≡ Some kind → pays_interest kind ≡ false
+    zero_kind None is = ap pays_interest (sym (same_Some Zero kind is))
+    zero_kind (Some first) is = absurd (none-some kind is)
 
     redemption : (first : Option (List ℕ)) → kind_reading (codes "at-redemption") first ≡ Some kind → pays_interest kind ≡ true
     redemption None is = ap pays_interest (sym (same_Some AtRedemption kind is))
@@ -120,7 +120,7 @@ kind-pays text first kind named =
     discount None is = ap pays_interest (sym (same_Some Discount kind is))
     discount (Some first) is = absurd (none-some kind is)
 
--- a value reads beside a basis as it is told
+-- a value reads exactly where the law says so
 value-reads : (basis text : List ℕ) → is_basis basis ≡ true → is_some (given_reading basis text) ≡ is_value basis text
 value-reads basis text is =
     by-basis (λ b. is_some (given_reading b text) ≡ is_value b text)

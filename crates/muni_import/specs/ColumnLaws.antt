@@ -1,4 +1,4 @@
--- What is told of a row that is no command. Columns are counted from 1, and the first names the row.
+-- What is told of a row that is no command. Columns count from 1, and the first names the row.
 use Rattle.std.specs.Prelude.{◌≡◌, ◌+◌, ◌-◌, ◌≤◌, ◌↔◌, ◌==◌, ◌||◌, ◌&&◌, ℕ, Bool, true, false, List, [], ◌∷◌, ◌++◌, length, is_some, is_ok, if◌then◌else◌, slice_get, codes, Some, None, Err, IsOk}
 use Rattle.std.specs.Char.{is_ascii_alphanumeric}
 use Rattle.std.specs.Str.{bytes_eq}
@@ -68,7 +68,8 @@ key_columns fields = is_desk (field 2 fields) ∷ is_reference (field 3 fields) 
 abbrev pub number_columns : List (List ℕ) → List Bool
 number_columns fields = is_some (version_number (field 4 fields)) ∷ []
 
--- of the terms of a trade, which begin in a column: CUSIP, SIDE, PAR, SETTLE, BASIS, VALUE and FEE
+-- of the terms of a trade, which begin in a column:
+-- CUSIP, SIDE, PAR, SETTLE, BASIS, VALUE and FEE
 abbrev pub terms_columns : ℕ → List (List ℕ) → List Bool
 terms_columns first fields =
     is_some (cusip_reading (field first fields))
@@ -102,13 +103,13 @@ pub record IsLeastBad (name : RowName) (fields : List (List ℕ)) (column : ℕ)
   pub bad : IsBad name fields column
   pub least : (other : ℕ) → IsBad name fields other → column ≤ other
 
--- a row that has no name is told by its first column
+-- where the first field is no name, column 1 is told
 abbrev pub NameIsFirst : Type 0
 NameIsFirst =
     (fields : List (List ℕ))
     → name_of (field 1 fields) ≡ None → row_of fields ≡ Err (BadField 1)
 
--- else one that has another number of fields is told by that
+-- else, where a row has another number of fields than its name asks for, that is told
 abbrev pub CountIsSecond : Type 0
 CountIsSecond =
     (name : RowName) (fields : List (List ℕ)) → name_of (field 1 fields) ≡ Some name

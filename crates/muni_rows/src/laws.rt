@@ -30,8 +30,8 @@ fn nine_characters(cusip: &[u8; 9])
     ensures { length cusip.now ≡ 9 }
 {}
 
-/// A law: the columns in which a version is written are read as that version, with its trade and its
-/// number.
+/// A law: the columns in which a version is written are read as that version, with its trade and
+/// its number.
 #[tactic(auto, unfolding(crate::specs::Version::trade_of))]
 pub fn versions_are_read_again(key: &Key, number: u32, version: &Version)
     ensures { versions.trade_of key.now.desk key.now.reference (pos number)
