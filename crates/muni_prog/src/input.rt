@@ -1,6 +1,8 @@
 //! Standard input as a source.
 
-ghost use Rattle.std.specs.Prelude.{◌≡◌, None};
+ghost use Rattle.std.specs.Prelude.{◌≡◌, ◌≤◌, length, None, IfOk};
+ghost use Rattle.std.specs.Io.KnownBytes.{ReadConsumes};
+ghost use Rattle.muni_prog.specs.Faults.{CountsFaults};
 
 use crate::reading::read_on;
 use muni_edge::{Failed, Source};
@@ -26,7 +28,12 @@ impl<R: io::Read> Source for Input<R> {
 
     ghost faults = { λ input. input.faults };
 
-    fn take(&mut self, room: &mut [u8]) -> Result<usize, Failed> {
+    fn take(&mut self, room: &mut [u8]) -> Result<usize, Failed>
+        ensures within { IfOk result (λ count. count ≤ length room.old) }
+        ensures bytes { ReadConsumes (R.remaining self.old.reader) (R.remaining self.new.reader)
+            result room.new }
+        ensures faults { CountsFaults self.old.faults self.new.faults result }
+    {
         match read_on(&mut self.reader, room) {
             Ok(count) => Ok(count),
             Err(_) => {

@@ -1,6 +1,8 @@
 //! A stream as a connection.
 
-ghost use Rattle.std.specs.Prelude.{◌≡◌, None, refl};
+ghost use Rattle.std.specs.Prelude.{◌≡◌, ◌≤◌, length, None, IfOk, OnOk, refl};
+ghost use Rattle.std.specs.Io.KnownBytes.{Appends, ReadConsumes};
+ghost use Rattle.muni_prog.specs.Faults.{CountsFaults};
 
 use crate::reading::read_on;
 use muni_edge::{Failed, Link, Sink, Source};
@@ -34,7 +36,13 @@ impl<S: Read> Source for StreamLink<S> {
 
     ghost take_keeps = { λ old new. new.write_faults ≡ old.write_faults };
 
-    fn take(&mut self, room: &mut [u8]) -> Result<usize, Failed> {
+    fn take(&mut self, room: &mut [u8]) -> Result<usize, Failed>
+        ensures within { IfOk result (λ count. count ≤ length room.old) }
+        ensures bytes { ReadConsumes (S.remaining self.old.stream) (S.remaining self.new.stream)
+            result room.new }
+        ensures faults { CountsFaults self.old.read_faults self.new.read_faults result }
+        ensures keeps { self.new.write_faults ≡ self.old.write_faults }
+    {
         match read_on(&mut self.stream, room) {
             Ok(count) => Ok(count),
             Err(_) => {
@@ -52,7 +60,12 @@ impl<S: Write> Sink for StreamLink<S> {
 
     ghost put_keeps = { λ old new. new.read_faults ≡ old.read_faults };
 
-    fn put(&mut self, piece: &[u8]) -> Result<(), Failed> {
+    fn put(&mut self, piece: &[u8]) -> Result<(), Failed>
+        ensures written { OnOk result
+            (Appends (S.contents self.old.stream) (S.contents self.new.stream) piece.now) }
+        ensures faults { CountsFaults self.old.write_faults self.new.write_faults result }
+        ensures keeps { self.new.read_faults ≡ self.old.read_faults }
+    {
         if self.stream.write_all(piece).is_err() || self.stream.flush().is_err() {
             self.write_faults = self.write_faults.saturating_add(1);
             return Err(Failed);

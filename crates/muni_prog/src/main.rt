@@ -2,8 +2,9 @@
 //! journals, a door on this machine, and the encloser.
 #![tactic(auto)]
 
-ghost use Rattle.std.specs.Prelude.{◌≡◌, ◌≢◌};
+ghost use Rattle.std.specs.Prelude.{◌≡◌, ◌≢◌, ◌⊎◌, drop, IfErr, IfOk};
 ghost use Rattle.std.specs.IoError.{error_kind};
+ghost use Rattle.std.specs.Vec.Iter.{into_iter_items};
 
 mod door;
 mod input;
@@ -21,6 +22,8 @@ use muni_journal::JournalCabinet;
 use muni_multi::Doubling;
 use muni_store::SqlCabinet;
 use output::Output;
+use std::alloc::Global;
+use std::env::Args;
 use std::io::{ErrorKind, Input as _};
 use std::process::ExitCode;
 use std::{env, io};
@@ -51,12 +54,21 @@ fn main(rt: HostRuntime) -> ExitCode {
 }
 
 // Words that are no text are no command.
-fn words(rt: &HostRuntime) -> Result<Vec<String>, Status> {
-    let args = match env::args(rt) {
-        Ok(args) => args,
-        Err(error) => return Err(unread(error)),
-    };
-    match args.skip(1).collect::<Vec<String>>(rt.alloc()) {
+fn words(rt: &HostRuntime) -> Result<Vec<String>, Status>
+    ensures { IfErr result (λ status. (status ≡ Status.NoMemory) ⊎ (status ≡ Status.Usage)) }
+{
+    match env::args(rt) {
+        Ok(args) => past_name(rt.alloc(), args),
+        Err(error) => Err(unread(error)),
+    }
+}
+
+// The words after the program's own name.
+fn past_name(alloc: Global, args: Args) -> Result<Vec<String>, Status>
+    ensures rest { IfOk result (λ words. words.items ≡ drop 1 (into_iter_items args)) }
+    ensures memory { IfErr result (λ status. status ≡ Status.NoMemory) }
+{
+    match args.skip(1).collect::<Vec<String>>(alloc) {
         Ok(words) => Ok(words),
         Err(_) => Err(Status::NoMemory),
     }

@@ -1,6 +1,8 @@
 //! Standard output as a sink.
 
-ghost use Rattle.std.specs.Prelude.{◌≡◌, None};
+ghost use Rattle.std.specs.Prelude.{◌≡◌, None, OnOk};
+ghost use Rattle.std.specs.Io.KnownBytes.{Appends};
+ghost use Rattle.muni_prog.specs.Faults.{CountsFaults};
 
 use muni_edge::{Failed, Sink};
 use std::io;
@@ -25,7 +27,11 @@ impl<W: io::Write> Sink for Output<W> {
 
     ghost faults = { λ output. output.faults };
 
-    fn put(&mut self, piece: &[u8]) -> Result<(), Failed> {
+    fn put(&mut self, piece: &[u8]) -> Result<(), Failed>
+        ensures written { OnOk result
+            (Appends (W.contents self.old.writer) (W.contents self.new.writer) piece.now) }
+        ensures faults { CountsFaults self.old.faults self.new.faults result }
+    {
         if self.writer.write_all(piece).is_err() || self.writer.flush().is_err() {
             self.faults = self.faults.saturating_add(1);
             return Err(Failed);

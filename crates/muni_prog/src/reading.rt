@@ -1,12 +1,16 @@
 //! Reads that a signal does not end.
 
-ghost use Rattle.std.specs.Prelude.{◌≤◌, length, IfOk};
+ghost use Rattle.std.specs.Prelude.{◌≢◌, ◌≤◌, length, IfOk, IfErr};
+ghost use Rattle.std.specs.Io.KnownBytes.{ReadConsumes};
+ghost use Rattle.std.specs.IoError.{error_kind};
 
 use std::io::{self, ErrorKind, Read};
 
 /// Reads, and reads again where a signal interrupts.
 pub(crate) fn read_on<R: Read>(reader: &mut R, room: &mut [u8]) -> io::Result<usize>
-    ensures { IfOk result (λ count. count ≤ length room.old) }
+    ensures within { IfOk result (λ count. count ≤ length room.old) }
+    ensures bytes { ReadConsumes (R.remaining reader.old) (R.remaining reader.new) result room.new }
+    ensures uninterrupted { IfErr result (λ error. error_kind error ≢ ErrorKind.Interrupted) }
 {
     for _ in 0..u64::MAX {
         match reader.read(room) {
@@ -18,5 +22,5 @@ pub(crate) fn read_on<R: Read>(reader: &mut R, room: &mut [u8]) -> io::Result<us
             }
         }
     }
-    Err(io::Error::from(ErrorKind::Interrupted))
+    Err(io::Error::from(ErrorKind::TimedOut))
 }
