@@ -1,10 +1,12 @@
 //! A stream as a connection.
 
-ghost use Rattle.std.specs.Prelude.{◌≡◌, ◌≤◌, length, None, IfOk, OnOk, refl};
-ghost use Rattle.std.specs.Io.KnownBytes.{Appends, ReadConsumes};
+ghost use Rattle.std.specs.Prelude.{◌≡◌, ◌≤◌, length, None, IfOk, refl};
+ghost use Rattle.std.specs.Io.KnownBytes.{ReadConsumes};
+ghost use Rattle.muni_prog.specs.Bytes.{AppendsPiece};
 ghost use Rattle.muni_prog.specs.Faults.{CountsFaults};
 
 use crate::reading::read_on;
+use crate::writing::write_on;
 use muni_edge::{Failed, Link, Sink, Source};
 use std::io::{Read, Write};
 
@@ -61,12 +63,12 @@ impl<S: Write> Sink for StreamLink<S> {
     ghost put_keeps = { λ old new. new.read_faults ≡ old.read_faults };
 
     fn put(&mut self, piece: &[u8]) -> Result<(), Failed>
-        ensures written { OnOk result
-            (Appends (S.contents self.old.stream) (S.contents self.new.stream) piece.now) }
+        ensures bytes { AppendsPiece (S.contents self.old.stream) (S.contents self.new.stream)
+            result piece.now }
         ensures faults { CountsFaults self.old.write_faults self.new.write_faults result }
         ensures keeps { self.new.read_faults ≡ self.old.read_faults }
     {
-        if self.stream.write_all(piece).is_err() || self.stream.flush().is_err() {
+        if write_on(&mut self.stream, piece).is_err() {
             self.write_faults = self.write_faults.saturating_add(1);
             return Err(Failed);
         }

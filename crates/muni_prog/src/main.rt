@@ -11,6 +11,7 @@ mod input;
 mod link;
 mod output;
 mod reading;
+mod writing;
 
 use door::LoopbackDoor;
 use input::Input;

@@ -1,9 +1,10 @@
 //! Standard output as a sink.
 
-ghost use Rattle.std.specs.Prelude.{◌≡◌, None, OnOk};
-ghost use Rattle.std.specs.Io.KnownBytes.{Appends};
+ghost use Rattle.std.specs.Prelude.{◌≡◌, None};
+ghost use Rattle.muni_prog.specs.Bytes.{AppendsPiece};
 ghost use Rattle.muni_prog.specs.Faults.{CountsFaults};
 
+use crate::writing::write_on;
 use muni_edge::{Failed, Sink};
 use std::io;
 
@@ -28,11 +29,11 @@ impl<W: io::Write> Sink for Output<W> {
     ghost faults = { λ output. output.faults };
 
     fn put(&mut self, piece: &[u8]) -> Result<(), Failed>
-        ensures written { OnOk result
-            (Appends (W.contents self.old.writer) (W.contents self.new.writer) piece.now) }
+        ensures bytes { AppendsPiece (W.contents self.old.writer) (W.contents self.new.writer)
+            result piece.now }
         ensures faults { CountsFaults self.old.faults self.new.faults result }
     {
-        if self.writer.write_all(piece).is_err() || self.writer.flush().is_err() {
+        if write_on(&mut self.writer, piece).is_err() {
             self.faults = self.faults.saturating_add(1);
             return Err(Failed);
         }
