@@ -14,3 +14,5 @@ mod lists;
 mod marks;
 #[cfg(test)]
 mod positions;
+#[cfg(test)]
+mod ports;

@@ -6,23 +6,14 @@ ghost use Rattle.std.specs.Prelude.{◌≡◌, ◌≢◌, ◌⊎◌, drop, IfErr
 ghost use Rattle.std.specs.IoError.{error_kind};
 ghost use Rattle.std.specs.Vec.Iter.{into_iter_items};
 
-mod door;
-mod input;
-mod link;
-mod output;
-mod reading;
-mod writing;
-
-use door::LoopbackDoor;
-use input::Input;
 use muni_desk::{Status, desk};
 use muni_edge::NoGate;
 use muni_either::Either;
 use muni_file::FileShelf;
+use muni_host::{Input, LoopbackDoor, Output};
 use muni_journal::JournalCabinet;
 use muni_multi::Doubling;
 use muni_store::SqlCabinet;
-use output::Output;
 use std::alloc::Global;
 use std::env::Args;
 use std::io::{ErrorKind, Input as _};

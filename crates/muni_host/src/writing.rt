@@ -1,6 +1,6 @@
 //! Writes that a signal does not end.
 
-ghost use Rattle.muni_prog.specs.Bytes.{AppendsPiece};
+ghost use Rattle.muni_host.specs.Bytes.{AppendsPiece};
 
 use std::io::{self, ErrorKind, Write};
 

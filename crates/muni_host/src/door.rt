@@ -2,9 +2,6 @@
 
 ghost use Rattle.std.specs.Prelude.{◌≡◌, None};
 
-#[cfg(test)]
-mod tests;
-
 use crate::link::StreamLink;
 use muni_edge::{Door, Failed};
 use std::io::{Read, Write};
@@ -29,6 +26,13 @@ impl<'a, R: Net> LoopbackDoor<'a, R> {
             listener: None,
             faults: 0,
         }
+    }
+
+    /// Where it is bound. A port of 0 is one that the system chooses.
+    pub fn address(&self) -> Option<SocketAddr>
+        ensures { self.now.listener ≡ None → result ≡ None }
+    {
+        self.listener.as_ref()?.local_addr().ok()
     }
 }
 

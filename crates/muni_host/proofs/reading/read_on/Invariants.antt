@@ -1,7 +1,7 @@
 -- The room keeps its length, and a read that was interrupted moved nothing.
 use Rattle.std.proofs.Common.{◌≡◌, length}
 use Rattle.std.specs.Io.KnownBytes.{Keeps}
-use Rattle.muni_prog.proofs.reading.read_on.Given as goal
+use Rattle.muni_host.proofs.reading.read_on.Given as goal
 
 abbrev pub invariant-loop : goal.invariant-loop
 invariant-loop g l = (length l.room ≡ length l.initial.room) × Keeps (g.R.Read.remaining l.initial.reader) (g.R.Read.remaining l.reader)

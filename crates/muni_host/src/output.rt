@@ -1,8 +1,8 @@
 //! Standard output as a sink.
 
 ghost use Rattle.std.specs.Prelude.{◌≡◌, None};
-ghost use Rattle.muni_prog.specs.Bytes.{AppendsPiece};
-ghost use Rattle.muni_prog.specs.Faults.{CountsFaults};
+ghost use Rattle.muni_host.specs.Bytes.{AppendsPiece};
+ghost use Rattle.muni_host.specs.Faults.{CountsFaults};
 
 use crate::writing::write_on;
 use muni_edge::{Failed, Sink};

@@ -2,8 +2,8 @@
 
 ghost use Rattle.std.specs.Prelude.{◌≡◌, ◌≤◌, length, None, IfOk, refl};
 ghost use Rattle.std.specs.Io.KnownBytes.{ReadConsumes};
-ghost use Rattle.muni_prog.specs.Bytes.{AppendsPiece};
-ghost use Rattle.muni_prog.specs.Faults.{CountsFaults};
+ghost use Rattle.muni_host.specs.Bytes.{AppendsPiece};
+ghost use Rattle.muni_host.specs.Faults.{CountsFaults};
 
 use crate::reading::read_on;
 use crate::writing::write_on;

@@ -1,10 +1,11 @@
 //! Connections over a port of this machine.
 
-use super::*;
-use muni_edge::NoGate;
+use muni_edge::{Door, Failed, NoGate};
+use muni_host::LoopbackDoor;
 use muni_keep::MemKeeper;
 use muni_multi::Horner;
 use muni_server::{Served, answer_one};
+use std::io::{Read, Write};
 use std::net::TcpStream;
 use std::test::Fail;
 
@@ -62,8 +63,7 @@ fn what_a_client_sends_to_the_port_is_answered(rt: HostRuntime) -> Result<(), Fa
     let mut keeper = MemKeeper::new(alloc, &[])?;
     let mut door = LoopbackDoor::new(&rt);
     door.bind(0)?;
-    let listener = door.listener.as_ref().ok_or("a listener")?;
-    let address = listener.local_addr()?;
+    let address = door.address().ok_or("an address")?;
     assert_eq!(rt; LoopbackDoor::new(&rt).bind(address.port()), Err(Failed));
     for (request, wanted) in [(ISSUE, ADDED), (TRADE, CONFIRMED)] {
         let mut client = TcpStream::connect(&rt, address)?;

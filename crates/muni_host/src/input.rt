@@ -2,7 +2,7 @@
 
 ghost use Rattle.std.specs.Prelude.{◌≡◌, ◌≤◌, length, None, IfOk};
 ghost use Rattle.std.specs.Io.KnownBytes.{ReadConsumes};
-ghost use Rattle.muni_prog.specs.Faults.{CountsFaults};
+ghost use Rattle.muni_host.specs.Faults.{CountsFaults};
 
 use crate::reading::read_on;
 use muni_edge::{Failed, Source};

@@ -4,8 +4,8 @@ use Rattle.std.proofs.Math.Seq.{take-add}
 use Rattle.std.proofs.lemmas.List.{take_rest}
 use Rattle.std.specs.Io.KnownBytes.{Appends}
 use Rattle.std.proofs.KnownBytes.{Appends-trans}
-use Rattle.muni_prog.proofs.writing.write_on.Goals as goal
-use Rattle.muni_prog.proofs.writing.write_on.Goals.{in-Ok, in-Err+else-ne}
+use Rattle.muni_host.proofs.writing.write_on.Goals as goal
+use Rattle.muni_host.proofs.writing.write_on.Goals.{in-Ok, in-Err+else-ne}
 
 pub loop-preserved : goal.loop-preserved
 loop-preserved g c =
