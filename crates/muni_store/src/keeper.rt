@@ -1,6 +1,12 @@
 //! A keeper over a file.
 
-ghost use Rattle.std.specs.Prelude.{◌≡◌, ◌≤◌, None, IsErrOf};
+ghost use Rattle.std.specs.Prelude.{◌≡◌, ◌≤◌, None, OnOk, IsErrOf};
+ghost use Rattle.sqlite.specs.Files.{file_state};
+ghost use Rattle.muni_edge.specs.Sink.{Rose};
+ghost use Rattle.muni_rows.specs.Issue as issues;
+ghost use Rattle.muni_rows.specs.Version as versions;
+ghost use Rattle.muni_store.specs.Ran.{Ran};
+ghost use Rattle.muni_store.specs.Statements as spec;
 
 use crate::faults::Faults;
 use crate::rows::{
@@ -64,7 +70,12 @@ impl Keeper for SqlKeeper {
         self.faults.noted(found)
     }
 
-    fn put_issue(&mut self, issue: &Issue) -> Result<(), KeepFault> {
+    fn put_issue(&mut self, issue: &Issue) -> Result<(), KeepFault>
+        ensures ran { OnOk result (Ran (file_state self.old.database) (file_state self.new.database)
+            spec.insert_issue (spec.issue_values (issues.columns_of issue.now))) }
+        ensures later { self.old.faults ≤ self.new.faults }
+        ensures failed { IsErrOf result KeepFault.Failed → Rose self.old.faults self.new.faults }
+    {
         let put = insert_issue(&mut self.database, issue);
         self.faults.noted(put)
     }
@@ -83,11 +94,14 @@ impl Keeper for SqlKeeper {
         }
     }
 
-    fn put_version(&mut self, key: &Key, number: u32, version: &Version) -> Result<(), KeepFault> {
+    fn put_version(&mut self, key: &Key, number: u32, version: &Version) -> Result<(), KeepFault>
+        ensures ran { OnOk result (Ran (file_state self.old.database) (file_state self.new.database)
+            spec.insert_version (spec.version_values key.now number (versions.columns_of version.now))) }
+        ensures later { self.old.faults ≤ self.new.faults }
+        ensures failed { IsErrOf result KeepFault.Failed → Rose self.old.faults self.new.faults }
+    {
         let put = insert_version(&mut self.database, key, number, version);
-        if number == 1 && put.is_ok() {
-            self.trades.add_one(&key.desk);
-        }
+        self.trades.note_put(&key.desk, number, put.is_ok());
         self.faults.noted(put)
     }
 

@@ -1,12 +1,20 @@
 //! The statements on the tables.
 
+ghost use Rattle.std.specs.Prelude.{◌≡◌, OnOk};
+ghost use Rattle.sqlite.specs.Held.{state};
+ghost use Rattle.sqlite.specs.Values.{bound};
+ghost use Rattle.muni_rows.specs.Issue as issues;
+ghost use Rattle.muni_rows.specs.Version as versions;
+ghost use Rattle.muni_store.specs.Ran.{Ran};
+ghost use Rattle.muni_store.specs.Statements as spec;
+
 use crate::schema::{Database, answered, first_row, text, write};
 use muni_keep::KeepFault;
 use muni_msg::{DeskName, Given, Key, Reference, Version};
-use muni_rows::{issue_2, issue_columns, version_2, version_columns};
+use muni_rows::{IssueColumns, VersionColumns, issue_2, issue_columns, version_2, version_columns};
 use muni_terms::Issue;
 use sqlite::types::ValueRef;
-use sqlite::{Row, params};
+use sqlite::{Alter, Connection, Row, params};
 
 /// The issue of a CUSIP, if it is kept.
 pub(crate) fn find_issue(
@@ -30,24 +38,37 @@ pub(crate) fn find_issue(
 }
 
 /// Keeps an issue.
-pub(crate) fn insert_issue(database: &mut Database, issue: &Issue) -> Result<(), KeepFault> {
+pub(crate) fn insert_issue<S: Alter>(
+    database: &mut Connection<S>,
+    issue: &Issue,
+) -> Result<(), KeepFault>
+    ensures ran { OnOk result (Ran (state S.Store database.old) (state S.Store database.new)
+        spec.insert_issue (spec.issue_values (issues.columns_of issue.now))) }
+{
     let columns = issue_columns(issue);
+    let values = issue_values(&columns);
     write(
         database,
-        "INSERT INTO issues_2 (cusip, name, kind, dated, first, maturity, coupon, calls, basis)
+        "INSERT INTO issues_2 (cusip, name, kind, dated, first, maturity, coupon, calls, basis) \
          VALUES (?1, ?2, ?3, ?4, ?5, ?6, ?7, ?8, ?9)",
-        params![
-            text(&columns.cusip)?,
-            text(&columns.name)?,
-            columns.kind,
-            text(&columns.dated)?,
-            text(&columns.first)?,
-            text(&columns.maturity)?,
-            columns.coupon,
-            text(columns.calls())?,
-            columns.basis,
-        ],
+        &values,
     )
+}
+
+fn issue_values<'a>(columns: &'a IssueColumns) -> [ValueRef<'a>; 9]
+    ensures { bound result ≡ spec.issue_values columns.now }
+{
+    [
+        ValueRef::Text(&columns.cusip),
+        ValueRef::Text(&columns.name),
+        ValueRef::Int(columns.kind),
+        ValueRef::Text(&columns.dated),
+        ValueRef::Text(&columns.first),
+        ValueRef::Text(&columns.maturity),
+        ValueRef::Int(columns.coupon),
+        ValueRef::Text(columns.calls()),
+        ValueRef::Int(columns.basis),
+    ]
 }
 
 /// The version of a trade with this number, if it is kept.
@@ -89,43 +110,53 @@ pub(crate) fn find_last(
 }
 
 /// Keeps a version of a trade.
-pub(crate) fn insert_version(
-    database: &mut Database,
+pub(crate) fn insert_version<S: Alter>(
+    database: &mut Connection<S>,
     key: &Key,
     number: u32,
     version: &Version,
-) -> Result<(), KeepFault> {
+) -> Result<(), KeepFault>
+    ensures ran { OnOk result (Ran (state S.Store database.old) (state S.Store database.new)
+        spec.insert_version (spec.version_values key.now number (versions.columns_of version.now))) }
+{
     let columns = version_columns(version);
+    let values = version_values(key, number, &columns);
     write(
         database,
-        "INSERT INTO versions_2 (desk, reference, number, act, cusip, side, par, settle, basis, value,
-         price, yld, redemption, at_price, label, days, principal, accrued, total, fee, commission)
-         VALUES (?1, ?2, ?3, ?4, ?5, ?6, ?7, ?8, ?9, ?10, ?11, ?12, ?13, ?14, ?15, ?16, ?17, ?18, ?19,
-         ?20, ?21)",
-        params![
-            text(key.desk.bytes())?,
-            text(key.reference.bytes())?,
-            number,
-            columns.act,
-            text(&columns.cusip)?,
-            columns.side,
-            columns.par,
-            text(&columns.settle)?,
-            columns.basis,
-            columns.value,
-            columns.price,
-            columns.yld,
-            text(&columns.redemption)?,
-            columns.at_price,
-            columns.label,
-            columns.days,
-            columns.principal,
-            columns.accrued,
-            columns.total,
-            columns.fee,
-            columns.commission,
-        ],
+        "INSERT INTO versions_2 (desk, reference, number, act, cusip, side, par, settle, basis, value, \
+         price, yld, redemption, at_price, label, days, principal, accrued, total, fee, commission) \
+         VALUES (?1, ?2, ?3, ?4, ?5, ?6, ?7, ?8, ?9, ?10, ?11, ?12, ?13, ?14, ?15, ?16, ?17, ?18, \
+         ?19, ?20, ?21)",
+        &values,
     )
+}
+
+fn version_values<'a>(key: &'a Key, number: u32, columns: &'a VersionColumns) -> [ValueRef<'a>; 21]
+    ensures { bound result ≡ spec.version_values key.now number columns.now }
+{
+    [
+        ValueRef::Text(key.desk.bytes()),
+        ValueRef::Text(key.reference.bytes()),
+        ValueRef::Int(i64::from(number)),
+        ValueRef::Int(columns.act),
+        ValueRef::Text(&columns.cusip),
+        ValueRef::Int(columns.side),
+        ValueRef::Int(columns.par),
+        ValueRef::Text(&columns.settle),
+        ValueRef::Int(columns.basis),
+        ValueRef::Int(columns.value),
+        ValueRef::Int(columns.price),
+        ValueRef::Int(columns.yld),
+        ValueRef::Text(&columns.redemption),
+        ValueRef::Int(columns.at_price),
+        ValueRef::Int(columns.label),
+        ValueRef::Int(columns.days),
+        ValueRef::Int(columns.principal),
+        ValueRef::Int(columns.accrued),
+        ValueRef::Int(columns.total),
+        ValueRef::Int(columns.fee),
+        ValueRef::Int(columns.commission),
+    ]
 }
 
 /// How many trades of a desk are kept. Each has a first version.

@@ -1,11 +1,14 @@
 //! The file of a store and its tables.
 
-ghost use Rattle.std.specs.Prelude.{◌≡◌, ◌↔◌};
+ghost use Rattle.std.specs.Prelude.{◌≡◌, ◌↔◌, IfOk, OnOk};
+ghost use Rattle.sqlite.specs.Held.{state};
+ghost use Rattle.sqlite.specs.Values.{bound};
+ghost use Rattle.muni_store.specs.Ran.{Ran, Found, answer_of};
 
 use crate::rows::number_at;
 use muni_keep::KeepFault;
 use sqlite::types::ValueRef;
-use sqlite::{Connection, Error, ErrorCode, File, FileStore, Row, params};
+use sqlite::{Alter, Connection, Error, ErrorCode, File, FileStore, Row, params};
 
 /// A store that is open.
 pub(crate) type Database = Connection<FileStore<File>>;
@@ -78,26 +81,44 @@ pub(crate) fn has_table(database: &mut Database, name: &str) -> Result<bool, Kee
 }
 
 /// The first row that a query finds, if it finds one.
-pub(crate) fn first_row(
-    database: &mut Database,
+pub(crate) fn first_row<S: Alter>(
+    database: &mut Connection<S>,
     query: &str,
     params: &[ValueRef<'_>],
-) -> Result<Option<Row>, KeepFault> {
+) -> Result<Option<Row>, KeepFault>
+    ensures found { IfOk result (Found (state S.Store database.old) (state S.Store database.new)
+        query.now (bound params.now)) }
+{
     if_found(database.query_row(query, params))
 }
 
 /// Carries out a statement that writes.
-pub(crate) fn write(
-    database: &mut Database,
+pub(crate) fn write<S: Alter>(
+    database: &mut Connection<S>,
     statement: &str,
     params: &[ValueRef<'_>],
-) -> Result<(), KeepFault> {
+) -> Result<(), KeepFault>
+    ensures ran { OnOk result (Ran (state S.Store database.old) (state S.Store database.new)
+        statement.now (bound params.now)) }
+{
+    are_texts(params)?;
     let _ = answered(database.execute(statement, params))?;
     Ok(())
 }
 
+fn are_texts(values: &[ValueRef<'_>]) -> Result<(), KeepFault> {
+    for value in values {
+        if let ValueRef::Text(bytes) = value {
+            text(bytes)?;
+        }
+    }
+    Ok(())
+}
+
 /// The row that a query found, if it found one.
-pub(crate) fn if_found(row: Result<Row, Error>) -> Result<Option<Row>, KeepFault> {
+pub(crate) fn if_found(row: Result<Row, Error>) -> Result<Option<Row>, KeepFault>
+    ensures { IfOk result (λ found. row ≡ answer_of found) }
+{
     match row {
         Ok(row) => Ok(Some(row)),
         Err(Error::QueryReturnedNoRows) => Ok(None),
@@ -106,7 +127,9 @@ pub(crate) fn if_found(row: Result<Row, Error>) -> Result<Option<Row>, KeepFault
 }
 
 /// What `sqlite` answered, or the fault of its refusal.
-pub(crate) fn answered<T>(answer: Result<T, Error>) -> Result<T, KeepFault> {
+pub(crate) fn answered<T>(answer: Result<T, Error>) -> Result<T, KeepFault>
+    ensures { IfOk result (λ value. answer ≡ Ok value) }
+{
     match answer {
         Ok(value) => Ok(value),
         Err(error) => Err(fault_of(error)),
@@ -114,7 +137,9 @@ pub(crate) fn answered<T>(answer: Result<T, Error>) -> Result<T, KeepFault> {
 }
 
 /// Bytes as a text. The store keeps texts alone.
-pub(crate) fn text(bytes: &[u8]) -> Result<&str, KeepFault> {
+pub(crate) fn text(bytes: &[u8]) -> Result<&str, KeepFault>
+    ensures { IfOk result (λ text. text.now ≡ bytes.now) }
+{
     match std::str::from_utf8(bytes) {
         Ok(text) => Ok(text),
         Err(_) => Err(KeepFault::Failed),

@@ -29,8 +29,14 @@ impl TradeCounts {
         let _ = self.counts.insert(desk.copy(), count);
     }
 
-    /// One trade more was kept.
-    pub(crate) fn add_one(&mut self, desk: &DeskName) {
+    /// A version with this number was put. The first of a trade that is kept is one trade more.
+    pub(crate) fn note_put(&mut self, desk: &DeskName, number: u32, is_kept: bool) {
+        if number == 1 && is_kept {
+            self.add_one(desk);
+        }
+    }
+
+    fn add_one(&mut self, desk: &DeskName) {
         if let Some(count) = self.counts.get_mut(desk) {
             *count = count.saturating_add(1);
         }
