@@ -13,6 +13,6 @@ mod lists;
 #[cfg(test)]
 mod marks;
 #[cfg(test)]
-mod positions;
-#[cfg(test)]
 mod ports;
+#[cfg(test)]
+mod positions;

@@ -1,4 +1,4 @@
-use Rattle.muni_yield.proofs.tests.outcome_of.Given as goal
+use Rattle.muni_figure_tests.proofs.yields.outcome_of.Given as goal
 
 abbrev pub ghosts-counted : goal.ghosts-counted
 ghosts-counted g a = record { name = a.blank.name; parts = a.blank.parts }

@@ -2,7 +2,7 @@ use Rattle.std.proofs.Common.{sym, ◌∙◌}
 use Rattle.std.proofs.lemmas.Option.{IfSome_then}
 use Rattle.muni_keep.specs.Tables.{trade_at}
 use Rattle.muni_keep.proofs.HistoryLemmas.{next_after_last}
-use Rattle.muni_keep.proofs.tests.add_version.Goals as goal
+use Rattle.muni_book_tests.proofs.keepers.add_version.Goals as goal
 
 pub put_version-requires-in-Some : goal.put_version-requires-in-Some
 put_version-requires-in-Some g c =

@@ -1,5 +1,5 @@
 use Rattle.std.proofs.Common.{◌≡◌, None}
-use Rattle.muni_keep.proofs.tests.a_cabinet_lends_the_keeper_that_it_took_back.Given as goal
+use Rattle.muni_book_tests.proofs.keepers.a_cabinet_lends_the_keeper_that_it_took_back.Given as goal
 
 -- no keeper is out
 abbrev pub invariant-loop-name : goal.invariant-loop-name

@@ -2,7 +2,7 @@ use Rattle.std.proofs.Common.{rules, arith, ◌≡◌, ◌+◌, ◌++◌, [], �
 use Rattle.std.proofs.lemmas.List.{take_all, take_more}
 use Rattle.std.proofs.lemmas.List.Elements.{All-push, All-same}
 use Rattle.muni_sched.specs.PriceOutcome.{IsAtYield}
-use Rattle.muni_sched.proofs.tests.lowest.are_at_yield.Goals as goal
+use Rattle.muni_figure_tests.proofs.schedules.lowest.are_at_yield.Goals as goal
 
 pub loop-candidate-preserved : goal.loop-candidate-preserved
 loop-candidate-preserved c =
