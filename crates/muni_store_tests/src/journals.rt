@@ -13,7 +13,7 @@ use muni_edge::NoGate;
 use muni_import::{read_rows, report_row};
 use muni_journal::{JournalKeeper, open};
 use muni_keep::Keeper;
-use muni_msg::{Command, Reply};
+use muni_msg::{Command, Key, Reply};
 use muni_multi::Horner;
 use muni_samples::key;
 use std::alloc::Global;
