@@ -23,15 +23,21 @@ fn add_issue<K: Keeper>(keeper: &mut K, issue: &Issue) -> Result<(), KeepFault> 
     Ok(())
 }
 
-/// Keeps the next version of a trade.
-fn add_version<K: Keeper>(keeper: &mut K, key: &Key, act: Act) -> Result<(), KeepFault>
+/// Keeps a version as the next one of a trade.
+fn put_next<K: Keeper>(keeper: &mut K, key: &Key, version: &Version) -> Result<(), KeepFault>
     ensures mark { K.mark keeper.new ≡ K.mark keeper.old }
 {
     match keeper.last(key)? {
-        None => keeper.put_version(key, 1, &version(act)),
+        None => keeper.put_version(key, 1, version),
         Some((u32::MAX, _)) => Err(KeepFault::NoMemory),
-        Some((number, _)) => keeper.put_version(key, number + 1, &version(act)),
+        Some((number, _)) => keeper.put_version(key, number + 1, version),
     }
+}
+
+fn add_version<K: Keeper>(keeper: &mut K, key: &Key, act: Act) -> Result<(), KeepFault>
+    ensures mark { K.mark keeper.new ≡ K.mark keeper.old }
+{
+    put_next(keeper, key, &version(act))
 }
 
 /// The seven calls, one after the other, up to the first that fails.
