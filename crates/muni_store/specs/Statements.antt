@@ -1,10 +1,18 @@
 -- The statements on the tables, and the values in their places.
-use Rattle.std.specs.Prelude.{ℕ, pos, List, [], ◌∷◌, codes}
+use Rattle.std.specs.Prelude.{ℕ, pos, List, [], ◌∷◌, codes, Option, unwrap_or}
 use Rattle.sqlite.specs.declared.types.Value.{Value}
 use Rattle.sqlite.specs.declared.types.Value.TheVariants.{Int, Text}
 use Rattle.muni_msg.specs.declared.command.Key.{Key}
 use Rattle.muni_rows.specs.Issue as issues
 use Rattle.muni_rows.specs.Version as versions
+
+-- finds the issue of a CUSIP
+abbrev pub select_issue : List ℕ
+select_issue = codes "SELECT cusip, name, kind, dated, first, maturity, coupon, calls, basis FROM issues_2 WHERE cusip = ?1"
+
+-- the CUSIP, in its place
+abbrev pub cusip_values : List ℕ → List Value
+cusip_values cusip = Text cusip ∷ []
 
 -- keeps an issue
 abbrev pub insert_issue : List ℕ
@@ -23,6 +31,37 @@ issue_values columns =
     ∷ Text columns.calls
     ∷ Int columns.basis
     ∷ []
+
+-- finds a version of a trade by its number
+abbrev pub select_version : List ℕ
+select_version = codes "SELECT desk, reference, number, act, cusip, side, par, settle, basis, value, price, yld, redemption, at_price, label, days, principal, accrued, total, fee, commission FROM versions_2 WHERE desk = ?1 AND reference = ?2 AND number = ?3"
+
+-- finds the last version of a trade
+abbrev pub select_last : List ℕ
+select_last = codes "SELECT desk, reference, number, act, cusip, side, par, settle, basis, value, price, yld, redemption, at_price, label, days, principal, accrued, total, fee, commission FROM versions_2 WHERE desk = ?1 AND reference = ?2 ORDER BY number DESC LIMIT 1"
+
+-- the trade, in the places of the queries for its versions
+abbrev pub key_values : Key → List Value
+key_values key = Text key.desk ∷ Text key.reference ∷ []
+
+abbrev pub numbered_key_values : Key → ℕ → List Value
+numbered_key_values key number = Text key.desk ∷ Text key.reference ∷ Int (pos number) ∷ []
+
+-- counts the trades of a desk, each of which has a first version
+abbrev pub count_trades : List ℕ
+count_trades = codes "SELECT COUNT(*) FROM versions_2 WHERE desk = ?1 AND number = 1"
+
+-- the desk, in its place
+abbrev pub desk_values : List ℕ → List Value
+desk_values desk = Text desk ∷ []
+
+-- finds the references of the first 50 trades of a desk after one, in their order
+abbrev pub select_references : List ℕ
+select_references = codes "SELECT reference FROM versions_2 WHERE desk = ?1 AND reference > ?2 AND number = 1 ORDER BY reference LIMIT 50"
+
+-- the desk and the reference, or nothing where the first trades are asked for
+abbrev pub page_values : List ℕ → Option (List ℕ) → List Value
+page_values desk after = Text desk ∷ Text (unwrap_or after []) ∷ []
 
 -- keeps a version of a trade
 abbrev pub insert_version : List ℕ

@@ -1,11 +1,12 @@
 //! A keeper over a file.
 
-ghost use Rattle.std.specs.Prelude.{◌≡◌, ◌≤◌, None, OnOk, IsErrOf};
+ghost use Rattle.std.specs.Prelude.{◌≡◌, ◌≤◌, None, IfOk, OnOk, IsErrOf};
 ghost use Rattle.sqlite.specs.Files.{file_state};
 ghost use Rattle.muni_edge.specs.Sink.{Rose};
 ghost use Rattle.muni_rows.specs.Issue as issues;
 ghost use Rattle.muni_rows.specs.Version as versions;
 ghost use Rattle.muni_store.specs.Ran.{Ran};
+ghost use Rattle.muni_store.specs.Rows as rows;
 ghost use Rattle.muni_store.specs.Statements as spec;
 
 use crate::faults::Faults;
@@ -65,7 +66,12 @@ impl Keeper for SqlKeeper {
 
     ghost mark = { λ _. 0 };
 
-    fn issue(&mut self, cusip: &[u8; 9]) -> Result<Option<Issue>, KeepFault> {
+    fn issue(&mut self, cusip: &[u8; 9]) -> Result<Option<Issue>, KeepFault>
+        ensures read { IfOk result (rows.Reads rows.issue_in (file_state self.old.database)
+            (file_state self.new.database) spec.select_issue (spec.cusip_values cusip.now)) }
+        ensures later { self.old.faults ≤ self.new.faults }
+        ensures failed { IsErrOf result KeepFault.Failed → Rose self.old.faults self.new.faults }
+    {
         let found = find_issue(&mut self.database, cusip);
         self.faults.noted(found)
     }
@@ -80,14 +86,24 @@ impl Keeper for SqlKeeper {
         self.faults.noted(put)
     }
 
-    fn version(&mut self, key: &Key, number: u32) -> Result<Option<Version>, KeepFault> {
+    fn version(&mut self, key: &Key, number: u32) -> Result<Option<Version>, KeepFault>
+        ensures read { IfOk result (rows.Reads rows.version_in (file_state self.old.database)
+            (file_state self.new.database) spec.select_version (spec.numbered_key_values key.now number)) }
+        ensures later { self.old.faults ≤ self.new.faults }
+        ensures failed { IsErrOf result KeepFault.Failed → Rose self.old.faults self.new.faults }
+    {
         match find_version(&mut self.database, key, number) {
             Ok(found) => Ok(found),
             Err(fault) => Err(self.faults.note(fault)),
         }
     }
 
-    fn last(&mut self, key: &Key) -> Result<Option<(u32, Version)>, KeepFault> {
+    fn last(&mut self, key: &Key) -> Result<Option<(u32, Version)>, KeepFault>
+        ensures read { IfOk result (rows.Reads rows.last_in (file_state self.old.database)
+            (file_state self.new.database) spec.select_last (spec.key_values key.now)) }
+        ensures later { self.old.faults ≤ self.new.faults }
+        ensures failed { IsErrOf result KeepFault.Failed → Rose self.old.faults self.new.faults }
+    {
         match find_last(&mut self.database, key) {
             Ok(found) => Ok(found),
             Err(fault) => Err(self.faults.note(fault)),

@@ -1,6 +1,6 @@
 //! The rows of the tables that had no columns for a basis and a commission, moved to those that have.
 
-use crate::rows::{number_at, text_at};
+use crate::rows::{asked_columns, figure_columns, number_at, text_at};
 use crate::schema::{Database, answered, has_table, if_found};
 use muni_keep::KeepFault;
 use muni_rows::{issue_1, version_1};
@@ -123,26 +123,28 @@ fn move_version(moving: &mut Moving<'_>) -> Result<bool, KeepFault> {
 }
 
 fn is_version(row: &Row) -> Result<bool, KeepFault> {
+    let asked = asked_columns(row)?;
+    let figures = figure_columns(row)?;
     let version = version_1(
         text_at(row, 0)?,
         text_at(row, 1)?,
         number_at(row, 2)?,
         number_at(row, 3)?,
-        text_at(row, 4)?,
-        number_at(row, 5)?,
-        number_at(row, 6)?,
-        text_at(row, 7)?,
-        number_at(row, 8)?,
-        number_at(row, 9)?,
-        number_at(row, 10)?,
-        number_at(row, 11)?,
-        text_at(row, 12)?,
-        number_at(row, 13)?,
-        number_at(row, 14)?,
-        number_at(row, 15)?,
-        number_at(row, 16)?,
-        number_at(row, 17)?,
-        number_at(row, 18)?,
+        asked.cusip,
+        asked.side,
+        asked.par,
+        asked.settle,
+        asked.basis,
+        asked.value,
+        figures.price,
+        figures.yld,
+        figures.redemption,
+        figures.at_price,
+        figures.label,
+        figures.days,
+        figures.principal,
+        figures.accrued,
+        figures.total,
     );
     Ok(version.is_some())
 }

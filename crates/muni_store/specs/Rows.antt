@@ -1,0 +1,82 @@
+-- What is read from the rows of the tables.
+use Rattle.std.specs.Prelude.{◌≡◌, ℕ, ◌-◌, ◌^◌, ℤ, pos, List, [], Option, Some, option_map, unwrap_or}
+use Rattle.sqlite.specs.declared.types.Value.{Value}
+use Rattle.sqlite.specs.declared.types.Value.TheVariants.{Int, Text}
+use Rattle.sqlite.specs.Order.{column}
+use Rattle.sqlite.specs.State.{State}
+use Rattle.muni_terms.specs.declared.row.IssueRow.{IssueRow}
+use Rattle.muni_msg.specs.declared.command.Key.{Key}
+use Rattle.muni_msg.specs.declared.version.Version.{Version}
+use Rattle.muni_rows.specs.Codes.{count}
+use Rattle.muni_rows.specs.Issue as issues
+use Rattle.muni_rows.specs.Version as versions
+use Rattle.muni_store.specs.Ran.{Found}
+
+abbrev pub text_of : Value → List ℕ
+text_of (Text bytes) = bytes
+text_of _ = []
+
+abbrev pub number_of : Value → ℤ
+number_of (Int number) = number
+number_of _ = pos 0
+
+-- the text and the number in a column
+abbrev pub text_in : List Value → ℕ → List ℕ
+text_in row at = text_of (column row at)
+
+abbrev pub number_in : List Value → ℕ → ℤ
+number_in row at = number_of (column row at)
+
+-- the issue in a row, if it is one
+abbrev pub issue_in : List Value → Option IssueRow
+issue_in row = issues.issue_of (record {
+  cusip = text_in row 0;
+  name = text_in row 1;
+  kind = number_in row 2;
+  dated = text_in row 3;
+  first = text_in row 4;
+  maturity = text_in row 5;
+  coupon = number_in row 6;
+  calls = text_in row 7;
+  basis = number_in row 8;
+})
+
+-- the trade, the number and the version in a row, if there are such
+abbrev pub trade_in : List Value → Option (Key × ℕ × Version)
+trade_in row = versions.trade_of (text_in row 0) (text_in row 1) (number_in row 2) (record {
+  act = number_in row 3;
+  cusip = text_in row 4;
+  side = number_in row 5;
+  par = number_in row 6;
+  settle = text_in row 7;
+  basis = number_in row 8;
+  value = number_in row 9;
+  price = number_in row 10;
+  yld = number_in row 11;
+  redemption = text_in row 12;
+  at_price = number_in row 13;
+  label = number_in row 14;
+  days = number_in row 15;
+  principal = number_in row 16;
+  accrued = number_in row 17;
+  total = number_in row 18;
+  fee = number_in row 19;
+  commission = number_in row 20;
+})
+
+abbrev pub version_in : List Value → Option Version
+version_in row = option_map (λ trade. trade.2) (trade_in row)
+
+abbrev pub last_in : List Value → Option (ℕ × Version)
+last_in row = option_map (λ trade. (trade.1, trade.2)) (trade_in row)
+
+-- the count in a row, or the greatest of 32 bits where it is no such number
+abbrev pub count_in : List Value → Option ℕ
+count_in row = Some (unwrap_or (count (number_in row 0)) (2 ^ 32 - 1))
+
+-- the query was carried out with these values in its places, and its first row was read as this; or it
+-- found none, and so is this
+pub record Reads {A : Type 0} (read : List Value → Option A) (before after : State) (query : List ℕ) (values : List Value) (answer : Option A) : Type 0 where
+  pub row : Option (List Value)
+  pub found : Found before after query values row
+  pub is : option_map read row ≡ option_map Some answer
