@@ -5,9 +5,11 @@ use muni_host::LoopbackDoor;
 use muni_keep::MemKeeper;
 use muni_multi::Horner;
 use muni_server::{Served, answer_one};
+use std::alloc::Global;
 use std::io::{Read, Write};
 use std::net::TcpStream;
 use std::test::Fail;
+use std::thread::Threads;
 
 const ISSUE: &str = "POST /issues HTTP/1.1\r
 Host: localhost\r
@@ -57,24 +59,57 @@ ACCRUED 312.50
 TOTAL 25493.75
 ";
 
+/// A client of the port that has sent a request.
+fn client_with(
+    rt: &HostRuntime,
+    door: &LoopbackDoor<'_, HostRuntime>,
+    request: &str,
+) -> Result<TcpStream, Fail> {
+    let address = door.address().ok_or("an address")?;
+    let mut client = TcpStream::connect(rt, address)?;
+    client.write_all(request.as_bytes())?;
+    Ok(client)
+}
+
+/// Answers the connection that waits first.
+fn answer_first<R: Threads + Sync>(
+    rt: &R,
+    alloc: Global,
+    door: &mut LoopbackDoor<'_, HostRuntime>,
+    keeper: &mut MemKeeper,
+) -> Result<Served, Fail> {
+    let mut link = door.accept()?.ok_or("a connection")?;
+    let served = answer_one(rt, alloc, &mut link, keeper, 1, &Horner, &NoGate);
+    door.hand_back(link);
+    Ok(served)
+}
+
+/// All that a client reads up to the end.
+fn text_of(alloc: Global, mut client: TcpStream) -> Result<String, Fail> {
+    let mut text = String::new(alloc);
+    client.read_to_string(&mut text)?;
+    Ok(text)
+}
+
 #[test]
 fn what_a_client_sends_to_the_port_is_answered(rt: HostRuntime) -> Result<(), Fail> {
-    let alloc = rt.alloc();
-    let mut keeper = MemKeeper::new(alloc, &[])?;
+    let mut keeper = MemKeeper::new(rt.alloc(), &[])?;
+    let mut door = LoopbackDoor::new(&rt);
+    door.bind(0)?;
+    for (request, wanted) in [(ISSUE, ADDED), (TRADE, CONFIRMED)] {
+        let client = client_with(&rt, &door, request)?;
+        let served = answer_first(&rt, rt.alloc(), &mut door, &mut keeper)?;
+        assert_eq!(rt; served, Served::Answered { status: 200 });
+        assert_eq!(rt; text_of(rt.alloc(), client)?.as_str(), wanted);
+    }
+    Ok(())
+}
+
+#[test]
+fn a_port_that_is_taken_is_refused(rt: HostRuntime) -> Result<(), Fail> {
     let mut door = LoopbackDoor::new(&rt);
     door.bind(0)?;
     let address = door.address().ok_or("an address")?;
     assert_eq!(rt; LoopbackDoor::new(&rt).bind(address.port()), Err(Failed));
-    for (request, wanted) in [(ISSUE, ADDED), (TRADE, CONFIRMED)] {
-        let mut client = TcpStream::connect(&rt, address)?;
-        client.write_all(request.as_bytes())?;
-        let mut link = door.accept()?.ok_or("a connection")?;
-        let served = answer_one(&rt, alloc, &mut link, &mut keeper, 1, &Horner, &NoGate);
-        door.hand_back(link);
-        assert_eq!(rt; served, Served::Answered { status: 200 });
-        let mut answer = String::new(alloc);
-        client.read_to_string(&mut answer)?;
-        assert_eq!(rt; answer.as_str(), wanted);
-    }
     Ok(())
 }
