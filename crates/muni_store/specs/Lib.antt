@@ -1,3 +1,5 @@
+pub mod Counts
+pub mod Page
 pub mod Ran
 pub mod Rows
 pub mod Statements

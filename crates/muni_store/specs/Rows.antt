@@ -1,5 +1,7 @@
 -- What is read from the rows of the tables.
 use Rattle.std.specs.Prelude.{◌≡◌, ℕ, ◌-◌, ◌^◌, ℤ, pos, List, [], Option, Some, option_map, unwrap_or}
+use Rattle.std.specs.Result.{result_ok}
+use Rattle.std.specs.Char.{is_ascii_alphanumeric}
 use Rattle.sqlite.specs.declared.types.Value.{Value}
 use Rattle.sqlite.specs.declared.types.Value.TheVariants.{Int, Text}
 use Rattle.sqlite.specs.Order.{column}
@@ -7,6 +9,7 @@ use Rattle.sqlite.specs.State.{State}
 use Rattle.muni_terms.specs.declared.row.IssueRow.{IssueRow}
 use Rattle.muni_msg.specs.declared.command.Key.{Key}
 use Rattle.muni_msg.specs.declared.version.Version.{Version}
+use Rattle.muni_msg.specs.NameReading.{name_reading}
 use Rattle.muni_rows.specs.Codes.{count}
 use Rattle.muni_rows.specs.Issue as issues
 use Rattle.muni_rows.specs.Version as versions
@@ -26,6 +29,10 @@ text_in row at = text_of (column row at)
 
 abbrev pub number_in : List Value → ℕ → ℤ
 number_in row at = number_of (column row at)
+
+-- the reference in a row, if it is one
+abbrev pub reference_in : List Value → Option (List ℕ)
+reference_in row = result_ok (name_reading is_ascii_alphanumeric 20 (text_in row 0))
 
 -- the issue in a row, if it is one
 abbrev pub issue_in : List Value → Option IssueRow

@@ -1,18 +1,20 @@
 //! A keeper over a file.
 
-ghost use Rattle.std.specs.Prelude.{◌≡◌, ◌≤◌, None, IfOk, OnOk, IsErrOf};
+ghost use Rattle.std.specs.Prelude.{◌≡◌, ◌≤◌, ◌⊎◌, [], None, Ok, Some, IfOk, IfSome, OnOk, OnErr, IsErrOf, is_ok};
 ghost use Rattle.sqlite.specs.Files.{file_state};
 ghost use Rattle.muni_edge.specs.Sink.{Rose};
 ghost use Rattle.muni_rows.specs.Issue as issues;
 ghost use Rattle.muni_rows.specs.Version as versions;
+ghost use Rattle.muni_store.specs.Counts.{count_of, with_count, after_put};
+ghost use Rattle.muni_store.specs.Page.{IsPage};
 ghost use Rattle.muni_store.specs.Ran.{Ran};
 ghost use Rattle.muni_store.specs.Rows as rows;
 ghost use Rattle.muni_store.specs.Statements as spec;
 
 use crate::faults::Faults;
+use crate::page::read_page;
 use crate::rows::{
     count_trades, find_issue, find_last, find_version, insert_issue, insert_version,
-    read_reference, references_after,
 };
 use crate::schema::Database;
 use crate::trade_counts::TradeCounts;
@@ -35,7 +37,8 @@ pub struct SqlKeeper {
 
 impl SqlKeeper {
     pub(crate) fn new(alloc: Global, database: Database) -> SqlKeeper
-        ensures { result.faults ≡ 0 }
+        ensures faults { result.faults ≡ 0 }
+        ensures counts { result.trades ≡ [] }
     {
         SqlKeeper {
             database,
@@ -69,6 +72,7 @@ impl Keeper for SqlKeeper {
     fn issue(&mut self, cusip: &[u8; 9]) -> Result<Option<Issue>, KeepFault>
         ensures read { IfOk result (rows.Reads rows.issue_in (file_state self.old.database)
             (file_state self.new.database) spec.select_issue (spec.cusip_values cusip.now)) }
+        ensures counts { self.new.trades ≡ self.old.trades }
         ensures later { self.old.faults ≤ self.new.faults }
         ensures failed { IsErrOf result KeepFault.Failed → Rose self.old.faults self.new.faults }
     {
@@ -79,6 +83,7 @@ impl Keeper for SqlKeeper {
     fn put_issue(&mut self, issue: &Issue) -> Result<(), KeepFault>
         ensures ran { OnOk result (Ran (file_state self.old.database) (file_state self.new.database)
             spec.insert_issue (spec.issue_values (issues.columns_of issue.now))) }
+        ensures counts { self.new.trades ≡ self.old.trades }
         ensures later { self.old.faults ≤ self.new.faults }
         ensures failed { IsErrOf result KeepFault.Failed → Rose self.old.faults self.new.faults }
     {
@@ -89,6 +94,7 @@ impl Keeper for SqlKeeper {
     fn version(&mut self, key: &Key, number: u32) -> Result<Option<Version>, KeepFault>
         ensures read { IfOk result (rows.Reads rows.version_in (file_state self.old.database)
             (file_state self.new.database) spec.select_version (spec.numbered_key_values key.now number)) }
+        ensures counts { self.new.trades ≡ self.old.trades }
         ensures later { self.old.faults ≤ self.new.faults }
         ensures failed { IsErrOf result KeepFault.Failed → Rose self.old.faults self.new.faults }
     {
@@ -101,6 +107,7 @@ impl Keeper for SqlKeeper {
     fn last(&mut self, key: &Key) -> Result<Option<(u32, Version)>, KeepFault>
         ensures read { IfOk result (rows.Reads rows.last_in (file_state self.old.database)
             (file_state self.new.database) spec.select_last (spec.key_values key.now)) }
+        ensures counts { self.new.trades ≡ self.old.trades }
         ensures later { self.old.faults ≤ self.new.faults }
         ensures failed { IsErrOf result KeepFault.Failed → Rose self.old.faults self.new.faults }
     {
@@ -113,6 +120,8 @@ impl Keeper for SqlKeeper {
     fn put_version(&mut self, key: &Key, number: u32, version: &Version) -> Result<(), KeepFault>
         ensures ran { OnOk result (Ran (file_state self.old.database) (file_state self.new.database)
             spec.insert_version (spec.version_values key.now number (versions.columns_of version.now))) }
+        ensures counts { self.new.trades
+            ≡ after_put key.now.desk number (is_ok result) self.old.trades }
         ensures later { self.old.faults ≤ self.new.faults }
         ensures failed { IsErrOf result KeepFault.Failed → Rose self.old.faults self.new.faults }
     {
@@ -121,7 +130,21 @@ impl Keeper for SqlKeeper {
         self.faults.noted(put)
     }
 
-    fn trades(&mut self, desk: &DeskName) -> Result<u32, KeepFault> {
+    fn trades(&mut self, desk: &DeskName) -> Result<u32, KeepFault>
+        // A count that is kept is the answer, and nothing changes.
+        ensures kept { IfSome (count_of desk.now self.old.trades)
+            (λ count. (result ≡ Ok count) × (self.new ≡ self.old)) }
+
+        // Otherwise the trades are counted, and the count is kept where there is memory for it.
+        ensures read { count_of desk.now self.old.trades ≡ None
+            → IfOk result (λ count. rows.Reads rows.count_in (file_state self.old.database)
+            (file_state self.new.database) spec.count_trades (spec.desk_values desk.now) (Some count)) }
+        ensures counts { IfOk result (λ count. (self.new.trades ≡ self.old.trades)
+            ⊎ (self.new.trades ≡ with_count desk.now count self.old.trades)) }
+        ensures refused { OnErr result (self.new.trades ≡ self.old.trades) }
+        ensures later { self.old.faults ≤ self.new.faults }
+        ensures failed { IsErrOf result KeepFault.Failed → Rose self.old.faults self.new.faults }
+    {
         if let Some(count) = self.trades.of(desk) {
             return Ok(count);
         }
@@ -134,34 +157,14 @@ impl Keeper for SqlKeeper {
         &mut self,
         desk: &DeskName,
         after: &Option<Reference>,
-    ) -> Result<ArrayVec<Line, 50>, KeepFault> {
-        let lines = page(&mut self.database, desk, after);
+    ) -> Result<ArrayVec<Line, 50>, KeepFault>
+        ensures read { IfOk result (λ lines. IsPage file_state desk.now after.now
+            self.old.database self.new.database lines.items) }
+        ensures counts { self.new.trades ≡ self.old.trades }
+        ensures later { self.old.faults ≤ self.new.faults }
+        ensures failed { IsErrOf result KeepFault.Failed → Rose self.old.faults self.new.faults }
+    {
+        let lines = read_page(&mut self.database, desk, after);
         self.faults.noted(lines)
     }
-}
-
-fn page(
-    database: &mut Database,
-    desk: &DeskName,
-    after: &Option<Reference>,
-) -> Result<ArrayVec<Line, 50>, KeepFault> {
-    let mut lines = ArrayVec::new();
-    for row in references_after(database, desk, after)? {
-        let key = Key {
-            desk: desk.copy(),
-            reference: read_reference(&row)?,
-        };
-        let Some((number, version)) = find_last(database, &key)? else {
-            return Err(KeepFault::Failed);
-        };
-        let line = Line {
-            reference: key.reference,
-            number,
-            version,
-        };
-        if lines.try_push(line).is_err() {
-            break;
-        }
-    }
-    Ok(lines)
 }

@@ -6,6 +6,7 @@ mod faults;
 mod keeper;
 pub mod laws;
 mod moving;
+mod page;
 mod rows;
 mod schema;
 mod trade_counts;

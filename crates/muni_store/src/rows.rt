@@ -238,7 +238,9 @@ pub(crate) fn references_after<S: Alter>(
 }
 
 /// The reference in the first column of a row.
-pub(crate) fn read_reference(row: &Row) -> Result<Reference, KeepFault> {
+pub(crate) fn read_reference(row: &Row) -> Result<Reference, KeepFault>
+    ensures { IfOk result (λ reference. rows.reference_in row.now ≡ Some reference) }
+{
     match Reference::read(text_at(row, 0)?.as_bytes()) {
         Ok(reference) => Ok(reference),
         Err(_) => Err(KeepFault::Failed),
