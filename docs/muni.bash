@@ -1,5 +1,5 @@
-# Completions of bash for the command muni: its commands, the options of each that are not given yet, and
-# the values of those that have a few.
+# Completions of bash for the commands muni and ./muni: the commands, the options of each that are not given
+# yet, the values of those that have a few, and the files of stores.
 
 _muni_options() {
     case $1 in
@@ -20,17 +20,36 @@ _muni_values() {
     esac
 }
 
+# The values of an option that begin as the word does.
+_muni_complete_value() {
+    if [ "$1" = --store ]; then
+        compopt -o filenames 2>/dev/null
+        mapfile -t COMPREPLY < <(compgen -f -- "$2")
+    else
+        mapfile -t COMPREPLY < <(compgen -W "$(_muni_values "$1")" -- "$2")
+    fi
+}
+
 _muni() {
     local word=${COMP_WORDS[COMP_CWORD]} before=${COMP_WORDS[COMP_CWORD - 1]} choices='' option place
     COMPREPLY=()
     if [ "$COMP_CWORD" -eq 1 ]; then
-        choices='quote-one quote import confirm serve drill positions mark help'
+        choices='quote-one quote import confirm serve drill positions mark help --help --version'
+        # What is installed has no sources to build.
+        case ${COMP_WORDS[0]} in
+        */*) choices+=' build dist install package' ;;
+        esac
     elif [ "$word" = = ]; then
         # bash takes `--kind=zero` for three words.
-        choices=$(_muni_values "$before")
-        word=
+        _muni_complete_value "$before" ''
+        return
     elif [ "$before" = = ]; then
-        choices=$(_muni_values "${COMP_WORDS[COMP_CWORD - 2]}")
+        _muni_complete_value "${COMP_WORDS[COMP_CWORD - 2]}" "$word"
+        return
+    elif [ "${COMP_WORDS[1]}" = install ] || [ "${COMP_WORDS[1]}" = package ]; then
+        compopt -o filenames 2>/dev/null
+        mapfile -t COMPREPLY < <(compgen -d -- "$word")
+        return
     else
         for option in $(_muni_options "${COMP_WORDS[1]}"); do
             for place in "${!COMP_WORDS[@]}"; do
@@ -46,4 +65,4 @@ _muni() {
     mapfile -t COMPREPLY < <(compgen -W "$choices" -- "$word")
 }
 
-complete -F _muni muni
+complete -F _muni muni ./muni
