@@ -1,6 +1,7 @@
 //! The words of a quote, which `clap` reads as the desk does.
 
-use super::{quoted, words_of};
+use super::quotes::quoted;
+use super::words_of;
 use clap::{Arg, Command};
 use std::test::Fail;
 
@@ -20,7 +21,7 @@ fn clap_reads_the_same_options(rt: HostRuntime) -> Result<(), Fail> {
         let option = Arg::new(rt.alloc(), name).long(name);
         command = command.arg(option).ok().ok_or("an option")?;
     }
-    let words = words_of(rt.alloc(), LINE)?;
+    let words = words_of(rt.alloc(), &[LINE])?;
     let found = command
         .try_get_matches_from(words.as_slice())
         .ok()

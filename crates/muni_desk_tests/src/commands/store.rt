@@ -1,15 +1,10 @@
-//! Commands over a store and the help text, by the words that ask for them.
+//! Commands over a store of which an object fails, and connections.
 
-ghost use Rattle.std.specs.Prelude.{◌≡◌, None};
-
-use super::{sink, store_cases, words_of};
-use muni_cases::bytes_of;
-use muni_desk::{Status, desk};
-use muni_edge::{MemDoor, MemLink, MemSink, MemSource, NoGate};
-use muni_keep::{Cabinet, MemCabinet, MemKeeper};
-use muni_multi::Doubling;
+use super::{Asked, Outcome, ask};
+use crate::commands::watch::Watch;
+use muni_desk::Status;
+use muni_keep::{MemCabinet, MemKeeper};
 use std::alloc::Global;
-use std::process::Abort;
 use std::test::Fail;
 use std::thread::Threads;
 
@@ -46,6 +41,12 @@ T0001 1 LIVE 25000 100.725 4.000
 T0002 1 LIVE 10000 100.725 4.001
 ";
 
+const NONE: &[u64] = &[];
+
+const FIRST_CALL: &[u64] = &[0];
+
+const SECOND_CALL: &[u64] = &[1];
+
 // Which takes of the input, puts of the output, fetches of the cabinet and calls of the keeper fail.
 #[derive(Clone, Copy)]
 struct Failing<'a> {
@@ -56,56 +57,11 @@ struct Failing<'a> {
 }
 
 const NONE_FAILS: Failing<'static> = Failing {
-    takes: &[],
-    puts: &[],
-    fetches: &[],
-    calls: &[],
+    takes: NONE,
+    puts: NONE,
+    fetches: NONE,
+    calls: NONE,
 };
-
-// How a command ended, and what it wrote.
-#[derive(Drop)]
-struct Outcome {
-    status: Status,
-    output: MemSink,
-    door: MemDoor,
-}
-
-// How words end over an input, which also waits at the door, and what they write.
-fn ask<R: Threads + Sync, C: Cabinet>(
-    rt: &R,
-    alloc: Global,
-    line: &str,
-    text: &[u8],
-    takes: &[u64],
-    puts: &[u64],
-    cabinet: &mut C,
-) -> Result<Outcome, Fail>
-    requires { C.out cabinet.old ≡ None }
-    ensures { C.out cabinet.new ≡ None }
-{
-    let words = words_of(alloc, line)?;
-    let mut input = MemSource::new(alloc, text, takes)?;
-    let mut output = sink(alloc, 4096, puts)?;
-    let mut links = Vec::new(alloc);
-    links.push(MemLink::new(alloc, text, 1024, &[], &[])?)?;
-    let mut door = MemDoor::new(alloc, links, &[])?;
-    let status = desk(
-        rt,
-        alloc,
-        &words,
-        &mut input,
-        &mut output,
-        cabinet,
-        &mut door,
-        &Doubling,
-        &NoGate,
-    );
-    Ok(Outcome {
-        status,
-        output,
-        door,
-    })
-}
 
 // How two commands over a new cabinet end, one after the other. Only at the first does anything fail.
 fn ask_twice<R: Threads + Sync>(
@@ -118,59 +74,25 @@ fn ask_twice<R: Threads + Sync>(
     let mut keepers = Vec::new(alloc);
     keepers.push((b"S".to_vec(alloc)?, MemKeeper::new(alloc, failing.calls)?))?;
     let mut cabinet = MemCabinet::new(alloc, keepers, failing.fetches)?;
-    let (line, text) = first;
-    let before = ask(
-        rt,
-        alloc,
-        line,
-        text,
-        failing.takes,
-        failing.puts,
-        &mut cabinet,
-    )?;
-    let (line, text) = second;
-    let after = ask(rt, alloc, line, text, &[], &[], &mut cabinet)?;
+    let idle = Watch::idle();
+    let asked = Asked {
+        words: &[first.0],
+        input: first.1,
+        room: 4096,
+        takes: failing.takes,
+        puts: failing.puts,
+        accepts: NONE,
+    };
+    let before = ask(rt, alloc, &asked, &mut cabinet, &idle)?;
+    let asked = Asked {
+        words: &[second.0],
+        input: second.1,
+        takes: NONE,
+        puts: NONE,
+        ..asked
+    };
+    let after = ask(rt, alloc, &asked, &mut cabinet, &idle)?;
     Ok((before, after))
-}
-
-// Whether a command ends and writes as its line says, behind an import of the base.
-fn is_answered_so<R: Threads + Sync>(
-    rt: &R,
-    alloc: Global,
-    base: &str,
-    line: &str,
-) -> Result<bool, Fail> {
-    let (words, rest) = line.split_once('|').ok_or("words")?;
-    let (text, rest) = rest.split_once('|').ok_or("an input")?;
-    let (number, wanted) = rest.split_once('|').ok_or("a status")?;
-    let words = bytes_of(alloc, words).ok_or("bytes")?;
-    let words = str::from_utf8(&words).ok().ok_or("words")?;
-    let base = bytes_of(alloc, base).ok_or("bytes")?;
-    let text = bytes_of(alloc, text).ok_or("bytes")?;
-    let wanted = bytes_of(alloc, wanted).ok_or("bytes")?;
-    let (_, outcome) = ask_twice(rt, alloc, NONE_FAILS, (IMPORT, &base), (words, &text))?;
-    let is_status = outcome.status.number() == number.parse::<u8>()?;
-    Ok(is_status && outcome.output.bytes() == wanted.as_slice())
-}
-
-#[test]
-fn commands_over_a_store_end_as_they_should(rt: HostRuntime) -> Result<(), Fail> {
-    let mut count = 0u32;
-    for section in store_cases::CASES.split("\nbase") {
-        let (base, lines) = section.split_once('\n').unwrap_or((section, ""));
-        for line in lines.lines() {
-            if line.is_empty() || line.starts_with("# ") {
-                continue;
-            }
-            assert!(rt;
-                is_answered_so(&rt, rt.alloc(), base.trim_start(), line)?,
-                "{line}"
-            );
-            count = count.wrapping_add(1);
-        }
-    }
-    assert_eq!(rt; count, 228);
-    Ok(())
 }
 
 // How many lines of the report a text has, where it has no others.
@@ -193,18 +115,17 @@ fn imported_with<R: Threads + Sync>(
     alloc: Global,
     failing: Failing<'_>,
     confirm: &str,
-) -> Result<(Status, Option<u32>, bool), Fail> {
+) -> Result<(Status, u32, bool), Fail> {
     let (imported, asked) = ask_twice(rt, alloc, failing, (IMPORT, ROWS), (confirm, b""))?;
-    let lines = lines_of_the_report(imported.output.bytes());
+    let lines = lines_of_the_report(imported.output.bytes()).ok_or("lines of the report")?;
     Ok((imported.status, lines, asked.status == Status::Done))
 }
 
 #[test]
 fn a_put_that_fails_ends_an_import_behind_its_row(rt: HostRuntime) -> Result<(), Fail> {
     for put in 0..4u64 {
-        let puts = [put];
         let failing = Failing {
-            puts: &puts,
+            puts: &[put],
             ..NONE_FAILS
         };
         let ended = if put < 3 {
@@ -213,9 +134,8 @@ fn a_put_that_fails_ends_an_import_behind_its_row(rt: HostRuntime) -> Result<(),
             Status::Done
         };
         for (confirm, row) in [(FIRST, 1), (SECOND, 2)] {
-            let (status, lines, is_kept) = imported_with(&rt, rt.alloc(), failing, confirm)?;
-            assert_eq!(rt; (status, is_kept), (ended, put >= row));
-            assert_eq!(rt; lines, Some(put.min(3) as u32));
+            let found = imported_with(&rt, rt.alloc(), failing, confirm)?;
+            assert_eq!(rt; found, (ended, put.min(3) as u32, put >= row));
         }
     }
     Ok(())
@@ -225,13 +145,11 @@ fn a_put_that_fails_ends_an_import_behind_its_row(rt: HostRuntime) -> Result<(),
 fn a_keeper_that_fails_ends_an_import_before_its_row(rt: HostRuntime) -> Result<(), Fail> {
     let mut before = 0u32;
     for call in 0..16u64 {
-        let calls = [call];
         let failing = Failing {
-            calls: &calls,
+            calls: &[call],
             ..NONE_FAILS
         };
         let (status, lines, is_kept) = imported_with(&rt, rt.alloc(), failing, FIRST)?;
-        let lines = lines.ok_or("lines of the report")?;
         match status {
             Status::StoreFault => assert_eq!(rt; is_kept, lines == 2),
             _ => assert_eq!(rt; (status, lines), (Status::Done, 3)),
@@ -244,120 +162,60 @@ fn a_keeper_that_fails_ends_an_import_before_its_row(rt: HostRuntime) -> Result<
 }
 
 // The last status tells whether the first command has fetched the store.
-#[test]
-fn each_object_that_fails_has_its_status(rt: HostRuntime) -> Result<(), Fail> {
-    let none: &[u64] = &[];
-    let first: &[u64] = &[0];
-    let second: &[u64] = &[1];
-    for (line, failing, ends) in [
-        (
-            IMPORT,
-            [first, none, none, none],
-            [Status::ReadFault, Status::Refused],
-        ),
-        (
-            IMPORT,
-            [second, none, first, none],
-            [Status::ReadFault, Status::StoreFault],
-        ),
-        (
-            IMPORT,
-            [none, none, first, none],
-            [Status::StoreFault, Status::Refused],
-        ),
-        (
-            LISTED,
-            [none, none, none, first],
-            [Status::StoreFault, Status::Refused],
-        ),
-        (
-            FIRST,
-            [first, none, first, none],
-            [Status::StoreFault, Status::Refused],
-        ),
-        (
-            FIRST,
-            [none, none, none, first],
-            [Status::StoreFault, Status::Refused],
-        ),
-        (
-            FIRST,
-            [none, first, none, none],
-            [Status::WriteFault, Status::Refused],
-        ),
-        (
-            MARK,
-            [second, none, first, none],
-            [Status::ReadFault, Status::StoreFault],
-        ),
-        (
-            MARK,
-            [none, none, first, none],
-            [Status::StoreFault, Status::Refused],
-        ),
-        (
-            MARK,
-            [none, first, none, none],
-            [Status::WriteFault, Status::Refused],
-        ),
-        (
-            "help",
-            [first, first, first, none],
-            [Status::WriteFault, Status::StoreFault],
-        ),
-    ] {
-        let [takes, puts, fetches, calls] = failing;
+fn first_wrong_status<R: Threads + Sync>(rt: &R, alloc: Global) -> Result<Option<usize>, Fail> {
+    for (place, (line, [takes, puts, fetches, calls], status, after)) in [
+        (IMPORT, [FIRST_CALL, NONE, NONE, NONE], Status::ReadFault, Status::Refused),
+        (IMPORT, [SECOND_CALL, NONE, FIRST_CALL, NONE], Status::ReadFault, Status::StoreFault),
+        (IMPORT, [NONE, NONE, FIRST_CALL, NONE], Status::StoreFault, Status::Refused),
+        (LISTED, [NONE, NONE, NONE, FIRST_CALL], Status::StoreFault, Status::Refused),
+        (FIRST, [FIRST_CALL, NONE, FIRST_CALL, NONE], Status::StoreFault, Status::Refused),
+        (FIRST, [NONE, NONE, NONE, FIRST_CALL], Status::StoreFault, Status::Refused),
+        (FIRST, [NONE, FIRST_CALL, NONE, NONE], Status::WriteFault, Status::Refused),
+        (MARK, [SECOND_CALL, NONE, FIRST_CALL, NONE], Status::ReadFault, Status::StoreFault),
+        (MARK, [NONE, NONE, FIRST_CALL, NONE], Status::StoreFault, Status::Refused),
+        (MARK, [NONE, FIRST_CALL, NONE, NONE], Status::WriteFault, Status::Refused),
+        ("help", [FIRST_CALL, FIRST_CALL, FIRST_CALL, NONE], Status::WriteFault, Status::StoreFault),
+    ]
+    .into_iter()
+    .enumerate()
+    {
         let failing = Failing {
             takes,
             puts,
             fetches,
             calls,
         };
-        let (outcome, again) = ask_twice(&rt, rt.alloc(), failing, (line, ROWS), (FIRST, b""))?;
-        assert_eq!(rt; [outcome.status, again.status], ends, "{line}");
-        assert!(rt; outcome.output.bytes().is_empty());
+        let (outcome, again) = ask_twice(rt, alloc, failing, (line, ROWS), (FIRST, b""))?;
+        if [outcome.status, again.status] != [status, after] || !outcome.output.bytes().is_empty() {
+            return Ok(Some(place));
+        }
     }
-    Ok(())
-}
-
-// How a command ends over an input of so many equal bytes, and what it writes.
-fn asked_of_bytes<R: Threads + Sync>(
-    rt: &R,
-    alloc: Global,
-    line: &str,
-    count: u32,
-) -> Result<Outcome, Fail> {
-    let mut text = Vec::new(alloc);
-    for _ in 0..count {
-        text.push(b'a')?;
-    }
-    let (outcome, _) = ask_twice(rt, alloc, NONE_FAILS, (line, &text), ("help", b""))?;
-    Ok(outcome)
+    Ok(None)
 }
 
 #[test]
-fn an_input_has_a_greatest_length(rt: HostRuntime) -> Result<(), Fail> {
-    for (line, greatest, written) in [
-        (IMPORT, 4_194_304, "1,bad,2,1\n"),
-        (MARK, 1_048_576, "1,bad,1\nTOTAL,0,0.00\n"),
-    ] {
-        let outcome = asked_of_bytes(&rt, rt.alloc(), line, greatest)?;
-        assert_eq!(rt; outcome.status, Status::Done);
-        assert_eq!(rt; outcome.output.bytes(), written.as_bytes());
-        let outcome = asked_of_bytes(&rt, rt.alloc(), line, greatest + 1)?;
-        assert_eq!(rt; outcome.status, Status::TooLarge);
-        assert!(rt; outcome.output.bytes().is_empty());
-    }
+fn each_object_that_fails_has_its_status(rt: HostRuntime) -> Result<(), Fail> {
+    assert_eq!(rt; first_wrong_status(&rt, rt.alloc())?, None);
     Ok(())
+}
+
+// Whether a connection is answered over the tables of an import.
+fn is_answered<R: Threads + Sync>(rt: &R, alloc: Global, line: &str) -> Result<bool, Fail> {
+    let (_, outcome) = ask_twice(rt, alloc, NONE_FAILS, (IMPORT, ROWS), (line, REQUEST))?;
+    let link = outcome.door.served().first().ok_or("a link")?;
+    Ok(outcome.status == Status::Done
+        && outcome.output.bytes().is_empty()
+        && link.written() == LIST.as_bytes())
 }
 
 #[test]
 fn a_connection_is_answered_over_the_tables_of_an_import(rt: HostRuntime) -> Result<(), Fail> {
-    let line = "serve --store=S --port=8080 --connections=2";
-    let (_, outcome) = ask_twice(&rt, rt.alloc(), NONE_FAILS, (IMPORT, ROWS), (line, REQUEST))?;
-    assert_eq!(rt; outcome.status, Status::Done);
-    assert!(rt; outcome.output.bytes().is_empty());
-    let link = outcome.door.served().first().ok_or("a link")?;
-    assert_eq!(rt; link.written(), LIST.as_bytes());
+    for line in [
+        "serve --store=S --port=8080 --connections=1",
+        "serve --store=S --port=8080 --connections=2",
+        "serve --workers=16 --connections=01000000 --port=65535 --store=S",
+    ] {
+        assert!(rt; is_answered(&rt, rt.alloc(), line)?, "{line}");
+    }
     Ok(())
 }

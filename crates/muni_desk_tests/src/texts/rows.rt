@@ -1,14 +1,11 @@
-mod row_cases;
-
+use super::day;
 use arrayvec::ArrayVec;
-use muni_cases::bytes_of;
-use muni_days::{Basis, Day};
+use muni_days::Basis;
 use muni_dec::{Coupon, Fee, Par, Price, Yield};
 use muni_import::{RowFault, read_rows, report_row};
 use muni_msg::{Asked, Command, Given, Refusal, Reply, Side, Terms};
 use muni_samples::{key, worked_reply, worked_terms};
 use muni_terms::{Call, IssueRow, Kind};
-use std::alloc::Global;
 use std::test::Fail;
 
 const ISSUE: &[u8] =
@@ -20,51 +17,6 @@ const NOTE: &[u8] = b"issue,123456AA3,R,discount,2024-01-01,,2024-12-21,,,actual
 const TRADES: &[u8] = b"trade,ALPHA,T0001,123456AA3,buy,25000,2024-04-01,yield,-0.5\n\
     correct,BETA,t2,999999999,000000000,sell,1,2199-12-31,price,100.000001,0.125\n\
     cancel,ALPHA,T0001,00000003\n";
-
-fn is_kind(row: &Result<Command, RowFault>, kind: &str) -> bool {
-    match row {
-        Ok(Command::AddIssue(_)) => kind == "issue",
-        Ok(Command::Enter { .. }) => kind == "trade",
-        Ok(Command::Correct { .. }) => kind == "correct",
-        Ok(Command::Cancel { .. }) => kind == "cancel",
-        Ok(_) => false,
-        Err(RowFault::FieldCount) => kind == "1",
-        Err(RowFault::BadField { column }) => match kind.strip_prefix("2:") {
-            Some(text) => text.parse::<u32>().ok() == Some(*column),
-            None => false,
-        },
-    }
-}
-
-#[test]
-fn rows_are_commands_or_faults(rt: HostRuntime) -> Result<(), Fail> {
-    let mut count = 0usize;
-    for line in row_cases::CASES.lines() {
-        if line.is_empty() || line.starts_with("# ") {
-            continue;
-        }
-        let (text, kinds) = line.split_once('|').ok_or("a case")?;
-        let bytes = bytes_of(rt.alloc(), text).ok_or("bytes")?;
-        let rows = read_rows(rt.alloc(), &bytes).ok().ok_or("memory")?;
-        let mut place = 0usize;
-        for kind in kinds.split(' ') {
-            if kind.is_empty() {
-                continue;
-            }
-            let row = rows.get(place).ok_or("a row")?;
-            assert!(rt; is_kind(row, kind), "{line}");
-            place = place.wrapping_add(1);
-        }
-        assert_eq!(rt; place, rows.len(), "{line}");
-        count = count.wrapping_add(1);
-    }
-    assert!(rt; count >= 120);
-    Ok(())
-}
-
-pub fn day(text: &str) -> Result<Day, Fail> {
-    Ok(Day::read(text.as_bytes()).ok().ok_or("a day")?)
-}
 
 fn price(text: &str) -> Result<Price, Fail> {
     Ok(Price::read(text.as_bytes()).ok().ok_or("a price")?)

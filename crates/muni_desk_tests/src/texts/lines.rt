@@ -1,7 +1,4 @@
-mod confirmation_cases;
-mod confirmations;
-
-use crate::rows::day;
+use super::day;
 use arrayvec::ArrayVec;
 use muni_confirm::{figure_lines, refusal_line};
 use muni_dec::{Cents, Fee, Price, Price3, Yield, Yield3};
