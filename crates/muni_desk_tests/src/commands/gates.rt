@@ -130,7 +130,10 @@ fn trades_of_a_drill_are_answered_side_by_side(rt: HostRuntime) -> Result<(), Fa
 }
 
 // The first book whose sums by `Horner` are other ones.
-fn first_wrong_book<R: Threads + Sync>(rt: &R, alloc: Global) -> Result<Option<&'static str>, Fail> {
+fn first_wrong_book<R: Threads + Sync>(
+    rt: &R,
+    alloc: Global,
+) -> Result<Option<&'static str>, Fail> {
     let mut count = 0_u32;
     for line in drill_cases::CASES.lines() {
         let Some((words, sums)) = line.split_once('|') else {

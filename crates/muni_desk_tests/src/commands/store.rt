@@ -164,17 +164,72 @@ fn a_keeper_that_fails_ends_an_import_before_its_row(rt: HostRuntime) -> Result<
 // The last status tells whether the first command has fetched the store.
 fn first_wrong_status<R: Threads + Sync>(rt: &R, alloc: Global) -> Result<Option<usize>, Fail> {
     for (place, (line, [takes, puts, fetches, calls], status, after)) in [
-        (IMPORT, [FIRST_CALL, NONE, NONE, NONE], Status::ReadFault, Status::Refused),
-        (IMPORT, [SECOND_CALL, NONE, FIRST_CALL, NONE], Status::ReadFault, Status::StoreFault),
-        (IMPORT, [NONE, NONE, FIRST_CALL, NONE], Status::StoreFault, Status::Refused),
-        (LISTED, [NONE, NONE, NONE, FIRST_CALL], Status::StoreFault, Status::Refused),
-        (FIRST, [FIRST_CALL, NONE, FIRST_CALL, NONE], Status::StoreFault, Status::Refused),
-        (FIRST, [NONE, NONE, NONE, FIRST_CALL], Status::StoreFault, Status::Refused),
-        (FIRST, [NONE, FIRST_CALL, NONE, NONE], Status::WriteFault, Status::Refused),
-        (MARK, [SECOND_CALL, NONE, FIRST_CALL, NONE], Status::ReadFault, Status::StoreFault),
-        (MARK, [NONE, NONE, FIRST_CALL, NONE], Status::StoreFault, Status::Refused),
-        (MARK, [NONE, FIRST_CALL, NONE, NONE], Status::WriteFault, Status::Refused),
-        ("help", [FIRST_CALL, FIRST_CALL, FIRST_CALL, NONE], Status::WriteFault, Status::StoreFault),
+        (
+            IMPORT,
+            [FIRST_CALL, NONE, NONE, NONE],
+            Status::ReadFault,
+            Status::Refused,
+        ),
+        (
+            IMPORT,
+            [SECOND_CALL, NONE, FIRST_CALL, NONE],
+            Status::ReadFault,
+            Status::StoreFault,
+        ),
+        (
+            IMPORT,
+            [NONE, NONE, FIRST_CALL, NONE],
+            Status::StoreFault,
+            Status::Refused,
+        ),
+        (
+            LISTED,
+            [NONE, NONE, NONE, FIRST_CALL],
+            Status::StoreFault,
+            Status::Refused,
+        ),
+        (
+            FIRST,
+            [FIRST_CALL, NONE, FIRST_CALL, NONE],
+            Status::StoreFault,
+            Status::Refused,
+        ),
+        (
+            FIRST,
+            [NONE, NONE, NONE, FIRST_CALL],
+            Status::StoreFault,
+            Status::Refused,
+        ),
+        (
+            FIRST,
+            [NONE, FIRST_CALL, NONE, NONE],
+            Status::WriteFault,
+            Status::Refused,
+        ),
+        (
+            MARK,
+            [SECOND_CALL, NONE, FIRST_CALL, NONE],
+            Status::ReadFault,
+            Status::StoreFault,
+        ),
+        (
+            MARK,
+            [NONE, NONE, FIRST_CALL, NONE],
+            Status::StoreFault,
+            Status::Refused,
+        ),
+        (
+            MARK,
+            [NONE, FIRST_CALL, NONE, NONE],
+            Status::WriteFault,
+            Status::Refused,
+        ),
+        (
+            "help",
+            [FIRST_CALL, FIRST_CALL, FIRST_CALL, NONE],
+            Status::WriteFault,
+            Status::StoreFault,
+        ),
     ]
     .into_iter()
     .enumerate()
@@ -203,9 +258,11 @@ fn each_object_that_fails_has_its_status(rt: HostRuntime) -> Result<(), Fail> {
 fn is_answered<R: Threads + Sync>(rt: &R, alloc: Global, line: &str) -> Result<bool, Fail> {
     let (_, outcome) = ask_twice(rt, alloc, NONE_FAILS, (IMPORT, ROWS), (line, REQUEST))?;
     let link = outcome.door.served().first().ok_or("a link")?;
-    Ok(outcome.status == Status::Done
-        && outcome.output.bytes().is_empty()
-        && link.written() == LIST.as_bytes())
+    Ok(
+        outcome.status == Status::Done
+            && outcome.output.bytes().is_empty()
+            && link.written() == LIST.as_bytes(),
+    )
 }
 
 #[test]
