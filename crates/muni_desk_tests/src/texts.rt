@@ -1,5 +1,3 @@
-mod confirmation_cases;
-mod confirmations;
 mod lines;
 mod requests;
 mod rows;

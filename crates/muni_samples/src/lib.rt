@@ -16,4 +16,4 @@ mod tests;
 mod worked;
 
 pub use table::{Sample, Table};
-pub use worked::{key, worked_figures, worked_issue, worked_reply, worked_terms, worked_version};
+pub use worked::{key, worked_figures, worked_issue, worked_terms, worked_version};

@@ -5,7 +5,7 @@ use crate::Sample;
 use arrayvec::ArrayVec;
 use muni_days::Day;
 use muni_dec::{Cents, Fee, Par, Price, Price3, Yield, Yield3};
-use muni_msg::{Act, Asked, DeskName, Figures, Given, Key, Reference, Reply, Side, Terms, Version};
+use muni_msg::{Act, Asked, DeskName, Figures, Given, Key, Reference, Side, Terms, Version};
 use muni_terms::{Issue, Label, check};
 
 /// The bond.
@@ -53,16 +53,6 @@ pub fn worked_version(act: Act) -> Option<Version> {
         act,
         terms: worked_terms()?,
         figures: worked_figures()?,
-    })
-}
-
-/// What the desk ALPHA is answered, whose first trade it is.
-pub fn worked_reply() -> Option<Reply> {
-    Some(Reply::Confirmed {
-        issue: worked_issue()?,
-        key: key("ALPHA", "T0001")?,
-        number: 1,
-        version: worked_version(Act::Entered)?,
     })
 }
 
