@@ -2,7 +2,6 @@ mod clap_words;
 mod drill_cases;
 mod gates;
 mod outputs;
-mod quotes;
 mod store;
 mod watch;
 

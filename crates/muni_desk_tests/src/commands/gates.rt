@@ -25,8 +25,8 @@ const ANSWER: &str = "PRICE 108.584 GIVEN/YIELD 3.000 COMPUTED/\
     REDEMPTION 2034-01-01 100.000000 PAR OPTION/ACCRUED DAYS 0/PRINCIPAL 108.58/ACCRUED 0.00/\
     TOTAL 108.58";
 
-// What is answered under a watch to a command that is done.
-fn answered<R: Threads + Sync>(
+/// What is answered under a watch to a command that is done.
+pub fn answered<R: Threads + Sync>(
     rt: &R,
     alloc: Global,
     words: &[&str],
@@ -70,6 +70,7 @@ fn as_many_candidates_are_searched_side_by_side_as_there_are_workers(
 ) -> Result<(), Fail> {
     for (line, workers, wanted) in [
         (TWO_CANDIDATES, "--workers=2", 2),
+        (TWO_CANDIDATES, "--workers=02", 2),
         (FOUR_CANDIDATES, "--workers=4", 4),
     ] {
         let watch = Watch::new(wanted, 100_000_000);
@@ -85,6 +86,7 @@ fn no_more_candidates_are_searched_side_by_side_than_there_are_workers(
 ) -> Result<(), Fail> {
     for (line, workers, most) in [
         (TWO_CANDIDATES, "--workers=1", 1),
+        (TWO_CANDIDATES, "--par=100", 1),
         (THREE_CANDIDATES, "--workers=2", 2),
     ] {
         let watch = Watch::new(3, 10_000_000);
