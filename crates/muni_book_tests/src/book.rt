@@ -1,104 +1,57 @@
-ghost use Rattle.std.specs.Prelude.{◌+◌, ◌≤◌};
-ghost use Rattle.arrayvec.specs.ArrayVec.{array_vec_len};
+//! Commands over a keeper that fails, and over a desk that is full.
 
-mod commands;
-mod trade_cases;
-
-use crate::book::trade_cases::TRADES;
-use arrayvec::ArrayVec;
-use muni_book::figures;
-use muni_dec::text::{push, push_number, push_part};
-use muni_dec::{Cents, Fee, Par};
-use muni_edge::NoGate;
-use muni_msg::{Asked, Figures, Given, Range, Refusal, Side};
-use muni_multi::Horner;
-use muni_samples::{Sample, Table};
+use crate::answers::{failed_once, is_said};
+use crate::desks::fill;
+use muni_keep::{Keeper, MemKeeper};
+use muni_msg::Act;
+use muni_samples::worked_version;
+use std::alloc::Global;
 use std::test::Fail;
+use std::thread::Threads;
 
-fn given_of(case: &Sample<'_>) -> Option<Given> {
-    if let Some(price) = case.price("price=") {
-        return Some(Given::AtPrice(price));
+// How many commands fail once where a call of their keeper does.
+fn failed_over<R: Threads + Sync>(rt: &R, alloc: Global, call: u64) -> Option<u32> {
+    let mut keeper = MemKeeper::new(alloc, &[call]).ok()?;
+    failed_once(rt, alloc, &mut keeper)
+}
+
+// The commands make 28 calls of their keeper.
+#[test]
+fn a_command_that_failed_is_answered_when_it_is_sent_again(rt: HostRuntime) -> Result<(), Fail> {
+    for call in 0..28_u64 {
+        assert_eq!(rt; failed_over(&rt, rt.alloc(), call), Some(1), "call {call}");
     }
-    if let Some(y) = case.yld("yield=") {
-        return Some(Given::AtYield(y));
-    }
-    Some(Given::AtRate(case.yld("rate=")?))
+    assert_eq!(rt; failed_over(&rt, rt.alloc(), 28), Some(0));
+    Ok(())
 }
 
-fn asked_of(case: &Sample<'_>) -> Option<Asked> {
-    Some(Asked {
-        cusip: *b"123456AA3",
-        par: Par::read(case.text("par=")?).ok()?,
-        settle: case.day("settle=")?,
-        given: given_of(case)?,
-        side: if case.has("buy") {
-            Side::Buy
-        } else {
-            Side::Sell
-        },
-        fee: Fee::read(case.text("fee=")?).ok()?,
-    })
-}
+/// What is sent to a desk with 100,000 trades, and to another one.
+const ROWS: &str =
+    "issue,123456AA3,RIVERTON WATER 5S 2025,periodic,2020-01-01,2020-07-01,2025-01-01,5,
+trade,ALPHA,T0001,123456AA3,buy,25000,2024-04-01,yield,4
+trade,ALPHA,000777,123456AA3,buy,25000,2024-04-01,yield,4
+trade,BETA,T0001,123456AA3,buy,25000,2024-04-01,yield,4
+";
 
-fn push_cents(text: &mut ArrayVec<u8, 256>, cents: Cents)
-    requires { array_vec_len text.old ≤ 200 }
-    ensures { array_vec_len text.new ≤ array_vec_len text.old + 30 }
-{
-    let mut value = ArrayVec::new();
-    cents.print_into(&mut value);
-    push_part(text, &value);
-}
+const ANSWERS: &str = "added,123456AA3
+REFUSED 14 DeskFull
+confirmed,000777,1,100.725,4.000,2025-01-01,25493.75
+confirmed,T0001,1,100.725,4.000,2025-01-01,25493.75
+";
 
-fn print_figures(text: &mut ArrayVec<u8, 256>, figures: &Figures) {
-    let mut value = ArrayVec::new();
-    text.clear();
-    figures.price.print_into(&mut value);
-    push(text, &value);
-    figures.yld.print_into(&mut value);
-    push_part(text, &value);
-    figures.redemption.print_into(&mut value);
-    push_part(text, &value);
-    push_cents(text, figures.principal);
-    push_cents(text, figures.accrued);
-    push_cents(text, figures.commission);
-    push_cents(text, figures.total);
-}
-
-fn print_refusal(text: &mut ArrayVec<u8, 256>, refusal: &Refusal) {
-    text.clear();
-    push(text, b"refused");
-    push_number(text, refusal.number());
-    match refusal {
-        Refusal::GivenOutOfRange(Range::Below) => push_part(text, b"below"),
-        Refusal::GivenOutOfRange(Range::Above) => push_part(text, b"above"),
-        Refusal::YieldBelow { date } | Refusal::NoTime { date } => {
-            let mut value = ArrayVec::new();
-            date.print_into(&mut value);
-            push_part(text, &value);
-        }
-        _ => {}
-    }
+// Fills ALPHA. Whether the rows are then answered so.
+fn are_said_when_full<R: Threads + Sync, K: Keeper>(
+    rt: &R,
+    alloc: Global,
+    keeper: &mut K,
+) -> Result<bool, Fail> {
+    fill(keeper, &worked_version(Act::Entered).ok_or("a version")?)?;
+    Ok(is_said(rt, alloc, keeper, ROWS, ANSWERS))
 }
 
 #[test]
-fn trades_with_commissions_have_the_exact_figures(rt: HostRuntime) -> Result<(), Fail> {
-    let mut table = Table::new();
-    let mut text = ArrayVec::new();
-    let mut count = 0_u32;
-    for line in TRADES.lines() {
-        let (words, wanted) = line.split_once('|').unwrap_or((line, ""));
-        let Some(case) = table.sample(words) else {
-            continue;
-        };
-        let issue = case.issue().ok_or("an issue")?;
-        let asked = asked_of(&case).ok_or("a trade")?;
-        match figures(&rt, &issue, &asked, 2, &Horner, &NoGate) {
-            Ok(figures) => print_figures(&mut text, &figures),
-            Err(refusal) => print_refusal(&mut text, &refusal),
-        }
-        assert_eq!(rt; text.as_slice(), wanted.as_bytes(), "{line}");
-        count = count.wrapping_add(1);
-    }
-    assert_eq!(rt; count, 84);
+fn a_full_desk_takes_no_trade_more(rt: HostRuntime) -> Result<(), Fail> {
+    let mut keeper = MemKeeper::new(rt.alloc(), &[])?;
+    assert!(rt; are_said_when_full(&rt, rt.alloc(), &mut keeper)?);
     Ok(())
 }

@@ -1,21 +1,31 @@
+//! Connections of which some fail, and one that is cut, over keepers in memory.
+
 mod exchange_cases;
 
+ghost use Rattle.std.specs.Prelude.{◌≡◌, None};
+
+use crate::stores::cabinet;
 use exchange_cases::CASES;
 use muni_cases::{Pieces, bytes_of};
 use muni_edge::{MemDoor, MemLink, NoGate};
-use muni_keep::{MemCabinet, MemKeeper};
+use muni_keep::{Cabinet, Keeper, MemKeeper};
 use muni_multi::Horner;
 use muni_server::{End, Served, answer_one, serve};
 use std::alloc::Global;
 use std::test::Fail;
 use std::thread::Threads;
 
-// The request of a case and its answer.
-fn case(alloc: Global, line: &str) -> Result<(Vec<u8>, Vec<u8>), Fail> {
+/// The request of the case of a line and its answer.
+pub fn case(alloc: Global, line: &str) -> Result<(Vec<u8>, Vec<u8>), Fail> {
     let (request, answer) = line.split_once('|').ok_or("a case")?;
     let request = bytes_of(alloc, request).ok_or("bytes")?;
     let answer = bytes_of(alloc, answer).ok_or("bytes")?;
     Ok((request, answer))
+}
+
+/// The line of a case.
+pub fn line(place: usize) -> Result<&'static str, Fail> {
+    Ok(CASES.lines().nth(place).ok_or("a case")?)
 }
 
 /// What fails in a run: the calls of the keeper, of the cabinet and of the door, and of the first link
@@ -39,76 +49,105 @@ const NOTHING: Failing = Failing {
     put: NEVER,
 };
 
-// Links with the requests of the first cases.
-fn links(alloc: Global, count: usize, failing: &Failing) -> Result<Vec<MemLink>, Fail> {
-    let mut links = Vec::new(alloc);
-    for line in CASES.lines() {
-        if links.len() < count {
-            let (request, _) = case(alloc, line)?;
-            let first = links.is_empty();
-            let take = if first { failing.take } else { NEVER };
-            let put = if first { failing.put } else { NEVER };
-            links.push(MemLink::new(alloc, &request, 9000, &[take], &[put])?)?;
-        }
-    }
-    Ok(links)
+// A link on which the request of a case comes, of which these takes and puts fail.
+fn link(alloc: Global, line: &str, take: u64, put: u64) -> Result<MemLink, Fail> {
+    let (request, _) = case(alloc, line)?;
+    Ok(MemLink::new(alloc, &request, 9000, &[take], &[put])?)
 }
 
-// Serves the first cases over a new store.
-fn run<R: Threads + Sync>(
+// A door at which the requests of the cases wait.
+fn door(alloc: Global, failing: Failing) -> Result<MemDoor, Fail> {
+    let mut links = Vec::new(alloc);
+    for line in CASES.lines() {
+        links.push(if links.is_empty() {
+            link(alloc, line, failing.take, failing.put)?
+        } else {
+            link(alloc, line, NEVER, NEVER)?
+        })?;
+    }
+    Ok(MemDoor::new(alloc, links, &[failing.accept])?)
+}
+
+/// A door at which two requests wait.
+pub fn door_of(alloc: Global, lines: [&str; 2]) -> Result<MemDoor, Fail> {
+    let mut links = Vec::new(alloc);
+    for line in lines {
+        links.push(link(alloc, line, NEVER, NEVER)?)?;
+    }
+    Ok(MemDoor::new(alloc, links, &[])?)
+}
+
+/// How so many connections end over the store S.
+pub fn serve_at<R: Threads + Sync, C: Cabinet>(
     rt: &R,
     alloc: Global,
-    count: usize,
+    cabinet: &mut C,
     connections: u32,
-    failing: &Failing,
-) -> Result<(End, MemDoor), Fail> {
-    let mut keepers = Vec::new(alloc);
-    keepers.push((b"S".to_vec(alloc)?, MemKeeper::new(alloc, &[failing.call])?))?;
-    let mut cabinet = MemCabinet::new(alloc, keepers, &[failing.fetch])?;
-    let mut door = MemDoor::new(alloc, links(alloc, count, failing)?, &[failing.accept])?;
-    let end = serve(
+    door: &mut MemDoor,
+) -> End
+    requires { C.out cabinet.old ≡ None }
+    ensures none_out { C.out cabinet.new ≡ None }
+{
+    serve(
         rt,
         alloc,
         b"S",
         8080,
         connections,
         2,
-        &mut cabinet,
-        &mut door,
+        cabinet,
+        door,
         &Horner,
         &NoGate,
-    );
-    Ok((end, door))
+    )
 }
 
-// How many of the links have another answer than their case.
-fn spoilt(alloc: Global, door: &MemDoor) -> Result<usize, Fail> {
-    let mut count = 0usize;
+// How many of the links were served, and how many of these have another answer than their case.
+fn counts(alloc: Global, door: &MemDoor) -> Result<(usize, usize), Fail> {
+    let mut bad = 0usize;
     for (place, line) in CASES.lines().enumerate() {
         if let Some(link) = door.served().get(place) {
             let (_, answer) = case(alloc, line)?;
             if link.written() != answer.as_slice() {
-                count = count.wrapping_add(1);
+                bad = bad.wrapping_add(1);
             }
         }
     }
-    Ok(count)
+    Ok((door.served().len(), bad))
 }
 
-#[test]
-fn each_connection_has_its_answer(rt: HostRuntime) -> Result<(), Fail> {
-    let (end, door) = run(&rt, rt.alloc(), 36, 1_000_000, &NOTHING)?;
-    assert_eq!(rt; end, End::Done);
-    assert_eq!(rt; door.served().len(), 36);
-    assert_eq!(rt; spoilt(rt.alloc(), &door)?, 0);
-    Ok(())
+// How so many connections end, with the counts.
+fn served<R: Threads + Sync, C: Cabinet>(
+    rt: &R,
+    alloc: Global,
+    cabinet: &mut C,
+    connections: u32,
+    failing: Failing,
+) -> Result<(End, usize, usize), Fail>
+    requires { C.out cabinet.old ≡ None }
+{
+    let mut door = door(alloc, failing)?;
+    let end = serve_at(rt, alloc, cabinet, connections, &mut door);
+    let (count, bad) = counts(alloc, &door)?;
+    Ok((end, count, bad))
 }
 
-// The first eight cases: an issue and a trade in it, each sent again.
+fn served_over<R: Threads + Sync>(
+    rt: &R,
+    alloc: Global,
+    connections: u32,
+    failing: Failing,
+) -> Result<(End, usize, usize), Fail> {
+    let mut cabinet = cabinet(alloc, failing.fetch, failing.call)?;
+    served(rt, alloc, &mut cabinet, connections, failing)
+}
+
+// The cases are an issue and a trade in it, each sent again.
 #[test]
 fn runs_end_where_they_are_told_to(rt: HostRuntime) -> Result<(), Fail> {
     for (connections, failing, end, count, bad) in [
-        (9u32, NOTHING, End::Done, 8usize, 0usize),
+        (1_000_000, NOTHING, End::Done, 8, 0),
+        (9, NOTHING, End::Done, 8, 0),
         (3, NOTHING, End::Done, 3, 0),
         (8, Failing { call: 1, ..NOTHING }, End::Done, 8, 1),
         (8, Failing { take: 0, ..NOTHING }, End::Done, 8, 1),
@@ -144,51 +183,79 @@ fn runs_end_where_they_are_told_to(rt: HostRuntime) -> Result<(), Fail> {
             0,
         ),
     ] {
-        let (ended, door) = run(&rt, rt.alloc(), 8, connections, &failing)?;
-        assert_eq!(rt; ended, end);
-        assert_eq!(rt; door.served().len(), count);
-        assert_eq!(rt; spoilt(rt.alloc(), &door)?, bad);
+        let served = served_over(&rt, rt.alloc(), connections, failing)?;
+        assert_eq!(rt; served, (end, count, bad));
     }
     Ok(())
 }
 
-// Serves one connection whose bytes come in pieces of a size. Whether it was answered so.
-fn is_answered<R: Threads + Sync>(
+// Serves one connection whose bytes come in pieces of a size. How it ended, if this was written.
+fn answered<R: Threads + Sync, K: Keeper>(
     rt: &R,
     alloc: Global,
-    keeper: &mut MemKeeper,
+    keeper: &mut K,
     request: &[u8],
     size: usize,
-    wanted: Served,
     answer: &[u8],
-) -> Result<bool, Fail> {
+) -> Result<Option<Served>, Fail> {
     let link = MemLink::new(alloc, request, 9000, &[], &[])?;
     let mut pieces = Pieces::new(link, size);
     let served = answer_one(rt, alloc, &mut pieces, keeper, 1, &Horner, &NoGate);
-    Ok(served == wanted && pieces.written() == answer)
+    Ok((pieces.written() == answer).then_some(served))
+}
+
+const ANSWERED: Option<Served> = Some(Served::Answered { status: 200 });
+
+// The first number of bytes after which a request can be cut without being gone.
+fn not_gone<R: Threads + Sync, K: Keeper>(
+    rt: &R,
+    alloc: Global,
+    keeper: &mut K,
+    request: &[u8],
+) -> Result<Option<usize>, Fail> {
+    for count in 0..request.len() {
+        if answered(rt, alloc, keeper, &request[..count], 9, b"")? != Some(Served::Gone) {
+            return Ok(Some(count));
+        }
+    }
+    Ok(None)
+}
+
+// The first size of pieces in which a trade has another answer.
+fn other_in_pieces<R: Threads + Sync, K: Keeper>(
+    rt: &R,
+    alloc: Global,
+    keeper: &mut K,
+    request: &[u8],
+    answer: &[u8],
+) -> Result<Option<usize>, Fail> {
+    for size in [1usize, 2, 7, 4096] {
+        if answered(rt, alloc, keeper, request, size, answer)? != ANSWERED {
+            return Ok(Some(size));
+        }
+    }
+    Ok(None)
+}
+
+// Adds the issue, and sends the trade in front parts and in pieces. Where it is not answered so.
+fn places<R: Threads + Sync, K: Keeper>(
+    rt: &R,
+    alloc: Global,
+    keeper: &mut K,
+) -> Result<(Option<usize>, Option<usize>), Fail> {
+    let (request, answer) = case(alloc, line(0)?)?;
+    if answered(rt, alloc, keeper, &request, 9, &answer)? != ANSWERED {
+        return Err(Fail::from("an issue"));
+    }
+    let (request, answer) = case(alloc, line(4)?)?;
+    let cut = not_gone(rt, alloc, keeper, &request)?;
+    let piece = other_in_pieces(rt, alloc, keeper, &request, &answer)?;
+    Ok((cut, piece))
 }
 
 #[test]
 fn a_trade_is_answered_however_it_is_cut(rt: HostRuntime) -> Result<(), Fail> {
-    let alloc = rt.alloc();
-    let answered = Served::Answered { status: 200 };
-    let mut keeper = MemKeeper::new(alloc, &[])?;
-    for (place, line) in CASES.lines().enumerate() {
-        let (request, answer) = case(alloc, line)?;
-        if place == 0 {
-            assert!(rt; is_answered(&rt, alloc, &mut keeper, &request, 9, answered, &answer)?);
-        }
-        if place == 4 {
-            for count in 0..request.len() {
-                let cut = &request[..count];
-                assert!(rt; is_answered(&rt, alloc, &mut keeper, cut, 9, Served::Gone, b"")?);
-            }
-            for size in [1usize, 2, 7, 4096] {
-                assert!(rt;
-                    is_answered(&rt, alloc, &mut keeper, &request, size, answered, &answer)?
-                );
-            }
-        }
-    }
+    let mut keeper = MemKeeper::new(rt.alloc(), &[])?;
+    assert_eq!(rt; places(&rt, rt.alloc(), &mut keeper)?, (None, None));
     Ok(())
 }

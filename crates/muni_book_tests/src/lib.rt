@@ -1,11 +1,17 @@
-//! Keepers, the book, positions, marks and connections, by what was worked by hand. Nothing of it is in
-//! the program.
+//! Keepers, the book, positions, marks, connections and journals in memory, those that fail among them,
+//! by what was worked by hand. Nothing of it is in the program.
 #![tactic(auto)]
 
+#[cfg(test)]
+mod answers;
 #[cfg(test)]
 mod book;
 #[cfg(test)]
 mod connections;
+#[cfg(test)]
+mod desks;
+#[cfg(test)]
+mod journals;
 #[cfg(test)]
 mod keepers;
 #[cfg(test)]
@@ -16,3 +22,5 @@ mod marks;
 mod ports;
 #[cfg(test)]
 mod positions;
+#[cfg(test)]
+mod stores;

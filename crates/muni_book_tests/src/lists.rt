@@ -2,128 +2,82 @@
 
 ghost use Rattle.std.specs.Prelude.{◌≡◌, None};
 
+use crate::stores::{HELD, REPORT, ROWS, cabinet, is_imported};
 use muni_blotter::{import_with_positions, positions};
 use muni_edge::{MemSink, MemSource, NoGate};
-use muni_keep::{Cabinet, MemCabinet, MemKeeper};
+use muni_keep::Cabinet;
 use muni_msg::DeskName;
-use muni_multi::Doubling;
-use muni_office::{End, import};
+use muni_multi::Horner;
+use muni_office::End;
 use std::alloc::Global;
 use std::test::Fail;
 use std::thread::Threads;
 
-const ROWS: &[u8] =
-    b"issue,123456AA3,RIVERTON WATER 5S 2025,periodic,2020-01-01,2020-07-01,2025-01-01,5,
-trade,ALPHA,T0001,123456AA3,buy,25000,2024-04-01,yield,4
-trade,ALPHA,T0002,123456AA3,sell,10000,2024-04-01,price,100.725
-";
-
-const BEFORE: &[u8] = b"123456AA3 2 25000 10000 15000 15296.25\n";
-
-const CANCEL: &[u8] = b"cancel,ALPHA,T0002,2\n";
-
-const AFTER: &[u8] = b"123456AA3 1 25000 0 25000 25493.75\n";
-
-// Imports rows into the store S.
-fn import_rows<R: Threads + Sync, C: Cabinet>(
-    rt: &R,
-    alloc: Global,
-    rows: &[u8],
-    cabinet: &mut C,
-) -> Result<End, Fail>
+// How the positions of ALPHA in the store S end where a put of the output fails, and what they write.
+fn list<C: Cabinet>(alloc: Global, put: u64, cabinet: &mut C) -> Result<(End, MemSink), Fail>
     requires { C.out cabinet.old ≡ None }
     ensures { C.out cabinet.new ≡ None }
 {
-    let mut input = MemSource::new(alloc, rows, &[])?;
-    let mut output = MemSink::new(alloc, 4096, &[])?;
-    Ok(import(
-        rt,
-        alloc,
-        b"S",
-        1,
-        &mut input,
-        &mut output,
-        cabinet,
-        &Doubling,
-        &NoGate,
-    ))
-}
-
-// How the positions of a desk in the store S end, and what they write.
-fn list<C: Cabinet>(
-    alloc: Global,
-    desk: &[u8],
-    failing: &[u64],
-    cabinet: &mut C,
-) -> Result<(End, MemSink), Fail>
-    requires { C.out cabinet.old ≡ None }
-    ensures { C.out cabinet.new ≡ None }
-{
-    let desk = DeskName::read(desk).ok().ok_or("a desk")?;
-    let mut output = MemSink::new(alloc, 4096, failing)?;
+    let desk = DeskName::read(b"ALPHA").ok().ok_or("a desk")?;
+    let mut output = MemSink::new(alloc, 4096, &[put])?;
     let end = positions(alloc, b"S", &desk, &mut output, cabinet);
     Ok((end, output))
 }
 
-#[test]
-fn a_canceled_trade_leaves_the_position(rt: HostRuntime) -> Result<(), Fail> {
-    let alloc = rt.alloc();
-    let mut cabinet = MemCabinet::new(alloc, Vec::new(alloc), &[])?;
-    assert_eq!(rt; import_rows(&rt, alloc, ROWS, &mut cabinet)?, End::Done);
-    let (end, output) = list(alloc, b"ALPHA", &[], &mut cabinet)?;
-    assert_eq!(rt; end, End::Done);
-    assert_eq!(rt; output.bytes(), BEFORE);
-    assert_eq!(rt; import_rows(&rt, alloc, CANCEL, &mut cabinet)?, End::Done);
-    let (end, output) = list(alloc, b"ALPHA", &[], &mut cabinet)?;
-    assert_eq!(rt; end, End::Done);
-    assert_eq!(rt; output.bytes(), AFTER);
-    let (end, output) = list(alloc, b"BETA", &[], &mut cabinet)?;
-    assert_eq!(rt; end, End::Done);
-    assert!(rt; output.bytes().is_empty());
-    Ok(())
+// Imports the rows. How a list of them then ends with nothing written, where one behind it is whole.
+fn list_twice<R: Threads + Sync, C: Cabinet>(
+    rt: &R,
+    alloc: Global,
+    put: u64,
+    cabinet: &mut C,
+) -> Result<Option<End>, Fail>
+    requires { C.out cabinet.old ≡ None }
+{
+    let is_imported = is_imported(rt, alloc, cabinet, ROWS, REPORT)?;
+    let (end, output) = list(alloc, put, cabinet)?;
+    let (again, whole) = list(alloc, 9, cabinet)?;
+    let is_whole = again == End::Done && whole.bytes() == HELD.as_bytes();
+    if is_imported && output.bytes().is_empty() && is_whole {
+        Ok(Some(end))
+    } else {
+        Ok(None)
+    }
+}
+
+// The same over a cabinet of which a fetch fails, and a call of its keeper.
+fn list_over<R: Threads + Sync>(
+    rt: &R,
+    alloc: Global,
+    (fetch, call, put): (u64, u64, u64),
+) -> Result<Option<End>, Fail> {
+    let mut cabinet = cabinet(alloc, fetch, call)?;
+    list_twice(rt, alloc, put, &mut cabinet)
 }
 
 // The first list fetches once and asks for two pages.
 #[test]
 fn each_fault_ends_the_list_with_nothing_written(rt: HostRuntime) -> Result<(), Fail> {
-    let alloc = rt.alloc();
-    for (fetch, call, put, wanted) in [
-        (1u64, 99u64, 9u64, End::StoreFault),
-        (9, 10, 9, End::StoreFault),
-        (9, 11, 9, End::StoreFault),
-        (9, 99, 0, End::WriteFault),
+    for (failing, wanted) in [
+        ((1, 99, 9), End::StoreFault),
+        ((9, 10, 9), End::StoreFault),
+        ((9, 11, 9), End::StoreFault),
+        ((9, 99, 0), End::WriteFault),
     ] {
-        let mut keepers = Vec::new(alloc);
-        keepers.push((b"S".to_vec(alloc)?, MemKeeper::new(alloc, &[call])?))?;
-        let mut cabinet = MemCabinet::new(alloc, keepers, &[fetch])?;
-        assert_eq!(rt; import_rows(&rt, alloc, ROWS, &mut cabinet)?, End::Done);
-        let (end, output) = list(alloc, b"ALPHA", &[put], &mut cabinet)?;
-        assert_eq!(rt; end, wanted);
-        assert!(rt; output.bytes().is_empty());
-        let (end, output) = list(alloc, b"ALPHA", &[], &mut cabinet)?;
-        assert_eq!(rt; end, End::Done);
-        assert_eq!(rt; output.bytes(), BEFORE);
+        assert_eq!(rt; list_over(&rt, rt.alloc(), failing)?, Some(wanted));
     }
     Ok(())
 }
 
-const LISTED: &[u8] = b"1,added,123456AA3
-2,confirmed,T0001,1,100.725,4.000,2025-01-01,25493.75
-3,confirmed,T0002,1,100.725,4.001,2025-01-01,10197.50
-123456AA3 2 25000 10000 15000 15296.25
-";
-
-// How an import with the positions of ALPHA ends where a call of the keeper fails, and what it writes.
-fn import_listed<R: Threads + Sync>(
+// How an import with the positions of ALPHA ends, and what it writes.
+fn import_listed<R: Threads + Sync, C: Cabinet>(
     rt: &R,
     alloc: Global,
-    call: u64,
-) -> Result<(End, MemSink), Fail> {
+    cabinet: &mut C,
+) -> Result<(End, MemSink), Fail>
+    requires { C.out cabinet.old ≡ None }
+{
     let desk = DeskName::read(b"ALPHA").ok().ok_or("a desk")?;
-    let mut keepers = Vec::new(alloc);
-    keepers.push((b"S".to_vec(alloc)?, MemKeeper::new(alloc, &[call])?))?;
-    let mut cabinet = MemCabinet::new(alloc, keepers, &[])?;
-    let mut input = MemSource::new(alloc, ROWS, &[])?;
+    let mut input = MemSource::new(alloc, ROWS.as_bytes(), &[])?;
     let mut output = MemSink::new(alloc, 4096, &[])?;
     let end = import_with_positions(
         rt,
@@ -133,11 +87,25 @@ fn import_listed<R: Threads + Sync>(
         1,
         &mut input,
         &mut output,
-        &mut cabinet,
-        &Doubling,
+        cabinet,
+        &Horner,
         &NoGate,
     );
     Ok((end, output))
+}
+
+// How such an import ends where a call of the keeper fails, and how many bytes it writes of the report
+// and the lines behind it.
+fn listed_over<R: Threads + Sync>(
+    rt: &R,
+    alloc: Global,
+    call: u64,
+) -> Result<(End, Option<usize>), Fail> {
+    let mut cabinet = cabinet(alloc, 9, call)?;
+    let (end, output) = import_listed(rt, alloc, &mut cabinet)?;
+    let listed = format!(in alloc; "{REPORT}{HELD}")?;
+    let is_front = listed.as_bytes().starts_with(output.bytes());
+    Ok((end, is_front.then_some(output.bytes().len())))
 }
 
 // One page is asked for before the first row, and none behind the last: the last call is the put of the
@@ -145,17 +113,14 @@ fn import_listed<R: Threads + Sync>(
 #[test]
 fn the_lines_behind_a_report_take_no_call(rt: HostRuntime) -> Result<(), Fail> {
     for (call, wanted, length) in [
-        (0u64, End::StoreFault, 0usize),
+        (0, End::StoreFault, 0),
         (1, End::StoreFault, 0),
         (2, End::StoreFault, 0),
         (3, End::StoreFault, 18),
         (12, End::StoreFault, 72),
         (13, End::Done, 165),
     ] {
-        let (end, output) = import_listed(&rt, rt.alloc(), call)?;
-        assert_eq!(rt; end, wanted);
-        assert_eq!(rt; output.bytes().len(), length);
-        assert!(rt; LISTED.starts_with(output.bytes()));
+        assert_eq!(rt; listed_over(&rt, rt.alloc(), call)?, (wanted, Some(length)));
     }
     Ok(())
 }

@@ -4,7 +4,9 @@ mod put_cases;
 
 ghost use Rattle.std.specs.Prelude.{IsSome};
 
+use crate::desks::{fill, put, trade_of};
 use arrayvec::ArrayVec;
+use muni_cases::bytes_of;
 use muni_dec::{Cents, Par};
 use muni_keep::{KeepFault, Keeper, MemKeeper};
 use muni_msg::{Act, Asked, DeskName, Figures, Key, Reference, Side, Terms, Version, read_cusip};
@@ -37,15 +39,6 @@ fn version(act: Act, cusip: [u8; 9], side: Side, par: Par, total: Cents) -> Vers
             total,
             ..empty.figures
         },
-    }
-}
-
-// Puts the next version of a trade.
-fn put<K: Keeper>(keeper: &mut K, key: &Key, version: &Version) -> Result<(), KeepFault> {
-    match keeper.last(key)? {
-        None => keeper.put_version(key, 1, version),
-        Some((u32::MAX, _)) => Err(KeepFault::NoMemory),
-        Some((number, _)) => keeper.put_version(key, number + 1, version),
     }
 }
 
@@ -84,7 +77,7 @@ fn read_put(line: &str) -> Result<(Key, Version), Fail> {
 }
 
 // The lines that `next` leads through, where each is that of `position`.
-fn lines_by_next(alloc: Global, keeper: &Positioned<MemKeeper>) -> Result<Vec<u8>, Fail>
+fn lines_by_next<K: Keeper>(alloc: Global, keeper: &Positioned<K>) -> Result<Vec<u8>, Fail>
     requires { IsSome keeper.now.desk }
 {
     let mut text = Vec::new(alloc);
@@ -106,7 +99,7 @@ fn lines_by_next(alloc: Global, keeper: &Positioned<MemKeeper>) -> Result<Vec<u8
 }
 
 // The lines of the watched desk, which `next` tells too.
-fn lines(alloc: Global, keeper: &Positioned<MemKeeper>) -> Result<Vec<u8>, Fail> {
+fn lines<K: Keeper>(alloc: Global, keeper: &Positioned<K>) -> Result<Vec<u8>, Fail> {
     let Some(_) = keeper.watched() else {
         return Err(Fail::from("no desk is watched"));
     };
@@ -117,10 +110,16 @@ fn lines(alloc: Global, keeper: &Positioned<MemKeeper>) -> Result<Vec<u8>, Fail>
     Ok(lines)
 }
 
-// The lines of ALPHA after the puts of a case, which is watched before the put of this place.
-fn lines_after(alloc: Global, puts: &str, watched: usize) -> Result<Vec<u8>, Fail> {
+// The lines of ALPHA after the puts of a case over an empty keeper, which is watched before the put of
+// this place.
+fn lines_after<K: Keeper + Drop>(
+    alloc: Global,
+    inner: K,
+    puts: &str,
+    watched: usize,
+) -> Result<Vec<u8>, Fail> {
     let alpha = desk("ALPHA")?;
-    let mut keeper = over(alloc, MemKeeper::new(alloc, &[])?);
+    let mut keeper = over(alloc, inner);
     for (place, line) in puts.split(';').enumerate() {
         if place == watched {
             keeper.watch(&alpha)?;
@@ -133,60 +132,61 @@ fn lines_after(alloc: Global, puts: &str, watched: usize) -> Result<Vec<u8>, Fai
     lines(alloc, &keeper)
 }
 
-fn bytes_of(alloc: Global, text: &str) -> Result<Vec<u8>, Fail> {
-    let mut bytes = Vec::new(alloc);
-    for byte in text.bytes() {
-        bytes.push(if byte == b'~' { b'\n' } else { byte })?;
-    }
-    Ok(bytes)
+// Whether ALPHA holds what a case says, watched from the first put on and from the middle one.
+fn holds(alloc: Global, case: &str) -> Result<bool, Fail> {
+    let (puts, wanted) = case.split_once('|').ok_or("a case")?;
+    let wanted = bytes_of(alloc, wanted).ok_or("bytes")?;
+    let middle = puts.split(';').count() / 2;
+    let first = lines_after(alloc, MemKeeper::new(alloc, &[])?, puts, 0)?;
+    let second = lines_after(alloc, MemKeeper::new(alloc, &[])?, puts, middle)?;
+    Ok(first == wanted && second == wanted)
 }
 
 #[test]
 fn a_desk_holds_what_its_trades_come_to_from_wherever_it_is_watched(
     rt: HostRuntime,
 ) -> Result<(), Fail> {
-    let mut count = 0u32;
     for case in CASES.lines() {
-        let (puts, wanted) = case.split_once('|').ok_or("a case")?;
-        let wanted = bytes_of(rt.alloc(), wanted)?;
-        let middle = puts.split(';').count() / 2;
-        for watched in [0, middle] {
-            let found = lines_after(rt.alloc(), puts, watched)?;
-            assert!(rt; found == wanted, "{case}");
-        }
-        count = count.wrapping_add(1);
+        assert!(rt; holds(rt.alloc(), case)?, "{case}");
     }
-    assert_eq!(rt; count, 45);
+    assert_eq!(rt; CASES.lines().count(), 45);
     Ok(())
 }
 
-// A keeper with 120 trades of ALPHA that is not watched yet, of which this call fails.
-fn many_trades(alloc: Global, failing: u64) -> Result<Positioned<MemKeeper>, Fail> {
-    let mut keeper = over(alloc, MemKeeper::new(alloc, &[failing])?);
-    for tens in b'A'..=b'L' {
-        for units in b'0'..=b'9' {
-            let key = Key {
-                desk: desk("ALPHA")?,
-                reference: reference(&[tens, units])?,
-            };
-            put(&mut keeper, &key, &sale())?;
-        }
+// Puts 120 trades of ALPHA.
+fn put_many<K: Keeper>(keeper: &mut K) -> Result<(), Fail> {
+    for place in 0..120_u32 {
+        put(keeper, &trade_of(place)?, &sale())?;
     }
-    Ok(keeper)
+    Ok(())
+}
+
+// How ALPHA with 120 trades can be watched for the first time, if no desk is watched then, and what it
+// holds by the second time.
+fn watched_twice<K: Keeper + Drop>(
+    alloc: Global,
+    inner: K,
+) -> Result<(Option<KeepFault>, Vec<u8>), Fail> {
+    let alpha = desk("ALPHA")?;
+    let mut keeper = over(alloc, inner);
+    put_many(&mut keeper)?;
+    keeper.watch(&desk("BETA")?)?;
+    let fault = keeper.watch(&alpha).err();
+    if keeper.watched().is_some() {
+        return Err(Fail::from("a desk is watched"));
+    }
+    keeper.watch(&alpha)?;
+    Ok((fault, lines(alloc, &keeper)?))
 }
 
 // Its trades take 240 calls and the watch of another desk one. Three pages have trades, and a fourth
 // has none.
 #[test]
 fn no_desk_is_watched_where_a_page_could_not_be_read(rt: HostRuntime) -> Result<(), Fail> {
-    let alpha = desk("ALPHA")?;
-    for page in 0..4u64 {
-        let mut keeper = many_trades(rt.alloc(), page.wrapping_add(241))?;
-        keeper.watch(&desk("BETA")?)?;
-        assert_eq!(rt; keeper.watch(&alpha), Err(KeepFault::Failed));
-        assert!(rt; keeper.watched().is_none());
-        keeper.watch(&alpha)?;
-        let lines = lines(rt.alloc(), &keeper)?;
+    for call in 241..245u64 {
+        let inner = MemKeeper::new(rt.alloc(), &[call])?;
+        let (fault, lines) = watched_twice(rt.alloc(), inner)?;
+        assert_eq!(rt; fault, Some(KeepFault::Failed));
         assert_eq!(rt;
             lines.as_slice(),
             b"123456AA3 120 0 600 -600 -601.20\n".as_slice()
@@ -195,48 +195,42 @@ fn no_desk_is_watched_where_a_page_could_not_be_read(rt: HostRuntime) -> Result<
     Ok(())
 }
 
+// What ALPHA holds after a put that fails and when it is made again, and its trades in the keeper inside.
+fn put_twice<K: Keeper + Drop>(alloc: Global, inner: K) -> Result<(Vec<u8>, Vec<u8>, u32), Fail> {
+    let alpha = desk("ALPHA")?;
+    let (key, entered) = read_put("e ALPHA/T1 123456AA3 b 25000 2549375")?;
+    let (_, corrected) = read_put("c ALPHA/T1 64966MZZ5 s 10000 1019750")?;
+    let mut keeper = over(alloc, inner);
+    keeper.watch(&alpha)?;
+    put(&mut keeper, &key, &entered)?;
+    if put(&mut keeper, &key, &corrected) != Err(KeepFault::Failed) {
+        return Err(Fail::from("no fault"));
+    }
+    let before = lines(alloc, &keeper)?;
+    put(&mut keeper, &key, &corrected)?;
+    let after = lines(alloc, &keeper)?;
+    let mut inner = keeper.back();
+    Ok((before, after, inner.trades(&alpha)?))
+}
+
 // The watch takes one call and each put three: the test asks for the last version, the keeper asks for
 // it again, and then the version is put.
 #[test]
 fn totals_stay_where_a_put_fails(rt: HostRuntime) -> Result<(), Fail> {
-    let (key, entered) = read_put("e ALPHA/T1 123456AA3 b 25000 2549375")?;
-    let (_, corrected) = read_put("c ALPHA/T1 64966MZZ5 s 10000 1019750")?;
-    for call in 0..3u64 {
-        let inner = MemKeeper::new(rt.alloc(), &[call.wrapping_add(4)])?;
-        let mut keeper = over(rt.alloc(), inner);
-        keeper.watch(&desk("ALPHA")?)?;
-        put(&mut keeper, &key, &entered)?;
-        assert_eq!(rt; put(&mut keeper, &key, &corrected), Err(KeepFault::Failed));
-        let before = lines(rt.alloc(), &keeper)?;
+    for call in 4..7u64 {
+        let inner = MemKeeper::new(rt.alloc(), &[call])?;
+        let (before, after, trades) = put_twice(rt.alloc(), inner)?;
         assert_eq!(rt;
             before.as_slice(),
             b"123456AA3 1 25000 0 25000 25493.75\n".as_slice()
         );
-        put(&mut keeper, &key, &corrected)?;
-        let after = lines(rt.alloc(), &keeper)?;
         assert_eq!(rt;
             after.as_slice(),
             b"64966MZZ5 1 0 10000 -10000 -10197.50\n".as_slice()
         );
-        let mut inner = keeper.back();
-        let alpha = desk("ALPHA")?;
-        assert_eq!(rt; inner.trades(&alpha)?, 1);
+        assert_eq!(rt; trades, 1);
     }
     Ok(())
-}
-
-// The trade of ALPHA of a place.
-fn trade_of(place: u32) -> Result<Key, Fail> {
-    let mut name = [b'0'; 6];
-    let mut rest = place;
-    for digit in name.iter_mut().rev() {
-        *digit = b'0' + (rest % 10) as u8;
-        rest /= 10;
-    }
-    Ok(Key {
-        desk: desk("ALPHA")?,
-        reference: reference(&name)?,
-    })
 }
 
 fn sale() -> Version {
@@ -249,44 +243,49 @@ fn sale() -> Version {
     )
 }
 
-// Puts as many trades as a desk may have.
-fn fill<K: Keeper>(keeper: &mut K) -> Result<(), Fail> {
-    for place in 0..100_000u32 {
-        put(keeper, &trade_of(place)?, &sale())?;
-    }
-    Ok(())
-}
-
 const FULL: &[u8] = b"123456AA3 100000 0 500000 -500000 -501000.00\n";
+
+// Fills ALPHA, which is watched, and puts one trade more. Whether that is refused and nothing is lost.
+fn is_refused<K: Keeper + Drop>(alloc: Global, inner: K) -> Result<bool, Fail> {
+    let alpha = desk("ALPHA")?;
+    let mut keeper = over(alloc, inner);
+    keeper.watch(&alpha)?;
+    fill(&mut keeper, &sale())?;
+    let refused = put(&mut keeper, &trade_of(100_000)?, &sale());
+    let lines = lines(alloc, &keeper)?;
+    let mut inner = keeper.back();
+    let is_kept = lines.as_slice() == FULL && inner.trades(&alpha)? == 100_000;
+    Ok(refused == Err(KeepFault::Failed) && is_kept)
+}
 
 #[test]
 fn a_trade_for_which_there_is_no_room_is_refused(rt: HostRuntime) -> Result<(), Fail> {
-    let mut keeper = over(rt.alloc(), MemKeeper::new(rt.alloc(), &[])?);
-    keeper.watch(&desk("ALPHA")?)?;
-    fill(&mut keeper)?;
-    let refused = put(&mut keeper, &trade_of(100_000)?, &sale());
-    assert_eq!(rt; refused, Err(KeepFault::Failed));
-    let lines = lines(rt.alloc(), &keeper)?;
-    assert_eq!(rt; lines.as_slice(), FULL);
-    let mut inner = keeper.back();
-    assert_eq!(rt; inner.trades(&desk("ALPHA")?)?, 100_000);
+    let inner = MemKeeper::new(rt.alloc(), &[])?;
+    assert!(rt; is_refused(rt.alloc(), inner)?);
     Ok(())
+}
+
+// The same where puts are followed. Whether the trade is put and ends the watch, and the desk can not be
+// watched again.
+fn ends_the_watch<K: Keeper + Drop>(alloc: Global, inner: K) -> Result<bool, Fail> {
+    let alpha = desk("ALPHA")?;
+    let mut keeper = over(alloc, inner);
+    keeper.watch(&alpha)?;
+    let mut following = follow(keeper);
+    fill(&mut following, &sale())?;
+    let keeper = following.back();
+    let lines = lines(alloc, &keeper)?;
+    let mut following = follow(keeper);
+    put(&mut following, &trade_of(100_000)?, &sale())?;
+    let mut keeper = following.back();
+    let is_put = keeper.watched().is_none() && keeper.trades(&alpha)? == 100_001;
+    let again = keeper.watch(&alpha);
+    Ok(lines.as_slice() == FULL && is_put && again == Err(KeepFault::Failed))
 }
 
 #[test]
 fn or_it_is_put_and_ends_the_watch(rt: HostRuntime) -> Result<(), Fail> {
-    let mut keeper = over(rt.alloc(), MemKeeper::new(rt.alloc(), &[])?);
-    keeper.watch(&desk("ALPHA")?)?;
-    let mut following = follow(keeper);
-    fill(&mut following)?;
-    let keeper = following.back();
-    let lines = lines(rt.alloc(), &keeper)?;
-    assert_eq!(rt; lines.as_slice(), FULL);
-    let mut following = follow(keeper);
-    put(&mut following, &trade_of(100_000)?, &sale())?;
-    let mut keeper = following.back();
-    assert!(rt; keeper.watched().is_none());
-    assert_eq!(rt; keeper.trades(&desk("ALPHA")?)?, 100_001);
-    assert_eq!(rt; keeper.watch(&desk("ALPHA")?), Err(KeepFault::Failed));
+    let inner = MemKeeper::new(rt.alloc(), &[])?;
+    assert!(rt; ends_the_watch(rt.alloc(), inner)?);
     Ok(())
 }
