@@ -117,12 +117,12 @@ fn note() -> Result<IssueRow, Fail> {
 }
 
 // A canceled sale of the greatest par of it.
-fn sale() -> Result<Version, Fail> {
+fn sale(given: Given) -> Result<Version, Fail> {
     let principal = Cents::of(99_250_000_000).ok_or("cents")?;
     let asked = Asked {
         par: Par::of(1_000_000_000).ok_or("a par")?,
         settle: day("2024-01-01")?,
-        given: Given::AtRate(yld("3")?),
+        given,
         side: Side::Sell,
         ..worked_terms().ok_or("terms")?.asked
     };
@@ -147,8 +147,10 @@ fn sale() -> Result<Version, Fail> {
 fn the_longest_names_are_confirmed(rt: HostRuntime) -> Result<(), Fail> {
     let issue = check(note()?).ok().ok_or("an issue")?;
     let key = key("ABCDEFGHIJKLMNOP", "abcdefghij0123456789").ok_or("a key")?;
+    let given: Given = Given::AtRate(yld("3")?);
+    let version = sale(given)?;
     let mut text = ArrayVec::new();
-    confirmation(&issue, &key, u32::MAX, &sale()?, &mut text);
+    confirmation(&issue, &key, u32::MAX, &version, &mut text);
     assert_eq!(rt; text.as_slice(), LONGEST_NAMES.as_bytes());
     Ok(())
 }
