@@ -10,6 +10,3 @@ pub use count::{days_by, days360};
 pub use day::{Day, DayFault};
 pub use months::months_on;
 pub use muni_rule::Basis;
-
-#[cfg(test)]
-mod tests;

@@ -16,6 +16,3 @@ pub use amount::{Amount, Cents, Coupon, Fee, Price, Price3};
 pub use fault::DecFault;
 pub use par::Par;
 pub use percent::{Percent, Yield, Yield3};
-
-#[cfg(test)]
-mod tests;

@@ -17,6 +17,3 @@ pub use link::{Link, MemLink};
 pub use sink::{MemSink, Sink};
 pub use source::{MemSource, Source};
 pub use steps::Steps;
-
-#[cfg(test)]
-mod tests;

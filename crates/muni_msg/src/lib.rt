@@ -8,8 +8,6 @@ mod figures;
 mod issue_fields;
 mod names;
 mod refusal;
-#[cfg(test)]
-mod tests;
 mod version;
 
 pub use asked::{Asked, Given, Side, Terms};

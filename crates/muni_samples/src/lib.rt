@@ -11,8 +11,6 @@
 
 mod issue;
 mod table;
-#[cfg(test)]
-mod tests;
 mod worked;
 
 pub use table::{Sample, Table};

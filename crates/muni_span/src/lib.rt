@@ -4,6 +4,4 @@
 pub mod root;
 mod rounding;
 pub mod span;
-#[cfg(test)]
-mod tests;
 pub mod worth;

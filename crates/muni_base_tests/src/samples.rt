@@ -1,5 +1,5 @@
-use crate::{Sample, Table};
 use muni_dec::Price;
+use muni_samples::{Sample, Table};
 use std::test::Fail;
 
 const TABLE: &str = "\

@@ -1,6 +1,6 @@
 use Rattle.std.proofs.Common.{◌^◌, ◌≤◌, arith}
 use Rattle.std.proofs.Math.Nat.{pow-le-pow_left}
-use Rattle.muni_span.proofs.tests.power_given.Goals as goal
+use Rattle.muni_base_tests.proofs.enclosures.power_given.Goals as goal
 
 pub power-requires-clause-bounded : goal.power-requires-clause-bounded
 power-requires-clause-bounded c =

@@ -4,19 +4,33 @@ ghost use Rattle.std.specs.Prelude.{◌≡◌, ◌+◌, ◌^◌, ◌<◌, ◌≤
 ghost use Rattle.std.specs.Io.KnownBytes.{Consumes};
 ghost use Rattle.muni_edge.specs.Sink.{Rose, HasWritten};
 
-use crate::{
+use muni_edge::{
     Door, Failed, Gate, Link, MemDoor, MemLink, MemSink, MemSource, NoGate, Sink, Source, Steps,
 };
+use std::alloc::Global;
 use std::marker::Brand;
 use std::mem::size_of;
 use std::sync::ledger::{Blank, Ledger};
 use std::test::Fail;
 
+// The number of the first take that is not as listed.
+fn first_bad_take<S: Source>(
+    source: &mut S,
+    takes: &[(Result<usize, Failed>, &[u8])],
+) -> Option<usize> {
+    let mut room = [b'-'; 3];
+    for (number, (want, bytes)) in takes.iter().enumerate() {
+        if source.take(&mut room) != *want || room.as_slice() != *bytes {
+            return Some(number);
+        }
+    }
+    None
+}
+
 #[test]
 fn a_source_gives_its_bytes_in_order_and_fails_where_listed(rt: HostRuntime) -> Result<(), Fail> {
     let mut source = MemSource::new(rt.alloc(), b"abcde", &[0, 2])?;
-    let mut room = [b'-'; 3];
-    let steps = [
+    let takes: [(Result<usize, Failed>, &[u8]); 6] = [
         (Err(Failed), b"---"),
         (Ok(3), b"abc"),
         (Err(Failed), b"abc"),
@@ -24,11 +38,19 @@ fn a_source_gives_its_bytes_in_order_and_fails_where_listed(rt: HostRuntime) -> 
         (Ok(0), b"dec"),
         (Ok(0), b"dec"),
     ];
-    for (number, (want, bytes)) in steps.iter().enumerate() {
-        assert_eq!(rt; source.take(&mut room), *want, "take {number}");
-        assert_eq!(rt; room, **bytes, "take {number}");
-    }
+    let bad = first_bad_take(&mut source, &takes);
+    assert_eq!(rt; bad, None);
     Ok(())
+}
+
+// The number of the first put that is not as listed.
+fn first_bad_put(sink: &mut MemSink, puts: &[(&[u8], Result<(), Failed>, &[u8])]) -> Option<usize> {
+    for (number, (piece, want, held)) in puts.iter().enumerate() {
+        if sink.put(piece) != *want || sink.bytes() != *held {
+            return Some(number);
+        }
+    }
+    None
 }
 
 #[test]
@@ -36,7 +58,7 @@ fn a_sink_holds_all_but_the_listed_puts_and_what_is_past_its_room(
     rt: HostRuntime,
 ) -> Result<(), Fail> {
     let mut sink = MemSink::new(rt.alloc(), 6, &[0, 2])?;
-    let steps: [(&[u8], Result<(), Failed>, &[u8]); 7] = [
+    let puts: [(&[u8], Result<(), Failed>, &[u8]); 7] = [
         (b"abc", Err(Failed), b""),
         (b"abc", Ok(()), b"abc"),
         (b"d", Err(Failed), b"abc"),
@@ -45,10 +67,8 @@ fn a_sink_holds_all_but_the_listed_puts_and_what_is_past_its_room(
         (b"h", Err(Failed), b"abcdef"),
         (b"", Ok(()), b"abcdef"),
     ];
-    for (number, (piece, want, held)) in steps.iter().enumerate() {
-        assert_eq!(rt; sink.put(piece), *want, "put {number}");
-        assert_eq!(rt; sink.bytes(), *held, "put {number}");
-    }
+    let bad = first_bad_put(&mut sink, &puts);
+    assert_eq!(rt; bad, None);
     Ok(())
 }
 
@@ -68,6 +88,16 @@ fn echo<L: Link>(link: &mut L) -> Result<usize, Failed>
     Ok(count)
 }
 
+// The number of the first turn that is not as listed.
+fn first_bad_turn(link: &mut MemLink, turns: &[(Result<usize, Failed>, &[u8])]) -> Option<usize> {
+    for (number, (want, written)) in turns.iter().enumerate() {
+        if echo(link) != *want || link.written() != *written {
+            return Some(number);
+        }
+    }
+    None
+}
+
 #[test]
 fn a_link_counts_its_takes_and_its_puts_apart(rt: HostRuntime) -> Result<(), Fail> {
     let mut link = MemLink::new(rt.alloc(), b"abcdefghij", 20, &[1], &[1])?;
@@ -78,10 +108,8 @@ fn a_link_counts_its_takes_and_its_puts_apart(rt: HostRuntime) -> Result<(), Fai
         (Ok(2), b"abcdij"),
         (Ok(0), b"abcdij"),
     ];
-    for (number, (want, written)) in turns.iter().enumerate() {
-        assert_eq!(rt; echo(&mut link), *want, "turn {number}");
-        assert_eq!(rt; link.written(), *written, "turn {number}");
-    }
+    let bad = first_bad_turn(&mut link, &turns);
+    assert_eq!(rt; bad, None);
     Ok(())
 }
 
@@ -100,39 +128,77 @@ fn serve_first<D: Door>(door: &mut D, port: u16) -> Result<bool, Failed>
     Ok(true)
 }
 
-#[test]
-fn a_door_is_served_to_its_end_past_its_faults(rt: HostRuntime) -> Result<(), Fail> {
-    let alloc = rt.alloc();
+// The number of the first turn whose answer is not as listed.
+fn first_bad_serving<D: Door>(door: &mut D, answers: &[Result<bool, Failed>]) -> Option<usize> {
+    for (number, want) in answers.iter().enumerate() {
+        if serve_first(door, 80) != *want {
+            return Some(number);
+        }
+    }
+    None
+}
+
+// A door with two links waiting, whose first and fifth calls fail.
+fn door_of_two(alloc: Global) -> Result<MemDoor, Fail> {
     let waiting = vec![in alloc;
         MemLink::new(alloc, b"one", 8, &[], &[])?,
         MemLink::new(alloc, b"two", 2, &[], &[])?,
     ]?;
-    let mut door = MemDoor::new(alloc, waiting, &[0, 4])?;
-    let answers = [Err(Failed), Ok(true), Err(Failed), Ok(true), Ok(false)];
-    for (number, want) in answers.iter().enumerate() {
-        assert_eq!(rt; serve_first(&mut door, 80), *want, "turn {number}");
+    Ok(MemDoor::new(alloc, waiting, &[0, 4])?)
+}
+
+fn have_written(links: &[MemLink], texts: &[&[u8]]) -> bool {
+    for (link, text) in links.iter().zip(texts) {
+        if link.written() != *text {
+            return false;
+        }
     }
-    assert_eq!(rt; door.served().len(), 2);
-    assert_eq!(rt; door.served()[0].written(), b"one".as_slice());
-    assert_eq!(rt; door.served()[1].written(), b"tw".as_slice());
+    links.len() == texts.len()
+}
+
+#[test]
+fn a_door_is_served_to_its_end_past_its_faults(rt: HostRuntime) -> Result<(), Fail> {
+    let mut door = door_of_two(rt.alloc())?;
+    let bad = first_bad_serving(
+        &mut door,
+        &[Err(Failed), Ok(true), Err(Failed), Ok(true), Ok(false)],
+    );
+    let all = have_written(door.served(), &[b"one", b"tw"]);
+    assert_eq!(rt; (bad, all), (None, true));
     Ok(())
 }
 
 #[test]
-fn objects_with_no_bytes_no_room_and_no_links_are_made_and_serve(
-    rt: HostRuntime,
-) -> Result<(), Fail> {
-    let alloc = rt.alloc();
-    let mut source = MemSource::new(alloc, b"", &[])?;
-    assert_eq!(rt; source.take(&mut [0]), Ok(0));
-    let mut sink = MemSink::new(alloc, 0, &[])?;
-    assert_eq!(rt; sink.put(b""), Ok(()));
-    assert_eq!(rt; sink.put(b"a"), Err(Failed));
-    let mut link = MemLink::new(alloc, b"", 0, &[], &[])?;
-    assert_eq!(rt; echo(&mut link), Ok(0));
-    let mut door = MemDoor::new(alloc, vec![in alloc;]?, &[])?;
-    assert_eq!(rt; serve_first(&mut door, 80), Ok(false));
-    assert!(rt; door.served().is_empty());
+fn a_source_of_no_bytes_is_at_its_end(rt: HostRuntime) -> Result<(), Fail> {
+    let mut source = MemSource::new(rt.alloc(), b"", &[])?;
+    assert_eq!(rt; first_bad_take(&mut source, &[(Ok(0), b"---")]), None);
+    Ok(())
+}
+
+#[test]
+fn a_sink_with_no_room_takes_nothing_alone(rt: HostRuntime) -> Result<(), Fail> {
+    let mut sink = MemSink::new(rt.alloc(), 0, &[])?;
+    let puts: [(&[u8], Result<(), Failed>, &[u8]); 2] = [
+        (b"", Ok(()), b""),
+        (b"a", Err(Failed), b""),
+    ];
+    let bad = first_bad_put(&mut sink, &puts);
+    assert_eq!(rt; bad, None);
+    Ok(())
+}
+
+#[test]
+fn a_link_with_no_bytes_and_no_room_serves(rt: HostRuntime) -> Result<(), Fail> {
+    let mut link = MemLink::new(rt.alloc(), b"", 0, &[], &[])?;
+    assert_eq!(rt; first_bad_turn(&mut link, &[(Ok(0), b"")]), None);
+    Ok(())
+}
+
+#[test]
+fn a_door_with_no_links_serves_none(rt: HostRuntime) -> Result<(), Fail> {
+    let mut door = MemDoor::new(rt.alloc(), vec![in rt.alloc();]?, &[])?;
+    let bad = first_bad_serving(&mut door, &[Ok(false)]);
+    assert_eq!(rt; (bad, door.served().len()), (None, 0));
     Ok(())
 }
 

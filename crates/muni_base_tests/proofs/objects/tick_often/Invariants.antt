@@ -1,5 +1,5 @@
 use Rattle.std.proofs.Common.{◌≡◌, ◌+◌}
-use Rattle.muni_edge.proofs.tests.tick_often.Given as goal
+use Rattle.muni_base_tests.proofs.objects.tick_often.Given as goal
 
 abbrev pub invariant-loop-turn : goal.invariant-loop-turn
 invariant-loop-turn g l = l.steps ≡ l.fn.steps + l._turn
