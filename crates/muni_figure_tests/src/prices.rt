@@ -53,19 +53,29 @@ fn priced<E: Encloser>(encloser: &E, case: &Sample<'_>) -> Result<ArrayVec<u8, 3
     Ok(said(&printed_price(encloser, &flows, y)))
 }
 
-#[test]
-fn prices_are_those_computed_outside(rt: HostRuntime) -> Result<(), Fail> {
+fn is_priced(case: &Sample<'_>) -> Result<bool, Fail> {
+    let wanted = case.text("price=").ok_or("a price")?;
+    Ok(priced(&Horner, case)?.as_slice() == wanted && priced(&Doubling, case)?.as_slice() == wanted)
+}
+
+// The first case that is not as it says by both enclosers, and how many are before it.
+fn first_bad(cases: &str) -> Result<(Option<&str>, u32), Fail> {
     let mut table = Table::new();
-    let mut cases = 0_u32;
-    for line in CASES.lines() {
+    let mut right = 0_u32;
+    for line in cases.lines() {
         if let Some(case) = table.sample(line) {
-            let wanted = case.text("price=").ok_or("a price")?;
-            assert_eq!(rt; priced(&Horner, &case)?.as_slice(), wanted, "{line}");
-            assert_eq!(rt; priced(&Doubling, &case)?.as_slice(), wanted, "{line}");
-            cases = cases.wrapping_add(1);
+            if !is_priced(&case)? {
+                return Ok((Some(line), right));
+            }
+            right = right.wrapping_add(1);
         }
     }
-    assert_eq!(rt; cases, 158);
+    Ok((None, right))
+}
+
+#[test]
+fn prices_are_those_computed_outside(rt: HostRuntime) -> Result<(), Fail> {
+    assert_eq!(rt; first_bad(CASES)?, (None, 158));
     Ok(())
 }
 
@@ -79,22 +89,41 @@ const ZERO: &str = "zero dated=2020-01-01 maturity=2026-07-01 settle=2024-01-01"
 
 const ZERO_OF_FIFTY_YEARS: &str = "zero dated=1990-01-01 maturity=2040-01-01 settle=1990-04-01";
 
-// From -5.0000 to 99.9499 percent.
+// The first of a hundred yields, from -5.0000 to 99.9499 percent, at which no price is decided.
+fn first_undecided(flows: &Flows) -> Result<Option<u32>, Fail>
+    requires { 2 ≤ flows.now.n }
+{
+    for step in 0..100_u32 {
+        let y = yield_of(10_601 * i64::from(step) - 50_000)?;
+        let PriceAnswer::Price(_) = printed_price(&Horner, flows, y) else {
+            return Ok(Some(step));
+        };
+    }
+    Ok(None)
+}
+
 #[test]
 fn a_bond_is_decided_at_a_hundred_yields(rt: HostRuntime) -> Result<(), Fail> {
     let flows = flows_of(TWO_PERIODS)?;
-    for step in 0..100_u32 {
-        let y = yield_of(10_601 * i64::from(step) - 50_000)?;
-        let answer = printed_price(&Horner, &flows, y);
-        assert!(rt; matches!(answer, PriceAnswer::Price(_)), "{step}");
-    }
+    assert_eq!(rt; first_undecided(&flows)?, None);
     Ok(())
+}
+
+// Whether a price is reached at a yield, and whether the exact one is more.
+fn verdicts(case: &str, y: i32, asked: &str) -> Result<(Verdict, Verdict), Fail>
+    requires { IsManyPeriodsBoundary y }
+{
+    let flows = flows_of(case)?;
+    let asked = price(asked)?;
+    Ok((
+        at_least(&Horner, &flows, y, asked),
+        more(&Horner, &flows, y, asked),
+    ))
 }
 
 // The exact price is 100.7254895.. at 4 percent.
 #[test]
 fn verdicts_are_yes_up_to_the_exact_price(rt: HostRuntime) -> Result<(), Fail> {
-    let flows = flows_of(TWO_PERIODS)?;
     for (asked, verdict) in [
         ("0", Verdict::Yes),
         ("100.725", Verdict::Yes),
@@ -102,9 +131,11 @@ fn verdicts_are_yes_up_to_the_exact_price(rt: HostRuntime) -> Result<(), Fail> {
         ("100.725490", Verdict::No),
         ("999.999999", Verdict::No),
     ] {
-        let asked = price(asked)?;
-        assert_eq!(rt; at_least(&Horner, &flows, 40_000, asked), verdict);
-        assert_eq!(rt; more(&Horner, &flows, 40_000, asked), verdict);
+        assert_eq!(rt;
+            verdicts(TWO_PERIODS, 40_000, asked)?,
+            (verdict, verdict),
+            "{asked}"
+        );
     }
     Ok(())
 }
@@ -112,14 +143,10 @@ fn verdicts_are_yes_up_to_the_exact_price(rt: HostRuntime) -> Result<(), Fail> {
 // A par bond is worth 100 exactly; 100 * 0.8^5 is 32.768, in no exact case.
 #[test]
 fn a_tie_is_told_in_an_exact_case_alone(rt: HostRuntime) -> Result<(), Fail> {
-    let par = flows_of(PAR_BOND)?;
-    let hundred = price("100")?;
-    assert_eq!(rt; at_least(&Horner, &par, 41_250, hundred), Verdict::Yes);
-    assert_eq!(rt; more(&Horner, &par, 41_250, hundred), Verdict::No);
-    let zero = flows_of(ZERO)?;
-    let tie = price("32.768")?;
-    assert_eq!(rt; at_least(&Horner, &zero, 500_000, tie), Verdict::Unsure);
-    assert_eq!(rt; more(&Horner, &zero, 500_000, tie), Verdict::Unsure);
+    let par = verdicts(PAR_BOND, 41_250, "100")?;
+    let zero = verdicts(ZERO, 500_000, "32.768")?;
+    assert_eq!(rt; par, (Verdict::Yes, Verdict::No));
+    assert_eq!(rt; zero, (Verdict::Unsure, Verdict::Unsure));
     Ok(())
 }
 
@@ -142,30 +169,40 @@ impl Encloser for Counting {
     ghost narrow = { λ _ series y is many within. horner-narrow series y is many within };
 }
 
+// How often the encloser is called for a price, which has to be decided.
+fn calls_at(flows: &Flows, y: i64) -> Result<u32, Fail>
+    requires { 2 ≤ flows.now.n }
+{
+    let counting = Counting {
+        calls: Cell::new(0),
+    };
+    match printed_price(&counting, flows, yield_of(y)?) {
+        PriceAnswer::Price(_) => Ok(counting.calls.get()),
+        _ => Err(Fail::from("a price")),
+    }
+}
+
 #[test]
 fn a_price_takes_one_call_of_the_encloser_and_none_in_an_exact_case(
     rt: HostRuntime,
 ) -> Result<(), Fail> {
     let flows = flows_of(TWO_PERIODS)?;
-    let counting = Counting {
-        calls: Cell::new(0),
-    };
-    let price = printed_price(&counting, &flows, yield_of(40_000)?);
-    assert!(rt; matches!(price, PriceAnswer::Price(_)));
-    assert_eq!(rt; counting.calls.get(), 1);
-    let price = printed_price(&counting, &flows, yield_of(0)?);
-    assert!(rt; matches!(price, PriceAnswer::Price(_)));
-    assert_eq!(rt; counting.calls.get(), 1);
+    assert_eq!(rt; (calls_at(&flows, 40_000)?, calls_at(&flows, 0)?), (1, 0));
     Ok(())
+}
+
+fn is_narrow(worth: Worth) -> bool {
+    worth.lo() < worth.hi() && worth.hi() - worth.lo() < 360 * 4096
 }
 
 #[test]
 fn a_worth_is_less_than_a_billionth_of_a_dollar_wide(rt: HostRuntime) -> Result<(), Fail> {
     let flows = flows_of(ZERO_OF_FIFTY_YEARS)?;
-    for worth in [Horner.pv(&flows, -50_000), Doubling.pv(&flows, -50_000)] {
-        assert!(rt; worth.lo() < worth.hi());
-        assert!(rt; worth.hi() - worth.lo() < 360 * 4096);
-    }
+    let are_narrow = (
+        is_narrow(Horner.pv(&flows, -50_000)),
+        is_narrow(Doubling.pv(&flows, -50_000)),
+    );
+    assert_eq!(rt; are_narrow, (true, true));
     Ok(())
 }
 

@@ -1,5 +1,4 @@
 mod lowest;
-mod lowest_cases;
 mod outcomes;
 mod range;
 mod redemption_cases;

@@ -14,7 +14,6 @@ use muni_terms::Flows;
 use muni_yield::{Bracket, Outcome, printed_yield};
 use std::cell::Cell;
 use std::marker::Brand;
-use std::process::Abort;
 use std::sync::ledger::{Blank, Ledger};
 use std::test::Fail;
 use yield_cases::{CASES, NEAR_CASES};
@@ -107,70 +106,93 @@ fn is_right(case: &Sample<'_>, most: u32) -> Result<bool, Fail> {
     Ok(is_expected(outcome, case) && counting.calls.get() <= most)
 }
 
-fn are_right(rt: &impl Abort, cases: &str, wanted: u32) -> Result<(), Fail> {
+// The first case that is not as it says, and how many are before it.
+fn first_bad(cases: &str) -> Result<(Option<&str>, u32), Fail> {
     let mut table = Table::new();
-    let mut count = 0_u32;
+    let mut right = 0_u32;
     for line in cases.lines() {
         if let Some(case) = table.sample(line) {
-            assert!(rt; is_right(&case, 19)?, "{line}");
-            count = count.wrapping_add(1);
+            if !is_right(&case, 19)? {
+                return Ok((Some(line), right));
+            }
+            right = right.wrapping_add(1);
         }
     }
-    assert_eq!(rt; count, wanted);
-    Ok(())
+    Ok((None, right))
+}
+
+// The first case that is not as it says by `Doubling`.
+fn first_bad_by_doubling(cases: &str) -> Result<Option<&str>, Fail> {
+    let mut table = Table::new();
+    for line in cases.lines() {
+        if let Some(case) = table.sample(line) {
+            if !is_expected(outcome_of(&Doubling, &case)?, &case) {
+                return Ok(Some(line));
+            }
+        }
+    }
+    Ok(None)
 }
 
 #[test]
 fn yields_are_the_exact_ones_after_nineteen_calls_at_most(rt: HostRuntime) -> Result<(), Fail> {
-    are_right(&rt, CASES, 244)
+    assert_eq!(rt; first_bad(CASES)?, (None, 244));
+    Ok(())
 }
 
 #[test]
 fn yields_by_doubling_are_the_exact_ones(rt: HostRuntime) -> Result<(), Fail> {
-    let mut table = Table::new();
-    for line in CASES.lines() {
-        if let Some(case) = table.sample(line) {
-            assert!(rt; is_expected(outcome_of(&Doubling, &case)?, &case), "{line}");
-        }
-    }
+    assert_eq!(rt; first_bad_by_doubling(CASES)?, None);
     Ok(())
 }
 
 #[test]
 fn yields_too_near_a_boundary_are_told_by_the_ends(rt: HostRuntime) -> Result<(), Fail> {
-    are_right(&rt, NEAR_CASES, 28)
+    assert_eq!(rt; first_bad(NEAR_CASES)?, (None, 28));
+    Ok(())
 }
 
 #[test]
 fn an_exact_case_takes_no_call(rt: HostRuntime) -> Result<(), Fail> {
-    assert!(rt; is_right(&Sample::of(ON_AN_INTEREST_DATE), 0)?);
-    assert!(rt; !is_right(&Sample::of(TWO_PERIODS), 16)?);
+    let exact = is_right(&Sample::of(ON_AN_INTEREST_DATE), 0)?;
+    let other = is_right(&Sample::of(TWO_PERIODS), 16)?;
+    assert_eq!(rt; (exact, other), (true, false));
     Ok(())
+}
+
+// Whether one question narrows a search.
+fn narrows(bracket: &mut Bracket) -> bool {
+    let (low, high) = (bracket.low(), bracket.high());
+    if bracket.settled().is_none() {
+        bracket.halve(&Horner);
+    }
+    (low < bracket.low() || bracket.high() < high) && low <= bracket.low() && bracket.high() <= high
+}
+
+// The first question that is not the next one or narrows nothing.
+fn first_bad_question(bracket: &mut Bracket) -> Option<u32> {
+    for asked in 0u32..20 {
+        if bracket.settled().is_some() {
+            return None;
+        }
+        if bracket.halvings() != asked || !narrows(bracket) {
+            return Some(asked);
+        }
+    }
+    None
 }
 
 #[test]
 fn a_search_narrows_one_question_at_a_time(rt: HostRuntime) -> Result<(), Fail> {
     let mut bracket = search_of(&Sample::of(TWO_PERIODS))?;
     is_shared(&bracket);
-    assert_eq!(rt; (bracket.low(), bracket.high()), (-5_001, 100_002));
-    for asked in 0u32..20 {
-        if bracket.settled().is_some() {
-            break;
-        }
-        assert_eq!(rt; bracket.halvings(), asked);
-        narrows(&rt, &mut bracket)?;
-    }
-    assert_eq!(rt; (bracket.low(), bracket.high()), (4_001, 4_002));
+    let first = (bracket.low(), bracket.high());
+    let bad = first_bad_question(&mut bracket);
+    let last = (bracket.low(), bracket.high());
+    assert_eq!(rt;
+        (bad, first, last),
+        (None, (-5_001, 100_002), (4_001, 4_002))
+    );
     assert!(rt; bracket.halvings() <= 19);
-    Ok(())
-}
-
-fn narrows(rt: &impl Abort, bracket: &mut Bracket) -> Result<(), Fail> {
-    let (low, high) = (bracket.low(), bracket.high());
-    if bracket.settled().is_none() {
-        bracket.halve(&Horner);
-    }
-    assert!(rt; low < bracket.low() || bracket.high() < high);
-    assert!(rt; low <= bracket.low() && bracket.high() <= high);
     Ok(())
 }

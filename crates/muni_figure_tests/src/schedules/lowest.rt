@@ -5,16 +5,14 @@ ghost use Rattle.muni_sched.specs.Candidates.{IsCandidate};
 ghost use Rattle.muni_sched.specs.PriceOutcome.{IsAtYield};
 ghost use Rattle.muni_sched.specs.Range.{IsGivenFor};
 
-use crate::schedules::lowest_cases::{PRICES, YIELDS};
 use arrayvec::ArrayVec;
 use muni_days::Day;
 use muni_dec::{Price, Yield};
-use muni_edge::{Gate, NoGate, Steps};
+use muni_edge::{Gate, Steps};
 use muni_multi::{Encloser, Horner};
-use muni_samples::{Sample, Table};
+use muni_samples::Sample;
 use muni_sched::{
-    Boundary, Candidate, Figure, LowAnswer, Shape, candidates, lowest_price, lowest_yield,
-    out_of_range,
+    Candidate, LowAnswer, Shape, candidates, lowest_price, lowest_yield, out_of_range,
 };
 use muni_span::worth::Worth;
 use muni_terms::{Call, Flows, check};
@@ -33,51 +31,6 @@ fn list_of(case: &Sample<'_>) -> Result<ArrayVec<Candidate, 41>, Fail>
         return Err(Fail::from("a settlement of the issue"));
     }
     Ok(candidates(&issue, settlement))
-}
-
-// Whether a figure is that of a word, which has at most three decimals.
-fn is_figure(figure: &Figure, case: &Sample<'_>) -> Result<bool, Fail> {
-    match figure {
-        Figure::Price(found) => {
-            Ok(found.units() == case.price("low=").ok_or("a price")?.units() / 1000)
-        }
-        Figure::Yield(found) => Ok(
-            found.units() == case.yld("low=").ok_or("a yield")?.units() / 10,
-        ),
-    }
-}
-
-fn is_boundary(boundary: &Boundary, case: &Sample<'_>) -> Result<bool, Fail> {
-    match boundary {
-        Boundary::Price(found) => {
-            Ok(found.units() == case.price("boundary=").ok_or("a price")?.units() / 1000)
-        }
-        Boundary::Yield(found) => {
-            Ok(found.units() == case.yld("boundary=").ok_or("a yield")?.units())
-        }
-    }
-}
-
-fn is_day(date: Day, case: &Sample<'_>, name: &str) -> bool {
-    match case.day(name) {
-        Some(wanted) => date == wanted,
-        None => false,
-    }
-}
-
-// Whether it is the answer that a case names.
-fn is_answer(found: &LowAnswer, case: &Sample<'_>) -> Result<bool, Fail> {
-    match found {
-        LowAnswer::Low { figure, candidate } => {
-            Ok(case.count("candidate=") == Some(*candidate) && is_figure(figure, case)?)
-        }
-        LowAnswer::Undecided { date, boundary } => {
-            Ok(is_day(*date, case, "undecided=") && is_boundary(boundary, case)?)
-        }
-        LowAnswer::Below { date } => Ok(is_day(*date, case, "below=")),
-        LowAnswer::Above => Ok(case.has("above")),
-        LowAnswer::NoTime { date } => Ok(is_day(*date, case, "no-time=")),
-    }
 }
 
 fn price_over_0(case: &Sample<'_>) -> Result<Price, Fail>
@@ -133,31 +86,6 @@ fn by_rounds<R: Threads + Sync, E: Encloser + Sync, G: Gate + Sync>(
     count_rounds::<_, _, _, Brand>(rt, list, price, workers, encloser, gate, Blank::new(1))
 }
 
-fn is_found_by<R: Threads + Sync>(rt: &R, case: &Sample<'_>, workers: u32) -> Result<bool, Fail>
-    requires { (1 ≤ workers) × (workers ≤ 16) }
-{
-    let list = list_of(case)?;
-    let price = price_over_0(case)?;
-    let found = by_rounds(rt, &list, price, workers, &Horner, &NoGate);
-    is_answer(&found, case)
-}
-
-#[test]
-fn lowest_yields_are_those_computed_outside(rt: HostRuntime) -> Result<(), Fail> {
-    let mut table = Table::new();
-    let mut cases = 0_u32;
-    for line in YIELDS.lines() {
-        if let Some(case) = table.sample(line) {
-            assert!(rt; is_found_by(&rt, &case, 1)?, "{line} by one");
-            assert!(rt; is_found_by(&rt, &case, 2)?, "{line} by two");
-            assert!(rt; is_found_by(&rt, &case, 16)?, "{line} by sixteen");
-            cases = cases.wrapping_add(1);
-        }
-    }
-    assert_eq!(rt; cases, 20);
-    Ok(())
-}
-
 fn is_at_yield(candidate: &Candidate) -> bool
     ensures { (result ≡ true) → IsAtYield candidate.now }
 {
@@ -191,27 +119,6 @@ fn yield_for(list: &[Candidate], case: &Sample<'_>) -> Result<Yield, Fail>
         return Err(Fail::from("no discounted note"));
     }
     Ok(y)
-}
-
-fn is_price_found(case: &Sample<'_>) -> Result<bool, Fail> {
-    let list = list_of(case)?;
-    let y = yield_for(list.as_slice(), case)?;
-    let found = lowest_price(list.as_slice(), y, &Horner);
-    is_answer(&found, case)
-}
-
-#[test]
-fn lowest_prices_are_those_computed_outside(rt: HostRuntime) -> Result<(), Fail> {
-    let mut table = Table::new();
-    let mut cases = 0_u32;
-    for line in PRICES.lines() {
-        if let Some(case) = table.sample(line) {
-            assert!(rt; is_price_found(&case)?, "{line}");
-            cases = cases.wrapping_add(1);
-        }
-    }
-    assert_eq!(rt; cases, 13);
-    Ok(())
 }
 
 // Counts the questions, and tells whether a question came after one of a later round.
@@ -295,31 +202,38 @@ fn encloser_at_first() -> CountingEncloser {
     }
 }
 
+// How many questions and rounds a search takes, and how often a round fell or the encloser was
+// called more often than the gate was told.
+fn counts<R: Threads + Sync>(
+    rt: &R,
+    list: &ArrayVec<Candidate, 41>,
+    price: Price,
+    workers: u32,
+) -> (u32, u32, u32, bool)
+    requires candidates { All IsCandidate list.now.items }
+    requires price { 0 < price }
+    requires workers { (1 ≤ workers) × (workers ≤ 16) }
+{
+    let gate = gate_at_first();
+    let encloser = encloser_at_first();
+    let _ = by_rounds(rt, list, price, workers, &encloser, &gate);
+    let starts = gate.starts.load(Ordering::SeqCst);
+    (
+        starts,
+        gate.latest.load(Ordering::SeqCst).wrapping_add(1),
+        gate.fallen.load(Ordering::SeqCst),
+        encloser.calls.load(Ordering::SeqCst) > starts,
+    )
+}
+
 #[test]
 fn questions_go_by_rounds_and_end_where_yields_part(rt: HostRuntime) -> Result<(), Fail> {
     let list = forty_calls()?;
     for (given, starts, rounds) in FORTY_CALLS {
         let price = price_over_0(&Sample::of(given))?;
         for workers in [1, 2, 16] {
-            let gate = gate_at_first();
-            let encloser = encloser_at_first();
-            let _ = by_rounds(&rt, &list, price, workers, &encloser, &gate);
-            assert_eq!(rt;
-                gate.starts.load(Ordering::SeqCst),
-                starts,
-                "{given} by {workers}"
-            );
-            let last = gate.latest.load(Ordering::SeqCst);
-            assert_eq!(rt; last.wrapping_add(1), rounds, "{given} by {workers}");
-            assert_eq!(rt;
-                gate.fallen.load(Ordering::SeqCst),
-                0,
-                "{given} by {workers}"
-            );
-            assert!(rt;
-                encloser.calls.load(Ordering::SeqCst) <= starts,
-                "{given} by {workers}"
-            );
+            let counts = counts(&rt, &list, price, workers);
+            assert_eq!(rt; counts, (starts, rounds, 0, false), "{given} by {workers}");
         }
     }
     Ok(())
@@ -329,16 +243,19 @@ fn questions_go_by_rounds_and_end_where_yields_part(rt: HostRuntime) -> Result<(
 const THREE_CALLS: &str = "periodic dated=2020-01-01 first=2020-07-01 maturity=2034-01-01 coupon=5 \
      call=2026-01-01:102 call=2028-01-01:101 call=2030-01-01:100 settle=2024-02-16 yield=4.125";
 
+// How many candidates are priced, and how often the encloser is called.
+fn calls_for_prices(case: &Sample<'_>) -> Result<(usize, u32), Fail> {
+    let list = list_of(case)?;
+    let y = yield_for(list.as_slice(), case)?;
+    let encloser = encloser_at_first();
+    let _ = lowest_price(list.as_slice(), y, &encloser);
+    Ok((list.len(), encloser.calls.load(Ordering::SeqCst)))
+}
+
 #[test]
 fn a_lowest_price_takes_one_call_of_the_encloser_for_a_candidate(
     rt: HostRuntime,
 ) -> Result<(), Fail> {
-    let case = Sample::of(THREE_CALLS);
-    let list = list_of(&case)?;
-    let encloser = encloser_at_first();
-    let y = yield_for(list.as_slice(), &case)?;
-    let _ = lowest_price(list.as_slice(), y, &encloser);
-    assert_eq!(rt; list.len(), 4);
-    assert_eq!(rt; encloser.calls.load(Ordering::SeqCst), 4);
+    assert_eq!(rt; calls_for_prices(&Sample::of(THREE_CALLS))?, (4, 4));
     Ok(())
 }

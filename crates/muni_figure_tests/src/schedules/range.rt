@@ -1,6 +1,6 @@
 use muni_dec::Yield;
-use muni_samples::Table;
-use muni_sched::{candidates, out_of_range};
+use muni_samples::{Sample, Table};
+use muni_sched::{Candidate, candidates, out_of_range};
 use std::cmp::Ordering;
 use std::test::Fail;
 
@@ -16,33 +16,53 @@ settle=2024-02-29 least=-450000 greatest=9999990
 base discount dated=2024-01-31 maturity=2025-03-31
 settle=2024-02-29 least=0 greatest=300000";
 
-#[test]
-fn a_yield_leaves_its_range_by_one_unit(rt: HostRuntime) -> Result<(), Fail> {
-    let mut table = Table::new();
-    let mut cases = 0_u32;
-    for line in RANGES.lines() {
-        let Some(case) = table.sample(line) else {
-            continue;
-        };
-        let issue = case.issue().ok_or("an issue")?;
-        let settlement = case.day("settle=").ok_or("a settlement")?;
-        assert!(rt; issue.settles(settlement), "{line}");
-        let list = candidates(&issue, settlement);
-        let least = case.number("least=").ok_or("a yield")?;
-        let greatest = case.number("greatest=").ok_or("a yield")?;
-        for (units, side) in [
-            (least.wrapping_sub(1), Some(Ordering::Less)),
-            (least, None),
-            (greatest, None),
-            (greatest.wrapping_add(1), Some(Ordering::Greater)),
-        ] {
-            let y = Yield::of(units).ok_or("a yield")?;
-            assert!(rt; out_of_range(list.as_slice(), y) == side, "{line} {units}");
+// Whether a range of candidates ends at two yields, outside and inside by one unit.
+fn ends_at(list: &[Candidate], least: i64, greatest: i64) -> Option<bool> {
+    for (units, side) in [
+        (least.wrapping_sub(1), Some(Ordering::Less)),
+        (least, None),
+        (greatest, None),
+        (greatest.wrapping_add(1), Some(Ordering::Greater)),
+    ] {
+        if out_of_range(list, Yield::of(units)?) != side {
+            return Some(false);
         }
-        cases = cases.wrapping_add(1);
     }
-    assert_eq!(rt; cases, 5);
-    Ok(())
+    Some(true)
+}
+
+fn is_range(case: &Sample<'_>) -> Option<bool> {
+    let issue = case.issue()?;
+    let settlement = case.day("settle=")?;
+    if !issue.settles(settlement) {
+        return None;
+    }
+    let list = candidates(&issue, settlement);
+    ends_at(
+        list.as_slice(),
+        case.number("least=")?,
+        case.number("greatest=")?,
+    )
+}
+
+// The first case that is not as it says, and how many are before it.
+fn first_bad(cases: &str) -> (Option<&str>, u32) {
+    let mut table = Table::new();
+    let mut right = 0_u32;
+    for line in cases.lines() {
+        if let Some(case) = table.sample(line) {
+            if is_range(&case) != Some(true) {
+                return (Some(line), right);
+            }
+            right = right.wrapping_add(1);
+        }
+    }
+    (None, right)
+}
+
+#[test]
+fn a_yield_leaves_its_range_by_one_unit(rt: HostRuntime) {
+    assert_eq!(rt; first_bad(RANGES), (None, 5));
 }
 
 #[test]

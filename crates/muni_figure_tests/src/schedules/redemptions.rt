@@ -4,7 +4,7 @@ use muni_dec::Price;
 use muni_samples::{Sample, Table};
 use muni_sched::{Candidate, Label, Shape, candidates};
 use muni_simple::Single;
-use muni_terms::{Call, check};
+use muni_terms::{Call, Issue, check};
 use std::test::Fail;
 
 fn name_of(label: Label) -> &'static str {
@@ -57,51 +57,72 @@ fn is_candidate(candidate: &Candidate, case: &Sample<'_>) -> Result<bool, Fail> 
     )
 }
 
+// Whether there are as many candidates as a case says, and that of its number is as it says.
+fn is_right(case: &Sample<'_>) -> Result<bool, Fail> {
+    let issue = case.issue().ok_or("an issue")?;
+    let settlement = case.day("settle=").ok_or("a settlement")?;
+    if !issue.settles(settlement) {
+        return Err(Fail::from("a settlement of the issue"));
+    }
+    let list = candidates(&issue, settlement);
+    let number = case.count("no=").ok_or("a number")?;
+    let candidate = list.as_slice().get(number).ok_or("a candidate")?;
+    Ok(Some(list.len()) == case.count("candidates=") && is_candidate(candidate, case)?)
+}
+
+// The first case that is not as it says, and how many are before it.
+fn first_bad(cases: &str) -> Result<(Option<&str>, u32), Fail> {
+    let mut table = Table::new();
+    let mut right = 0_u32;
+    for line in cases.lines() {
+        if let Some(case) = table.sample(line) {
+            if !is_right(&case)? {
+                return Ok((Some(line), right));
+            }
+            right = right.wrapping_add(1);
+        }
+    }
+    Ok((None, right))
+}
+
 #[test]
 fn candidates_are_those_computed_outside(rt: HostRuntime) -> Result<(), Fail> {
-    let mut table = Table::new();
-    let mut cases = 0_u32;
-    for line in CASES.lines() {
-        let Some(case) = table.sample(line) else {
-            continue;
-        };
-        let issue = case.issue().ok_or("an issue")?;
-        let settlement = case.day("settle=").ok_or("a settlement")?;
-        assert!(rt; issue.settles(settlement), "{line}");
-        let list = candidates(&issue, settlement);
-        assert_eq!(rt; Some(list.len()), case.count("candidates="), "{line}");
-        let number = case.count("no=").ok_or("a number")?;
-        let candidate = list.as_slice().get(number).ok_or("a candidate")?;
-        assert!(rt; is_candidate(candidate, &case)?, "{line}");
-        cases = cases.wrapping_add(1);
-    }
-    assert_eq!(rt; cases, 48);
+    assert_eq!(rt; first_bad(CASES)?, (None, 48));
     Ok(())
 }
 
 const UNCALLED: &str = "periodic dated=2020-01-01 first=2020-07-01 maturity=2045-01-01 coupon=4";
 
-#[test]
-fn forty_calls_and_the_maturity_are_forty_one_candidates(rt: HostRuntime) -> Result<(), Fail> {
-    let mut row = Sample::of(UNCALLED).row().ok_or("terms")?;
-    let price = Price::of(101_000_000).ok_or("a price")?;
+fn with_forty_calls() -> Option<Issue> {
+    let mut row = Sample::of(UNCALLED).row()?;
+    let price = Price::of(101_000_000)?;
     for i in 0u64..40 {
-        let date = Day::of(2021 + i / 2, 1 + 6 * (i % 2), 1).ok_or("a day")?;
+        let date = Day::of(2021 + i / 2, 1 + 6 * (i % 2), 1)?;
         let _ = row.calls.try_push(Call { date, price });
     }
-    let issue = check(row).ok().ok_or("an issue")?;
+    check(row).ok()
+}
+
+fn count_at(issue: &Issue, settlement: &str) -> Option<usize> {
+    let settlement = Day::read(settlement.as_bytes()).ok()?;
+    if !issue.settles(settlement) {
+        return None;
+    }
+    Some(candidates(issue, settlement).len())
+}
+
+#[test]
+fn forty_calls_and_the_maturity_are_forty_one_candidates(rt: HostRuntime) -> Result<(), Fail> {
+    let issue = with_forty_calls().ok_or("an issue")?;
     for (settlement, count) in [
-        ("settle=2020-01-01", 41),
-        ("settle=2020-12-31", 41),
-        ("settle=2021-01-01", 40),
-        ("settle=2030-07-01", 21),
-        ("settle=2040-06-30", 2),
-        ("settle=2040-07-01", 1),
+        ("2020-01-01", 41),
+        ("2020-12-31", 41),
+        ("2021-01-01", 40),
+        ("2030-07-01", 21),
+        ("2040-06-30", 2),
+        ("2040-07-01", 1),
     ] {
-        let settlement = Sample::of(settlement).day("settle=").ok_or("a day")?;
-        assert!(rt; issue.settles(settlement));
-        let list = candidates(&issue, settlement);
-        assert_eq!(rt; list.len(), count);
+        assert_eq!(rt; count_at(&issue, settlement), Some(count), "{settlement}");
     }
     Ok(())
 }
