@@ -1,12 +1,14 @@
 //! A cabinet of files.
 
-ghost use Rattle.std.specs.Prelude.{◌≡◌, None, option_map};
+ghost use Rattle.std.specs.Prelude.{◌≡◌, None, IfOk, option_map};
 
 use crate::faults::Faults;
 use crate::keeper::SqlKeeper;
 use crate::moving::move_old_rows;
-use crate::schema::{Database, open};
+use crate::schema::{answered, make_tables, text};
 use muni_keep::{Cabinet, KeepFault};
+use sqlite::{Alter, Connection, Error, File, FileStore};
+use std::alloc::Global;
 
 /// A cabinet whose stores are files, by their paths. It does not tell what they hold.
 ///
@@ -33,7 +35,7 @@ impl<'a> SqlCabinet<'a> {
 }
 
 impl<'a> Cabinet for SqlCabinet<'a> {
-    type K = SqlKeeper;
+    type K = SqlKeeper<FileStore<File>>;
 
     ghost told = { λ _ _. None };
 
@@ -41,21 +43,36 @@ impl<'a> Cabinet for SqlCabinet<'a> {
 
     ghost out = { λ cabinet. option_map (λ name. (name.items, 0)) cabinet.lent };
 
-    fn fetch(&mut self, name: &[u8]) -> Result<SqlKeeper, KeepFault> {
+    fn fetch(&mut self, name: &[u8]) -> Result<SqlKeeper<FileStore<File>>, KeepFault> {
         let lent = name.to_vec(self.rt.alloc())?;
-        let database = self.faults.noted(fetched(self.rt, name))?;
+        let keeper = self.faults.noted(open(self.rt, name))?;
         self.lent = Some(lent);
-        Ok(SqlKeeper::new(self.rt.alloc(), database))
+        Ok(keeper)
     }
 
-    fn give_back(&mut self, keeper: SqlKeeper) {
+    fn give_back(&mut self, keeper: SqlKeeper<FileStore<File>>) {
         self.faults.add(&keeper.close());
         self.lent = None;
     }
 }
 
-fn fetched(rt: &HostRuntime, name: &[u8]) -> Result<Database, KeepFault> {
-    let mut database = open(rt, name)?;
+// The keeper of the store in a file, which is made where there is none.
+fn open(rt: &HostRuntime, name: &[u8]) -> Result<SqlKeeper<FileStore<File>>, KeepFault>
+    ensures { IfOk result (λ keeper. keeper.faults ≡ 0) }
+{
+    let path = text(name)?;
+    keeper_over(rt.alloc(), Connection::open(rt, path))
+}
+
+// A keeper over what was opened. The tables are made, and what older ones have is moved.
+fn keeper_over<S: Alter + Drop>(
+    alloc: Global,
+    opened: Result<Connection<S>, Error>,
+) -> Result<SqlKeeper<S>, KeepFault>
+    ensures { IfOk result (λ keeper. keeper.faults ≡ 0) }
+{
+    let mut database = answered(opened)?;
+    make_tables(&mut database)?;
     move_old_rows(&mut database)?;
-    Ok(database)
+    Ok(SqlKeeper::new(alloc, database))
 }

@@ -1,7 +1,7 @@
-//! A keeper over a file.
+//! A keeper over a database.
 
 ghost use Rattle.std.specs.Prelude.{◌≡◌, ◌≤◌, ◌⊎◌, [], None, Ok, Some, IfOk, IfSome, OnOk, OnErr, IsErrOf, is_ok};
-ghost use Rattle.sqlite.specs.Files.{file_state};
+ghost use Rattle.sqlite.specs.Held.{state};
 ghost use Rattle.muni_edge.specs.Sink.{Rose};
 ghost use Rattle.muni_rows.specs.Issue as issues;
 ghost use Rattle.muni_rows.specs.Version as versions;
@@ -16,27 +16,28 @@ use crate::page::read_page;
 use crate::rows::{
     count_trades, find_issue, find_last, find_version, insert_issue, insert_version,
 };
-use crate::schema::Database;
 use crate::trade_counts::TradeCounts;
 use arrayvec::ArrayVec;
 use muni_keep::{KeepFault, Keeper};
 use muni_msg::{DeskName, Key, Line, Reference, Version};
 use muni_terms::Issue;
+use sqlite::{Alter, Connection, File, FileStore};
 use std::alloc::Global;
 
-/// A keeper over a file, which no other process can open meanwhile. It does not tell what it keeps.
+/// A keeper over a database, whose file no other process can open meanwhile. It does not tell what it
+/// keeps.
 ///
 /// What a put answered `Ok` is on the disk. Every refusal of `sqlite` is a fault, save want of
 /// memory, and so is a row that is not that of a checked value.
 #[derive(Drop)]
-pub struct SqlKeeper {
-    database: Database,
+pub struct SqlKeeper<S: Alter + Drop> {
+    database: Connection<S>,
     trades: TradeCounts,
     faults: Faults,
 }
 
-impl SqlKeeper {
-    pub(crate) fn new(alloc: Global, database: Database) -> SqlKeeper
+impl<S: Alter + Drop> SqlKeeper<S> {
+    pub(crate) fn new(alloc: Global, database: Connection<S>) -> SqlKeeper<S>
         ensures faults { result.faults ≡ 0 }
         ensures counts { result.trades ≡ [] }
     {
@@ -46,7 +47,9 @@ impl SqlKeeper {
             faults: Faults::none(),
         }
     }
+}
 
+impl SqlKeeper<FileStore<File>> {
     /// Closes the file, and gives the count of faults. Where the log cannot be copied into the file
     /// it stays beside it, and nothing that was kept is lost.
     pub(crate) fn close(self) -> Faults
@@ -62,7 +65,7 @@ impl SqlKeeper {
     }
 }
 
-impl Keeper for SqlKeeper {
+impl<S: Alter + Drop> Keeper for SqlKeeper<S> {
     ghost tables = { λ _. None };
 
     ghost faults = { λ keeper. keeper.faults };
@@ -70,8 +73,8 @@ impl Keeper for SqlKeeper {
     ghost mark = { λ _. 0 };
 
     fn issue(&mut self, cusip: &[u8; 9]) -> Result<Option<Issue>, KeepFault>
-        ensures read { IfOk result (rows.Reads rows.issue_in (file_state self.old.database)
-            (file_state self.new.database) spec.select_issue (spec.cusip_values cusip.now)) }
+        ensures read { IfOk result (rows.Reads rows.issue_in (state S.Store self.old.database)
+            (state S.Store self.new.database) spec.select_issue (spec.cusip_values cusip.now)) }
         ensures counts { self.new.trades ≡ self.old.trades }
         ensures later { self.old.faults ≤ self.new.faults }
         ensures failed { IsErrOf result KeepFault.Failed → Rose self.old.faults self.new.faults }
@@ -81,7 +84,7 @@ impl Keeper for SqlKeeper {
     }
 
     fn put_issue(&mut self, issue: &Issue) -> Result<(), KeepFault>
-        ensures ran { OnOk result (Ran (file_state self.old.database) (file_state self.new.database)
+        ensures ran { OnOk result (Ran (state S.Store self.old.database) (state S.Store self.new.database)
             spec.insert_issue (spec.issue_values (issues.columns_of issue.now))) }
         ensures counts { self.new.trades ≡ self.old.trades }
         ensures later { self.old.faults ≤ self.new.faults }
@@ -92,8 +95,8 @@ impl Keeper for SqlKeeper {
     }
 
     fn version(&mut self, key: &Key, number: u32) -> Result<Option<Version>, KeepFault>
-        ensures read { IfOk result (rows.Reads rows.version_in (file_state self.old.database)
-            (file_state self.new.database) spec.select_version (spec.numbered_key_values key.now number)) }
+        ensures read { IfOk result (rows.Reads rows.version_in (state S.Store self.old.database)
+            (state S.Store self.new.database) spec.select_version (spec.numbered_key_values key.now number)) }
         ensures counts { self.new.trades ≡ self.old.trades }
         ensures later { self.old.faults ≤ self.new.faults }
         ensures failed { IsErrOf result KeepFault.Failed → Rose self.old.faults self.new.faults }
@@ -105,8 +108,8 @@ impl Keeper for SqlKeeper {
     }
 
     fn last(&mut self, key: &Key) -> Result<Option<(u32, Version)>, KeepFault>
-        ensures read { IfOk result (rows.Reads rows.last_in (file_state self.old.database)
-            (file_state self.new.database) spec.select_last (spec.key_values key.now)) }
+        ensures read { IfOk result (rows.Reads rows.last_in (state S.Store self.old.database)
+            (state S.Store self.new.database) spec.select_last (spec.key_values key.now)) }
         ensures counts { self.new.trades ≡ self.old.trades }
         ensures later { self.old.faults ≤ self.new.faults }
         ensures failed { IsErrOf result KeepFault.Failed → Rose self.old.faults self.new.faults }
@@ -118,7 +121,7 @@ impl Keeper for SqlKeeper {
     }
 
     fn put_version(&mut self, key: &Key, number: u32, version: &Version) -> Result<(), KeepFault>
-        ensures ran { OnOk result (Ran (file_state self.old.database) (file_state self.new.database)
+        ensures ran { OnOk result (Ran (state S.Store self.old.database) (state S.Store self.new.database)
             spec.insert_version (spec.version_values key.now number (versions.columns_of version.now))) }
         ensures counts { self.new.trades
             ≡ after_put key.now.desk number (is_ok result) self.old.trades }
@@ -137,8 +140,8 @@ impl Keeper for SqlKeeper {
 
         // Otherwise the trades are counted, and the count is kept where there is memory for it.
         ensures read { count_of desk.now self.old.trades ≡ None
-            → IfOk result (λ count. rows.Reads rows.count_in (file_state self.old.database)
-            (file_state self.new.database) spec.count_trades (spec.desk_values desk.now) (Some count)) }
+            → IfOk result (λ count. rows.Reads rows.count_in (state S.Store self.old.database)
+            (state S.Store self.new.database) spec.count_trades (spec.desk_values desk.now) (Some count)) }
         ensures counts { IfOk result (λ count. (self.new.trades ≡ self.old.trades)
             ⊎ (self.new.trades ≡ with_count desk.now count self.old.trades)) }
         ensures refused { OnErr result (self.new.trades ≡ self.old.trades) }
@@ -158,7 +161,7 @@ impl Keeper for SqlKeeper {
         desk: &DeskName,
         after: &Option<Reference>,
     ) -> Result<ArrayVec<Line, 50>, KeepFault>
-        ensures read { IfOk result (λ lines. IsPage file_state desk.now after.now
+        ensures read { IfOk result (λ lines. IsPage (state S.Store) desk.now after.now
             self.old.database self.new.database lines.items) }
         ensures counts { self.new.trades ≡ self.old.trades }
         ensures later { self.old.faults ≤ self.new.faults }

@@ -1,13 +1,11 @@
 //! The rows of the tables that had no columns for a basis and a commission, moved to those that have.
 
 use crate::rows::{asked_columns, figure_columns, number_at, text_at};
-use crate::schema::{Database, answered, has_table, if_found};
+use crate::schema::{answered, has_table, if_found};
 use muni_keep::KeepFault;
 use muni_rows::{issue_1, version_1};
 use sqlite::types::ValueRef;
-use sqlite::{File, FileStore, Row, Transaction, params};
-
-type Moving<'a> = Transaction<'a, FileStore<File>>;
+use sqlite::{Alter, Connection, Row, Transaction, params};
 
 #[derive(Clone, Copy)]
 enum OldTable {
@@ -17,7 +15,7 @@ enum OldTable {
 
 /// Moves the rows of the old tables, where the file has them, in one transaction a table. Where a row
 /// is not that of a checked value, its table stays as it was.
-pub(crate) fn move_old_rows(database: &mut Database) -> Result<(), KeepFault> {
+pub(crate) fn move_old_rows<S: Alter>(database: &mut Connection<S>) -> Result<(), KeepFault> {
     if has_table(database, "issues")? {
         move_table(database, OldTable::Issues)?;
     }
@@ -27,7 +25,7 @@ pub(crate) fn move_old_rows(database: &mut Database) -> Result<(), KeepFault> {
     Ok(())
 }
 
-fn move_table(database: &mut Database, table: OldTable) -> Result<(), KeepFault> {
+fn move_table<S: Alter>(database: &mut Connection<S>, table: OldTable) -> Result<(), KeepFault> {
     if !database.is_autocommit() {
         return Err(KeepFault::Failed);
     }
@@ -36,7 +34,7 @@ fn move_table(database: &mut Database, table: OldTable) -> Result<(), KeepFault>
     answered(moving.commit())
 }
 
-fn move_rows(moving: &mut Moving<'_>, table: OldTable) -> Result<(), KeepFault> {
+fn move_rows<S: Alter>(moving: &mut Transaction<'_, S>, table: OldTable) -> Result<(), KeepFault> {
     for _ in 0..u64::MAX {
         let moved = match table {
             OldTable::Issues => move_issue(moving)?,
@@ -50,7 +48,7 @@ fn move_rows(moving: &mut Moving<'_>, table: OldTable) -> Result<(), KeepFault> 
 }
 
 // Moves an issue, if one is left.
-fn move_issue(moving: &mut Moving<'_>) -> Result<bool, KeepFault> {
+fn move_issue<S: Alter>(moving: &mut Transaction<'_, S>) -> Result<bool, KeepFault> {
     let row = first_row(
         moving,
         "SELECT cusip, name, kind, dated, first, maturity, coupon, calls FROM issues LIMIT 1",
@@ -92,7 +90,7 @@ fn is_issue(row: &Row) -> Result<bool, KeepFault> {
 }
 
 // Moves a version of a trade, if one is left.
-fn move_version(moving: &mut Moving<'_>) -> Result<bool, KeepFault> {
+fn move_version<S: Alter>(moving: &mut Transaction<'_, S>) -> Result<bool, KeepFault> {
     let row = first_row(
         moving,
         "SELECT desk, reference, number, act, cusip, side, par, settle, basis, value, price, yld,
@@ -149,12 +147,15 @@ fn is_version(row: &Row) -> Result<bool, KeepFault> {
     Ok(version.is_some())
 }
 
-fn first_row(moving: &mut Moving<'_>, query: &str) -> Result<Option<Row>, KeepFault> {
+fn first_row<S: Alter>(
+    moving: &mut Transaction<'_, S>,
+    query: &str,
+) -> Result<Option<Row>, KeepFault> {
     if_found(moving.query_row(query, params![]))
 }
 
-fn write(
-    moving: &mut Moving<'_>,
+fn write<S: Alter>(
+    moving: &mut Transaction<'_, S>,
     statement: &str,
     params: &[ValueRef<'_>],
 ) -> Result<(), KeepFault> {

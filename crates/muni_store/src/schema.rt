@@ -1,4 +1,4 @@
-//! The file of a store and its tables.
+//! The tables of a store.
 
 ghost use Rattle.std.specs.Prelude.{◌≡◌, ◌↔◌, IfOk, OnOk};
 ghost use Rattle.sqlite.specs.Held.{state};
@@ -8,10 +8,7 @@ ghost use Rattle.muni_store.specs.Ran.{Ran, Found, answer_of};
 use crate::rows::number_at;
 use muni_keep::KeepFault;
 use sqlite::types::ValueRef;
-use sqlite::{Alter, Connection, Error, ErrorCode, File, FileStore, Row, params};
-
-/// A store that is open.
-pub(crate) type Database = Connection<FileStore<File>>;
+use sqlite::{Alter, Connection, Error, ErrorCode, Row, params};
 
 const ISSUES: &str = "CREATE TABLE issues_2 (
   cusip TEXT NOT NULL,
@@ -51,16 +48,17 @@ const VERSIONS: &str = "CREATE TABLE versions_2 (
   PRIMARY KEY (desk, reference, number)
 ) STRICT";
 
-/// Opens the store in a file, and makes the file and the tables where there are none.
-pub(crate) fn open(rt: &HostRuntime, name: &[u8]) -> Result<Database, KeepFault> {
-    let path = text(name)?;
-    let mut database = answered(Connection::open(rt, path))?;
-    make_table(&mut database, "issues_2", ISSUES)?;
-    make_table(&mut database, "versions_2", VERSIONS)?;
-    Ok(database)
+/// Makes the tables where the file has none.
+pub(crate) fn make_tables<S: Alter>(database: &mut Connection<S>) -> Result<(), KeepFault> {
+    make_table(database, "issues_2", ISSUES)?;
+    make_table(database, "versions_2", VERSIONS)
 }
 
-fn make_table(database: &mut Database, name: &str, statement: &str) -> Result<(), KeepFault> {
+fn make_table<S: Alter>(
+    database: &mut Connection<S>,
+    name: &str,
+    statement: &str,
+) -> Result<(), KeepFault> {
     if has_table(database, name)? {
         return Ok(());
     }
@@ -68,7 +66,10 @@ fn make_table(database: &mut Database, name: &str, statement: &str) -> Result<()
 }
 
 /// Whether the file has a table of this name.
-pub(crate) fn has_table(database: &mut Database, name: &str) -> Result<bool, KeepFault> {
+pub(crate) fn has_table<S: Alter>(
+    database: &mut Connection<S>,
+    name: &str,
+) -> Result<bool, KeepFault> {
     let row = first_row(
         database,
         "SELECT COUNT(*) FROM sqlite_schema WHERE type = 'table' AND name = ?1",
