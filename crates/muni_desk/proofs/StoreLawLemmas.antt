@@ -1,5 +1,5 @@
 -- What the words behind the names of the commands over a store and `help` are read as, against the rule of the command line.
-use Rattle.std.proofs.Common.{◌≡◌, ℕ, ◌≤◌, true, List, [], ◌∷◌, Option, Some, None, length, refl, sym, ap, ◌∙◌, subst, arith}
+use Rattle.std.proofs.Common.{◌≡◌, ℕ, ◌≤◌, true, List, [], ◌∷◌, Option, Some, None, length, refl, ap, ◌∙◌, subst, arith}
 use Rattle.std.specs.Prelude.{All, codes, nat_le, option_map}
 use Rattle.std.specs.Bool.{Decides}
 use Rattle.std.specs.Char.{is_ascii_graphic, is_ascii_alphanumeric}

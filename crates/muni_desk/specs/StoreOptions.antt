@@ -38,6 +38,20 @@ store_reading text = if is_store_name text then Some (record { items = text }) e
 abbrev pub store_of : List (List ℕ) → Option (ArrayVec ℕ)
 store_of words = value_of (codes "--store=") words >>= λ text. store_reading text
 
+-- the desk and the reference of a trade
+abbrev pub desk_of : List (List ℕ) → Option (List ℕ)
+desk_of words = value_of (codes "--desk=") words >>= λ text. result_ok (name_reading is_desk_letter 16 text)
+
+abbrev pub reference_of : List (List ℕ) → Option (List ℕ)
+reference_of words = value_of (codes "--ref=") words >>= λ text. result_ok (name_reading is_ascii_alphanumeric 20 text)
+
+-- the port, and how many connections are served
+abbrev pub port_of : List (List ℕ) → Option ℕ
+port_of words = value_of (codes "--port=") words >>= λ text. number_reading 20 1 65_535 text
+
+abbrev pub connections_of : List (List ℕ) → Option ℕ
+connections_of words = value_of (codes "--connections=") words >>= λ text. number_reading 20 1 1_000_000 text
+
 -- the desk whose positions are asked for, if those of any are
 abbrev pub listed_in : Option (List ℕ) → Option (Option (List ℕ))
 listed_in (Some text) = option_map Some (result_ok (name_reading is_desk_letter 16 text))
@@ -64,8 +78,8 @@ import_of words =
 abbrev pub confirm_line : List (List ℕ) → Option CommandLine
 confirm_line words = do
   store ← store_of words
-  desk ← value_of (codes "--desk=") words >>= λ text. result_ok (name_reading is_desk_letter 16 text)
-  reference ← value_of (codes "--ref=") words >>= λ text. result_ok (name_reading is_ascii_alphanumeric 20 text)
+  desk ← desk_of words
+  reference ← reference_of words
   Some (record { command = Confirm store (record { desk = desk; reference = reference }); workers = 1 })
 
 abbrev pub confirm_of : List (List ℕ) → Option CommandLine
@@ -76,8 +90,8 @@ confirm_of words =
 abbrev pub serve_line : List (List ℕ) → Option CommandLine
 serve_line words = do
   store ← store_of words
-  port ← value_of (codes "--port=") words >>= λ text. number_reading 20 1 65_535 text
-  connections ← value_of (codes "--connections=") words >>= λ text. number_reading 20 1 1_000_000 text
+  port ← port_of words
+  connections ← connections_of words
   workers ← workers_of words
   Some (record { command = Serve store port connections; workers = workers })
 
@@ -89,7 +103,7 @@ serve_of words =
 abbrev pub positions_line : List (List ℕ) → Option CommandLine
 positions_line words = do
   store ← store_of words
-  desk ← value_of (codes "--desk=") words >>= λ text. result_ok (name_reading is_desk_letter 16 text)
+  desk ← desk_of words
   Some (record { command = Positions store desk; workers = 1 })
 
 abbrev pub positions_of : List (List ℕ) → Option CommandLine

@@ -1,5 +1,5 @@
 -- What a command leaves on the output that it is lent.
-use Rattle.std.specs.Prelude.{◌≡◌, ◌≢◌, ℕ, ◌⊎◌, List, Option, is_some}
+use Rattle.std.specs.Prelude.{◌≡◌, ◌≢◌, ℕ, ◌⊎◌, List, Option}
 use Rattle.muni_edge.specs.Sink.{Rose, HasWritten, HasWrittenPart}
 use Rattle.muni_desk.specs.declared.status.Answer.{Answer}
 use Rattle.muni_desk.specs.declared.status.Status.{Status}

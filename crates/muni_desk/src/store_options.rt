@@ -46,7 +46,7 @@ pub fn read_import(words: &[String]) -> Option<CommandLine>
     if !are_options(words, &IMPORT, &IMPORT) {
         return None;
     }
-    let store = read_store(value_of(words, STORE)?)?;
+    let store = read_store(words)?;
     let listed = read_listed(words)?;
     let workers = read_workers(words)?;
     Some(CommandLine {
@@ -74,9 +74,9 @@ pub fn read_confirm(words: &[String]) -> Option<CommandLine>
     if !are_options(words, &CONFIRM, &CONFIRM) {
         return None;
     }
-    let store = read_store(value_of(words, STORE)?)?;
-    let desk = DeskName::read(value_of(words, DESK)?).ok()?;
-    let reference = Reference::read(value_of(words, REF)?).ok()?;
+    let store = read_store(words)?;
+    let desk = read_desk(words)?;
+    let reference = read_reference(words)?;
     Some(CommandLine {
         command: DeskCommand::Confirm {
             store,
@@ -95,9 +95,9 @@ pub fn read_serve(words: &[String]) -> Option<CommandLine>
     if !are_options(words, &SERVE, &SERVE) {
         return None;
     }
-    let store = read_store(value_of(words, STORE)?)?;
-    let port = read_number(value_of(words, PORT)?, 20, 1, 65_535)? as u16;
-    let connections = read_number(value_of(words, CONNECTIONS)?, 20, 1, 1_000_000)? as u32;
+    let store = read_store(words)?;
+    let port = read_port(words)?;
+    let connections = read_connections(words)?;
     let workers = read_workers(words)?;
     Some(CommandLine {
         command: DeskCommand::Serve {
@@ -118,8 +118,8 @@ pub fn read_positions(words: &[String]) -> Option<CommandLine>
     if !are_options(words, &POSITIONS, &POSITIONS) {
         return None;
     }
-    let store = read_store(value_of(words, STORE)?)?;
-    let desk = DeskName::read(value_of(words, DESK)?).ok()?;
+    let store = read_store(words)?;
+    let desk = read_desk(words)?;
     Some(CommandLine {
         command: DeskCommand::Positions { store, desk },
         workers: 1,
@@ -135,11 +135,41 @@ pub fn read_mark(words: &[String]) -> Option<CommandLine>
     if !are_options(words, &MARK, &MARK) {
         return None;
     }
-    let store = read_store(value_of(words, STORE)?)?;
+    let store = read_store(words)?;
     Some(CommandLine {
         command: DeskCommand::Mark { store },
         workers: 1,
     })
+}
+
+fn read_store(words: &[String]) -> Option<ArrayVec<u8, 200>>
+    ensures { result ≡ spec.store_of (map string_bytes words.now) }
+{
+    store_name(value_of(words, STORE)?)
+}
+
+fn read_desk(words: &[String]) -> Option<DeskName>
+    ensures { result ≡ spec.desk_of (map string_bytes words.now) }
+{
+    DeskName::read(value_of(words, DESK)?).ok()
+}
+
+fn read_reference(words: &[String]) -> Option<Reference>
+    ensures { result ≡ spec.reference_of (map string_bytes words.now) }
+{
+    Reference::read(value_of(words, REF)?).ok()
+}
+
+fn read_port(words: &[String]) -> Option<u16>
+    ensures { result ≡ spec.port_of (map string_bytes words.now) }
+{
+    Some(read_number(value_of(words, PORT)?, 20, 1, 65_535)? as u16)
+}
+
+fn read_connections(words: &[String]) -> Option<u32>
+    ensures { result ≡ spec.connections_of (map string_bytes words.now) }
+{
+    Some(read_number(value_of(words, CONNECTIONS)?, 20, 1, 1_000_000)? as u32)
 }
 
 fn is_graphic(text: &[u8]) -> bool
@@ -148,7 +178,7 @@ fn is_graphic(text: &[u8]) -> bool
     text.iter().all(|b| b.is_ascii_graphic())
 }
 
-fn read_store(text: &[u8]) -> Option<ArrayVec<u8, 200>>
+fn store_name(text: &[u8]) -> Option<ArrayVec<u8, 200>>
     ensures { result ≡ spec.store_reading text.now }
 {
     if text.len() > 200 || !is_graphic(text) {
