@@ -6,6 +6,7 @@ use Rattle.std.specs.Str.{is_utf8}
 use Rattle.serde_json.specs.Data.{Data}
 use Rattle.serde_json.specs.Read.{read as read_json}
 use Rattle.serde_json.specs.Find.{get, as_str}
+use Rattle.arrayvec.specs.ArrayVec.{ArrayVec}
 use Rattle.muni_dec.specs.Values.{par_reading}
 use Rattle.muni_rule.specs.declared.basis.Basis.{Basis}
 use Rattle.muni_days.specs.declared.day.Day.{Day}
@@ -17,6 +18,7 @@ use Rattle.muni_msg.specs.IssueFields.{cusip_reading, issue_name_reading, coupon
 use Rattle.muni_msg.specs.Names.{is_desk_letter}
 use Rattle.muni_msg.specs.NameReading.{name_reading}
 use Rattle.muni_msg.specs.declared.asked.Asked.{Asked}
+use Rattle.muni_msg.specs.declared.asked.Given.{Given}
 use Rattle.muni_msg.specs.declared.asked.Side.{Side}
 use Rattle.muni_msg.specs.declared.asked.Side.TheVariants.{Buy}
 use Rattle.muni_msg.specs.declared.asked.Terms.{Terms}
@@ -32,13 +34,18 @@ use Rattle.muni_wire.specs.declared.routes.Form.TheVariants as form
 abbrev pub data_of : List ℕ → Option Data
 data_of body = if is_utf8 body then read_json body else None
 
+-- the desk and the reference of a trade
+abbrev pub desk_in : Data → Option (List ℕ)
+desk_in value = member (codes "desk") value >>= λ text. result_ok (name_reading is_desk_letter 16 text)
+
+abbrev pub reference_in : Data → Option (List ℕ)
+reference_in value = member (codes "reference") value >>= λ text. result_ok (name_reading is_ascii_alphanumeric 20 text)
+
 -- which trade of which desk
 abbrev pub key_in : Data → Option Key
 key_in value = do
-  desk ← member (codes "desk") value
-  desk ← result_ok (name_reading is_desk_letter 16 desk)
-  reference ← member (codes "reference") value
-  reference ← result_ok (name_reading is_ascii_alphanumeric 20 reference)
+  desk ← desk_in value
+  reference ← reference_in value
   Some (record { desk = desk; reference = reference })
 
 -- the number of a version
@@ -52,28 +59,39 @@ given_texts value = do
   text ← member (codes "value") value
   Some (basis, text)
 
+abbrev pub given_in : Data → Option Given
+given_in value = given_texts value >>= λ texts. given_reading texts.0 texts.1
+
+-- a CUSIP, a par, and a day under a name
+abbrev pub cusip_in : Data → Option (List ℕ)
+cusip_in value = member (codes "cusip") value >>= cusip_reading
+
+abbrev pub par_in : Data → Option ℕ
+par_in value = member (codes "par") value >>= λ text. result_ok (par_reading text)
+
+abbrev pub date_in : List ℕ → Data → Option Day
+date_in name value = member name value >>= day_in
+
 -- what is asked on a side with a commission
 unfoldable pub asked_in : Side → ℕ → Data → Option Asked
 asked_in side fee value = do
-  cusip ← member (codes "cusip") value
-  cusip ← cusip_reading cusip
-  par ← member (codes "par") value
-  par ← result_ok (par_reading par)
-  settle ← member (codes "settle") value
-  settle ← day_in settle
-  texts ← given_texts value
-  given ← given_reading texts.0 texts.1
+  cusip ← cusip_in value
+  par ← par_in value
+  settle ← date_in (codes "settle") value
+  given ← given_in value
   Some (record { cusip = cusip; par = par; settle = settle; given = given; side = side; fee = fee })
 
 -- a commission, which may be left out
 unfoldable pub fee_in : Data → Option ℕ
 fee_in value = optional (codes "fee") value >>= fee_field
 
+abbrev pub side_in : Data → Option Side
+side_in value = member (codes "side") value >>= side_reading
+
 -- the terms of a trade
 unfoldable pub terms_in : Data → Option Terms
 terms_in value = do
-  side ← member (codes "side") value
-  side ← side_reading side
+  side ← side_in value
   fee ← fee_in value
   asked ← asked_in side fee value
   Some (record { asked = asked })
@@ -90,27 +108,29 @@ kind_in value = member (codes "kind") value >>= λ text. kind_with text (get (co
 unfoldable pub calendar_in : Data → Option (Kind × Day × Day)
 calendar_in value = do
   kind ← kind_in value
-  dated ← member (codes "dated") value
-  dated ← day_in dated
-  maturity ← member (codes "maturity") value
-  maturity ← day_in maturity
+  dated ← date_in (codes "dated") value
+  maturity ← date_in (codes "maturity") value
   Some (kind, dated, maturity)
 
 -- a day count basis, which may be left out
 unfoldable pub basis_in : Data → Option Basis
 basis_in value = optional (codes "days") value >>= basis_field
 
+-- the name of an issue, and its coupon beside a kind
+abbrev pub name_in : Data → Option (ArrayVec ℕ)
+name_in value = member (codes "name") value >>= issue_name_reading
+
+abbrev pub coupon_in : Kind → Data → Option ℕ
+coupon_in kind value = optional (codes "coupon") value >>= coupon_by (pays_interest kind)
+
 -- the terms of an issue with a day count basis; the calls may be left out, and the coupon where no
 -- interest is paid
 unfoldable pub issue_with : Basis → Data → Option IssueRow
 issue_with basis value = do
   calendar ← calendar_in value
-  cusip ← member (codes "cusip") value
-  cusip ← cusip_reading cusip
-  name ← member (codes "name") value
-  name ← issue_name_reading name
-  coupon ← optional (codes "coupon") value
-  coupon ← coupon_by (pays_interest calendar.0) coupon
+  cusip ← cusip_in value
+  name ← name_in value
+  coupon ← coupon_in calendar.0 value
   calls ← calls_in value
   Some (record { cusip = cusip; name = name; kind = calendar.0; basis = basis; dated = calendar.1; maturity = calendar.2; coupon = coupon; calls = record { items = calls } })
 

@@ -9,10 +9,11 @@ ghost use Rattle.muni_wire.specs.Members as members;
 use crate::calls::read_calls;
 use crate::routes::Form;
 use crate::{Bad, WireFault};
+use arrayvec::ArrayVec;
 use muni_days::{Basis, Day};
-use muni_dec::{Fee, Par};
+use muni_dec::{Coupon, Fee, Par};
 use muni_msg::{
-    Asked, Command, DeskName, Key, Reference, Side, Terms, read_basis_field, read_coupon,
+    Asked, Command, DeskName, Given, Key, Reference, Side, Terms, read_basis_field, read_coupon,
     read_cusip, read_fee_field, read_given, read_issue_name, read_kind, read_side,
     read_version_number,
 };
@@ -98,9 +99,21 @@ fn key(value: &Value) -> Option<Key>
     ensures { result ≡ spec.key_in (view value.now) }
 {
     Some(Key {
-        desk: DeskName::read(member(value, "desk")?).ok()?,
-        reference: Reference::read(member(value, "reference")?).ok()?,
+        desk: desk(value)?,
+        reference: reference(value)?,
     })
+}
+
+fn desk(value: &Value) -> Option<DeskName>
+    ensures { result ≡ spec.desk_in (view value.now) }
+{
+    DeskName::read(member(value, "desk")?).ok()
+}
+
+fn reference(value: &Value) -> Option<Reference>
+    ensures { result ≡ spec.reference_in (view value.now) }
+{
+    Reference::read(member(value, "reference")?).ok()
 }
 
 fn number(value: &Value) -> Option<u32>
@@ -114,11 +127,17 @@ fn number(value: &Value) -> Option<u32>
 fn terms(value: &Value) -> Option<Terms>
     ensures { result ≡ spec.terms_in (view value.now) }
 {
-    let side = read_side(member(value, "side")?)?;
+    let side = side(value)?;
     let fee = fee(value)?;
     Some(Terms {
         asked: asked(value, side, fee)?,
     })
+}
+
+fn side(value: &Value) -> Option<Side>
+    ensures { result ≡ spec.side_in (view value.now) }
+{
+    read_side(member(value, "side")?)
 }
 
 #[tactic(auto, unfolding(crate::specs::Body::fee_in))]
@@ -134,13 +153,37 @@ fn asked(value: &Value, side: Side, fee: Fee) -> Option<Asked>
     ensures { result ≡ spec.asked_in side fee (view value.now) }
 {
     Some(Asked {
-        cusip: read_cusip(member(value, "cusip")?)?,
-        par: Par::read(member(value, "par")?).ok()?,
-        settle: Day::read(member(value, "settle")?).ok()?,
-        given: read_given(member(value, "basis")?, member(value, "value")?)?,
+        cusip: cusip(value)?,
+        par: par(value)?,
+        settle: date(value, "settle")?,
+        given: given(value)?,
         side,
         fee,
     })
+}
+
+fn cusip(value: &Value) -> Option<[u8; 9]>
+    ensures { result ≡ spec.cusip_in (view value.now) }
+{
+    read_cusip(member(value, "cusip")?)
+}
+
+fn par(value: &Value) -> Option<Par>
+    ensures { result ≡ spec.par_in (view value.now) }
+{
+    Par::read(member(value, "par")?).ok()
+}
+
+fn date(value: &Value, name: &str) -> Option<Day>
+    ensures { result ≡ spec.date_in name.now (view value.now) }
+{
+    Day::read(member(value, name)?).ok()
+}
+
+fn given(value: &Value) -> Option<Given>
+    ensures { result ≡ spec.given_in (view value.now) }
+{
+    read_given(member(value, "basis")?, member(value, "value")?)
 }
 
 // The terms of an issue.
@@ -165,15 +208,27 @@ fn issue_with(value: &Value, basis: Basis) -> Option<IssueRow>
 {
     let (kind, dated, maturity) = calendar(value)?;
     Some(IssueRow {
-        cusip: read_cusip(member(value, "cusip")?)?,
-        name: read_issue_name(member(value, "name")?)?,
+        cusip: cusip(value)?,
+        name: name(value)?,
         kind,
         basis,
         dated,
         maturity,
-        coupon: read_coupon(kind, optional(value, "coupon")?)?,
+        coupon: coupon(value, kind)?,
         calls: read_calls(value)?,
     })
+}
+
+fn name(value: &Value) -> Option<ArrayVec<u8, 60>>
+    ensures { result ≡ spec.name_in (view value.now) }
+{
+    read_issue_name(member(value, "name")?)
+}
+
+fn coupon(value: &Value, kind: Kind) -> Option<Coupon>
+    ensures { result ≡ spec.coupon_in kind (view value.now) }
+{
+    read_coupon(kind, optional(value, "coupon")?)
 }
 
 // How an issue pays and when: its kind, its dated date and its maturity.
@@ -182,8 +237,8 @@ fn calendar(value: &Value) -> Option<(Kind, Day, Day)>
     ensures { result ≡ spec.calendar_in (view value.now) }
 {
     let kind = kind(value)?;
-    let dated = Day::read(member(value, "dated")?).ok()?;
-    let maturity = Day::read(member(value, "maturity")?).ok()?;
+    let dated = date(value, "dated")?;
+    let maturity = date(value, "maturity")?;
     Some((kind, dated, maturity))
 }
 
