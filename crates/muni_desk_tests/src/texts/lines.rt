@@ -3,9 +3,9 @@ use arrayvec::ArrayVec;
 use muni_confirm::{confirmation, figure_lines, refusal_line};
 use muni_days::Basis;
 use muni_dec::{Cents, Coupon, Fee, Par, Price, Price3, Yield, Yield3};
-use muni_msg::{Act, Asked, Figures, Given, Kept, Range, Refusal, Side, Terms, Version};
+use muni_msg::{Act, Asked, Figures, Given, Kept, Key, Range, Refusal, Side, Terms, Version};
 use muni_samples::{key, worked_figures, worked_issue, worked_terms, worked_version};
-use muni_terms::{Boundary, IssueRow, Kind, Label, TermsFault, check};
+use muni_terms::{Boundary, Issue, IssueRow, Kind, Label, TermsFault, check};
 use std::test::Fail;
 
 const CALLED: &str = "PRICE 100.725 GIVEN
@@ -116,9 +116,10 @@ fn note() -> Result<IssueRow, Fail> {
     })
 }
 
-// A canceled sale of the greatest par of it.
-fn sale(given: Given) -> Result<Version, Fail> {
+// Whether a canceled sale of the greatest par of it is confirmed.
+fn is_sale_confirmed(issue: &Issue, key: &Key) -> Result<bool, Fail> {
     let principal = Cents::of(99_250_000_000).ok_or("cents")?;
+    let given: Given = Given::AtRate(yld("3")?);
     let asked = Asked {
         par: Par::of(1_000_000_000).ok_or("a par")?,
         settle: day("2024-01-01")?,
@@ -136,22 +137,21 @@ fn sale(given: Given) -> Result<Version, Fail> {
         total: principal,
         ..worked_figures().ok_or("figures")?
     };
-    Ok(Version {
+    let version = Version {
         act: Act::Canceled,
         terms: Terms { asked },
         figures,
-    })
+    };
+    let mut text = ArrayVec::new();
+    confirmation(issue, key, u32::MAX, &version, &mut text);
+    Ok(text.as_slice() == LONGEST_NAMES.as_bytes())
 }
 
 #[test]
 fn the_longest_names_are_confirmed(rt: HostRuntime) -> Result<(), Fail> {
     let issue = check(note()?).ok().ok_or("an issue")?;
     let key = key("ABCDEFGHIJKLMNOP", "abcdefghij0123456789").ok_or("a key")?;
-    let given: Given = Given::AtRate(yld("3")?);
-    let version = sale(given)?;
-    let mut text = ArrayVec::new();
-    confirmation(&issue, &key, u32::MAX, &version, &mut text);
-    assert_eq!(rt; text.as_slice(), LONGEST_NAMES.as_bytes());
+    assert!(rt; is_sale_confirmed(&issue, &key)?);
     Ok(())
 }
 

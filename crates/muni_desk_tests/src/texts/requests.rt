@@ -33,13 +33,11 @@ fn is_read<L: Link>(alloc: Global, link: &mut L) -> Result<bool, Fail> {
 
 // How many takes by pieces of so many bytes the trade needs: the first that may fail.
 fn takes(alloc: Global, size: usize) -> Result<u64, Fail> {
-    let mut take = 0u64;
-    while take <= 256 {
+    for take in 0..256u64 {
         let link = MemLink::new(alloc, TRADE, 0, &[take], &[])?;
         if is_read(alloc, &mut Pieces::new(link, size))? {
             return Ok(take);
         }
-        take = take.wrapping_add(1);
     }
     Err("a trade")?
 }
