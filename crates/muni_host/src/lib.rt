@@ -1,6 +1,8 @@
-//! Standard input and output, connections and a port of this machine, as what a desk is handed.
+//! The words that the program was started with, standard input and output, connections and a port of this
+//! machine, as what a desk is handed.
 #![tactic(auto)]
 
+mod command_line;
 mod door;
 mod input;
 mod link;
@@ -8,6 +10,7 @@ mod output;
 mod reading;
 mod writing;
 
+pub use command_line::{NoWords, words};
 pub use door::LoopbackDoor;
 pub use input::Input;
 pub use link::StreamLink;
