@@ -1,4 +1,7 @@
+pub mod Cabinet
+pub mod Frames
 pub mod History
+pub mod Keeper
 pub mod MemCabinet
 pub mod MemKeeper
 pub mod Tables
