@@ -2,6 +2,8 @@
 //! journals, a door on this machine, and the encloser.
 #![tactic(auto)]
 
+ghost use Rattle.std.specs.Prelude.{◌≡◌};
+
 use muni_desk::{Status, desk};
 use muni_edge::NoGate;
 use muni_either::Either;
@@ -34,9 +36,18 @@ fn main(rt: HostRuntime) -> ExitCode {
                 &NoGate,
             )
         }
-        Err(NoWords::NoMemory) => Status::NoMemory,
-        // Words that are no text are no command.
-        Err(NoWords::NoText) => Status::Usage,
+        Err(fault) => without_words(fault),
     };
     ExitCode::from(status.number())
+}
+
+/// The status if there are no words: a word that is not text is no command.
+fn without_words(fault: NoWords) -> Status
+    ensures memory { fault ≡ NoWords.NoMemory → result ≡ Status.NoMemory }
+    ensures no_text { fault ≡ NoWords.NoText → result ≡ Status.Usage }
+{
+    match fault {
+        NoWords::NoMemory => Status::NoMemory,
+        NoWords::NoText => Status::Usage,
+    }
 }
