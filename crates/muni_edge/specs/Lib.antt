@@ -1,7 +1,9 @@
 pub mod Calls
-pub mod Sink
-pub mod MemSource
-pub mod MemSink
-pub mod MemLink
 pub mod Door
+pub mod Faults
 pub mod MemDoor
+pub mod MemLink
+pub mod MemSink
+pub mod MemSource
+pub mod Sink
+pub mod Source

@@ -1,18 +1,21 @@
--- Faults that were counted, and bytes that were written, where an object tells them.
-use Rattle.std.specs.Prelude.{◌≡◌, ℕ, ◌+◌, ◌-◌, ◌^◌, ◌≤◌, min, List, ◌++◌, take, Option, Some, IfSome}
+-- Bytes that were written, if an object exposes them.
+pub use Rattle.muni_edge.specs.Faults.{Rose}
+use Rattle.std.specs.Prelude.{◌≡◌, ℕ, List, ◌++◌, take, Option, Some, Result, is_some, IfSome, OnOk, OnErr}
 
--- A count of faults rose, or stands at the last value of its type.
-abbrev pub Rose : ℕ → ℕ → Type 0
-Rose before now = min (before + 1) (2 ^ 64 - 1) ≤ now
-
--- where the bytes are told, this text was appended
+-- if the bytes are exposed, this text was appended
 abbrev pub HasWritten : Option (List ℕ) → Option (List ℕ) → List ℕ → Type 0
 HasWritten old new text = IfSome old (λ had. new ≡ Some (had ++ text))
 
--- where the bytes are told, a prefix of this text was appended
+-- if the bytes are exposed, a prefix of this text was appended
 abbrev pub HasWrittenPart : Option (List ℕ) → Option (List ℕ) → List ℕ → Type 0
 HasWrittenPart old new text =
     IfSome old (λ had. (count : ℕ) × (new ≡ Some (had ++ take count text)))
+
+-- What a put does: it appends the piece, or after a failure a prefix of it.
+pub record Puts {T E : Type 0} (old new : Option (List ℕ)) (piece : List ℕ) (result : Result T E) : Type 0 where
+  pub tells : is_some new ≡ is_some old
+  pub written : OnOk result (HasWritten old new piece)
+  pub part : OnErr result (HasWrittenPart old new piece)
 
 -- such a text was written
 abbrev pub Wrote : (List ℕ → Type 0) → Option (List ℕ) → Option (List ℕ) → Type 0

@@ -3,11 +3,12 @@
 ghost use Rattle.std.specs.Prelude.{◌≡◌, ◌<◌, ◌≤◌, ℕ, Option, Some, is_some, is_ok, not, IsSome, OnOk, OnErr, IfOk, IfSome, slice_get};
 ghost use Rattle.std.specs.Option.{option_map};
 ghost use Rattle.muni_edge.specs.Calls.{is_listed, after_call};
-ghost use Rattle.muni_edge.specs.Sink.{Rose};
+ghost use Rattle.muni_edge.specs.Faults.{CountsFaults};
 ghost use Rattle.muni_edge.specs.Door.{DoorState, bound_to, after_accept, handed_back};
 ghost use Rattle.muni_edge.specs.MemDoor.{new_door};
 
-use crate::fault::{Calls, Failed, NoMemory};
+use crate::calls::Calls;
+use crate::fault::{Failed, NoMemory};
 use crate::link::{Link, MemLink};
 use std::alloc::Global;
 use std::collections::VecDeque;
@@ -28,9 +29,7 @@ pub trait Door {
         ensures tells { is_some (state self.new) ≡ is_some (state self.old) }
         ensures bound { OnOk result (state self.new ≡ option_map (bound_to port) (state self.old)) }
         ensures unchanged { OnErr result (state self.new ≡ state self.old) }
-        ensures uncounted { OnOk result (faults self.new ≡ faults self.old) }
-        ensures later { faults self.old ≤ faults self.new }
-        ensures failed { OnErr result (Rose (faults self.old) (faults self.new)) };
+        ensures counts { CountsFaults (faults self.old) (faults self.new) result };
 
     /// Gives out the first link that waits, or `None` where none does. A port has to be bound. What
     /// succeeds counts no fault.
@@ -43,9 +42,7 @@ pub trait Door {
         ensures given_out { IfOk result
             (λ given. state self.new ≡ option_map (after_accept given) (state self.old)) }
         ensures unchanged { OnErr result (state self.new ≡ state self.old) }
-        ensures uncounted { OnOk result (faults self.new ≡ faults self.old) }
-        ensures later { faults self.old ≤ faults self.new }
-        ensures failed { OnErr result (Rose (faults self.old) (faults self.new)) };
+        ensures counts { CountsFaults (faults self.old) (faults self.new) result };
 
     /// Takes back a link that was served. One has to be out.
     fn hand_back(&mut self, link: Self::L)
@@ -120,8 +117,7 @@ impl Door for MemDoor {
     fn bind(&mut self, port: u16) -> Result<(), Failed>
         ensures bound { OnOk result (self.new.door ≡ bound_to port self.old.door) }
         ensures unchanged { OnErr result (self.new.door ≡ self.old.door) }
-        ensures uncounted { OnOk result (self.new.calls.faults ≡ self.old.calls.faults) }
-        ensures later { self.old.calls.faults ≤ self.new.calls.faults }
+        ensures counts { CountsFaults self.old.calls.faults self.new.calls.faults result }
 
         // It fails exactly at the listed calls.
         ensures fails { is_ok result ≡ not (is_listed self.old.calls) }
@@ -139,8 +135,7 @@ impl Door for MemDoor {
         ensures given_out { IfOk result
             (λ given. self.new.door ≡ after_accept given self.old.door) }
         ensures unchanged { OnErr result (self.new.door ≡ self.old.door) }
-        ensures uncounted { OnOk result (self.new.calls.faults ≡ self.old.calls.faults) }
-        ensures later { self.old.calls.faults ≤ self.new.calls.faults }
+        ensures counts { CountsFaults self.old.calls.faults self.new.calls.faults result }
 
         // It fails exactly at the listed calls.
         ensures fails { is_ok result ≡ not (is_listed self.old.calls) }

@@ -2,16 +2,20 @@
 //! steps. The objects in memory fail where they are told to.
 #![tactic(auto)]
 
+mod calls;
 mod door;
 mod fault;
+mod faults;
 mod gate;
 mod link;
 mod sink;
 mod source;
 mod steps;
 
+pub use calls::Calls;
 pub use door::{Door, MemDoor};
-pub use fault::{Calls, Failed, NoMemory};
+pub use fault::{Failed, NoMemory};
+pub use faults::Faults;
 pub use gate::{Gate, NoGate};
 pub use link::{Link, MemLink};
 pub use sink::{MemSink, Sink};

@@ -1,10 +1,9 @@
 //! One connection, which bytes are taken from and written to.
 
-ghost use Rattle.std.specs.Prelude.{◌≡◌, ◌<◌, ◌≤◌, ◌++◌, ℕ, Some, length, min, take, drop, is_some, is_ok, not, OnOk, OnErr, IfOk};
-ghost use Rattle.std.specs.Io.KnownBytes.{Consumes, IsAtEnd};
+ghost use Rattle.std.specs.Prelude.{◌≡◌, ◌<◌, ◌++◌, ℕ, Some, length, min, take, drop, is_ok, not, OnOk, OnErr, IfOk};
 ghost use Rattle.muni_edge.specs.Calls.{is_listed};
+ghost use Rattle.muni_edge.specs.Faults.{CountsFaults};
 ghost use Rattle.muni_edge.specs.MemSource.{after_take};
-ghost use Rattle.muni_edge.specs.Sink.{Rose};
 ghost use Rattle.muni_edge.specs.MemSink.{fails_to_put, after_put};
 ghost use Rattle.muni_edge.specs.MemLink.{new_link};
 
@@ -96,9 +95,7 @@ impl Source for MemLink {
         ensures beyond { IfOk result (λ count. drop count room.new ≡ drop count room.old) }
         ensures after { self.new.source ≡ after_take self.old.source (length room.old) }
         ensures keeps { self.new.sink ≡ self.old.sink }
-        ensures uncounted { OnOk result
-            (self.new.source.calls.faults ≡ self.old.source.calls.faults) }
-        ensures later { self.old.source.calls.faults ≤ self.new.source.calls.faults }
+        ensures counts { CountsFaults self.old.source.calls.faults self.new.source.calls.faults result }
     {
         self.source.take(room)
     }
@@ -119,8 +116,7 @@ impl Sink for MemLink {
             ((count : ℕ) × (self.new.sink.bytes ≡ self.old.sink.bytes ++ take count piece.now)) }
         ensures after { self.new.sink ≡ after_put self.old.sink piece.now }
         ensures keeps { self.new.source ≡ self.old.source }
-        ensures uncounted { OnOk result (self.new.sink.calls.faults ≡ self.old.sink.calls.faults) }
-        ensures later { self.old.sink.calls.faults ≤ self.new.sink.calls.faults }
+        ensures counts { CountsFaults self.old.sink.calls.faults self.new.sink.calls.faults result }
     {
         self.sink.put(piece)
     }

@@ -1,10 +1,12 @@
 //! What bytes are written to.
 
-ghost use Rattle.std.specs.Prelude.{◌≡◌, ◌≤◌, ◌++◌, ℕ, List, Option, Some, length, take, is_some, is_ok, not, OnOk, OnErr, IfOk};
-ghost use Rattle.muni_edge.specs.Sink.{Rose, HasWritten, HasWrittenPart};
+ghost use Rattle.std.specs.Prelude.{◌≡◌, ◌++◌, ℕ, List, Option, Some, length, take, is_ok, not, OnOk, OnErr, IfOk};
+ghost use Rattle.muni_edge.specs.Faults.{CountsFaults};
+ghost use Rattle.muni_edge.specs.Sink.{Puts};
 ghost use Rattle.muni_edge.specs.MemSink.{new_sink, fails_to_put, after_put};
 
-use crate::fault::{Calls, Failed, NoMemory};
+use crate::calls::Calls;
+use crate::fault::{Failed, NoMemory};
 use std::alloc::Global;
 use std::marker::Model;
 
@@ -22,12 +24,8 @@ pub trait Sink {
 
     /// Appends the piece, or after a failure a prefix of it. What succeeds counts no fault.
     fn put(&mut self, piece: &[u8]) -> Result<(), Failed>
-        ensures tells { is_some (bytes self.new) ≡ is_some (bytes self.old) }
-        ensures written { OnOk result (HasWritten (bytes self.old) (bytes self.new) piece.now) }
-        ensures part { OnErr result (HasWrittenPart (bytes self.old) (bytes self.new) piece.now) }
-        ensures uncounted { OnOk result (faults self.new ≡ faults self.old) }
-        ensures later { faults self.old ≤ faults self.new }
-        ensures failed { OnErr result (Rose (faults self.old) (faults self.new)) }
+        ensures puts { Puts (bytes self.old) (bytes self.new) piece.now result }
+        ensures counts { CountsFaults (faults self.old) (faults self.new) result }
         ensures keeps { put_keeps self.old self.new };
 }
 
@@ -83,8 +81,7 @@ impl Sink for MemSink {
         ensures part { OnErr result
             ((count : ℕ) × (self.new.bytes ≡ self.old.bytes ++ take count piece.now)) }
         ensures after { self.new ≡ after_put self.old piece.now }
-        ensures uncounted { OnOk result (self.new.calls.faults ≡ self.old.calls.faults) }
-        ensures later { self.old.calls.faults ≤ self.new.calls.faults }
+        ensures counts { CountsFaults self.old.calls.faults self.new.calls.faults result }
     {
         self.calls.make()?;
         let left = self.room - self.bytes.len();

@@ -1,12 +1,13 @@
 //! What bytes are taken from.
 
-ghost use Rattle.std.specs.Prelude.{◌≡◌, ◌<◌, ◌≤◌, ◌++◌, ℕ, List, Option, Some, length, min, take, drop, is_some, is_ok, not, OnOk, OnErr, IfOk};
-ghost use Rattle.std.specs.Io.KnownBytes.{Consumes, IsAtEnd};
+ghost use Rattle.std.specs.Prelude.{◌≡◌, ◌<◌, ◌≤◌, ◌++◌, ℕ, List, Option, Some, length, min, take, drop, is_ok, not, IfOk};
 ghost use Rattle.muni_edge.specs.Calls.{is_listed};
-ghost use Rattle.muni_edge.specs.Sink.{Rose};
+ghost use Rattle.muni_edge.specs.Faults.{CountsFaults};
+ghost use Rattle.muni_edge.specs.Source.{Takes};
 ghost use Rattle.muni_edge.specs.MemSource.{new_source, after_take};
 
-use crate::fault::{Calls, Failed, NoMemory};
+use crate::calls::Calls;
+use crate::fault::{Failed, NoMemory};
 use std::alloc::Global;
 use std::marker::Model;
 
@@ -29,15 +30,9 @@ pub trait Source {
     fn take(&mut self, room: &mut [u8]) -> Result<usize, Failed>
         requires { 0 < length room.old }
 
-        ensures tells { is_some (left self.new) ≡ is_some (left self.old) }
         ensures within { IfOk result (λ count. count ≤ length room.old) }
-        ensures moved { IfOk result
-            (λ count. Consumes (left self.old) (left self.new) (take count room.new)) }
-        ensures end { IfOk result (λ count. count ≡ 0 → IsAtEnd (left self.new)) }
-        ensures unchanged { OnErr result (left self.new ≡ left self.old) }
-        ensures uncounted { OnOk result (faults self.new ≡ faults self.old) }
-        ensures later { faults self.old ≤ faults self.new }
-        ensures failed { OnErr result (Rose (faults self.old) (faults self.new)) }
+        ensures takes { Takes (left self.old) (left self.new) room.new result }
+        ensures counts { CountsFaults (faults self.old) (faults self.new) result }
         ensures keeps { take_keeps self.old self.new };
 }
 
@@ -89,8 +84,7 @@ impl Source for MemSource {
             (λ count. self.old.left ≡ take count room.new ++ self.new.left) }
         ensures beyond { IfOk result (λ count. drop count room.new ≡ drop count room.old) }
         ensures after { self.new ≡ after_take self.old (length room.old) }
-        ensures uncounted { OnOk result (self.new.calls.faults ≡ self.old.calls.faults) }
-        ensures later { self.old.calls.faults ≤ self.new.calls.faults }
+        ensures counts { CountsFaults self.old.calls.faults self.new.calls.faults result }
     {
         self.calls.make()?;
         let count = fill_front(room, &self.bytes[self.taken..]);

@@ -4,7 +4,7 @@ use Rattle.std.specs.Option.{unwrap_or}
 use Rattle.std.specs.Coded.{Coded, code_by, coded×, coded_ℕ, coded_list, coded_option}
 use Rattle.std.specs.FinMap.{FinMap, get, insert, from_entries, code as map_code}
 use Rattle.muni_edge.specs.Calls.{CallState, none_made, after_call, raised}
-use Rattle.muni_edge.specs.contracts.fault.Calls.{the_row as calls_row}
+use Rattle.muni_edge.specs.contracts.calls.Calls.{the_row as calls_row}
 use Rattle.muni_keep.specs.Trades.{by_bytes}
 use Rattle.muni_keep.specs.Tables.{Tables}
 use Rattle.muni_keep.specs.MemKeeper.{KeeperState, keeper_code, new_keeper}

@@ -2,7 +2,7 @@
 use Rattle.std.specs.Prelude.{ℕ, List, if◌then◌else◌, Result, Ok, Err, refl}
 use Rattle.std.specs.Coded.{Coded, code_by, coded×}
 use Rattle.muni_edge.specs.Calls.{CallState, none_made, is_listed, after_call}
-use Rattle.muni_edge.specs.contracts.fault.Calls.{the_row as calls_row}
+use Rattle.muni_edge.specs.contracts.calls.Calls.{the_row as calls_row}
 use Rattle.muni_keep.specs.Tables.{Tables, tables_code, no_tables}
 use Rattle.muni_keep.specs.declared.fault.KeepFault.{KeepFault}
 use Rattle.muni_keep.specs.declared.fault.KeepFault.TheVariants.{Failed}

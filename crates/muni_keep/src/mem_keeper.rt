@@ -13,7 +13,7 @@ use crate::issues::Issues;
 use crate::keeper::Keeper;
 use crate::page::page;
 use arrayvec::ArrayVec;
-use muni_edge::{Calls, NoMemory};
+use muni_edge::{Calls, Faults, NoMemory};
 use muni_msg::{DeskName, Key, Line, Reference, Version};
 use muni_terms::Issue;
 use std::alloc::Global;
@@ -57,8 +57,8 @@ impl MemKeeper {
     ghost use Rattle.muni_keep.specs.MemKeeper.{uncounted};
 
     /// The count of faults.
-    pub(crate) fn faults(&self) -> u64
-        ensures { result ≡ self.now.calls.faults }
+    pub(crate) fn faults(&self) -> &Faults
+        ensures { result.now ≡ self.now.calls.faults }
     {
         self.calls.faults()
     }
