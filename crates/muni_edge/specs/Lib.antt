@@ -1,6 +1,7 @@
 pub mod Calls
 pub mod Door
 pub mod Faults
+pub mod Link
 pub mod MemDoor
 pub mod MemLink
 pub mod MemSink

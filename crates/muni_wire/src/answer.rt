@@ -1,11 +1,11 @@
 //! The answers to requests.
 
-ghost use Rattle.std.specs.Prelude.{◌≡◌, ◌≤◌, ◌+◌, ◌++◌, decimal, length, OnOk, OnErr};
+ghost use Rattle.std.specs.Prelude.{◌≡◌, ◌≤◌, ◌+◌, ◌++◌, decimal, length};
 ghost use Rattle.arrayvec.specs.ArrayVec.{array_vec_len};
 ghost use Rattle.muni_confirm.specs.Confirmation.{confirmation_text};
 ghost use Rattle.muni_confirm.specs.Figures.{figure_text};
 ghost use Rattle.muni_confirm.specs.Refusal.{refusal_text};
-ghost use Rattle.muni_edge.specs.Sink.{Rose, HasWritten, HasWrittenPart};
+ghost use Rattle.muni_edge.specs.Link.{OnlyPuts};
 ghost use Rattle.muni_wire.specs.Answer as spec;
 
 use crate::Bad;
@@ -24,14 +24,7 @@ use muni_terms::Issue;
 ///
 /// After a failure the connection may hold a part of the answer.
 pub fn write_reply<L: Link>(link: &mut L, reply: &Reply) -> Result<(), Failed>
-    ensures written { OnOk result
-        (HasWritten (L.bytes link.old) (L.bytes link.new) (spec.answer_to_reply reply.now)) }
-    ensures part { OnErr result
-        (HasWrittenPart (L.bytes link.old) (L.bytes link.new) (spec.answer_to_reply reply.now)) }
-    ensures later { L.Sink.faults link.old ≤ L.Sink.faults link.new }
-    ensures failed { OnErr result (Rose (L.Sink.faults link.old) (L.Sink.faults link.new)) }
-    ensures keeps_left { L.left link.new ≡ L.left link.old }
-    ensures keeps_takes { L.Source.faults link.new ≡ L.Source.faults link.old }
+    ensures { OnlyPuts L.Source L.Sink (spec.answer_to_reply reply.now) result link.old link.new }
 {
     let mut text = ArrayVec::new();
     push_reply(&mut text, reply);
@@ -43,14 +36,7 @@ pub fn write_reply<L: Link>(link: &mut L, reply: &Reply) -> Result<(), Failed>
 ///
 /// After a failure the connection may hold a part of the answer.
 pub fn write_bad<L: Link>(link: &mut L, bad: Bad) -> Result<(), Failed>
-    ensures written { OnOk result
-        (HasWritten (L.bytes link.old) (L.bytes link.new) (spec.answer_to_bad bad)) }
-    ensures part { OnErr result
-        (HasWrittenPart (L.bytes link.old) (L.bytes link.new) (spec.answer_to_bad bad)) }
-    ensures later { L.Sink.faults link.old ≤ L.Sink.faults link.new }
-    ensures failed { OnErr result (Rose (L.Sink.faults link.old) (L.Sink.faults link.new)) }
-    ensures keeps_left { L.left link.new ≡ L.left link.old }
-    ensures keeps_takes { L.Source.faults link.new ≡ L.Source.faults link.old }
+    ensures { OnlyPuts L.Source L.Sink (spec.answer_to_bad bad) result link.old link.new }
 {
     write_status(link, Status::of_bad(bad), allowed(bad))
 }
@@ -59,14 +45,7 @@ pub fn write_bad<L: Link>(link: &mut L, bad: Bad) -> Result<(), Failed>
 ///
 /// After a failure the connection may hold a part of the answer.
 pub fn write_unavailable<L: Link>(link: &mut L) -> Result<(), Failed>
-    ensures written { OnOk result
-        (HasWritten (L.bytes link.old) (L.bytes link.new) spec.unavailable) }
-    ensures part { OnErr result
-        (HasWrittenPart (L.bytes link.old) (L.bytes link.new) spec.unavailable) }
-    ensures later { L.Sink.faults link.old ≤ L.Sink.faults link.new }
-    ensures failed { OnErr result (Rose (L.Sink.faults link.old) (L.Sink.faults link.new)) }
-    ensures keeps_left { L.left link.new ≡ L.left link.old }
-    ensures keeps_takes { L.Source.faults link.new ≡ L.Source.faults link.old }
+    ensures { OnlyPuts L.Source L.Sink spec.unavailable result link.old link.new }
 {
     write_status(link, Status::Unavailable, b"")
 }
@@ -87,14 +66,7 @@ fn allowed(bad: Bad) -> &'static [u8]
 fn write_status<L: Link>(link: &mut L, status: Status, allow: &[u8]) -> Result<(), Failed>
     requires { length allow.now ≤ 13 }
 
-    ensures written { OnOk result
-        (HasWritten (L.bytes link.old) (L.bytes link.new) (spec.status_answer status allow.now)) }
-    ensures part { OnErr result
-        (HasWrittenPart (L.bytes link.old) (L.bytes link.new) (spec.status_answer status allow.now)) }
-    ensures later { L.Sink.faults link.old ≤ L.Sink.faults link.new }
-    ensures failed { OnErr result (Rose (L.Sink.faults link.old) (L.Sink.faults link.new)) }
-    ensures keeps_left { L.left link.new ≡ L.left link.old }
-    ensures keeps_takes { L.Source.faults link.new ≡ L.Source.faults link.old }
+    ensures { OnlyPuts L.Source L.Sink (spec.status_answer status allow.now) result link.old link.new }
 {
     let mut text = ArrayVec::new();
     push_status(&mut text, status);
@@ -111,14 +83,7 @@ fn write<L: Link>(
 ) -> Result<(), Failed>
     requires { length allow.now ≤ 13 }
 
-    ensures written { OnOk result (HasWritten (L.bytes link.old) (L.bytes link.new)
-        (spec.answer status allow.now text.now.items)) }
-    ensures part { OnErr result (HasWrittenPart (L.bytes link.old) (L.bytes link.new)
-        (spec.answer status allow.now text.now.items)) }
-    ensures later { L.Sink.faults link.old ≤ L.Sink.faults link.new }
-    ensures failed { OnErr result (Rose (L.Sink.faults link.old) (L.Sink.faults link.new)) }
-    ensures keeps_left { L.left link.new ≡ L.left link.old }
-    ensures keeps_takes { L.Source.faults link.new ≡ L.Source.faults link.old }
+    ensures { OnlyPuts L.Source L.Sink (spec.answer status allow.now text.now.items) result link.old link.new }
 {
     let mut answer = ArrayVec::new();
     push_head(&mut answer, status, allow, text.len());

@@ -1,7 +1,7 @@
 //! One request of a connection.
 
-ghost use Rattle.std.specs.Prelude.{◌≡◌, ◌≤◌, Err, drop, ◌++◌, IfSome, vec_len};
-ghost use Rattle.muni_edge.specs.Sink.{Rose};
+ghost use Rattle.std.specs.Prelude.{◌≡◌, ◌≤◌, drop, ◌++◌, IfSome, vec_len};
+ghost use Rattle.muni_edge.specs.Link.{OnlyTakes};
 ghost use Rattle.muni_wire.specs.BodyLength.{body_limit};
 ghost use Rattle.muni_wire.specs.Head.{head_limit};
 ghost use Rattle.muni_wire.specs.Laws.{IsTheAnswer};
@@ -25,22 +25,14 @@ use std::alloc::Global;
 pub fn read_request<L: Link>(alloc: Global, link: &mut L) -> Result<Command, WireFault>
     ensures allowed { IfSome (L.left link.old) (λ bytes. Allows bytes result) }
     ensures only { IfSome (L.left link.old) (λ bytes. IsTheAnswer bytes result) }
-    ensures later { L.Source.faults link.old ≤ L.Source.faults link.new }
-    ensures failed { result ≡ Err WireFault.LinkFault
-        → Rose (L.Source.faults link.old) (L.Source.faults link.new) }
-    ensures keeps_bytes { L.bytes link.new ≡ L.bytes link.old }
-    ensures keeps_puts { L.Sink.faults link.new ≡ L.Sink.faults link.old }
+    ensures takes { OnlyTakes L.Source L.Sink WireFault.LinkFault result link.old link.new }
 {
     read_by_head(alloc, link)
 }
 
 fn read_by_head<L: Link>(alloc: Global, link: &mut L) -> Result<Command, WireFault>
     ensures allowed { IfSome (L.left link.old) (λ bytes. Allows bytes result) }
-    ensures later { L.Source.faults link.old ≤ L.Source.faults link.new }
-    ensures failed { result ≡ Err WireFault.LinkFault
-        → Rose (L.Source.faults link.old) (L.Source.faults link.new) }
-    ensures keeps_bytes { L.bytes link.new ≡ L.bytes link.old }
-    ensures keeps_puts { L.Sink.faults link.new ≡ L.Sink.faults link.old }
+    ensures takes { OnlyTakes L.Source L.Sink WireFault.LinkFault result link.old link.new }
 {
     // The routes agree with one another, so that memory alone can be wanting for them.
     let Ok(routes) = routes(alloc) else {
@@ -74,11 +66,7 @@ fn take_body<L: Link>(
 
     ensures answer { IfSome (L.left link.old)
         (λ left. IsAnswerTo form size (drop end bytes.old.items ++ left) result) }
-    ensures later { L.Source.faults link.old ≤ L.Source.faults link.new }
-    ensures failed { result ≡ Err WireFault.LinkFault
-        → Rose (L.Source.faults link.old) (L.Source.faults link.new) }
-    ensures keeps_bytes { L.bytes link.new ≡ L.bytes link.old }
-    ensures keeps_puts { L.Sink.faults link.new ≡ L.Sink.faults link.old }
+    ensures takes { OnlyTakes L.Source L.Sink WireFault.LinkFault result link.old link.new }
 {
     fill(link, bytes, end + size)?;
     if bytes.len() < end + size {

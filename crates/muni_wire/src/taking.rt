@@ -1,9 +1,9 @@
 //! The bytes of a connection, which come in pieces.
 
-ghost use Rattle.std.specs.Prelude.{◌≡◌, ◌≤◌, ◌<◌, ◌+◌, ◌-◌, ◌==◌, ◌&&◌, ◌||◌, ℕ, List, Err, true, not, length, drop, nat_lt, ◌++◌, IfOk, IfErr, OnOk, vec_len};
+ghost use Rattle.std.specs.Prelude.{◌≡◌, ◌≤◌, ◌<◌, ◌+◌, ◌-◌, ◌==◌, ◌&&◌, ◌||◌, ℕ, List, true, not, length, drop, nat_lt, ◌++◌, IfOk, IfErr, OnOk, vec_len};
 ghost use Rattle.std.specs.Io.KnownBytes.{Consumes, IsAtEnd};
 ghost use Rattle.std.specs.List.{list_any};
-ghost use Rattle.muni_edge.specs.Sink.{Rose};
+ghost use Rattle.muni_edge.specs.Link.{OnlyTakes};
 ghost use Rattle.muni_wire.specs.Faults.{IsOfTake};
 ghost use Rattle.muni_wire.specs.Head.{IsNoHead, IsHeadTooLarge, EndsInHead, head_limit};
 ghost use Rattle.muni_wire.specs.Routes.{routes as all_routes};
@@ -28,12 +28,8 @@ pub(crate) fn read_head<L: Link>(
     ensures head { IfOk result (λ read. IsHeadOf read.0 read.1.items (L.left link.new)) }
     ensures taken { IfOk result
         (λ read. Consumes (L.left link.old) (L.left link.new) read.1.items) }
-    ensures later { L.Source.faults link.old ≤ L.Source.faults link.new }
-    ensures failed { result ≡ Err WireFault.LinkFault
-        → Rose (L.Source.faults link.old) (L.Source.faults link.new) }
     ensures others { IfErr result (λ fault. IsOfTake fault) }
-    ensures keeps_bytes { L.bytes link.new ≡ L.bytes link.old }
-    ensures keeps_puts { L.Sink.faults link.new ≡ L.Sink.faults link.old }
+    ensures takes { OnlyTakes L.Source L.Sink WireFault.LinkFault result link.old link.new }
 {
     let mut bytes = Vec::new(alloc);
     let mut has_begun = false;
@@ -106,12 +102,8 @@ pub(crate) fn fill<L: Link>(
     ensures taken { OnOk result ((piece : List ℕ) × Consumes (L.left link.old) (L.left link.new) piece
         × (bytes.new.items ≡ bytes.old.items ++ piece)) }
     ensures end { OnOk result (vec_len bytes.new < limit → IsAtEnd (L.left link.new)) }
-    ensures later { L.Source.faults link.old ≤ L.Source.faults link.new }
-    ensures failed { result ≡ Err WireFault.LinkFault
-        → Rose (L.Source.faults link.old) (L.Source.faults link.new) }
     ensures others { IfErr result (λ fault. IsOfTake fault) }
-    ensures keeps_bytes { L.bytes link.new ≡ L.bytes link.old }
-    ensures keeps_puts { L.Sink.faults link.new ≡ L.Sink.faults link.old }
+    ensures takes { OnlyTakes L.Source L.Sink WireFault.LinkFault result link.old link.new }
 {
     for turn in 0..81_921usize {
         let _turn = turn;
@@ -136,12 +128,8 @@ fn take_more<L: Link>(link: &mut L, bytes: &mut Vec<u8>, limit: usize) -> Result
         × Consumes (L.left link.old) (L.left link.new) piece
         × (bytes.new.items ≡ bytes.old.items ++ piece)) }
     ensures end { IfOk result (λ count. count ≡ 0 → IsAtEnd (L.left link.new)) }
-    ensures later { L.Source.faults link.old ≤ L.Source.faults link.new }
-    ensures failed { result ≡ Err WireFault.LinkFault
-        → Rose (L.Source.faults link.old) (L.Source.faults link.new) }
     ensures others { IfErr result (λ fault. IsOfTake fault) }
-    ensures keeps_bytes { L.bytes link.new ≡ L.bytes link.old }
-    ensures keeps_puts { L.Sink.faults link.new ≡ L.Sink.faults link.old }
+    ensures takes { OnlyTakes L.Source L.Sink WireFault.LinkFault result link.old link.new }
 {
     let mut room = [0u8; 1024];
     let size = (limit - bytes.len()).min(1024);

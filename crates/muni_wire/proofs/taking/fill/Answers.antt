@@ -25,7 +25,7 @@ loop-turn-preserved g c =
       );
       each = omega (arith, took.count, c.if-branch-eq0.false);
       most = λ h. omega (arith, took.limit);
-      later = omega (arith, took.later);
-      keeps_bytes = took.keeps_bytes ∙ c.loop-turn.invariant.keeps_bytes;
-      keeps_puts = took.keeps_puts ∙ c.loop-turn.invariant.keeps_puts;
+      later = omega (arith, took.takes.later);
+      keeps_bytes = took.takes.keeps_bytes ∙ c.loop-turn.invariant.keeps_bytes;
+      keeps_puts = took.takes.keeps_puts ∙ c.loop-turn.invariant.keeps_puts;
     }
