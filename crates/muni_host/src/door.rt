@@ -3,7 +3,7 @@
 ghost use Rattle.std.specs.Prelude.{◌≡◌, None};
 
 use crate::link::StreamLink;
-use muni_edge::{Door, Failed};
+use muni_edge::{Door, Failed, Faults};
 use std::io::{Read, Write};
 use std::net::{IpAddr, Ipv4Addr, Net, OpenListener, SocketAddr, TcpListener};
 
@@ -12,7 +12,7 @@ use std::net::{IpAddr, Ipv4Addr, Net, OpenListener, SocketAddr, TcpListener};
 pub struct LoopbackDoor<'a, R: Net> {
     net: &'a R,
     listener: Option<R::Listener>,
-    faults: u64,
+    faults: Faults,
 }
 
 impl<'a, R: Net> LoopbackDoor<'a, R> {
@@ -24,7 +24,7 @@ impl<'a, R: Net> LoopbackDoor<'a, R> {
         LoopbackDoor {
             net,
             listener: None,
-            faults: 0,
+            faults: Faults::none(),
         }
     }
 
@@ -53,10 +53,7 @@ where
                 self.listener = Some(listener);
                 Ok(())
             }
-            Err(_) => {
-                self.faults = self.faults.saturating_add(1);
-                Err(Failed)
-            }
+            Err(_) => Err(self.faults.fail()),
         }
     }
 
@@ -67,8 +64,7 @@ where
                 return Ok(Some(StreamLink::new(stream)));
             }
         }
-        self.faults = self.faults.saturating_add(1);
-        Err(Failed)
+        Err(self.faults.fail())
     }
 
     /// The stream is closed.

@@ -2,24 +2,27 @@
 
 ghost use Rattle.std.specs.Prelude.{◌≡◌, ◌≤◌, length, None, IfOk};
 ghost use Rattle.std.specs.Io.KnownBytes.{ReadConsumes};
-ghost use Rattle.muni_host.specs.Faults.{CountsFaults};
+ghost use Rattle.muni_edge.specs.Faults.{CountsFaults};
 
 use crate::reading::read_on;
-use muni_edge::{Failed, Source};
+use muni_edge::{Failed, Faults, Source};
 use std::io;
 
 /// Bytes are taken from the reader as they come. It does not tell what is left.
 #[derive(Drop)]
 pub struct Input<R> {
     reader: R,
-    faults: u64,
+    faults: Faults,
 }
 
 impl<R> Input<R> {
     pub fn new(reader: R) -> Input<R>
         ensures { result.faults ≡ 0 }
     {
-        Input { reader, faults: 0 }
+        Input {
+            reader,
+            faults: Faults::none(),
+        }
     }
 }
 
@@ -36,10 +39,7 @@ impl<R: io::Read> Source for Input<R> {
     {
         match read_on(&mut self.reader, room) {
             Ok(count) => Ok(count),
-            Err(_) => {
-                self.faults = self.faults.saturating_add(1);
-                Err(Failed)
-            }
+            Err(_) => Err(self.faults.fail()),
         }
     }
 }

@@ -3,19 +3,19 @@
 ghost use Rattle.std.specs.Prelude.{◌≡◌, ◌≤◌, length, None, IfOk, refl};
 ghost use Rattle.std.specs.Io.KnownBytes.{ReadConsumes};
 ghost use Rattle.muni_host.specs.Bytes.{AppendsPiece};
-ghost use Rattle.muni_host.specs.Faults.{CountsFaults};
+ghost use Rattle.muni_edge.specs.Faults.{CountsFaults};
 
 use crate::reading::read_on;
 use crate::writing::write_on;
-use muni_edge::{Failed, Link, Sink, Source};
+use muni_edge::{Failed, Faults, Link, Sink, Source};
 use std::io::{Read, Write};
 
 /// Bytes are taken from the stream as they come, and put to it at once. It does not tell them.
 #[derive(Drop)]
 pub struct StreamLink<S> {
     stream: S,
-    read_faults: u64,
-    write_faults: u64,
+    read_faults: Faults,
+    write_faults: Faults,
 }
 
 impl<S> StreamLink<S> {
@@ -25,8 +25,8 @@ impl<S> StreamLink<S> {
     {
         StreamLink {
             stream,
-            read_faults: 0,
-            write_faults: 0,
+            read_faults: Faults::none(),
+            write_faults: Faults::none(),
         }
     }
 }
@@ -47,10 +47,7 @@ impl<S: Read> Source for StreamLink<S> {
     {
         match read_on(&mut self.stream, room) {
             Ok(count) => Ok(count),
-            Err(_) => {
-                self.read_faults = self.read_faults.saturating_add(1);
-                Err(Failed)
-            }
+            Err(_) => Err(self.read_faults.fail()),
         }
     }
 }
@@ -69,8 +66,7 @@ impl<S: Write> Sink for StreamLink<S> {
         ensures keeps { self.new.read_faults ≡ self.old.read_faults }
     {
         if write_on(&mut self.stream, piece).is_err() {
-            self.write_faults = self.write_faults.saturating_add(1);
-            return Err(Failed);
+            return Err(self.write_faults.fail());
         }
         Ok(())
     }

@@ -2,24 +2,27 @@
 
 ghost use Rattle.std.specs.Prelude.{◌≡◌, None};
 ghost use Rattle.muni_host.specs.Bytes.{AppendsPiece};
-ghost use Rattle.muni_host.specs.Faults.{CountsFaults};
+ghost use Rattle.muni_edge.specs.Faults.{CountsFaults};
 
 use crate::writing::write_on;
-use muni_edge::{Failed, Sink};
+use muni_edge::{Failed, Faults, Sink};
 use std::io;
 
 /// What is written goes to the writer at once. It does not tell what it holds.
 #[derive(Drop)]
 pub struct Output<W> {
     writer: W,
-    faults: u64,
+    faults: Faults,
 }
 
 impl<W> Output<W> {
     pub fn new(writer: W) -> Output<W>
         ensures { result.faults ≡ 0 }
     {
-        Output { writer, faults: 0 }
+        Output {
+            writer,
+            faults: Faults::none(),
+        }
     }
 }
 
@@ -34,8 +37,7 @@ impl<W: io::Write> Sink for Output<W> {
         ensures faults { CountsFaults self.old.faults self.new.faults result }
     {
         if write_on(&mut self.writer, piece).is_err() {
-            self.faults = self.faults.saturating_add(1);
-            return Err(Failed);
+            return Err(self.faults.fail());
         }
         Ok(())
     }
