@@ -2,13 +2,16 @@
 
 use muni_keep::KeepFault;
 use std::alloc::AllocError;
+use thiserror::Error;
 
 /// Why a command is not answered. Nothing was kept for it.
-#[derive(Clone, Copy, Debug, PartialEq, Eq)]
+#[derive(Clone, Copy, Debug, PartialEq, Eq, Error)]
 pub enum BookFault {
     /// What keeps the tables failed, and counted it.
+    #[error("the store failed")]
     Failed,
     /// No memory was left.
+    #[error("out of memory")]
     NoMemory,
 }
 

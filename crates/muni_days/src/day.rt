@@ -12,6 +12,7 @@ use arrayvec::ArrayVec;
 use jiff::civil;
 use muni_dec::digits::{push_last_digits, read_number};
 use std::cmp::Ordering;
+use thiserror::Error;
 
 /// A day of the civil calendar from 1900-01-01 to 2199-12-31. Days are ordered by date.
 #[derive(Clone, Copy, Debug)]
@@ -23,11 +24,13 @@ pub struct Day {
 }
 
 /// Why a text names no day.
-#[derive(Clone, Copy, Debug, PartialEq, Eq)]
+#[derive(Clone, Copy, Debug, PartialEq, Eq, Error)]
 pub enum DayFault {
     /// The text is not four digits, a dash, two digits, a dash and two digits.
+    #[error("not a day of the form YYYY-MM-DD")]
     Form,
     /// There is no such day from 1900-01-01 to 2199-12-31.
+    #[error("no such day from 1900-01-01 to 2199-12-31")]
     NoSuchDay,
 }
 

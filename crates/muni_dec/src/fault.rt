@@ -1,15 +1,21 @@
 ghost use Rattle.std.specs.Prelude.{◌≡◌};
 
+use thiserror::Error;
+
 /// Why a text is no decimal of the kind that was asked for. Places count bytes from 0.
-#[derive(Clone, Copy, Debug, PartialEq, Eq)]
+#[derive(Clone, Copy, Debug, PartialEq, Eq, Error)]
 pub enum DecFault {
     /// The text has no byte.
+    #[error("empty")]
     Empty,
     /// No decimal goes on with the byte at this place, or the text ends here too early.
+    #[error("unexpected byte or end at {at}")]
     NotADigit { at: usize },
     /// The first decimal too many stands here, and all before it is right.
+    #[error("too many decimals at {at}")]
     TooManyDecimals { at: usize },
     /// The text is a decimal whose value is outside the range.
+    #[error("out of range")]
     OutOfRange,
 }
 

@@ -8,11 +8,15 @@ use std::alloc::Global;
 use std::env;
 use std::env::Args;
 use std::io::{Error, ErrorKind};
+use thiserror::Error;
 
 /// Why there are no words.
+#[derive(Debug, Drop, Error)]
 pub enum NoWords {
+    #[error("out of memory")]
     NoMemory,
     /// A word is no text.
+    #[error("a word is not text")]
     NoText,
 }
 

@@ -16,14 +16,17 @@ use muni_msg::{
     read_version_number,
 };
 use muni_terms::{IssueRow, Kind};
+use thiserror::Error;
 
 /// Why a row is no command.
-#[derive(Clone, Copy, Debug, PartialEq, Eq)]
+#[derive(Clone, Copy, Debug, PartialEq, Eq, Error)]
 pub enum RowFault {
     /// It has another number of fields than its name asks for.
+    #[error("another number of fields")]
     FieldCount,
     /// This is the first column, counted from 1, that does not read. It is the first of all where
     /// the row has no name.
+    #[error("column {column} does not read")]
     BadField { column: u32 },
 }
 

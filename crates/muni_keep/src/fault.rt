@@ -2,13 +2,16 @@
 
 use muni_edge::{Failed, NoMemory};
 use std::alloc::AllocError;
+use thiserror::Error;
 
 /// Why a keeper or a cabinet refuses a call.
-#[derive(Clone, Copy, Debug, PartialEq, Eq)]
+#[derive(Clone, Copy, Debug, PartialEq, Eq, Error)]
 pub enum KeepFault {
     /// What keeps the tables failed, and counted it.
+    #[error("the store failed")]
     Failed,
     /// No memory was left.
+    #[error("out of memory")]
     NoMemory,
 }
 

@@ -11,15 +11,19 @@ ghost use Rattle.muni_msg.specs.NameReading.{fault_number, name_if, name_reading
 use arrayvec::ArrayVec;
 use std::cmp::Ordering;
 use std::marker::Model;
+use thiserror::Error;
 
 /// Why a text is no name.
-#[derive(Clone, Copy, Debug, PartialEq, Eq)]
+#[derive(Clone, Copy, Debug, PartialEq, Eq, Error)]
 pub enum NameFault {
     /// It has no byte.
+    #[error("empty")]
     Empty,
     /// It has more bytes than the name may have.
+    #[error("too long")]
     TooLong,
     /// This is the first place of a byte that the name may not have.
+    #[error("unexpected byte at {at}")]
     BadByte { at: usize },
 }
 

@@ -8,6 +8,7 @@ ghost use Rattle.muni_terms.specs.Fault.{fault_number};
 use arrayvec::ArrayVec;
 use muni_days::{Basis, Day};
 use muni_dec::{Coupon, Price};
+use thiserror::Error;
 
 /// A pricing call: the issuer may redeem the whole issue on this day at this price.
 #[derive(Clone, Copy, Debug, PartialEq, Eq)]
@@ -59,30 +60,41 @@ pub struct IssueRow {
 }
 
 /// Why a row is no issue.
-#[derive(Clone, Copy, Debug, PartialEq, Eq)]
+#[derive(Clone, Copy, Debug, PartialEq, Eq, Error)]
 pub enum TermsFault {
     /// The CUSIP is not eight digits and capital letters with their check digit.
+    #[error("the CUSIP is not eight digits and capital letters with their check digit")]
     BadCusip,
     /// The dates are not in order, or the dated date is before 1902.
+    #[error("the dates are not in order, or the dated date is before 1902")]
     BadOrder,
     /// Interest, or the maturity of a zero, falls on a day over 28, or an issue with coupons matures
     /// on another day than a quasi-coupon date.
+    #[error("a day over 28, or a maturity off the quasi-coupon dates")]
     BadDay,
     /// There is a coupon and no interest, or interest and no coupon.
+    #[error("a coupon without interest, or interest without a coupon")]
     BadCoupon,
     /// The first interest is for more than 360 days of 30/360.
+    #[error("the first interest is for more than 360 days")]
     FirstTooLong,
     /// This call is not on a day on which the issue can be called.
+    #[error("a call on a day on which the issue cannot be called")]
     CallOffCalendar { date: Day },
     /// This call is not after the one before it.
+    #[error("the calls are not in order of their dates")]
     CallsNotRising { date: Day },
     /// This call's price is not from 1 to 200.
+    #[error("a call price that is not from 1 to 200")]
     BadCallPrice { date: Day },
     /// More than 100 quasi-coupon dates, or a note of more than 720 days by its basis.
+    #[error("more than 100 quasi-coupon dates, or a note of more than 720 days")]
     TooLong,
     /// The name is empty, or not of printable ASCII.
+    #[error("the name is empty, or not of printable ASCII")]
     BadName,
     /// Days are counted by actual/365, and the issue is no note.
+    #[error("actual/365 for an issue that is no note")]
     BadBasis,
 }
 
