@@ -1,7 +1,6 @@
 pub mod Accepted
 pub mod Plan
 pub mod Reasons
-pub mod Reads
 pub mod Step
 pub mod Runs
 pub mod Sound

@@ -1,11 +1,11 @@
 //! What is to be done for each command, by what a keeper keeps.
 
-ghost use Rattle.std.specs.Prelude.{◌≡◌, IfOk, IfSome, IsErrOf};
-ghost use Rattle.muni_edge.specs.Sink.{Rose};
+ghost use Rattle.std.specs.Prelude.{◌≡◌};
 ghost use Rattle.muni_terms.specs.Check.{checked};
+ghost use Rattle.muni_keep.specs.Frames.{Found};
+ghost use Rattle.muni_keep.specs.Keeper.{OnlyReads};
 ghost use Rattle.muni_keep.specs.Trades.{own};
 ghost use Rattle.muni_step.specs.Plan as spec;
-ghost use Rattle.muni_step.specs.Reads.{IsOnlyRead};
 ghost use Rattle.muni_step.specs.Step.{own_of, desk_of};
 
 use crate::Plan;
@@ -17,10 +17,9 @@ use muni_terms::{Issue, IssueRow, check};
 
 /// What is to be done for a command. The keeper is only read from.
 pub fn plan_of<K: Keeper>(keeper: &mut K, command: &Command) -> Result<Plan, KeepFault>
-    ensures plan { IfOk result (λ plan. IfSome (K.tables keeper.old)
-        (λ t. plan ≡ spec.plan_of t.issues (own_of (desk_of command.now) t) command.now)) }
-    ensures only_read { IsOnlyRead K.tables K.faults K.mark keeper.old keeper.new }
-    ensures failed { IsErrOf result KeepFault.Failed → Rose (K.faults keeper.old) (K.faults keeper.new) }
+    ensures plan { Found (K.tables keeper.old) result
+        (λ t. spec.plan_of t.issues (own_of (desk_of command.now) t) command.now) }
+    ensures reads { OnlyReads K.Keeper result keeper.old keeper.new }
 {
     match command {
         Command::AddIssue(row) => add_issue(keeper, row),
@@ -51,10 +50,9 @@ fn confirmed<K: Keeper>(
     number: u32,
     version: Version,
 ) -> Result<Plan, KeepFault>
-    ensures plan { IfOk result (λ plan. IfSome (K.tables keeper.old)
-        (λ t. plan ≡ spec.confirmed t.issues key.now number version)) }
-    ensures only_read { IsOnlyRead K.tables K.faults K.mark keeper.old keeper.new }
-    ensures failed { IsErrOf result KeepFault.Failed → Rose (K.faults keeper.old) (K.faults keeper.new) }
+    ensures plan { Found (K.tables keeper.old) result
+        (λ t. spec.confirmed t.issues key.now number version) }
+    ensures reads { OnlyReads K.Keeper result keeper.old keeper.new }
 {
     match keeper.issue(&version.terms.asked.cusip)? {
         Some(issue) => Ok(Plan::Answer(Reply::Confirmed {
@@ -74,10 +72,9 @@ fn sent_again<K: Keeper>(
     terms: &Terms,
     version: Version,
 ) -> Result<Plan, KeepFault>
-    ensures plan { IfOk result (λ plan. IfSome (K.tables keeper.old)
-        (λ t. plan ≡ spec.sent_again t.issues key.now number terms.now version)) }
-    ensures only_read { IsOnlyRead K.tables K.faults K.mark keeper.old keeper.new }
-    ensures failed { IsErrOf result KeepFault.Failed → Rose (K.faults keeper.old) (K.faults keeper.new) }
+    ensures plan { Found (K.tables keeper.old) result
+        (λ t. spec.sent_again t.issues key.now number terms.now version) }
+    ensures reads { OnlyReads K.Keeper result keeper.old keeper.new }
 {
     if version.terms == *terms {
         confirmed(keeper, key, number, version)
@@ -87,10 +84,9 @@ fn sent_again<K: Keeper>(
 }
 
 fn add_issue<K: Keeper>(keeper: &mut K, row: &IssueRow) -> Result<Plan, KeepFault>
-    ensures plan { IfOk result (λ plan. IfSome (K.tables keeper.old)
-        (λ t. plan ≡ spec.issue_plan t.issues (checked row.now))) }
-    ensures only_read { IsOnlyRead K.tables K.faults K.mark keeper.old keeper.new }
-    ensures failed { IsErrOf result KeepFault.Failed → Rose (K.faults keeper.old) (K.faults keeper.new) }
+    ensures plan { Found (K.tables keeper.old) result
+        (λ t. spec.issue_plan t.issues (checked row.now)) }
+    ensures reads { OnlyReads K.Keeper result keeper.old keeper.new }
 {
     match check(row.copy()) {
         Ok(issue) => add_checked(keeper, issue),
@@ -99,10 +95,9 @@ fn add_issue<K: Keeper>(keeper: &mut K, row: &IssueRow) -> Result<Plan, KeepFaul
 }
 
 fn add_checked<K: Keeper>(keeper: &mut K, issue: Issue) -> Result<Plan, KeepFault>
-    ensures plan { IfOk result (λ plan. IfSome (K.tables keeper.old)
-        (λ t. plan ≡ spec.checked_issue_plan t.issues issue)) }
-    ensures only_read { IsOnlyRead K.tables K.faults K.mark keeper.old keeper.new }
-    ensures failed { IsErrOf result KeepFault.Failed → Rose (K.faults keeper.old) (K.faults keeper.new) }
+    ensures plan { Found (K.tables keeper.old) result
+        (λ t. spec.checked_issue_plan t.issues issue) }
+    ensures reads { OnlyReads K.Keeper result keeper.old keeper.new }
 {
     match keeper.issue(&issue.row().cusip)? {
         Some(other) => Ok(kept_issue(&issue, other)),
@@ -123,10 +118,9 @@ fn kept_issue(issue: &Issue, other: Issue) -> Plan
 }
 
 fn enter<K: Keeper>(keeper: &mut K, key: &Key, terms: &Terms) -> Result<Plan, KeepFault>
-    ensures plan { IfOk result (λ plan. IfSome (K.tables keeper.old)
-        (λ t. plan ≡ spec.entry_plan t.issues (own key.now.desk t.desks) key.now terms.now)) }
-    ensures only_read { IsOnlyRead K.tables K.faults K.mark keeper.old keeper.new }
-    ensures failed { IsErrOf result KeepFault.Failed → Rose (K.faults keeper.old) (K.faults keeper.new) }
+    ensures plan { Found (K.tables keeper.old) result
+        (λ t. spec.entry_plan t.issues (own key.now.desk t.desks) key.now terms.now) }
+    ensures reads { OnlyReads K.Keeper result keeper.old keeper.new }
 {
     match keeper.version(key, 1)? {
         Some(version) => sent_again(keeper, key, 1, terms, version),
@@ -135,10 +129,9 @@ fn enter<K: Keeper>(keeper: &mut K, key: &Key, terms: &Terms) -> Result<Plan, Ke
 }
 
 fn first_entry<K: Keeper>(keeper: &mut K, key: &Key, terms: &Terms) -> Result<Plan, KeepFault>
-    ensures plan { IfOk result (λ plan. IfSome (K.tables keeper.old)
-        (λ t. plan ≡ spec.first_entry_plan t.issues (own key.now.desk t.desks) key.now terms.now)) }
-    ensures only_read { IsOnlyRead K.tables K.faults K.mark keeper.old keeper.new }
-    ensures failed { IsErrOf result KeepFault.Failed → Rose (K.faults keeper.old) (K.faults keeper.new) }
+    ensures plan { Found (K.tables keeper.old) result
+        (λ t. spec.first_entry_plan t.issues (own key.now.desk t.desks) key.now terms.now) }
+    ensures reads { OnlyReads K.Keeper result keeper.old keeper.new }
 {
     let Some(issue) = keeper.issue(&terms.asked.cusip)? else {
         return Ok(refused(Refusal::UnknownIssue));
@@ -156,10 +149,8 @@ fn first_entry<K: Keeper>(keeper: &mut K, key: &Key, terms: &Terms) -> Result<Pl
 }
 
 fn is_full<K: Keeper>(keeper: &mut K, desk: &DeskName) -> Result<bool, KeepFault>
-    ensures full { IfOk result (λ full. IfSome (K.tables keeper.old)
-        (λ t. full ≡ spec.is_full (own desk.now t.desks))) }
-    ensures only_read { IsOnlyRead K.tables K.faults K.mark keeper.old keeper.new }
-    ensures failed { IsErrOf result KeepFault.Failed → Rose (K.faults keeper.old) (K.faults keeper.new) }
+    ensures full { Found (K.tables keeper.old) result (λ t. spec.is_full (own desk.now t.desks)) }
+    ensures reads { OnlyReads K.Keeper result keeper.old keeper.new }
 {
     Ok(keeper.trades(desk)? >= 100_000)
 }
@@ -221,10 +212,9 @@ fn correct<K: Keeper>(
     number: u32,
     terms: &Terms,
 ) -> Result<Plan, KeepFault>
-    ensures plan { IfOk result (λ plan. IfSome (K.tables keeper.old)
-        (λ t. plan ≡ spec.correction_plan t.issues (own key.now.desk t.desks) key.now number terms.now)) }
-    ensures only_read { IsOnlyRead K.tables K.faults K.mark keeper.old keeper.new }
-    ensures failed { IsErrOf result KeepFault.Failed → Rose (K.faults keeper.old) (K.faults keeper.new) }
+    ensures plan { Found (K.tables keeper.old) result
+        (λ t. spec.correction_plan t.issues (own key.now.desk t.desks) key.now number terms.now) }
+    ensures reads { OnlyReads K.Keeper result keeper.old keeper.new }
 {
     let Some((count, last)) = keeper.last(key)? else {
         return Ok(refused(Refusal::UnknownTrade));
@@ -242,10 +232,9 @@ fn kept_correction<K: Keeper>(
     terms: &Terms,
     version: Version,
 ) -> Result<Plan, KeepFault>
-    ensures plan { IfOk result (λ plan. IfSome (K.tables keeper.old)
-        (λ t. plan ≡ spec.kept_correction_plan t.issues key.now number terms.now version)) }
-    ensures only_read { IsOnlyRead K.tables K.faults K.mark keeper.old keeper.new }
-    ensures failed { IsErrOf result KeepFault.Failed → Rose (K.faults keeper.old) (K.faults keeper.new) }
+    ensures plan { Found (K.tables keeper.old) result
+        (λ t. spec.kept_correction_plan t.issues key.now number terms.now version) }
+    ensures reads { OnlyReads K.Keeper result keeper.old keeper.new }
 {
     if is_corrected(version.act) {
         sent_again(keeper, key, number, terms, version)
@@ -262,10 +251,9 @@ fn next_correction<K: Keeper>(
     count: u32,
     last: &Version,
 ) -> Result<Plan, KeepFault>
-    ensures plan { IfOk result (λ plan. IfSome (K.tables keeper.old)
-        (λ t. plan ≡ spec.next_correction_plan t.issues key.now number terms.now (count, last.now))) }
-    ensures only_read { IsOnlyRead K.tables K.faults K.mark keeper.old keeper.new }
-    ensures failed { IsErrOf result KeepFault.Failed → Rose (K.faults keeper.old) (K.faults keeper.new) }
+    ensures plan { Found (K.tables keeper.old) result
+        (λ t. spec.next_correction_plan t.issues key.now number terms.now (count, last.now)) }
+    ensures reads { OnlyReads K.Keeper result keeper.old keeper.new }
 {
     if let Some(why) = correction_refusal(count, last, number) {
         return Ok(refused(why));
@@ -283,10 +271,9 @@ fn next_correction<K: Keeper>(
 }
 
 fn cancel<K: Keeper>(keeper: &mut K, key: &Key, number: u32) -> Result<Plan, KeepFault>
-    ensures plan { IfOk result (λ plan. IfSome (K.tables keeper.old)
-        (λ t. plan ≡ spec.cancel_plan t.issues (own key.now.desk t.desks) key.now number)) }
-    ensures only_read { IsOnlyRead K.tables K.faults K.mark keeper.old keeper.new }
-    ensures failed { IsErrOf result KeepFault.Failed → Rose (K.faults keeper.old) (K.faults keeper.new) }
+    ensures plan { Found (K.tables keeper.old) result
+        (λ t. spec.cancel_plan t.issues (own key.now.desk t.desks) key.now number) }
+    ensures reads { OnlyReads K.Keeper result keeper.old keeper.new }
 {
     let Some((count, last)) = keeper.last(key)? else {
         return Ok(refused(Refusal::UnknownTrade));
@@ -303,10 +290,9 @@ fn kept_cancel<K: Keeper>(
     number: u32,
     version: Version,
 ) -> Result<Plan, KeepFault>
-    ensures plan { IfOk result (λ plan. IfSome (K.tables keeper.old)
-        (λ t. plan ≡ spec.kept_cancel_plan t.issues key.now number version)) }
-    ensures only_read { IsOnlyRead K.tables K.faults K.mark keeper.old keeper.new }
-    ensures failed { IsErrOf result KeepFault.Failed → Rose (K.faults keeper.old) (K.faults keeper.new) }
+    ensures plan { Found (K.tables keeper.old) result
+        (λ t. spec.kept_cancel_plan t.issues key.now number version) }
+    ensures reads { OnlyReads K.Keeper result keeper.old keeper.new }
 {
     if is_canceled(version.act) {
         confirmed(keeper, key, number, version)
@@ -322,10 +308,9 @@ fn next_cancel<K: Keeper>(
     count: u32,
     last: &Version,
 ) -> Result<Plan, KeepFault>
-    ensures plan { IfOk result (λ plan. IfSome (K.tables keeper.old)
-        (λ t. plan ≡ spec.next_cancel_plan t.issues key.now number (count, last.now))) }
-    ensures only_read { IsOnlyRead K.tables K.faults K.mark keeper.old keeper.new }
-    ensures failed { IsErrOf result KeepFault.Failed → Rose (K.faults keeper.old) (K.faults keeper.new) }
+    ensures plan { Found (K.tables keeper.old) result
+        (λ t. spec.next_cancel_plan t.issues key.now number (count, last.now)) }
+    ensures reads { OnlyReads K.Keeper result keeper.old keeper.new }
 {
     if let Some(why) = cancel_refusal(count, last, number) {
         return Ok(refused(why));
@@ -345,10 +330,9 @@ fn next_cancel<K: Keeper>(
 }
 
 fn confirm<K: Keeper>(keeper: &mut K, key: &Key) -> Result<Plan, KeepFault>
-    ensures plan { IfOk result (λ plan. IfSome (K.tables keeper.old)
-        (λ t. plan ≡ spec.confirmation_plan t.issues (own key.now.desk t.desks) key.now)) }
-    ensures only_read { IsOnlyRead K.tables K.faults K.mark keeper.old keeper.new }
-    ensures failed { IsErrOf result KeepFault.Failed → Rose (K.faults keeper.old) (K.faults keeper.new) }
+    ensures plan { Found (K.tables keeper.old) result
+        (λ t. spec.confirmation_plan t.issues (own key.now.desk t.desks) key.now) }
+    ensures reads { OnlyReads K.Keeper result keeper.old keeper.new }
 {
     match keeper.last(key)? {
         Some((number, version)) => confirmed(keeper, key, number, version),
@@ -357,10 +341,8 @@ fn confirm<K: Keeper>(keeper: &mut K, key: &Key) -> Result<Plan, KeepFault>
 }
 
 fn quote<K: Keeper>(keeper: &mut K, asked: &Asked) -> Result<Plan, KeepFault>
-    ensures plan { IfOk result (λ plan. IfSome (K.tables keeper.old)
-        (λ t. plan ≡ spec.quote_plan t.issues asked.now)) }
-    ensures only_read { IsOnlyRead K.tables K.faults K.mark keeper.old keeper.new }
-    ensures failed { IsErrOf result KeepFault.Failed → Rose (K.faults keeper.old) (K.faults keeper.new) }
+    ensures plan { Found (K.tables keeper.old) result (λ t. spec.quote_plan t.issues asked.now) }
+    ensures reads { OnlyReads K.Keeper result keeper.old keeper.new }
 {
     match keeper.issue(&asked.cusip)? {
         Some(issue) => Ok(Plan::Quote {
@@ -376,10 +358,9 @@ fn list<K: Keeper>(
     desk: &DeskName,
     after: &Option<Reference>,
 ) -> Result<Plan, KeepFault>
-    ensures plan { IfOk result (λ plan. IfSome (K.tables keeper.old)
-        (λ t. plan ≡ spec.list_plan (own desk.now t.desks) after.now)) }
-    ensures only_read { IsOnlyRead K.tables K.faults K.mark keeper.old keeper.new }
-    ensures failed { IsErrOf result KeepFault.Failed → Rose (K.faults keeper.old) (K.faults keeper.new) }
+    ensures plan { Found (K.tables keeper.old) result
+        (λ t. spec.list_plan (own desk.now t.desks) after.now) }
+    ensures reads { OnlyReads K.Keeper result keeper.old keeper.new }
 {
     Ok(Plan::Answer(Reply::Listed(keeper.page(desk, after)?)))
 }
