@@ -42,8 +42,8 @@ pages-preserved g c =
       few = λ cusip. omega (arith, c.in_ok-add_lines.ensures.few cusip, c.pages.invariant.few cusip, ap length c.as_slice.ensures.value, count);
       turns = omega (arith, c.pages.invariant.turns, within, count);
       count = omega (arith, c.if-count-gt-MOST_TRADES.false);
-      tables = c.in_ok-page.ensures.unchanged ∙ c.pages.invariant.tables;
-      later = omega (arith, c.pages.invariant.later, c.page.ensures.later);
-      mark = c.page.ensures.mark ∙ c.pages.invariant.mark;
+      tables = c.in_ok-page.ensures.reads.unchanged ∙ c.pages.invariant.tables;
+      later = omega (arith, c.pages.invariant.later, c.page.ensures.reads.later);
+      mark = c.page.ensures.reads.mark ∙ c.pages.invariant.mark;
       summed = rw c.copy.ensures (told_read c.args.desk.now told c.pages.after c.pages.count (c.pages.count + c.len.result) lines c.in-Some.last.now c.pages.holdings c.add_lines.new.holdings c.pages.invariant.summed are last (rw c.as_slice.ensures.value at c.in_ok-add_lines.ensures.sums) (omega (arith, count)));
     }
