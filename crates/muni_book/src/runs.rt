@@ -1,8 +1,7 @@
 //! Commands applied one after another.
 
-ghost use Rattle.std.specs.Prelude.{◌≡◌, ◌≤◌, ◌++◌, ◌∷◌, [], IfOk, IfSome, OnOk, OnErr, IsErrOf};
-ghost use Rattle.std.specs.Option.{is_some};
-ghost use Rattle.muni_edge.specs.Sink.{Rose};
+ghost use Rattle.std.specs.Prelude.{◌≡◌, ◌≤◌, ◌++◌, ◌∷◌, [], IfOk, IfSome, OnOk, OnErr};
+ghost use Rattle.muni_keep.specs.Keeper.{SameKeeper};
 ghost use Rattle.muni_step.specs.Runs.{RunsTo, RunsFirst};
 ghost use Rattle.muni_book.specs.Answers.{IsRightAnswer};
 
@@ -34,10 +33,7 @@ pub fn run<R: Threads + Sync, K: Keeper, E: Encloser + Sync, G: Gate + Sync>(
     ensures first { OnErr result (IfSome (K.tables keeper.old) (λ t.
         RunsFirst (IsRightAnswer (E.ends encloser.now)) t commands.now (K.tables keeper.new))) }
 
-    ensures tells { is_some (K.tables keeper.new) ≡ is_some (K.tables keeper.old) }
-    ensures later { K.faults keeper.old ≤ K.faults keeper.new }
-    ensures failed { IsErrOf result BookFault.Failed → Rose (K.faults keeper.old) (K.faults keeper.new) }
-    ensures mark { K.mark keeper.new ≡ K.mark keeper.old }
+    ensures same { SameKeeper K.Keeper BookFault.Failed result keeper.old keeper.new }
 {
     let mut replies = Vec::new(alloc);
     for command in commands {

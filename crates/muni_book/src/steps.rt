@@ -1,9 +1,8 @@
 //! The book: what each command is answered, and what is kept for it.
 
-ghost use Rattle.std.specs.Prelude.{◌≡◌, ◌≤◌, IfOk, IfSome, OnErr, IsErrOf};
-ghost use Rattle.std.specs.Option.{is_some};
-ghost use Rattle.muni_edge.specs.Sink.{Rose};
+ghost use Rattle.std.specs.Prelude.{◌≡◌, ◌≤◌, IfOk, IfSome, OnErr};
 ghost use Rattle.muni_keep.specs.History.{next_number};
+ghost use Rattle.muni_keep.specs.Keeper.{SameKeeper};
 ghost use Rattle.muni_keep.specs.Tables.{issue_at, trade_at};
 ghost use Rattle.muni_step.specs.Runs.{StepsTo, IsRefusal};
 ghost use Rattle.muni_step.specs.Step.{CanKeep};
@@ -40,10 +39,7 @@ pub fn apply<R: Threads + Sync, K: Keeper, E: Encloser + Sync, G: Gate + Sync>(
     ensures refused { IfOk result (λ reply. IsRefusal reply → K.tables keeper.new ≡ K.tables keeper.old) }
     ensures unchanged { OnErr result (K.tables keeper.new ≡ K.tables keeper.old) }
 
-    ensures tells { is_some (K.tables keeper.new) ≡ is_some (K.tables keeper.old) }
-    ensures later { K.faults keeper.old ≤ K.faults keeper.new }
-    ensures failed { IsErrOf result BookFault.Failed → Rose (K.faults keeper.old) (K.faults keeper.new) }
-    ensures mark { K.mark keeper.new ≡ K.mark keeper.old }
+    ensures same { SameKeeper K.Keeper BookFault.Failed result keeper.old keeper.new }
 {
     let plan = plan_of(keeper, command)?;
     Ok(carry_out(rt, keeper, plan, workers, encloser, gate)?)
@@ -62,10 +58,7 @@ fn carry_out<R: Threads + Sync, K: Keeper, E: Encloser + Sync, G: Gate + Sync>(
     ensures done { IfOk result (λ reply. IfSome (K.tables keeper.old) (λ t.
         IsCarriedOut (IsRightAnswer (E.ends encloser.now)) plan t reply (K.tables keeper.new))) }
     ensures unchanged { OnErr result (K.tables keeper.new ≡ K.tables keeper.old) }
-    ensures tells { is_some (K.tables keeper.new) ≡ is_some (K.tables keeper.old) }
-    ensures later { K.faults keeper.old ≤ K.faults keeper.new }
-    ensures failed { IsErrOf result KeepFault.Failed → Rose (K.faults keeper.old) (K.faults keeper.new) }
-    ensures mark { K.mark keeper.new ≡ K.mark keeper.old }
+    ensures same { SameKeeper K.Keeper KeepFault.Failed result keeper.old keeper.new }
 {
     match plan {
         Plan::Answer(reply) => Ok(reply),
@@ -106,9 +99,7 @@ fn keep_issue<K: Keeper>(keeper: &mut K, issue: &Issue) -> Result<Reply, KeepFau
     requires { IfSome (K.tables keeper.old) (λ t. issue_at t issue.now.cusip ≡ None) }
     ensures kept { IfOk result (KeepsIssue issue.now (K.tables keeper.old) (K.tables keeper.new)) }
     ensures unchanged { OnErr result (K.tables keeper.new ≡ K.tables keeper.old) }
-    ensures later { K.faults keeper.old ≤ K.faults keeper.new }
-    ensures failed { IsErrOf result KeepFault.Failed → Rose (K.faults keeper.old) (K.faults keeper.new) }
-    ensures mark { K.mark keeper.new ≡ K.mark keeper.old }
+    ensures same { SameKeeper K.Keeper KeepFault.Failed result keeper.old keeper.new }
 {
     keeper.put_issue(issue)?;
     Ok(Reply::Added {
@@ -127,9 +118,7 @@ fn keep_version<K: Keeper>(
     ensures kept { IfOk result
         (KeepsVersion issue key number version (K.tables keeper.old) (K.tables keeper.new)) }
     ensures unchanged { OnErr result (K.tables keeper.new ≡ K.tables keeper.old) }
-    ensures later { K.faults keeper.old ≤ K.faults keeper.new }
-    ensures failed { IsErrOf result KeepFault.Failed → Rose (K.faults keeper.old) (K.faults keeper.new) }
-    ensures mark { K.mark keeper.new ≡ K.mark keeper.old }
+    ensures same { SameKeeper K.Keeper KeepFault.Failed result keeper.old keeper.new }
 {
     keeper.put_version(&key, number, &version)?;
     Ok(Reply::Confirmed {

@@ -29,9 +29,9 @@ pub loop-command-preserved : goal.loop-command-preserved
 loop-command-preserved g c = record {
   run = one-more (IsRightAnswer (g.E.Encloser.ends c.args.encloser.now)) _ c.args.commands.now c.loop-command.command-index c.loop-command.replies.items _ _ _ c.command-item.result c.in_ok-reply.reply
       c.loop-command-test.true (sym c.command-item.is) c.in_ok-push.ensures c.loop-command.invariant.run c.in_ok-reply.ensures.step;
-  tells = c.apply.ensures.tells ∙ c.loop-command.invariant.tells;
+  tells = c.apply.ensures.same.tells ∙ c.loop-command.invariant.tells;
   later = omega arith;
-  mark = c.apply.ensures.mark ∙ c.loop-command.invariant.mark;
+  mark = c.apply.ensures.same.mark ∙ c.loop-command.invariant.mark;
 }
 
 pub returns-clause-run : goal.returns-clause-run
