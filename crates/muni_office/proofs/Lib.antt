@@ -1,4 +1,4 @@
-pub mod EndLemmas
+pub mod FaultLemmas
 pub mod ImportLemmas
 pub mod StoreLemmas
 pub mod TakenLemmas

@@ -7,24 +7,24 @@ use Rattle.muni_msg.specs.declared.refusal.Refusal.TheVariants.{UnknownIssue, Un
 use Rattle.muni_msg.specs.declared.version.Version.{Version}
 use Rattle.muni_confirm.specs.Confirmation.{confirmation_text}
 use Rattle.muni_confirm.specs.Refusal.{refusal_text}
-use Rattle.muni_office.specs.declared.end.End.{End}
-use Rattle.muni_office.specs.declared.end.End.TheVariants.{Done, Refused}
+use Rattle.muni_office.specs.declared.confirmations.Answered.{Answered}
+use Rattle.muni_office.specs.declared.confirmations.Answered.TheVariants.{Confirmed, Refused}
 
--- a text, and how the command ends once it is written
+-- what is written, and its text
 pub record Answer : Type 0 where
-  pub end : End
+  pub answered : Answered
   pub text : List ℕ
 
 -- of a version that is kept, by whether its issue is
 abbrev pub of_version : Key → ℕ → Version → Option IssueRow → Answer
 of_version key number version None =
-    record { end = Refused; text = refusal_text UnknownIssue }
+    record { answered = Refused; text = refusal_text UnknownIssue }
 of_version key number version (Some issue) =
-    record { end = Done; text = confirmation_text issue key number version }
+    record { answered = Confirmed; text = confirmation_text issue key number version }
 
 -- of the last version that is kept, if any is
 abbrev pub of_last : Tables → Key → Option (ℕ × Version) → Answer
-of_last tables key None = record { end = Refused; text = refusal_text UnknownTrade }
+of_last tables key None = record { answered = Refused; text = refusal_text UnknownTrade }
 of_last tables key (Some last) =
     of_version key last.0 last.1 (issue_at tables last.1.terms.asked.cusip)
 

@@ -1,4 +1,8 @@
 pub mod Confirm
-pub mod End
+pub mod Confirmed
+pub mod Fault
 pub mod Import
+pub mod Imported
 pub mod Input
+pub mod Lent
+pub mod Output

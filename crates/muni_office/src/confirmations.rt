@@ -1,12 +1,15 @@
 //! The confirmation of a kept trade.
 
-ghost use Rattle.std.specs.Prelude.{◌≡◌, ◌≤◌, None, ℕ, List, IfOk, IfSome, OnErr, IsErrOf};
+ghost use Rattle.std.specs.Prelude.{◌≡◌, ◌≤◌, None, IfOk, IfSome, IsErrOf};
 ghost use Rattle.muni_confirm.specs.Refusal.{refusal_text};
-ghost use Rattle.muni_edge.specs.Sink.{Rose, HasWritten, HasWrittenPart};
+ghost use Rattle.muni_edge.specs.Sink.{Rose};
+ghost use Rattle.muni_keep.specs.Cabinet.{LeavesAll};
+ghost use Rattle.muni_keep.specs.Keeper.{OnlyReads};
 ghost use Rattle.muni_office.specs.Confirm.{confirmed};
-ghost use Rattle.muni_office.specs.End.{IsAnswered, IsConfirmEnd};
+ghost use Rattle.muni_office.specs.Confirmed.{Confirmed};
 
-use crate::end::End;
+use crate::fault::Fault;
+use crate::output::write;
 use arrayvec::ArrayVec;
 use muni_confirm::{confirmation, refusal_line};
 use muni_dec::text::push;
@@ -14,39 +17,33 @@ use muni_edge::Sink;
 use muni_keep::{Cabinet, KeepFault, Keeper};
 use muni_msg::{Key, Refusal};
 
+/// Which answer was written.
+#[derive(Clone, Copy, Debug, PartialEq, Eq)]
+pub enum Answered {
+    /// The confirmation of the trade.
+    Confirmed,
+    /// The line of a refusal.
+    Refused,
+}
+
 /// Writes the confirmation of the last version of a trade that a store keeps, or the line of a refusal
 /// where none is kept.
-pub fn confirm<O: Sink, C: Cabinet>(store: &[u8], key: &Key, output: &mut O, cabinet: &mut C) -> End
+pub fn confirm<O: Sink, C: Cabinet>(
+    store: &[u8],
+    key: &Key,
+    output: &mut O,
+    cabinet: &mut C,
+) -> Result<Answered, Fault>
     requires { C.out cabinet.old ≡ None }
-
-    // What is written, where the cabinet tells the tables of the store.
-    ensures answered { IsAnswered result → IfSome (C.told cabinet.old store.now) (λ t.
-        (result ≡ (confirmed t key.now).end)
-        × HasWritten (O.bytes output.old) (O.bytes output.new) (confirmed t key.now).text) }
-    ensures part { result ≡ End.WriteFault → IfSome (C.told cabinet.old store.now) (λ t.
-        HasWrittenPart (O.bytes output.old) (O.bytes output.new) (confirmed t key.now).text) }
-    ensures store { result ≡ End.StoreFault → output.new ≡ output.old }
-    ensures memory { result ≡ End.NoMemory → output.new ≡ output.old }
-
-    // No tables change, and no keeper stays out.
-    ensures tables { (other : List ℕ) → C.told cabinet.new other ≡ C.told cabinet.old other }
-    ensures none_out { C.out cabinet.new ≡ None }
-
-    // When each fault comes.
-    ensures store_fault { result ≡ End.StoreFault → Rose (C.faults cabinet.old) (C.faults cabinet.new) }
-    ensures write_fault { result ≡ End.WriteFault → Rose (O.faults output.old) (O.faults output.new) }
-    ensures others { IsConfirmEnd result }
+    ensures confirmed { Confirmed O.Sink C.Cabinet store.now key.now result
+        output.old output.new cabinet.old cabinet.new }
+    ensures leaves { LeavesAll C.Cabinet cabinet.old cabinet.new }
     ensures puts_later { O.faults output.old ≤ O.faults output.new }
 {
     let mut text = ArrayVec::new();
-    match fetch_answer(store, key, cabinet, &mut text) {
-        Ok(end) => match output.put(text.as_slice()) {
-            Ok(()) => end,
-            Err(_) => End::WriteFault,
-        },
-        Err(KeepFault::Failed) => End::StoreFault,
-        Err(KeepFault::NoMemory) => End::NoMemory,
-    }
+    let answered = fetch_answer(store, key, cabinet, &mut text)?;
+    write(text.as_slice(), output)?;
+    Ok(answered)
 }
 
 // The answer from the tables of a store, whose keeper is fetched and given back.
@@ -55,19 +52,17 @@ fn fetch_answer<C: Cabinet>(
     key: &Key,
     cabinet: &mut C,
     text: &mut ArrayVec<u8, 1024>,
-) -> Result<End, KeepFault>
+) -> Result<Answered, KeepFault>
     requires { C.out cabinet.old ≡ None }
-    ensures answered { IfOk result (λ end. IfSome (C.told cabinet.old store.now) (λ t.
-        confirmed t key.now ≡ record { end = end; text = text.new.items })) }
-    ensures end { IfOk result (λ end. IsAnswered end) }
-    ensures tables { (other : List ℕ) → C.told cabinet.new other ≡ C.told cabinet.old other }
-    ensures none_out { C.out cabinet.new ≡ None }
+    ensures answered { IfOk result (λ answered. IfSome (C.told cabinet.old store.now) (λ t.
+        confirmed t key.now ≡ record { answered = answered; text = text.new.items })) }
+    ensures leaves { LeavesAll C.Cabinet cabinet.old cabinet.new }
     ensures failed { IsErrOf result KeepFault.Failed → Rose (C.faults cabinet.old) (C.faults cabinet.new) }
 {
     let mut keeper = cabinet.fetch(store)?;
-    let end = answer(&mut keeper, key, text);
+    let answered = answer(&mut keeper, key, text);
     cabinet.give_back(keeper);
-    end
+    answered
 }
 
 // The confirmation of the last version, or the line of a refusal.
@@ -76,25 +71,21 @@ fn answer<K: Keeper>(
     keeper: &mut K,
     key: &Key,
     text: &mut ArrayVec<u8, 1024>,
-) -> Result<End, KeepFault>
-    ensures answered { IfOk result (λ end. IfSome (K.tables keeper.old) (λ t.
-        confirmed t key.now ≡ record { end = end; text = text.new.items })) }
-    ensures end { IfOk result (λ end. IsAnswered end) }
-    ensures unchanged { K.tables keeper.new ≡ K.tables keeper.old }
-    ensures later { K.faults keeper.old ≤ K.faults keeper.new }
-    ensures failed { IsErrOf result KeepFault.Failed → Rose (K.faults keeper.old) (K.faults keeper.new) }
-    ensures mark { K.mark keeper.new ≡ K.mark keeper.old }
+) -> Result<Answered, KeepFault>
+    ensures answered { IfOk result (λ answered. IfSome (K.tables keeper.old) (λ t.
+        confirmed t key.now ≡ record { answered = answered; text = text.new.items })) }
+    ensures reads { OnlyReads K.Keeper result keeper.old keeper.new }
 {
     let Some((number, version)) = keeper.last(key)? else {
         refuse(&Refusal::UnknownTrade, text);
-        return Ok(End::Refused);
+        return Ok(Answered::Refused);
     };
     let Some(issue) = keeper.issue(&version.terms.asked.cusip)? else {
         refuse(&Refusal::UnknownIssue, text);
-        return Ok(End::Refused);
+        return Ok(Answered::Refused);
     };
     confirmation(&issue, key, number, &version, text);
-    Ok(End::Done)
+    Ok(Answered::Confirmed)
 }
 
 fn refuse(refusal: &Refusal, text: &mut ArrayVec<u8, 1024>)

@@ -1,9 +1,9 @@
 //! A whole input.
 
-ghost use Rattle.std.specs.Prelude.{◌≡◌, ◌≤◌, ◌<◌, ◌+◌, ◌^◌, ◌++◌, ℕ, List, [], Some, Err, length, vec_len, IfOk, IfSome, IfErr};
+ghost use Rattle.std.specs.Prelude.{◌≡◌, ◌≤◌, ◌<◌, ◌+◌, ◌^◌, ◌++◌, ℕ, List, Err, vec_len, IfOk, IfErr};
 ghost use Rattle.std.specs.Io.KnownBytes.{Consumes, IsAtEnd};
 ghost use Rattle.muni_edge.specs.Sink.{Rose};
-ghost use Rattle.muni_office.specs.Input.{IsNotTooLarge};
+ghost use Rattle.muni_office.specs.Input.{IsNotTooLarge, ReadsAll};
 
 use muni_edge::{Failed, Source};
 use std::alloc::Global;
@@ -26,13 +26,7 @@ pub fn read_input<I: Source>(
     limit: usize,
 ) -> Result<Vec<u8>, InputFault>
     requires { limit < 2 ^ 32 }
-    ensures whole { IfOk result (λ bytes. IfSome (I.left source.old)
-        (λ all. (all ≡ bytes.items) × (I.left source.new ≡ Some []))) }
-    ensures limit { IfOk result (λ bytes. length bytes.items ≤ limit) }
-    ensures too_large { result ≡ Err InputFault.TooLarge → IfSome (I.left source.old)
-        (λ all. limit < length all) }
-    ensures later { I.faults source.old ≤ I.faults source.new }
-    ensures failed { result ≡ Err InputFault.Failed → Rose (I.faults source.old) (I.faults source.new) }
+    ensures { ReadsAll I.Source limit result (λ bytes. bytes.items) source.old source.new }
 {
     let mut bytes = Vec::new(alloc);
     for turn in 0..limit + 2 {

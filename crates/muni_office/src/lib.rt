@@ -2,13 +2,15 @@
 #![tactic(auto)]
 
 mod confirmations;
-mod end;
+mod fault;
 mod imports;
 mod input;
+mod output;
 mod rows;
 
-pub use confirmations::confirm;
-pub use end::End;
+pub use confirmations::{Answered, confirm};
+pub use fault::Fault;
 pub use imports::{LIMIT, import};
 pub use input::{InputFault, read_input};
+pub use output::write;
 pub use rows::import_rows;
