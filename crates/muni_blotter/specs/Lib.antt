@@ -1,2 +1,4 @@
+pub mod Imported
 pub mod Importing
+pub mod Listed
 pub mod Listing

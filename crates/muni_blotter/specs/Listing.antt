@@ -4,8 +4,6 @@ use Rattle.muni_keep.specs.Tables.{Tables}
 use Rattle.muni_position.specs.Holdings.{HasTooMany}
 use Rattle.muni_position.specs.Line.{position_lines}
 use Rattle.muni_position.specs.Positions.{last_versions, positions_of}
-use Rattle.muni_office.specs.declared.end.End.{End}
-use Rattle.muni_office.specs.declared.end.End.TheVariants.{Done, Refused, ReadFault, WriteFault, StoreFault, NoMemory, TooLarge}
 
 -- the lines of the positions of a desk over tables
 abbrev pub positions_text : List ℕ → Tables → List ℕ
@@ -15,13 +13,3 @@ positions_text desk tables = position_lines (positions_of (last_versions desk ta
 abbrev pub MayNotSum : List ℕ → Option Tables → Type 0
 MayNotSum desk None = ⊤
 MayNotSum desk (Some tables) = HasTooMany desk tables
-
--- how a listing may end
-abbrev pub IsListingEnd : End → Type 0
-IsListingEnd Done = ⊤
-IsListingEnd Refused = ⊥
-IsListingEnd ReadFault = ⊥
-IsListingEnd WriteFault = ⊤
-IsListingEnd StoreFault = ⊤
-IsListingEnd NoMemory = ⊤
-IsListingEnd TooLarge = ⊥

@@ -1,13 +1,15 @@
 //! The positions of a desk.
 
-ghost use Rattle.std.specs.Prelude.{◌≡◌, ◌⊎◌, ◌≤◌, None, ℕ, List, IfOk, IfSome, IsErrOf};
-ghost use Rattle.muni_edge.specs.Sink.{Rose, HasWritten, HasWrittenPart};
-ghost use Rattle.muni_blotter.specs.Listing.{MayNotSum, IsListingEnd, positions_text};
+ghost use Rattle.std.specs.Prelude.{◌≡◌, ◌⊎◌, ◌≤◌, None, IfOk, IfSome, IsErrOf};
+ghost use Rattle.muni_edge.specs.Sink.{Rose};
+ghost use Rattle.muni_keep.specs.Cabinet.{LeavesAll};
+ghost use Rattle.muni_blotter.specs.Listed.{Listed};
+ghost use Rattle.muni_blotter.specs.Listing.{MayNotSum, positions_text};
 
 use muni_edge::Sink;
 use muni_keep::{Cabinet, KeepFault, Keeper};
 use muni_msg::DeskName;
-use muni_office::End;
+use muni_office::{Fault, write};
 use muni_position::{Positioned, over};
 use std::alloc::Global;
 
@@ -20,36 +22,15 @@ pub fn positions<O: Sink, C: Cabinet>(
     desk: &DeskName,
     output: &mut O,
     cabinet: &mut C,
-) -> End
+) -> Result<(), Fault>
     requires { C.out cabinet.old ≡ None }
-
-    // What is written, where the cabinet tells the tables of the store.
-    ensures done { result ≡ End.Done → IfSome (C.told cabinet.old store.now)
-        (λ t. HasWritten (O.bytes output.old) (O.bytes output.new) (positions_text desk.now t)) }
-    ensures part { result ≡ End.WriteFault → IfSome (C.told cabinet.old store.now)
-        (λ t. HasWrittenPart (O.bytes output.old) (O.bytes output.new) (positions_text desk.now t)) }
-    ensures store { result ≡ End.StoreFault → output.new ≡ output.old }
-    ensures memory { result ≡ End.NoMemory → output.new ≡ output.old }
-
-    // No tables change, and no keeper stays out.
-    ensures tables { (other : List ℕ) → C.told cabinet.new other ≡ C.told cabinet.old other }
-    ensures none_out { C.out cabinet.new ≡ None }
-
-    // When each fault comes.
-    ensures store_fault { result ≡ End.StoreFault → Rose (C.faults cabinet.old) (C.faults cabinet.new)
-        ⊎ MayNotSum desk.now (C.told cabinet.old store.now) }
-    ensures write_fault { result ≡ End.WriteFault → Rose (O.faults output.old) (O.faults output.new) }
-    ensures others { IsListingEnd result }
+    ensures listed { Listed O.Sink desk.now (C.told cabinet.old store.now)
+        (Rose (C.faults cabinet.old) (C.faults cabinet.new)) result output.old output.new }
+    ensures leaves { LeavesAll C.Cabinet cabinet.old cabinet.new }
     ensures puts_later { O.faults output.old ≤ O.faults output.new }
 {
-    match fetch_lines(alloc, store, desk, cabinet) {
-        Ok(lines) => match output.put(lines.as_slice()) {
-            Ok(()) => End::Done,
-            Err(_) => End::WriteFault,
-        },
-        Err(KeepFault::Failed) => End::StoreFault,
-        Err(KeepFault::NoMemory) => End::NoMemory,
-    }
+    let lines = fetch_lines(alloc, store, desk, cabinet)?;
+    write(lines.as_slice(), output)
 }
 
 // The lines from the tables of a store, whose keeper is fetched and given back.
@@ -62,8 +43,7 @@ fn fetch_lines<C: Cabinet>(
     requires { C.out cabinet.old ≡ None }
     ensures lines { IfOk result (λ lines. IfSome (C.told cabinet.old store.now)
         (λ t. lines.items ≡ positions_text desk.now t)) }
-    ensures tables { (other : List ℕ) → C.told cabinet.new other ≡ C.told cabinet.old other }
-    ensures none_out { C.out cabinet.new ≡ None }
+    ensures leaves { LeavesAll C.Cabinet cabinet.old cabinet.new }
     ensures failed { IsErrOf result KeepFault.Failed → Rose (C.faults cabinet.old) (C.faults cabinet.new)
         ⊎ MayNotSum desk.now (C.told cabinet.old store.now) }
 {

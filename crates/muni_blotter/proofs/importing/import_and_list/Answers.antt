@@ -1,37 +1,34 @@
-use Rattle.std.proofs.Common.{◌⊎◌, sym, ap, subst, ◌∙◌, IfSome}
+use Rattle.std.proofs.Common.{◌≡◌, ◌⊎◌, Err, sym, ap, subst, ◌∙◌, IfSome, rules}
 use Rattle.muni_book.specs.Answers.{IsRightAnswer}
 use Rattle.muni_edge.specs.Sink.{Rose}
 use Rattle.muni_import.specs.Rows.{rows_of}
+use Rattle.muni_keep.specs.declared.fault.KeepFault.TheVariants as keep
 use Rattle.muni_office.specs.Import.{Did}
+use Rattle.muni_blotter.specs.Listed.{Listed}
 use Rattle.muni_blotter.specs.Listing.{MayNotSum}
-use Rattle.muni_blotter.proofs.ImportingLemmas.{none-done, fault-behind}
+use Rattle.muni_blotter.proofs.ImportingLemmas.{unwatched, listed-behind}
 use Rattle.muni_blotter.proofs.importing.import_and_list.Goals as goal
 
-pub returns-in-Err-Failed-clause-store : goal.returns-in-Err-Failed-clause-store
-returns-in-Err-Failed-clause-store g c _ =
+pub returns-in-Err-clause-applied : goal.returns-in-Err-clause-applied
+returns-in-Err-clause-applied g c =
     let tables = g.K.Keeper.tables in
-    none-done (IsRightAnswer (g.E.Encloser.ends c.args.encloser.now)) c.args.text.now (tables c.args.keeper) (tables c.back.result) (g.O.Sink.bytes c.args.output.now)
-    (ap tables c.back.ensures ∙ c.in-Err-Failed.ensures.unchanged ∙ ap tables c.over-positioned.ensures.inner)
+    let faults = g.K.Keeper.faults in
+    let counted : c.watch.result ≡ Err keep.Failed → Rose (faults c.args.keeper) (faults c.back.result) ⊎ MayNotSum c.args.desk.now (tables c.args.keeper) = search rules in
+    unwatched (Unit {0}) g.K.Keeper g.O.Sink (IsRightAnswer (g.E.Encloser.ends c.args.encloser.now)) c.args.desk.now c.args.text.now c.watch.result c.in-Err.fault c.from.result c.args.keeper c.back.result c.args.output.now
+    c.in-Err.is c.from.ensures (ap tables c.back.ensures ∙ c.in-Err.ensures.unchanged ∙ ap tables c.over-positioned.ensures.inner) counted
 
-pub returns-in-Err-NoMemory-clause-memory : goal.returns-in-Err-NoMemory-clause-memory
-returns-in-Err-NoMemory-clause-memory g c _ =
-    let tables = g.K.Keeper.tables in
-    none-done (IsRightAnswer (g.E.Encloser.ends c.args.encloser.now)) c.args.text.now (tables c.args.keeper) (tables c.back-in-Err-NoMemory.result) (g.O.Sink.bytes c.args.output.now)
-    (ap tables c.back-in-Err-NoMemory.ensures ∙ c.in-Err-NoMemory.ensures.unchanged ∙ ap tables c.over-positioned.ensures.inner)
-
-pub returns-in-Done-clause-store_fault : goal.returns-in-Done-clause-store_fault
-returns-in-Done-clause-store_fault g c = λ is.
+pub returns-in-Ok-clause-applied : goal.returns-in-Ok-clause-applied
+returns-in-Ok-clause-applied g c =
     let tables = g.K.Keeper.tables in
     let faults = g.K.Keeper.faults in
     let prices = IsRightAnswer (g.E.Encloser.ends c.args.encloser.now) in
-    let rows = rows_of c.args.text.now in
     let desk = c.args.desk.now in
-    let had = g.O.Sink.bytes c.args.output.now in
-    let reported = g.O.Sink.bytes c.import_rows-end.new.output in
-    let keeper = c.import_rows-end.new.keeper.positioned.inner in
-    let last = c.back-in-Done.result in
-    let start = ap (λ k. tables k.inner) c.follow-following.ensures ∙ c.in-Ok.ensures.unchanged ∙ ap tables c.over-positioned.ensures.inner in
-    let did = subst (λ o. IfSome o (λ t. Did prices rows t (tables keeper) had reported)) start (c.import_rows-end.ensures.done c.in-Done.is) in
-    let fault = subst (λ k. Rose (faults k.inner) (faults c.list-end.new.keeper.inner) ⊎ MayNotSum desk (tables k.inner)) c.back-positioned.ensures.same (c.list-end.ensures.store_fault is) in
-    fault-behind prices desk rows (tables c.args.keeper) (tables keeper) had reported (faults c.args.keeper) (faults keeper) (faults last) c.requires.faults did
-    (subst (λ k. Rose (faults keeper) (faults k) ⊎ MayNotSum desk (tables keeper)) (sym c.back-in-Done.ensures) fault)
+    let keeper = c.import_rows-done.new.keeper.positioned.inner in
+    let last = c.back-in-Ok.result in
+    let start = ap (λ k. tables k.inner) c.follow-following.ensures ∙ c.watch.ensures.unchanged ∙ ap tables c.over-positioned.ensures.inner in
+    let did = subst (λ o. IfSome o (λ t. Did prices (rows_of c.args.text.now) t (tables keeper) (g.O.Sink.bytes c.args.output.now) (g.O.Sink.bytes c.import_rows-done.new.output))) start c.in-Ok.ensures.applied in
+    let listed = subst (λ k. Listed g.O.Sink desk (tables k.inner) (Rose (faults k.inner) (faults c.list-listed.new.keeper.inner)) c.list-listed.result c.import_rows-done.new.output c.list-listed.new.output) c.back-positioned.ensures.same c.list-listed.ensures.listed in
+    listed-behind g.K.Keeper g.O.Sink prices desk c.args.text.now c.list-listed.result c.args.keeper keeper last c.args.output.now c.import_rows-done.new.output c.list-listed.new.output
+    c.requires.faults did c.import_rows-done.ensures.puts_later
+    (ap tables c.back-in-Ok.ensures ∙ c.list-listed.ensures.unchanged ∙ ap (λ k. tables k.inner) c.back-positioned.ensures.same)
+    (subst (λ k. Listed g.O.Sink desk (tables keeper) (Rose (faults keeper) (faults k)) c.list-listed.result c.import_rows-done.new.output c.list-listed.new.output) (sym c.back-in-Ok.ensures) listed)
