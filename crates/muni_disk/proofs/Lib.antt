@@ -1,5 +1,6 @@
 pub mod Elapsed
 pub mod Patches
 pub mod Pieces
+pub mod PlaceLemmas
 pub mod Runs
 pub mod Truth

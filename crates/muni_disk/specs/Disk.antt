@@ -11,6 +11,10 @@ abbrev pub ReadsAs : Option (List ℕ) → List ℕ → Type 0
 ReadsAs None image = ⊥
 ReadsAs (Some bytes) image = (i : ℕ) → byte_at image i ≡ byte_at bytes i
 
+-- this holds of the bytes that a disk reads as, if it exposes them
+abbrev pub IfRead : Option (List ℕ) → (List ℕ → Type 0) → Type 0
+IfRead bytes Holds = (c : List ℕ) → ReadsAs bytes c → Holds c
+
 -- the image comes so from one that there was
 abbrev pub ComesFrom : (List ℕ → List ℕ → Type 0) → (List ℕ → Type 0) → List ℕ → Type 0
 ComesFrom Step old image = (before : List ℕ) × old before × Step before image

@@ -1,8 +1,9 @@
 //! What a journal is kept on.
 
-ghost use Rattle.std.specs.Prelude.{◌≡◌, ◌<◌, ◌+◌, ◌^◌, ◌↔◌, ℕ, List, Option, length, is_some, OnOk};
+ghost use Rattle.std.specs.Prelude.{◌≡◌, ◌<◌, ◌+◌, ◌^◌, ◌↔◌, ℕ, List, Option, length, OnOk};
 ghost use Rattle.muni_disk.specs.Bytes.{bytes_at, StandsAt};
-ghost use Rattle.muni_disk.specs.Disk.{ReadsAs, IsTorn, GoesBy, HasCause};
+ghost use Rattle.muni_disk.specs.Disk.{ReadsAs, IfRead, IsTorn};
+ghost use Rattle.muni_disk.specs.Frames.{Keeps, IsSame, TakesTime};
 
 use crate::fault::DiskFault;
 
@@ -28,40 +29,30 @@ pub trait Disk {
     fn read(&mut self, place: u64, room: &mut [u8]) -> Result<(), DiskFault>
         requires { place + length room.old < 2 ^ 41 }
 
-        ensures filled { OnOk result ((c : List ℕ) → ReadsAs (bytes self.old) c
-            → room.new ≡ bytes_at c place (length room.old)) }
-        ensures bytes { bytes self.new ≡ bytes self.old }
-        ensures images { (c : List ℕ) → image self.new c → image self.old c }
-        ensures time { GoesBy (clock self.old) (clock self.new) (since self.old) (since self.new)
-            (image self.new) }
-        ensures cause { HasCause (faults self.old) (faults self.new) result };
+        ensures filled { OnOk result (IfRead (bytes self.old)
+            (λ c. room.new ≡ bytes_at c place (length room.old))) }
+        ensures keeps { Keeps bytes image faults DiskFault.Failed result self.old self.new }
+        ensures time { TakesTime clock since image self.old self.new };
 
     /// Writes a piece at a place. Until the next sync a stop may leave any bytes there, also where
     /// the write is refused.
     fn write(&mut self, place: u64, piece: &[u8]) -> Result<(), DiskFault>
         requires { place + length piece.now < 2 ^ 41 }
 
-        ensures tells { is_some (bytes self.new) ≡ is_some (bytes self.old) }
-        ensures written { OnOk result ((c : List ℕ) → ReadsAs (bytes self.new) c
-            → StandsAt place piece.now c) }
+        ensures written { OnOk result (IfRead (bytes self.new) (StandsAt place piece.now)) }
 
         // Nothing outside the range of the piece changes, neither in what it reads as nor in an image.
         ensures outside { IsTorn place (length piece.now) (ReadsAs (bytes self.old))
             (ReadsAs (bytes self.new)) }
         ensures images { IsTorn place (length piece.now) (image self.old) (image self.new) }
-        ensures time { GoesBy (clock self.old) (clock self.new) (since self.old) (since self.new)
-            (image self.new) }
-        ensures cause { HasCause (faults self.old) (faults self.new) result };
+        ensures same { IsSame bytes faults DiskFault.Failed result self.old self.new }
+        ensures time { TakesTime clock since image self.old self.new };
 
     /// Sees that what was written stays: where it succeeds, a stop leaves what the disk reads as.
     fn sync(&mut self) -> Result<(), DiskFault>
-        ensures only { OnOk result
-            ((c : List ℕ) → image self.new c → ReadsAs (bytes self.old) c) }
-        ensures bytes { bytes self.new ≡ bytes self.old }
-        ensures images { (c : List ℕ) → image self.new c → image self.old c }
-        ensures time { GoesBy (clock self.old) (clock self.new) (since self.old) (since self.new)
-            (image self.new) }
-        ensures cause { HasCause (faults self.old) (faults self.new) result };
+        ensures only { OnOk result ((c : List ℕ) → image self.new c → ReadsAs (bytes self.old) c) }
+        ensures keeps { Keeps bytes image faults DiskFault.Failed result self.old self.new }
+        ensures time { TakesTime clock since image self.old self.new };
 
     /// What it reads as is one of its images.
     ghost is_image: { (d : Self) (c : List ℕ) → ReadsAs (bytes d) c → image d c };

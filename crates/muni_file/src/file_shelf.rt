@@ -4,8 +4,7 @@ ghost use Rattle.std.specs.Prelude.{◌≡◌, None};
 ghost use Rattle.std.specs.Option.{option_map};
 
 use crate::file_disk::FileDisk;
-use muni_disk::DiskFault;
-use muni_shelf::Shelf;
+use muni_disk::{DiskFault, Shelf};
 use std::fs::{File, OpenOptions};
 use std::io::{self, ErrorKind};
 

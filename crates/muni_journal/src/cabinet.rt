@@ -10,9 +10,8 @@ ghost use Rattle.muni_journal.specs.Told.{off_shelf, told_of, mark_of};
 use crate::fetching::FetchFault;
 use crate::keeper::JournalKeeper;
 use crate::opening::{Unfetched, Unsettled, open};
-use muni_disk::{Disk, DiskFault};
+use muni_disk::{Disk, DiskFault, Shelf};
 use muni_keep::{Cabinet, KeepFault};
-use muni_shelf::Shelf;
 use std::alloc::Global;
 
 /// A keeper whose failed put could not be taken back, and its name.

@@ -1,10 +1,11 @@
 //! Puts a piece behind a closed gate and opens the gate, so that a stop leaves the slot whole or not
 //! at all.
 
-ghost use Rattle.std.specs.Prelude.{◌≡◌, ◌≢◌, ◌<◌, ◌≤◌, ◌+◌, ◌^◌, length, is_some, OnOk, IsErrOf};
+ghost use Rattle.std.specs.Prelude.{◌≢◌, ◌<◌, ◌+◌, ◌^◌, length, OnOk, IsErrOf};
 ghost use Rattle.muni_edge.specs.Sink.{Rose};
 ghost use Rattle.muni_disk.specs.Bytes.{byte_at, IsSameOutside};
-ghost use Rattle.muni_disk.specs.Disk.{ComesFrom, StopsLeave, HasCause};
+ghost use Rattle.muni_disk.specs.Calls.{SameDisk};
+ghost use Rattle.muni_disk.specs.Disk.{ComesFrom, StopsLeave};
 ghost use Rattle.muni_slots.specs.Slots.{IsStep, IsTakenBack, AllImages};
 ghost use Rattle.muni_slots.specs.Outcome.{Leaves};
 
@@ -38,10 +39,7 @@ pub fn put_slot<D: Disk>(disk: &mut D, gate: u64, piece: &[u8]) -> Result<(), Un
     // Which of them the images are at the end.
     ensures leaves { Leaves gate piece.now (D.image disk.old) (D.image disk.new) result }
 
-    ensures tells { is_some (D.bytes disk.new) ≡ is_some (D.bytes disk.old) }
-    ensures later { D.faults disk.old ≤ D.faults disk.new }
-    ensures unopened { IsErrOf result (Unput.Unopened DiskFault.Failed)
-        → Rose (D.faults disk.old) (D.faults disk.new) }
+    ensures same { SameDisk D.Disk (Unput.Unopened DiskFault.Failed) result disk.old disk.new }
     ensures in_doubt { IsErrOf result (Unput.InDoubt DiskFault.Failed)
         → Rose (D.faults disk.old) (D.faults disk.new) }
 {
@@ -72,8 +70,7 @@ pub fn take_back<D: Disk>(disk: &mut D, gate: u64) -> Result<(), DiskFault>
     ensures closed { OnOk result
         (AllImages (D.image disk.new) (ComesFrom (IsTakenBack gate) (D.image disk.old))) }
 
-    ensures tells { is_some (D.bytes disk.new) ≡ is_some (D.bytes disk.old) }
-    ensures cause { HasCause (D.faults disk.old) (D.faults disk.new) result }
+    ensures same { SameDisk D.Disk DiskFault.Failed result disk.old disk.new }
 {
     disk.write(gate, &[CLOSED])?;
     disk.sync()?;

@@ -35,7 +35,7 @@ returns-in_err-sync-clause-stops g c =
     let s0 = begun D.clock D.since D.image IsSo old (g.met.D.Disk.now old) (same_kept gate (D.image old)) in
     let k1 = gate_torn gate (D.image old) (D.image old) (D.image c.write.new.self) c.write.ensures.images (same_kept gate (D.image old)) in
     let s1 = next D.clock D.since D.image IsSo old old c.write.new.self s0 c.write.ensures.time k1 in
-    let k2 = fewer (D.image c.write.new.self) (D.image c.sync.new.self) IsSo c.sync.ensures.images k1 in
+    let k2 = fewer (D.image c.write.new.self) (D.image c.sync.new.self) IsSo c.sync.ensures.keeps.images k1 in
     let s2 = next D.clock D.since D.image IsSo old c.write.new.self c.sync.new.self s1 c.sync.ensures.time k2 in
     s2
 
@@ -48,7 +48,7 @@ returns-in_err-sync-clause-images g c =
     let s0 = begun D.clock D.since D.image IsSo old (g.met.D.Disk.now old) (same_kept gate (D.image old)) in
     let k1 = gate_torn gate (D.image old) (D.image old) (D.image c.write.new.self) c.write.ensures.images (same_kept gate (D.image old)) in
     let s1 = next D.clock D.since D.image IsSo old old c.write.new.self s0 c.write.ensures.time k1 in
-    let k2 = fewer (D.image c.write.new.self) (D.image c.sync.new.self) IsSo c.sync.ensures.images k1 in
+    let k2 = fewer (D.image c.write.new.self) (D.image c.sync.new.self) IsSo c.sync.ensures.keeps.images k1 in
     k2
 
 pub returns-clause-stops : goal.returns-clause-stops
@@ -60,7 +60,7 @@ returns-clause-stops g c =
     let s0 = begun D.clock D.since D.image IsSo old (g.met.D.Disk.now old) (same_kept gate (D.image old)) in
     let k1 = gate_torn gate (D.image old) (D.image old) (D.image c.write.new.self) c.write.ensures.images (same_kept gate (D.image old)) in
     let s1 = next D.clock D.since D.image IsSo old old c.write.new.self s0 c.write.ensures.time k1 in
-    let k2 = fewer (D.image c.write.new.self) (D.image c.sync.new.self) IsSo c.sync.ensures.images k1 in
+    let k2 = fewer (D.image c.write.new.self) (D.image c.sync.new.self) IsSo c.sync.ensures.keeps.images k1 in
     let s2 = next D.clock D.since D.image IsSo old c.write.new.self c.sync.new.self s1 c.sync.ensures.time k2 in
     s2
 
@@ -73,7 +73,7 @@ returns-clause-images g c =
     let s0 = begun D.clock D.since D.image IsSo old (g.met.D.Disk.now old) (same_kept gate (D.image old)) in
     let k1 = gate_torn gate (D.image old) (D.image old) (D.image c.write.new.self) c.write.ensures.images (same_kept gate (D.image old)) in
     let s1 = next D.clock D.since D.image IsSo old old c.write.new.self s0 c.write.ensures.time k1 in
-    let k2 = fewer (D.image c.write.new.self) (D.image c.sync.new.self) IsSo c.sync.ensures.images k1 in
+    let k2 = fewer (D.image c.write.new.self) (D.image c.sync.new.self) IsSo c.sync.ensures.keeps.images k1 in
     k2
 
 pub returns-clause-closed : goal.returns-clause-closed
@@ -85,6 +85,6 @@ returns-clause-closed g c =
     let s0 = begun D.clock D.since D.image IsSo old (g.met.D.Disk.now old) (same_kept gate (D.image old)) in
     let k1 = gate_torn gate (D.image old) (D.image old) (D.image c.write.new.self) c.write.ensures.images (same_kept gate (D.image old)) in
     let s1 = next D.clock D.since D.image IsSo old old c.write.new.self s0 c.write.ensures.time k1 in
-    let k2 = fewer (D.image c.write.new.self) (D.image c.sync.new.self) IsSo c.sync.ensures.images k1 in
+    let k2 = fewer (D.image c.write.new.self) (D.image c.sync.new.self) IsSo c.sync.ensures.keeps.images k1 in
     let shut = closed_again gate (D.image old) (ReadsAs (D.bytes c.write.new.self)) (D.image c.write.new.self) (D.image c.sync.new.self) (g.met.D.Disk.is_image c.write.new.self) k1 c.in_ok-write.ensures.written c.in_ok-sync.ensures.only in
     shut

@@ -3,7 +3,7 @@ use Rattle.std.specs.Prelude.{ℕ, nat_eq, Bool, List, [], ◌∷◌, Option, So
 use Rattle.std.specs.List.{list_any}
 use Rattle.std.specs.Cmp.Lexicographic.{pointwise}
 use Rattle.muni_disk.specs.declared.mem_disk.MemDisk.{MemDisk}
-use Rattle.muni_shelf.specs.declared.mem_shelf.Place.{Place}
+use Rattle.muni_disk.specs.declared.mem_shelf.Place.{Place}
 
 -- a name has a place
 abbrev pub has_place : List Place → List ℕ → Bool

@@ -1,7 +1,7 @@
 use Rattle.std.proofs.Common.{◌≡◌, ℕ, map, Some, Vec, Global}
 use Rattle.muni_disk.specs.declared.mem_disk.MemDisk.{MemDisk}
-use Rattle.muni_shelf.specs.declared.mem_shelf.Place.{Place}
-use Rattle.muni_shelf.proofs.mem_shelf.MemShelf.new.Given as goal
+use Rattle.muni_disk.specs.declared.mem_shelf.Place.{Place}
+use Rattle.muni_disk.proofs.mem_shelf.MemShelf.new.Given as goal
 
 -- the places of those that were taken
 abbrev pub invariant-loop-name : goal.invariant-loop-name

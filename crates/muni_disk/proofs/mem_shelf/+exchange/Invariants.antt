@@ -1,5 +1,5 @@
 use Rattle.std.proofs.Common.{length}
-use Rattle.muni_shelf.proofs.mem_shelf.+exchange.Given as goal
+use Rattle.muni_disk.proofs.mem_shelf.+exchange.Given as goal
 
 -- each call has one place less to look at
 abbrev pub decreases-exchange : goal.decreases-exchange

@@ -1,8 +1,8 @@
 use Rattle.std.proofs.Common.{◌≡◌, refl, sym, ap, ◌∙◌, rules, List, [], ◌∷◌, ◌++◌, None, length}
-use Rattle.muni_shelf.specs.declared.mem_shelf.Place.{Place}
-use Rattle.muni_shelf.specs.Places.{has_place, disk_under}
-use Rattle.muni_shelf.proofs.PlaceLemmas.{has_new, others_have, one_more}
-use Rattle.muni_shelf.proofs.mem_shelf.take_out.Goals as goal
+use Rattle.muni_disk.specs.declared.mem_shelf.Place.{Place}
+use Rattle.muni_disk.specs.Places.{has_place, disk_under}
+use Rattle.muni_disk.proofs.PlaceLemmas.{has_new, others_have, one_more}
+use Rattle.muni_disk.proofs.mem_shelf.take_out.Goals as goal
 
 pub returns-clause-there : goal.returns-clause-there
 returns-clause-there c =

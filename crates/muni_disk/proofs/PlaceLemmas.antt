@@ -4,8 +4,8 @@ use Rattle.std.specs.Cmp.Lexicographic.{pointwise, same_text}
 use Rattle.std.proofs.Math.Seq.{take-append_seam}
 use Rattle.std.proofs.lemmas.Cmp.{nat_list_eq_equiv}
 use Rattle.muni_disk.specs.declared.mem_disk.MemDisk.{MemDisk}
-use Rattle.muni_shelf.specs.declared.mem_shelf.Place.{Place}
-use Rattle.muni_shelf.specs.Places.{has_place, disk_under}
+use Rattle.muni_disk.specs.declared.mem_shelf.Place.{Place}
+use Rattle.muni_disk.specs.Places.{has_place, disk_under}
 
 or_true : (b : Bool) → b || true ≡ true
 or_true true = refl

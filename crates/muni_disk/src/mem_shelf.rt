@@ -3,10 +3,11 @@
 ghost use Rattle.std.specs.Prelude.{◌≡◌, ◌≢◌, ℕ, List, true, false, map, Some, None, Err, IfOk, OnOk, OnErr};
 ghost use Rattle.std.specs.Option.{ForSome};
 ghost use Rattle.muni_edge.specs.Calls.{none_made};
-ghost use Rattle.muni_shelf.specs.Places.{has_place, disk_under};
+ghost use Rattle.muni_disk.specs.Places.{has_place, disk_under};
 
+use crate::fault::DiskFault;
+use crate::mem_disk::MemDisk;
 use crate::shelf::Shelf;
-use muni_disk::{DiskFault, MemDisk};
 use muni_edge::Calls;
 use std::alloc::{AllocError, Global};
 
@@ -105,7 +106,7 @@ impl MemShelf {
 impl Shelf for MemShelf {
     ghost use Rattle.std.specs.Option.{option_map};
     ghost use Rattle.muni_edge.specs.Calls.{none_made};
-    ghost use Rattle.muni_shelf.specs.Places.{disk_under, bytes_of, faults_of};
+    ghost use Rattle.muni_disk.specs.Places.{disk_under, bytes_of, faults_of};
 
     type D = MemDisk;
 

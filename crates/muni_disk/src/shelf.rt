@@ -1,9 +1,11 @@
 //! What lends disks by name.
 
-ghost use Rattle.std.specs.Prelude.{◌≡◌, ◌≢◌, ℕ, List, Option, Some, None, is_some, IfOk, IfSome, OnOk, OnErr};
+ghost use Rattle.std.specs.Prelude.{◌≡◌, ℕ, List, Option, Some, None, is_some, IfOk, IfSome, OnOk, OnErr};
 ghost use Rattle.muni_disk.specs.Disk.{HasCause};
+ghost use Rattle.muni_disk.specs.Frames.{KeepsOthers};
 
-use muni_disk::{Disk, DiskFault};
+use crate::disk::Disk;
+use crate::fault::DiskFault;
 
 /// What lends disks by name, one at a time. A name that is new has an empty disk.
 pub trait Shelf {
@@ -33,10 +35,7 @@ pub trait Shelf {
         ensures none_out { OnErr result (out self.new ≡ None) }
 
         // The disks of the other names stay as they are, and after a refusal those of all names.
-        ensures tells { (other : List ℕ) → is_some (told self.new other) ≡ is_some (told self.old other) }
-        ensures others { (other : List ℕ) → other ≢ name.now → told self.new other ≡ told self.old other }
-        ensures other_faults { (other : List ℕ) → other ≢ name.now
-            → disk_faults self.new other ≡ disk_faults self.old other }
+        ensures others { KeepsOthers told disk_faults name.now self.old self.new }
         ensures unchanged { OnErr result ((other : List ℕ) → told self.new other ≡ told self.old other) }
         ensures cause { HasCause (faults self.old) (faults self.new) result };
 
@@ -49,9 +48,6 @@ pub trait Shelf {
         ensures disk_faults { IfSome (told self.old name.now)
             (λ _. disk_faults self.new name.now ≡ Self.D.faults disk) }
         ensures none_out { out self.new ≡ None }
-        ensures tells { (other : List ℕ) → is_some (told self.new other) ≡ is_some (told self.old other) }
-        ensures others { (other : List ℕ) → other ≢ name.now → told self.new other ≡ told self.old other }
-        ensures other_faults { (other : List ℕ) → other ≢ name.now
-            → disk_faults self.new other ≡ disk_faults self.old other }
+        ensures others { KeepsOthers told disk_faults name.now self.old self.new }
         ensures uncounted { faults self.new ≡ faults self.old };
 }
