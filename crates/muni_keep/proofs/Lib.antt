@@ -1,3 +1,4 @@
+mod EitherLemmas
 mod HistoryLemmas
 mod KeeperLemmas
 mod MapLemmas

@@ -1,13 +1,18 @@
 -- What a call leaves of a keeper.
 use Rattle.std.specs.Prelude.{◌≡◌, ◌≤◌, Result, is_some, IsErrOf}
 use Rattle.muni_edge.specs.Sink.{Rose}
-use Rattle.muni_keep.specs.Frames.{Reads}
+use Rattle.muni_keep.specs.Frames.{Reads, Edits}
+use Rattle.muni_keep.specs.Tables.{Tables}
 use Rattle.muni_keep.specs.declared.fault.KeepFault.{KeepFault}
 use Rattle.muni_keep.specs.declared.keeper.Keeper.{Ghosts}
 
 -- It only looks: the tables and the mark stay, and a failure is counted.
 abbrev pub OnlyReads : {K T : Type 0} → Ghosts K → Result T KeepFault → K → K → Type 0
 OnlyReads keeper result old new = Reads keeper.tables keeper.faults keeper.mark result old new
+
+-- It changes the tables by an edit, or after a refusal not at all. The mark stays, and a failure is counted.
+abbrev pub EditsTables : {K T : Type 0} → Ghosts K → (Tables → Tables) → Result T KeepFault → K → K → Type 0
+EditsTables keeper edit result old new = Edits keeper.tables keeper.faults keeper.mark edit result old new
 
 -- It is the same keeper, whatever became of its tables: it exposes them if it did before, its mark stays, and
 -- this fault is counted.

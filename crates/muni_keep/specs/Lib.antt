@@ -1,4 +1,7 @@
 pub mod Cabinet
+pub mod EitherName
+pub mod EitherOut
+pub mod EitherSide
 pub mod Frames
 pub mod History
 pub mod Keeper

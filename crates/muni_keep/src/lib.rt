@@ -3,6 +3,8 @@
 
 mod cabinet;
 mod desks;
+mod either_cabinet;
+mod either_keeper;
 mod fault;
 mod issues;
 mod keeper;
@@ -14,6 +16,8 @@ mod trade;
 mod trades;
 
 pub use cabinet::Cabinet;
+pub use either_cabinet::Either;
+pub use either_keeper::EitherKeeper;
 pub use fault::KeepFault;
 pub use keeper::Keeper;
 pub use mem_cabinet::MemCabinet;

@@ -6,10 +6,10 @@ ghost use Rattle.std.specs.Prelude.{◌≡◌};
 
 use muni_desk::{Status, desk};
 use muni_edge::NoGate;
-use muni_either::Either;
 use muni_file::FileShelf;
 use muni_host::{Input, LoopbackDoor, NoWords, Output, words};
 use muni_journal::JournalCabinet;
+use muni_keep::Either;
 use muni_multi::Doubling;
 use muni_store::SqlCabinet;
 use std::io;

@@ -3,7 +3,7 @@ use Rattle.std.proofs.Common.{◌≡◌, ◌≢◌, sym, ap, ◌∙◌, refl, Bo
 use Rattle.std.specs.Cmp.Lexicographic.{pointwise, same_text}
 use Rattle.std.proofs.lemmas.List.{take-append-drop}
 use Rattle.std.proofs.lemmas.Option.{same_Some, none-some}
-use Rattle.muni_either.specs.Name.{prefix, journal_name, told_by}
+use Rattle.muni_keep.specs.EitherName.{prefix, journal_name, told_by}
 
 by_test : (begins : Bool) (name rest : List ℕ) → begins ≡ pointwise nat_eq (take 8 name) prefix → (if begins then Some (drop 8 name) else None) ≡ Some rest → name ≡ prefix ++ rest
 by_test true name rest is found =

@@ -1,6 +1,6 @@
 -- The keeper that is out, of two cabinets of which one at most has lent one.
 use Rattle.std.specs.Prelude.{ℕ, ◌+◌, ◌*◌, List, ◌++◌, Option, Some, None}
-use Rattle.muni_either.specs.Name.{prefix}
+use Rattle.muni_keep.specs.EitherName.{prefix}
 
 -- the second marks its keepers by odd numbers
 abbrev pub out_by : Option (List ℕ × ℕ) → Option (List ℕ × ℕ) → Option (List ℕ × ℕ)

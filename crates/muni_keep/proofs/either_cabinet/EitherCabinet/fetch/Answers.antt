@@ -1,7 +1,7 @@
 use Rattle.std.proofs.Common.{◌≡◌, Some, rules}
-use Rattle.muni_either.specs.Name.{journal_name}
-use Rattle.muni_either.proofs.NameLemmas.{others_told}
-use Rattle.muni_either.proofs.cabinet.EitherCabinet.fetch.Goals as goal
+use Rattle.muni_keep.specs.EitherName.{journal_name}
+use Rattle.muni_keep.proofs.EitherLemmas.{others_told}
+use Rattle.muni_keep.proofs.either_cabinet.EitherCabinet.fetch.Goals as goal
 
 pub returns-in-Ok-clause-others : goal.returns-in-Ok-clause-others
 returns-in-Ok-clause-others g c =

@@ -1,7 +1,8 @@
 //! A keeper of one of two kinds.
 
+use crate::fault::KeepFault;
+use crate::keeper::Keeper;
 use arrayvec::ArrayVec;
-use muni_keep::{KeepFault, Keeper};
 use muni_msg::{DeskName, Key, Line, Reference, Version};
 use muni_terms::Issue;
 
@@ -14,7 +15,7 @@ pub enum EitherKeeper<K, L> {
 
 impl<K: Keeper, L: Keeper> Keeper for EitherKeeper<K, L> {
     ghost use Rattle.std.specs.Prelude.{◌+◌, ◌*◌};
-    ghost use Rattle.muni_either.specs.Side.{by_side};
+    ghost use Rattle.muni_keep.specs.EitherSide.{by_side};
 
     ghost tables = { by_side K.tables L.tables };
 

@@ -2,11 +2,12 @@
 
 ghost use Rattle.std.specs.Prelude.{◌≡◌, None};
 ghost use Rattle.std.specs.Option.{option_map, ForSome};
-ghost use Rattle.muni_either.specs.Name as spec;
-ghost use Rattle.muni_either.specs.Out.{out_by};
+ghost use Rattle.muni_keep.specs.EitherName as spec;
+ghost use Rattle.muni_keep.specs.EitherOut.{out_by};
 
-use crate::keeper::EitherKeeper;
-use muni_keep::{Cabinet, KeepFault};
+use crate::cabinet::Cabinet;
+use crate::either_keeper::EitherKeeper;
+use crate::fault::KeepFault;
 
 /// Two cabinets as one. A name that begins with `journal:` goes to the second without these eight
 /// bytes, any other to the first.
@@ -43,8 +44,8 @@ fn journal_name(name: &[u8]) -> Option<&[u8]>
 
 impl<A: Cabinet, B: Cabinet> Cabinet for Either<A, B> {
     ghost use Rattle.muni_edge.specs.Calls.{raised};
-    ghost use Rattle.muni_either.specs.Name.{journal_name, told_by};
-    ghost use Rattle.muni_either.specs.Out.{out_by};
+    ghost use Rattle.muni_keep.specs.EitherName.{journal_name, told_by};
+    ghost use Rattle.muni_keep.specs.EitherOut.{out_by};
 
     type K = EitherKeeper<A::K, B::K>;
 
