@@ -1,9 +1,8 @@
 //! A keeper whose puts the positions of a desk follow as long as there is room.
 
-ghost use Rattle.std.specs.Prelude.{◌≡◌, ◌≢◌, ◌≤◌, IfSome, OnOk, OnErr, IsErrOf};
-ghost use Rattle.std.specs.Option.{option_map};
-ghost use Rattle.muni_edge.specs.Sink.{Rose};
+ghost use Rattle.std.specs.Prelude.{◌≡◌, ◌≢◌, IfSome};
 ghost use Rattle.muni_keep.specs.History.{next_number};
+ghost use Rattle.muni_keep.specs.Keeper.{EditsTables};
 ghost use Rattle.muni_keep.specs.Tables.{trade_at, with_version};
 ghost use Rattle.muni_position.specs.Change.{HasNoRoomFor};
 
@@ -69,13 +68,8 @@ impl<K: Keeper> Keeper for Following<K> {
     fn put_version(&mut self, key: &Key, number: u32, version: &Version) -> Result<(), KeepFault>
         requires { IfSome (K.tables self.old.positioned.inner) (λ t. number ≡ next_number (trade_at t key.now)) }
 
-        ensures kept { OnOk result (K.tables self.new.positioned.inner
-            ≡ option_map (with_version key.now version.now) (K.tables self.old.positioned.inner)) }
-        ensures unchanged { OnErr result (K.tables self.new.positioned.inner ≡ K.tables self.old.positioned.inner) }
-        ensures later { K.faults self.old.positioned.inner ≤ K.faults self.new.positioned.inner }
-        ensures failed { IsErrOf result KeepFault.Failed
-            → Rose (K.faults self.old.positioned.inner) (K.faults self.new.positioned.inner) }
-        ensures mark { K.mark self.new.positioned.inner ≡ K.mark self.old.positioned.inner }
+        ensures edits { EditsTables ⟦<Following<K> as Keeper>⟧ (with_version key.now version.now) result
+            self.old self.new }
 
         // The watch ends only where the desk has no room.
         ensures watch { self.new.positioned.desk ≢ self.old.positioned.desk

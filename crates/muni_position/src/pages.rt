@@ -1,7 +1,7 @@
 //! The holdings of a desk, summed over the pages of its trades.
 
-ghost use Rattle.std.specs.Prelude.{◌≡◌, ◌+◌, ◌≤◌, ℕ, List, Some, None, IfOk, IfSome, OnOk, IsErrOf, length, map};
-ghost use Rattle.muni_edge.specs.Sink.{Rose};
+ghost use Rattle.std.specs.Prelude.{◌≡◌, ◌+◌, ◌≤◌, ℕ, List, None, IfOk, IfSome, OnOk, length, map};
+ghost use Rattle.muni_keep.specs.Keeper.{OnlyReads};
 ghost use Rattle.muni_position.specs.Holding.{plus, share, holding_of};
 ghost use Rattle.muni_position.specs.Holdings.{AreInRange, AreOf, HasTooMany, HasFew};
 ghost use Rattle.muni_position.specs.Holdings as spec;
@@ -27,10 +27,7 @@ pub(crate) fn sum_desk<K: Keeper>(
         (λ t. HasTooMany desk.now t)) }
     ensures few { IfOk result (λ found. IfSome found (λ holdings. IfSome (K.tables keeper.old)
         (λ t. HasFew desk.now t))) }
-    ensures unchanged { K.tables keeper.new ≡ K.tables keeper.old }
-    ensures later { K.faults keeper.old ≤ K.faults keeper.new }
-    ensures failed { IsErrOf result KeepFault.Failed → Rose (K.faults keeper.old) (K.faults keeper.new) }
-    ensures mark { K.mark keeper.new ≡ K.mark keeper.old }
+    ensures reads { OnlyReads K.Keeper result keeper.old keeper.new }
 {
     let mut holdings = BTreeMap::new(alloc);
     let mut after = None;

@@ -1,12 +1,11 @@
 //! A keeper with the positions of one desk beside it.
 
-ghost use Rattle.std.specs.Prelude.{◌≡◌, ◌≢◌, ◌+◌, ◌≤◌, ℕ, List, Option, Some, None, IsSome, IfOk, IfSome, OnOk, OnErr, IsErrOf, slice_get};
+ghost use Rattle.std.specs.Prelude.{◌≡◌, ◌≢◌, ◌+◌, ℕ, List, Option, Some, None, IsSome, IfOk, IfSome, OnOk, OnErr, slice_get};
 ghost use Rattle.std.specs.Option.{option_map};
-ghost use Rattle.muni_edge.specs.Calls.{one_more};
-ghost use Rattle.muni_edge.specs.Sink.{Rose};
+ghost use Rattle.muni_keep.specs.Frames.{Found};
 ghost use Rattle.muni_keep.specs.History.{next_number};
-ghost use Rattle.muni_keep.specs.Tables.{Tables, issue_at, trade_at, version_at, last_at, trade_count, page_at, with_issue, with_version};
-ghost use Rattle.muni_position.specs.Holding.{IsInRange, holding_of, position_in};
+ghost use Rattle.muni_keep.specs.Keeper.{OnlyReads, EditsTables, SameKeeper};
+ghost use Rattle.muni_keep.specs.Tables.{issue_at, trade_at, version_at, last_at, trade_count, page_at, with_issue, with_version};
 ghost use Rattle.muni_position.specs.Change.{HasNoRoomFor};
 ghost use Rattle.muni_position.specs.Holdings.{AreInRange, AreRight, HasFew, kept};
 ghost use Rattle.muni_position.specs.Holdings as spec;
@@ -75,11 +74,7 @@ impl<K: Keeper> Positioned<K> {
     pub fn watch(&mut self, desk: &DeskName) -> Result<(), KeepFault>
         ensures watched { OnOk result (self.new.desk ≡ Some desk.now) }
         ensures refused { OnErr result (self.new.desk ≡ None) }
-        ensures unchanged { K.tables self.new.inner ≡ K.tables self.old.inner }
-        ensures later { K.faults self.old.inner + self.old.faults ≤ K.faults self.new.inner + self.new.faults }
-        ensures failed { IsErrOf result KeepFault.Failed
-            → Rose (K.faults self.old.inner + self.old.faults) (K.faults self.new.inner + self.new.faults) }
-        ensures mark { K.mark self.new.inner ≡ K.mark self.old.inner }
+        ensures reads { OnlyReads ⟦<Positioned<K> as Keeper>⟧ result self.old self.new }
 
         // Its own count rises only where the desk has too many trades, and then it is refused.
         ensures own { IfSome (K.tables self.old.inner) (λ t. HasFew desk.now t → self.new.faults ≡ self.old.faults) }
@@ -178,9 +173,9 @@ impl<K: Keeper> Keeper for Positioned<K> {
     ghost mark = { λ keeper. K.mark keeper.inner };
 
     fn issue(&mut self, cusip: &[u8; 9]) -> Result<Option<Issue>, KeepFault>
-        ensures found { IfOk result (λ issue. IfSome (K.tables self.old.inner) (λ t. issue ≡ issue_at t cusip.now)) }
-        ensures unchanged { K.tables self.new.inner ≡ K.tables self.old.inner }
-        ensures watch { KeepsWatch result self.old self.new }
+        ensures found { Found (K.tables self.old.inner) result (λ t. issue_at t cusip.now) }
+        ensures reads { OnlyReads K.Keeper result self.old.inner self.new.inner }
+        ensures watch { KeepsWatch self.old self.new }
     {
         self.inner.issue(cusip)
     }
@@ -188,26 +183,24 @@ impl<K: Keeper> Keeper for Positioned<K> {
     fn put_issue(&mut self, issue: &Issue) -> Result<(), KeepFault>
         requires { IfSome (K.tables self.old.inner) (λ t. issue_at t issue.now.cusip ≡ None) }
 
-        ensures kept { OnOk result
-            (K.tables self.new.inner ≡ option_map (with_issue issue.now) (K.tables self.old.inner)) }
-        ensures unchanged { OnErr result (K.tables self.new.inner ≡ K.tables self.old.inner) }
-        ensures watch { KeepsWatch result self.old self.new }
+        ensures edits { EditsTables K.Keeper (with_issue issue.now) result self.old.inner self.new.inner }
+        ensures watch { KeepsWatch self.old self.new }
     {
         self.inner.put_issue(issue)
     }
 
     fn version(&mut self, key: &Key, number: u32) -> Result<Option<Version>, KeepFault>
-        ensures found { IfOk result (λ version. IfSome (K.tables self.old.inner) (λ t. version ≡ version_at t key.now number)) }
-        ensures unchanged { K.tables self.new.inner ≡ K.tables self.old.inner }
-        ensures watch { KeepsWatch result self.old self.new }
+        ensures found { Found (K.tables self.old.inner) result (λ t. version_at t key.now number) }
+        ensures reads { OnlyReads K.Keeper result self.old.inner self.new.inner }
+        ensures watch { KeepsWatch self.old self.new }
     {
         self.inner.version(key, number)
     }
 
     fn last(&mut self, key: &Key) -> Result<Option<(u32, Version)>, KeepFault>
-        ensures found { IfOk result (λ last. IfSome (K.tables self.old.inner) (λ t. last ≡ last_at t key.now)) }
-        ensures unchanged { K.tables self.new.inner ≡ K.tables self.old.inner }
-        ensures watch { KeepsWatch result self.old self.new }
+        ensures found { Found (K.tables self.old.inner) result (λ t. last_at t key.now) }
+        ensures reads { OnlyReads K.Keeper result self.old.inner self.new.inner }
+        ensures watch { KeepsWatch self.old self.new }
     {
         self.inner.last(key)
     }
@@ -215,13 +208,8 @@ impl<K: Keeper> Keeper for Positioned<K> {
     fn put_version(&mut self, key: &Key, number: u32, version: &Version) -> Result<(), KeepFault>
         requires { IfSome (K.tables self.old.inner) (λ t. number ≡ next_number (trade_at t key.now)) }
 
-        ensures kept { OnOk result
-            (K.tables self.new.inner ≡ option_map (with_version key.now version.now) (K.tables self.old.inner)) }
-        ensures unchanged { OnErr result (K.tables self.new.inner ≡ K.tables self.old.inner) }
-        ensures later { K.faults self.old.inner + self.old.faults ≤ K.faults self.new.inner + self.new.faults }
-        ensures failed { IsErrOf result KeepFault.Failed
-            → Rose (K.faults self.old.inner + self.old.faults) (K.faults self.new.inner + self.new.faults) }
-        ensures mark { K.mark self.new.inner ≡ K.mark self.old.inner }
+        ensures edits { EditsTables ⟦<Positioned<K> as Keeper>⟧ (with_version key.now version.now) result
+            self.old self.new }
         ensures desk { self.new.desk ≡ self.old.desk }
         ensures totals { OnErr result ((cusip : List ℕ) → kept self.new.holdings cusip ≡ kept self.old.holdings cusip) }
 
@@ -242,9 +230,9 @@ impl<K: Keeper> Keeper for Positioned<K> {
     }
 
     fn trades(&mut self, desk: &DeskName) -> Result<u32, KeepFault>
-        ensures found { IfOk result (λ count. IfSome (K.tables self.old.inner) (λ t. count ≡ trade_count t desk.now)) }
-        ensures unchanged { K.tables self.new.inner ≡ K.tables self.old.inner }
-        ensures watch { KeepsWatch result self.old self.new }
+        ensures found { Found (K.tables self.old.inner) result (λ t. trade_count t desk.now) }
+        ensures reads { OnlyReads K.Keeper result self.old.inner self.new.inner }
+        ensures watch { KeepsWatch self.old self.new }
     {
         self.inner.trades(desk)
     }
@@ -256,8 +244,8 @@ impl<K: Keeper> Keeper for Positioned<K> {
     ) -> Result<ArrayVec<Line, 50>, KeepFault>
         ensures found { IfOk result
             (λ lines. IfSome (K.tables self.old.inner) (λ t. lines.items ≡ page_at t desk.now after.now)) }
-        ensures unchanged { K.tables self.new.inner ≡ K.tables self.old.inner }
-        ensures watch { KeepsWatch result self.old self.new }
+        ensures reads { OnlyReads K.Keeper result self.old.inner self.new.inner }
+        ensures watch { KeepsWatch self.old self.new }
     {
         self.inner.page(desk, after)
     }
@@ -274,10 +262,8 @@ impl<K: Keeper> Positioned<K> {
         ensures kept { OnOk result
             (K.tables self.new.inner ≡ option_map (with_version key.now version.now) (K.tables self.old.inner)) }
         ensures unchanged { OnErr result (K.tables self.new.inner ≡ K.tables self.old.inner) }
-        ensures later { K.faults self.old.inner ≤ K.faults self.new.inner }
-        ensures failed { result ≡ Err (Unput.Refused KeepFault.Failed)
-            → Rose (K.faults self.old.inner) (K.faults self.new.inner) }
-        ensures mark { K.mark self.new.inner ≡ K.mark self.old.inner }
+        ensures same { SameKeeper K.Keeper (Unput.Refused KeepFault.Failed) result
+            self.old.inner self.new.inner }
         ensures desk { self.new.desk ≡ self.old.desk }
         ensures own { self.new.faults ≡ self.old.faults }
         ensures totals { OnErr result ((cusip : List ℕ) → kept self.new.holdings cusip ≡ kept self.old.holdings cusip) }
