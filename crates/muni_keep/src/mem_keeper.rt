@@ -7,11 +7,9 @@ ghost use Rattle.muni_keep.specs.History.{next_number};
 ghost use Rattle.muni_keep.specs.Tables.{issue_at, trade_at, version_at, last_at, trade_count, page_at, with_issue, with_version};
 ghost use Rattle.muni_keep.specs.MemKeeper.{new_keeper, after_reading, unless_listed};
 
-use crate::desks::Desks;
 use crate::fault::KeepFault;
-use crate::issues::Issues;
 use crate::keeper::Keeper;
-use crate::page::page;
+use crate::mem_tables::MemTables;
 use arrayvec::ArrayVec;
 use muni_edge::{Calls, Faults, NoMemory};
 use muni_msg::{DeskName, Key, Line, Reference, Version};
@@ -22,8 +20,7 @@ use std::marker::Model;
 /// A keeper in memory. The calls of the listed numbers fail, counted together from 0.
 #[derive(Drop)]
 pub struct MemKeeper {
-    issues: Issues,
-    desks: Desks<Version>,
+    tables: MemTables,
     calls: Calls,
 }
 
@@ -35,7 +32,7 @@ impl Model for MemKeeper {
     ghost coded = { keeper_code };
 
     ghost view = { λ keeper. record {
-      tables = record { issues = keeper.issues; desks = keeper.desks };
+      tables = keeper.tables;
       calls = keeper.calls;
     } };
 }
@@ -46,8 +43,7 @@ impl MemKeeper {
         ensures { IfOk result (λ keeper. keeper ≡ new_keeper failing.now) }
     {
         Ok(MemKeeper {
-            issues: Issues::new(alloc),
-            desks: Desks::new(alloc),
+            tables: MemTables::new(alloc),
             calls: Calls::new(alloc, failing)?,
         })
     }
@@ -87,10 +83,7 @@ impl Keeper for MemKeeper {
         ensures later { self.old.calls.faults ≤ self.new.calls.faults }
     {
         self.calls.make()?;
-        match self.issues.get(cusip) {
-            Some(issue) => Ok(Some(issue.copy())),
-            None => Ok(None),
-        }
+        Ok(self.tables.issue(cusip))
     }
 
     fn put_issue(&mut self, issue: &Issue) -> Result<(), KeepFault>
@@ -103,7 +96,7 @@ impl Keeper for MemKeeper {
         ensures later { self.old.calls.faults ≤ self.new.calls.faults }
     {
         self.calls.make()?;
-        self.issues.put(issue)?;
+        self.tables.put_issue(issue)?;
         Ok(())
     }
 
@@ -113,10 +106,7 @@ impl Keeper for MemKeeper {
         ensures later { self.old.calls.faults ≤ self.new.calls.faults }
     {
         self.calls.make()?;
-        match self.desks.trade(&key.desk, &key.reference) {
-            Some(trade) => Ok(trade.version(number)),
-            None => Ok(None),
-        }
+        Ok(self.tables.version(key, number))
     }
 
     fn last(&mut self, key: &Key) -> Result<Option<(u32, Version)>, KeepFault>
@@ -125,10 +115,7 @@ impl Keeper for MemKeeper {
         ensures later { self.old.calls.faults ≤ self.new.calls.faults }
     {
         self.calls.make()?;
-        match self.desks.trade(&key.desk, &key.reference) {
-            Some(trade) => Ok(Some((trade.count(), trade.last()))),
-            None => Ok(None),
-        }
+        Ok(self.tables.last(key))
     }
 
     fn put_version(&mut self, key: &Key, number: u32, version: &Version) -> Result<(), KeepFault>
@@ -142,7 +129,7 @@ impl Keeper for MemKeeper {
         ensures later { self.old.calls.faults ≤ self.new.calls.faults }
     {
         self.calls.make()?;
-        self.desks.put(&key.desk, &key.reference, *version)?;
+        self.tables.put_version(key, version)?;
         Ok(())
     }
 
@@ -152,7 +139,7 @@ impl Keeper for MemKeeper {
         ensures later { self.old.calls.faults ≤ self.new.calls.faults }
     {
         self.calls.make()?;
-        Ok(self.desks.count(desk).min(u32::MAX as usize) as u32)
+        Ok(self.tables.trades(desk))
     }
 
     fn page(
@@ -166,6 +153,6 @@ impl Keeper for MemKeeper {
         ensures later { self.old.calls.faults ≤ self.new.calls.faults }
     {
         self.calls.make()?;
-        Ok(page(&self.desks, desk, after))
+        Ok(self.tables.page(desk, after))
     }
 }

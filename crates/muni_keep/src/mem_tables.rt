@@ -1,0 +1,106 @@
+//! The tables of the desk, in memory.
+
+ghost use Rattle.std.specs.Prelude.{◌≡◌, ◌<◌, ◌^◌, OnOk, OnErr};
+ghost use Rattle.muni_keep.specs.History.{next_number};
+ghost use Rattle.muni_keep.specs.Tables.{no_tables, issue_at, trade_at, version_at, last_at, trade_count, page_at, with_issue, with_version};
+
+use crate::desks::Desks;
+use crate::issues::Issues;
+use crate::page::page;
+use arrayvec::ArrayVec;
+use muni_msg::{DeskName, Key, Line, Reference, Version};
+use muni_terms::Issue;
+use std::alloc::{AllocError, Global};
+use std::marker::Model;
+
+/// The issues and the trades of the desk, in memory. A look-up cannot fail, and a put fails only if no
+/// memory is left.
+#[derive(Drop)]
+pub struct MemTables {
+    issues: Issues,
+    desks: Desks<Version>,
+}
+
+impl Model for MemTables {
+    ghost use Rattle.muni_keep.specs.Tables.{Tables, tables_code};
+
+    ghost Value = { Tables };
+
+    ghost coded = { tables_code };
+
+    ghost view = { λ tables. record { issues = tables.issues; desks = tables.desks } };
+}
+
+impl MemTables {
+    /// Empty tables.
+    pub fn new(alloc: Global) -> MemTables
+        ensures { result ≡ no_tables }
+    {
+        MemTables {
+            issues: Issues::new(alloc),
+            desks: Desks::new(alloc),
+        }
+    }
+
+    /// The issue of a CUSIP, if there is one.
+    pub fn issue(&self, cusip: &[u8; 9]) -> Option<Issue>
+        ensures { result ≡ issue_at self.now cusip.now }
+    {
+        match self.issues.get(cusip) {
+            Some(issue) => Some(issue.copy()),
+            None => None,
+        }
+    }
+
+    /// Keeps an issue under its CUSIP.
+    pub fn put_issue(&mut self, issue: &Issue) -> Result<(), AllocError>
+        ensures put { OnOk result (self.new ≡ with_issue issue.now self.old) }
+        ensures unchanged { OnErr result (self.new ≡ self.old) }
+    {
+        self.issues.put(issue)
+    }
+
+    /// The version of a trade with this number, if there is one.
+    pub fn version(&self, key: &Key, number: u32) -> Option<Version>
+        ensures { result ≡ version_at self.now key.now number }
+    {
+        match self.desks.trade(&key.desk, &key.reference) {
+            Some(trade) => trade.version(number),
+            None => None,
+        }
+    }
+
+    /// The last version of a trade, with its number, if there is one.
+    pub fn last(&self, key: &Key) -> Option<(u32, Version)>
+        ensures { result ≡ last_at self.now key.now }
+    {
+        match self.desks.trade(&key.desk, &key.reference) {
+            Some(trade) => Some((trade.count(), trade.last())),
+            None => None,
+        }
+    }
+
+    /// Keeps the next version of a trade.
+    pub fn put_version(&mut self, key: &Key, version: &Version) -> Result<(), AllocError>
+        requires { next_number (trade_at self.old key.now) < 2 ^ 32 }
+        ensures put { OnOk result (self.new ≡ with_version key.now version.now self.old) }
+        ensures unchanged { OnErr result (self.new ≡ self.old) }
+    {
+        self.desks.put(&key.desk, &key.reference, *version)
+    }
+
+    /// How many trades a desk has, or 4,294,967,295 if it has more.
+    pub fn trades(&self, desk: &DeskName) -> u32
+        ensures { result ≡ trade_count self.now desk.now }
+    {
+        self.desks.count(desk).min(u32::MAX as usize) as u32
+    }
+
+    /// The first 50 trades of a desk after a reference, or the first of all if none is given, each with
+    /// its last version.
+    pub fn page(&self, desk: &DeskName, after: &Option<Reference>) -> ArrayVec<Line, 50>
+        ensures { result.items ≡ page_at self.now desk.now after.now }
+    {
+        page(&self.desks, desk, after)
+    }
+}
