@@ -13,7 +13,7 @@ use Rattle.muni_rule.specs.Ranges.{IsDiscountRate}
 use Rattle.muni_rule.specs.WorthEnds.{WorthEnds}
 use Rattle.muni_simple.specs.declared.yields.SimpleYield.{SimpleYield}
 use Rattle.muni_simple.proofs.OneAnswer.{answer-same}
-use Rattle.muni_sched.specs.Basis.{at_yield, at_price, ArePriced}
+use Rattle.muni_sched.specs.GivenFigure.{at_yield, at_price, ArePriced}
 use Rattle.muni_sched.specs.Candidates.{IsCandidate}
 use Rattle.muni_sched.specs.Range.{side_of_first, IsGivenFor}
 use Rattle.muni_sched.specs.Shape.{IsPriceable}

@@ -15,7 +15,7 @@ use Rattle.muni_simple.specs.declared.single.Shape1.TheVariants as single
 use Rattle.muni_simple.specs.declared.yields.SimpleYield.{SimpleYield}
 use Rattle.muni_simple.specs.declared.yields.SimpleYield.TheVariants as simple
 use Rattle.muni_sched.specs.Answer.{IsLowestAnswer}
-use Rattle.muni_sched.specs.Basis.{at_yield, at_price}
+use Rattle.muni_sched.specs.GivenFigure.{at_yield, at_price}
 use Rattle.muni_sched.specs.Candidates.{AreCandidates}
 use Rattle.muni_sched.specs.declared.answer.Figure.TheVariants as figure
 use Rattle.muni_sched.specs.declared.answer.LowAnswer.{LowAnswer}

@@ -3,7 +3,7 @@ use Rattle.std.specs.Prelude.{◌≡◌, ℕ, true, false, List, Some, None, Ok,
 use Rattle.muni_terms.specs.Issue as issues
 use Rattle.muni_terms.specs.declared.row.IssueRow.{IssueRow}
 use Rattle.muni_sched.specs.Answer.{IsRightLowest}
-use Rattle.muni_sched.specs.Basis.{at_yield, at_price}
+use Rattle.muni_sched.specs.GivenFigure.{at_yield, at_price}
 use Rattle.muni_sched.specs.Candidates.{AreCandidates}
 use Rattle.muni_sched.specs.declared.answer.LowAnswer.{LowAnswer}
 use Rattle.muni_sched.specs.declared.candidate.Candidate.{Candidate}

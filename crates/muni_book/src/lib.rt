@@ -3,13 +3,12 @@
 
 mod answers;
 mod fault;
-mod laws;
+pub mod laws;
 mod runs;
 mod steps;
 mod trade;
 
 pub use answers::figures;
 pub use fault::BookFault;
-pub use laws::{answered_figures_are_right, the_answer_to_a_request_is_unique};
 pub use runs::run;
 pub use steps::apply;

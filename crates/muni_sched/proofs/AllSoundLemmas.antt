@@ -21,7 +21,7 @@ use Rattle.muni_sched.specs.declared.lowest.Lowest.TheVariants as lowest
 use Rattle.muni_sched.specs.declared.lowest.Outcome.{Outcome}
 use Rattle.muni_sched.specs.declared.lowest.Outcome.TheVariants.{Unsure, Above}
 use Rattle.muni_sched.specs.Answer.{date_of, dated, exact_at, NamesDoubt, IsDecidedWithoutDoubt, NamesPrice, NamesYield, NamesFigure, IsLowestAnswer}
-use Rattle.muni_sched.specs.Basis.{Basis, at_yield, at_price, kind_of, MayBeAsked, IsOutcome, IsExact, IsFigureInDoubt, IsInDoubt}
+use Rattle.muni_sched.specs.GivenFigure.{GivenFigure, at_yield, at_price, kind_of, MayBeAsked, IsOutcome, IsExact, IsFigureInDoubt, IsInDoubt}
 use Rattle.muni_sched.specs.Figures.{least_unsure, figure_of, boundary_of, IsLowestOf}
 use Rattle.muni_sched.specs.Lowest.{outcome_at, IsLowest}
 use Rattle.muni_sched.specs.PriceOutcome.{IsPriceOutcome}
@@ -38,16 +38,16 @@ pub record IsEncloser (ends : PaymentSeries → ℤ → WorthEnds) : Type 0 wher
 
 -- ---- each candidate
 -- what is to come of one may be asked for
-abbrev pub IsAskable : Basis → ToCome → Type 0
+abbrev pub IsAskable : GivenFigure → ToCome → Type 0
 IsAskable (at_yield y) to_be = IsPriced y to_be
 IsAskable (at_price price) to_be = (0 < price) × IsTimed to_be
 
-pub all-askable : (basis : Basis) (list : List Candidate) → MayBeAsked basis list → All (λ (candidate : Candidate). IsAskable basis (to_come_of candidate.shape)) list
+pub all-askable : (given : GivenFigure) (list : List Candidate) → MayBeAsked given list → All (λ (candidate : Candidate). IsAskable given (to_come_of candidate.shape)) list
 all-askable (at_yield y) list all = λ i candidate inside. priced y (slice_index_or list i candidate) (all.candidates i candidate inside) (all.basis i candidate inside) (all.in_range i candidate inside)
 all-askable (at_price price) list all = λ i candidate inside. (all.0, timed (slice_index_or list i candidate).shape (all.1 i candidate inside))
 
-candidate-sound : (ends : PaymentSeries → ℤ → WorthEnds) (basis : Basis) (candidate : Candidate) (outcome : Outcome) (exact : ExactOutcome) → IsAskable basis (to_come_of candidate.shape) → IsEncloser ends → IsOutcome ends basis candidate outcome → IsExact basis candidate exact
-    → IsSound (least_unsure (kind_of basis)) (IsFigureInDoubt basis (to_come_of candidate.shape)) outcome exact
+candidate-sound : (ends : PaymentSeries → ℤ → WorthEnds) (given : GivenFigure) (candidate : Candidate) (outcome : Outcome) (exact : ExactOutcome) → IsAskable given (to_come_of candidate.shape) → IsEncloser ends → IsOutcome ends given candidate outcome → IsExact given candidate exact
+    → IsSound (least_unsure (kind_of given)) (IsFigureInDoubt given (to_come_of candidate.shape)) outcome exact
 candidate-sound ends (at_yield y) candidate outcome exact range law is exactly =
     price-sound ends y (to_come_of candidate.shape) outcome exact range
     (λ series of more within. enclosed series y (ends series y) of within (law.encloses series y of more within) (law.narrow series y of more within)) is exactly
@@ -55,8 +55,8 @@ candidate-sound ends (at_price price) candidate outcome exact range law is exact
     yield-sound ends price (to_come_of candidate.shape) outcome exact (bounds (to_come_of candidate.shape) range.1) range.0
     (λ series of more y within. enclosed series y (ends series y) of within (law.encloses series y of more within) (law.narrow series y of more within)) is exactly
 
-candidate-doubt : (ends : PaymentSeries → ℤ → WorthEnds) (basis : Basis) (candidate : Candidate) (outcome : Outcome) (s : ℤ) → IsAskable basis (to_come_of candidate.shape) → IsEncloser ends → IsOutcome ends basis candidate outcome → outcome ≡ Unsure s
-    → IsFigureInDoubt basis (to_come_of candidate.shape) (s +ℤ pos 1)
+candidate-doubt : (ends : PaymentSeries → ℤ → WorthEnds) (given : GivenFigure) (candidate : Candidate) (outcome : Outcome) (s : ℤ) → IsAskable given (to_come_of candidate.shape) → IsEncloser ends → IsOutcome ends given candidate outcome → outcome ≡ Unsure s
+    → IsFigureInDoubt given (to_come_of candidate.shape) (s +ℤ pos 1)
 candidate-doubt ends (at_yield y) candidate outcome s range law is same =
     price-doubt ends y s (to_come_of candidate.shape) outcome range
     (λ series of more within. enclosed series y (ends series y) of within (law.encloses series y of more within) (law.narrow series y of more within)) is same
@@ -65,59 +65,59 @@ candidate-doubt ends (at_price price) candidate outcome s range law is same =
     (λ series of more y within. enclosed series y (ends series y) of within (law.encloses series y of more within) (law.narrow series y of more within)) is same
 
 -- ---- and all of them
-abbrev AreAskable : Basis → List Candidate → Type 0
-AreAskable basis list = All (λ (candidate : Candidate). IsAskable basis (to_come_of candidate.shape)) list
+abbrev AreAskable : GivenFigure → List Candidate → Type 0
+AreAskable given list = All (λ (candidate : Candidate). IsAskable given (to_come_of candidate.shape)) list
 
-list-sound : (ends : PaymentSeries → ℤ → WorthEnds) (basis : Basis) (list : List Candidate) (outcomes : List Outcome) (exact : List ExactOutcome) → AreAskable basis list → IsEncloser ends → AllZip (IsOutcome ends basis) list outcomes → AllZip (IsExact basis) list exact
-    → AreSound (least_unsure (kind_of basis)) (IsInDoubt basis list) outcomes (exact_at exact)
-list-sound ends basis [] [] [] all law is exactly k = refl
-list-sound ends basis [] [] (e ∷ exact) all law is exactly k = absurd exactly
-list-sound ends basis [] (x ∷ outcomes) exact all law is exactly k = absurd is
-list-sound ends basis (candidate ∷ list) [] exact all law is exactly k = absurd is
-list-sound ends basis (candidate ∷ list) (x ∷ outcomes) [] all law is exactly k = absurd exactly
-list-sound ends basis (candidate ∷ list) (x ∷ outcomes) (e ∷ exact) all law is exactly zero =
-    candidate-sound ends basis candidate x e (All-head (λ (it : Candidate). IsAskable basis (to_come_of it.shape)) candidate list all) law is.0 exactly.0
-list-sound ends basis (candidate ∷ list) (x ∷ outcomes) (e ∷ exact) all law is exactly (suc k) =
-    list-sound ends basis list outcomes exact (All-tail (λ (it : Candidate). IsAskable basis (to_come_of it.shape)) candidate list all) law is.1 exactly.1 k
+list-sound : (ends : PaymentSeries → ℤ → WorthEnds) (given : GivenFigure) (list : List Candidate) (outcomes : List Outcome) (exact : List ExactOutcome) → AreAskable given list → IsEncloser ends → AllZip (IsOutcome ends given) list outcomes → AllZip (IsExact given) list exact
+    → AreSound (least_unsure (kind_of given)) (IsInDoubt given list) outcomes (exact_at exact)
+list-sound ends given [] [] [] all law is exactly k = refl
+list-sound ends given [] [] (e ∷ exact) all law is exactly k = absurd exactly
+list-sound ends given [] (x ∷ outcomes) exact all law is exactly k = absurd is
+list-sound ends given (candidate ∷ list) [] exact all law is exactly k = absurd is
+list-sound ends given (candidate ∷ list) (x ∷ outcomes) [] all law is exactly k = absurd exactly
+list-sound ends given (candidate ∷ list) (x ∷ outcomes) (e ∷ exact) all law is exactly zero =
+    candidate-sound ends given candidate x e (All-head (λ (it : Candidate). IsAskable given (to_come_of it.shape)) candidate list all) law is.0 exactly.0
+list-sound ends given (candidate ∷ list) (x ∷ outcomes) (e ∷ exact) all law is exactly (suc k) =
+    list-sound ends given list outcomes exact (All-tail (λ (it : Candidate). IsAskable given (to_come_of it.shape)) candidate list all) law is.1 exactly.1 k
 
-list-doubt : (ends : PaymentSeries → ℤ → WorthEnds) (basis : Basis) (s : ℤ) (c : ℕ) (list : List Candidate) (outcomes : List Outcome) → AreAskable basis list → IsEncloser ends → AllZip (IsOutcome ends basis) list outcomes → outcome_at outcomes c ≡ Unsure s → IsInDoubt basis list c (s +ℤ pos 1)
-list-doubt ends basis s c [] [] all law is same = absurd (let never : Above ≡ Unsure s = same in cc)
-list-doubt ends basis s c [] (x ∷ outcomes) all law is same = absurd is
-list-doubt ends basis s c (candidate ∷ list) [] all law is same = absurd is
-list-doubt ends basis s zero (candidate ∷ list) (x ∷ outcomes) all law is same =
-    candidate-doubt ends basis candidate x s (All-head (λ (it : Candidate). IsAskable basis (to_come_of it.shape)) candidate list all) law is.0 same
-list-doubt ends basis s (suc c) (candidate ∷ list) (x ∷ outcomes) all law is same =
-    list-doubt ends basis s c list outcomes (All-tail (λ (it : Candidate). IsAskable basis (to_come_of it.shape)) candidate list all) law is.1 same
+list-doubt : (ends : PaymentSeries → ℤ → WorthEnds) (given : GivenFigure) (s : ℤ) (c : ℕ) (list : List Candidate) (outcomes : List Outcome) → AreAskable given list → IsEncloser ends → AllZip (IsOutcome ends given) list outcomes → outcome_at outcomes c ≡ Unsure s → IsInDoubt given list c (s +ℤ pos 1)
+list-doubt ends given s c [] [] all law is same = absurd (let never : Above ≡ Unsure s = same in cc)
+list-doubt ends given s c [] (x ∷ outcomes) all law is same = absurd is
+list-doubt ends given s c (candidate ∷ list) [] all law is same = absurd is
+list-doubt ends given s zero (candidate ∷ list) (x ∷ outcomes) all law is same =
+    candidate-doubt ends given candidate x s (All-head (λ (it : Candidate). IsAskable given (to_come_of it.shape)) candidate list all) law is.0 same
+list-doubt ends given s (suc c) (candidate ∷ list) (x ∷ outcomes) all law is same =
+    list-doubt ends given s c list outcomes (All-tail (λ (it : Candidate). IsAskable given (to_come_of it.shape)) candidate list all) law is.1 same
 
 -- ---- the answer
 pub some-same : {X : Type 0} (x y : X) → Some x ≡ Some y → x ≡ y
 some-same x y same = cc
 
 -- what an answer with a date says
-dated-doubt : (basis : Basis) (list : List Candidate) (c : ℕ) (figure : ℤ) (answer : LowAnswer) (date : Option Day) → date_of list c ≡ date → Some answer ≡ option_map (λ day. answers.Undecided day (boundary_of (kind_of basis) figure)) date → IsInDoubt basis list c figure → NamesDoubt basis list answer
-dated-doubt basis list c figure answer (Some day) there is doubt =
-    subst (NamesDoubt basis list) (sym (some-same answer (answers.Undecided day (boundary_of (kind_of basis) figure)) is))
+dated-doubt : (given : GivenFigure) (list : List Candidate) (c : ℕ) (figure : ℤ) (answer : LowAnswer) (date : Option Day) → date_of list c ≡ date → Some answer ≡ option_map (λ day. answers.Undecided day (boundary_of (kind_of given) figure)) date → IsInDoubt given list c figure → NamesDoubt given list answer
+dated-doubt given list c figure answer (Some day) there is doubt =
+    subst (NamesDoubt given list) (sym (some-same answer (answers.Undecided day (boundary_of (kind_of given) figure)) is))
     (record { candidate = c; figure = figure; there = there; begins = refl; doubtful = doubt })
-dated-doubt basis list c figure answer None there is doubt = absurd (let never : Some answer ≡ None = is in cc)
+dated-doubt given list c figure answer None there is doubt = absurd (let never : Some answer ≡ None = is in cc)
 
 dated-other : (Names : LowAnswer → Type 0) (say : Day → LowAnswer) (answer : LowAnswer) (date : Option Day) → ((day : Day) → Names (say day)) → Some answer ≡ option_map say date → Names answer
 dated-other Names say answer (Some day) names is = subst Names (sym (some-same answer (say day) is)) (names day)
 dated-other Names say answer None names is = absurd (let never : Some answer ≡ None = is in cc)
 
-names-doubt : (basis : Basis) (list : List Candidate) (found : Lowest) (answer : LowAnswer) → Some answer ≡ dated (kind_of basis) list found → ((s : ℤ) (c : ℕ) → found ≡ lowest.Undecided s c → IsInDoubt basis list c (s +ℤ pos 1)) → NamesDoubt basis list answer
-names-doubt basis list (lowest.Low t c) answer is doubt = subst (NamesDoubt basis list) (sym (some-same answer (answers.Low (figure_of (kind_of basis) t) c) is)) tt
-names-doubt basis list (lowest.Undecided s c) answer is doubt = dated-doubt basis list c (s +ℤ pos 1) answer (date_of list c) refl is (doubt s c refl)
-names-doubt basis list (lowest.Below c) answer is doubt = dated-other (NamesDoubt basis list) (λ day. answers.Below day) answer (date_of list c) (λ day. tt) is
-names-doubt basis list lowest.Above answer is doubt = subst (NamesDoubt basis list) (sym (some-same answer answers.Above is)) tt
-names-doubt basis list (lowest.NoTime c) answer is doubt = dated-other (NamesDoubt basis list) (λ day. answers.NoTime day) answer (date_of list c) (λ day. tt) is
+names-doubt : (given : GivenFigure) (list : List Candidate) (found : Lowest) (answer : LowAnswer) → Some answer ≡ dated (kind_of given) list found → ((s : ℤ) (c : ℕ) → found ≡ lowest.Undecided s c → IsInDoubt given list c (s +ℤ pos 1)) → NamesDoubt given list answer
+names-doubt given list (lowest.Low t c) answer is doubt = subst (NamesDoubt given list) (sym (some-same answer (answers.Low (figure_of (kind_of given) t) c) is)) tt
+names-doubt given list (lowest.Undecided s c) answer is doubt = dated-doubt given list c (s +ℤ pos 1) answer (date_of list c) refl is (doubt s c refl)
+names-doubt given list (lowest.Below c) answer is doubt = dated-other (NamesDoubt given list) (λ day. answers.Below day) answer (date_of list c) (λ day. tt) is
+names-doubt given list lowest.Above answer is doubt = subst (NamesDoubt given list) (sym (some-same answer answers.Above is)) tt
+names-doubt given list (lowest.NoTime c) answer is doubt = dated-other (NamesDoubt given list) (λ day. answers.NoTime day) answer (date_of list c) (λ day. tt) is
 
 -- where none is in doubt, no answer names one that is
-decided : (basis : Basis) (list : List Candidate) (answer : LowAnswer) → NamesDoubt basis list answer → IsDecidedWithoutDoubt basis list answer
-decided basis list (answers.Low figure c) doubt none = tt
-decided basis list (answers.Undecided date boundary) doubt none = none doubt.candidate doubt.figure doubt.doubtful
-decided basis list (answers.Below date) doubt none = tt
-decided basis list answers.Above doubt none = tt
-decided basis list (answers.NoTime date) doubt none = tt
+decided : (given : GivenFigure) (list : List Candidate) (answer : LowAnswer) → NamesDoubt given list answer → IsDecidedWithoutDoubt given list answer
+decided given list (answers.Low figure c) doubt none = tt
+decided given list (answers.Undecided date boundary) doubt none = none doubt.candidate doubt.figure doubt.doubtful
+decided given list (answers.Below date) doubt none = tt
+decided given list answers.Above doubt none = tt
+decided given list (answers.NoTime date) doubt none = tt
 
 -- a price is neither above all figures nor without time
 abbrev IsTold : FigureKind → Lowest → Type 0
@@ -148,24 +148,24 @@ told-price ends y list outcomes (lowest.Below c) some each is = tt
 told-price ends y list outcomes lowest.Above some each is = never-above ends y list outcomes some each is
 told-price ends y list outcomes (lowest.NoTime c) some each is = all-timed ends y list outcomes each c is.such
 
-pub told : (ends : PaymentSeries → ℤ → WorthEnds) (basis : Basis) (list : List Candidate) (outcomes : List Outcome) (found : Lowest) → 0 < length list → AllZip (IsOutcome ends basis) list outcomes → IsLowest (least_unsure (kind_of basis)) outcomes found → IsTold (kind_of basis) found
+pub told : (ends : PaymentSeries → ℤ → WorthEnds) (given : GivenFigure) (list : List Candidate) (outcomes : List Outcome) (found : Lowest) → 0 < length list → AllZip (IsOutcome ends given) list outcomes → IsLowest (least_unsure (kind_of given)) outcomes found → IsTold (kind_of given) found
 told ends (at_yield y) list outcomes found some each is = told-price ends y list outcomes found some each is
 told ends (at_price price) list outcomes found some each is = tt
 
-pub lowest-answer : (ends : PaymentSeries → ℤ → WorthEnds) (basis : Basis) (list : List Candidate) (outcomes : List Outcome) (found : Lowest) (answer : LowAnswer) → MayBeAsked basis list → IsEncloser ends → AllZip (IsOutcome ends basis) list outcomes → IsLowest (least_unsure (kind_of basis)) outcomes found
-    → IsLowestOf (kind_of basis) (length list) found → IsTold (kind_of basis) found → Some answer ≡ dated (kind_of basis) list found → IsLowestAnswer ends basis list answer
-lowest-answer ends basis list outcomes found answer asked law each rule of tells is =
-    let all = all-askable basis list asked in
-    let doubt : NamesDoubt basis list answer = names-doubt basis list found answer is
-    (λ s c same. list-doubt ends basis s c list outcomes all law each (undecided_unsure (least_unsure (kind_of basis)) s c outcomes (subst (IsLowest (least_unsure (kind_of basis)) outcomes) same rule))) in
+pub lowest-answer : (ends : PaymentSeries → ℤ → WorthEnds) (given : GivenFigure) (list : List Candidate) (outcomes : List Outcome) (found : Lowest) (answer : LowAnswer) → MayBeAsked given list → IsEncloser ends → AllZip (IsOutcome ends given) list outcomes → IsLowest (least_unsure (kind_of given)) outcomes found
+    → IsLowestOf (kind_of given) (length list) found → IsTold (kind_of given) found → Some answer ≡ dated (kind_of given) list found → IsLowestAnswer ends given list answer
+lowest-answer ends given list outcomes found answer asked law each rule of tells is =
+    let all = all-askable given list asked in
+    let doubt : NamesDoubt given list answer = names-doubt given list found answer is
+    (λ s c same. list-doubt ends given s c list outcomes all law each (undecided_unsure (least_unsure (kind_of given)) s c outcomes (subst (IsLowest (least_unsure (kind_of given)) outcomes) same rule))) in
     record {
       rule = record { lowest = found; outcomes = outcomes; each = each; rule = rule; answered = is };
       right = λ exact exactly. record {
         lowest = found;
-        right = sound_right (least_unsure (kind_of basis)) (IsInDoubt basis list) (exact_at exact) outcomes found (list-sound ends basis list outcomes exact all law each exactly) rule;
+        right = sound_right (least_unsure (kind_of given)) (IsInDoubt given list) (exact_at exact) outcomes found (list-sound ends given list outcomes exact all law each exactly) rule;
         answered = is;
       };
       undecided = doubt;
-      decided = decided basis list answer doubt;
-      figure = names-figure (kind_of basis) list (length list) found answer is of tells;
+      decided = decided given list answer doubt;
+      figure = names-figure (kind_of given) list (length list) found answer is of tells;
     }

@@ -1,6 +1,5 @@
 -- The days of a note that settles, as the tests of its terms bound them.
 use Rattle.std.proofs.Common.{◌≡◌, ◌≤◌, true, None, pos, ◌≤ℤ◌, arith}
-use Rattle.std.proofs.lemmas.Int.{ints}
 use Rattle.muni_rule.specs.Civil.{Civil, order_of}
 use Rattle.muni_rule.specs.DayCount.{days_by}
 use Rattle.muni_rule.specs.declared.basis.Basis.{Basis}

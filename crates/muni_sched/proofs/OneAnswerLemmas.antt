@@ -1,5 +1,5 @@
 -- Of one list of candidates the rule allows one answer.
-use Rattle.std.proofs.Common.{◌≡◌, ◌<◌, ◌≤◌, ◌+◌, ◌*◌, ℕ, refl, ap, sym, subst, arith, ◌∙◌, ⊎_elim, ℤ, pos, ◌+ℤ◌, ◌≤ℤ◌, ◌<ℤ◌}
+use Rattle.std.proofs.Common.{◌≡◌, ◌<◌, ◌≤◌, ◌+◌, ◌*◌, ℕ, refl, ap, sym, subst, arith, ◌∙◌, ⊎_elim, ℤ, ◌≤ℤ◌}
 use Rattle.std.proofs.Math.Nat.{mul-le-mul_right}
 use Rattle.std.proofs.lemmas.Bool.{cases_lt}
 use Rattle.std.proofs.lemmas.Int.{ints}
@@ -25,7 +25,7 @@ use Rattle.muni_sched.specs.declared.candidate.Candidate.{Candidate}
 use Rattle.muni_sched.specs.declared.lowest.Outcome.{Outcome}
 use Rattle.muni_sched.specs.Answer.{dated}
 use Rattle.muni_sched.specs.AnswerLaws.{AllowsOneAnswer}
-use Rattle.muni_sched.specs.Basis.{Basis, at_yield, at_price, kind_of, IsOutcome}
+use Rattle.muni_sched.specs.GivenFigure.{GivenFigure, at_yield, at_price, kind_of, IsOutcome}
 use Rattle.muni_sched.specs.Figures.{least_unsure}
 use Rattle.muni_sched.specs.Lowest.{IsLowest}
 use Rattle.muni_sched.specs.PriceOutcome.{many_price, one_price, IsPriceOutcomeFor}
@@ -106,15 +106,15 @@ price-same ends y (one least payment) x z range is also =
     ∙ sym also.2
 
 -- ---- each candidate, and the answer over all
-outcome-same : (ends : PaymentSeries → ℤ → WorthEnds) (basis : Basis) (candidate : Candidate) (x z : Outcome) → IsAskable basis (to_come_of candidate.shape) → IsOutcome ends basis candidate x → IsOutcome ends basis candidate z → x ≡ z
+outcome-same : (ends : PaymentSeries → ℤ → WorthEnds) (given : GivenFigure) (candidate : Candidate) (x z : Outcome) → IsAskable given (to_come_of candidate.shape) → IsOutcome ends given candidate x → IsOutcome ends given candidate z → x ≡ z
 outcome-same ends (at_yield y) candidate x z range is also = price-same ends y (to_come_of candidate.shape) x z range is also
 outcome-same ends (at_price price) candidate x z range is also = yield-same (place_verdict ends) price (to_come_of candidate.shape) x z (bounds (to_come_of candidate.shape) range.1) range.0 is also
 
 pub one-answer : AllowsOneAnswer
-one-answer ends basis list said other all is also =
-    let kind = kind_of basis in
+one-answer ends given list said other all is also =
+    let kind = kind_of given in
     let same : is.outcomes ≡ also.outcomes =
-    zip-same (λ (candidate : Candidate). IsAskable basis (to_come_of candidate.shape)) (IsOutcome ends basis) list is.outcomes also.outcomes (outcome-same ends basis) (all-askable basis list all) is.each also.each in
+    zip-same (λ (candidate : Candidate). IsAskable given (to_come_of candidate.shape)) (IsOutcome ends given) list is.outcomes also.outcomes (outcome-same ends given) (all-askable given list all) is.each also.each in
     let rule : IsLowest (least_unsure kind) also.outcomes is.lowest = subst (λ xs. IsLowest (least_unsure kind) xs is.lowest) same is.rule in
     let found : is.lowest ≡ also.lowest = lowest-same (least_unsure kind) also.outcomes is.lowest also.lowest rule also.rule in
     some-same said other (is.answered ∙ ap (dated kind list) found ∙ sym also.answered)

@@ -1,5 +1,5 @@
 -- A candidate has one exact outcome.
-use Rattle.std.proofs.Common.{◌≡◌, ◌<◌, ◌*◌, ℕ, [], ◌∷◌, refl, arith, ◌⊎◌, ⊎_elim, inl, inr, ℤ, pos, ◌+ℤ◌, ◌*ℤ◌, ◌≤ℤ◌, ◌<ℤ◌}
+use Rattle.std.proofs.Common.{◌≡◌, ◌<◌, ℕ, [], ◌∷◌, refl, arith, ◌⊎◌, ⊎_elim, inl, inr, ℤ, pos, ◌+ℤ◌, ◌*ℤ◌, ◌≤ℤ◌, ◌<ℤ◌}
 use Rattle.std.proofs.lemmas.Int.{ints}
 use Rattle.std.proofs.lemmas.List.Elements.{All-head}
 use Rattle.muni_rule.specs.Accuracy.{price_amount}
@@ -20,7 +20,7 @@ use Rattle.muni_simple.specs.Yields.{greatest_printed}
 use Rattle.muni_yield.specs.Outcome as search
 use Rattle.muni_sched.specs.declared.candidate.Candidate.{Candidate}
 use Rattle.muni_sched.specs.AnswerLaws.{HasOne, HasOneExactOutcome, HaveOneExactOutcomes}
-use Rattle.muni_sched.specs.Basis.{Basis, at_yield, at_price, IsExact}
+use Rattle.muni_sched.specs.GivenFigure.{GivenFigure, at_yield, at_price, IsExact}
 use Rattle.muni_sched.specs.Exact.{IsExactIn, IsExactSingle, IsExactYieldOf, IsExactPriceBy, IsExactPriceOf}
 use Rattle.muni_sched.specs.ToCome.{ToCome, many, one, to_come_of}
 use Rattle.muni_sched.proofs.AllSoundLemmas.{IsAskable, all-askable}
@@ -115,12 +115,12 @@ price-one y (one least payment) range =
     price-has_one payment.basis (AtLeast payment y) (AtLeast-closed payment y range) (one_payment-price payment y range)
 
 -- ---- either
-exact-one : (basis : Basis) (candidate : Candidate) → IsAskable basis (to_come_of candidate.shape) → HasOne (IsExact basis candidate)
+exact-one : (given : GivenFigure) (candidate : Candidate) → IsAskable given (to_come_of candidate.shape) → HasOne (IsExact given candidate)
 exact-one (at_yield y) candidate range = price-one y (to_come_of candidate.shape) range
 exact-one (at_price price) candidate range = yield-one price (to_come_of candidate.shape) range.0 range.1
 
 pub candidate-one : HasOneExactOutcome
-candidate-one basis candidate all = exact-one basis candidate (All-head (λ (it : Candidate). IsAskable basis (to_come_of it.shape)) candidate [] (all-askable basis (candidate ∷ []) all))
+candidate-one given candidate all = exact-one given candidate (All-head (λ (it : Candidate). IsAskable given (to_come_of it.shape)) candidate [] (all-askable given (candidate ∷ []) all))
 
 pub list-one : HaveOneExactOutcomes
-list-one basis list all = zip-has_one (λ (it : Candidate). IsAskable basis (to_come_of it.shape)) (IsExact basis) list (exact-one basis) (all-askable basis list all)
+list-one given list all = zip-has_one (λ (it : Candidate). IsAskable given (to_come_of it.shape)) (IsExact given) list (exact-one given) (all-askable given list all)

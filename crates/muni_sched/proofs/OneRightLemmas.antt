@@ -12,7 +12,7 @@ use Rattle.muni_sched.specs.declared.lowest.Lowest.{Lowest}
 use Rattle.muni_sched.specs.declared.lowest.Lowest.TheVariants as lowest
 use Rattle.muni_sched.specs.Answer.{date_of, dated, exact_at, IsRightFor, IsDecided}
 use Rattle.muni_sched.specs.AnswerLaws.{HasOne, OneAnswerIsRight}
-use Rattle.muni_sched.specs.Basis.{Basis, kind_of, IsExact, IsInDoubt}
+use Rattle.muni_sched.specs.GivenFigure.{GivenFigure, kind_of, IsExact, IsInDoubt}
 use Rattle.muni_sched.specs.Figures.{boundary_of}
 use Rattle.muni_sched.specs.LowestLaws.{OneLowestIsRight}
 use Rattle.muni_sched.specs.Sound.{IsRight}
@@ -27,21 +27,21 @@ open-decided : (said : LowAnswer) (at : Boundary) (date : Option Day) → IsDeci
 open-decided said at (Some day) decided is = subst IsDecided (some-same said (answer.Undecided day at) is) decided
 open-decided said at None decided is = let never : Some said ≡ None = is in cc
 
-decided-right : (basis : Basis) (exact : ℕ → ExactOutcome) (list : List Candidate) (found : Lowest) (said : LowAnswer) → IsDecided said → Some said ≡ dated (kind_of basis) list found → IsRight (IsInDoubt basis list) exact found → IsRight (λ c t. ⊥) exact found
-decided-right basis exact list (lowest.Low t c) said decided is right = right
-decided-right basis exact list (lowest.Undecided s c) said decided is right = absurd (open-decided said (boundary_of (kind_of basis) (s +ℤ pos 1)) (date_of list c) decided is)
-decided-right basis exact list (lowest.Below c) said decided is right = right
-decided-right basis exact list lowest.Above said decided is right = right
-decided-right basis exact list (lowest.NoTime c) said decided is right = right
+decided-right : (given : GivenFigure) (exact : ℕ → ExactOutcome) (list : List Candidate) (found : Lowest) (said : LowAnswer) → IsDecided said → Some said ≡ dated (kind_of given) list found → IsRight (IsInDoubt given list) exact found → IsRight (λ c t. ⊥) exact found
+decided-right given exact list (lowest.Low t c) said decided is right = right
+decided-right given exact list (lowest.Undecided s c) said decided is right = absurd (open-decided said (boundary_of (kind_of given) (s +ℤ pos 1)) (date_of list c) decided is)
+decided-right given exact list (lowest.Below c) said decided is right = right
+decided-right given exact list lowest.Above said decided is right = right
+decided-right given exact list (lowest.NoTime c) said decided is right = right
 
-answer-right : (basis : Basis) (exact : List ExactOutcome) (list : List Candidate) (said other : LowAnswer) → IsDecided said → IsDecided other → IsRightFor basis exact list said → IsRightFor basis exact list other → said ≡ other
-answer-right basis exact list said other decided also_decided is also =
-    let right = decided-right basis (exact_at exact) list is.lowest said decided is.answered is.right in
-    let also_right = decided-right basis (exact_at exact) list also.lowest other also_decided also.answered also.right in
+answer-right : (given : GivenFigure) (exact : List ExactOutcome) (list : List Candidate) (said other : LowAnswer) → IsDecided said → IsDecided other → IsRightFor given exact list said → IsRightFor given exact list other → said ≡ other
+answer-right given exact list said other decided also_decided is also =
+    let right = decided-right given (exact_at exact) list is.lowest said decided is.answered is.right in
+    let also_right = decided-right given (exact_at exact) list also.lowest other also_decided also.answered also.right in
     let found : is.lowest ≡ also.lowest = right-same (exact_at exact) is.lowest also.lowest right also_right in
-    some-same said other (is.answered ∙ ap (dated (kind_of basis) list) found ∙ sym also.answered)
+    some-same said other (is.answered ∙ ap (dated (kind_of given) list) found ∙ sym also.answered)
 
 pub one-right : OneAnswerIsRight
-one-right basis list said other all decided also_decided is also =
-    let exact : HasOne (AllZip (IsExact basis) list) = list-one basis list all in
-    answer-right basis exact.value list said other decided also_decided (is exact.value exact.such) (also exact.value exact.such)
+one-right given list said other all decided also_decided is also =
+    let exact : HasOne (AllZip (IsExact given) list) = list-one given list all in
+    answer-right given exact.value list said other decided also_decided (is exact.value exact.such) (also exact.value exact.such)

@@ -35,7 +35,7 @@ use Rattle.muni_sched.specs.declared.candidate.Shape.{Shape}
 use Rattle.muni_sched.specs.declared.candidate.Shape.TheVariants.{Many, One, AtRedemption, Discount}
 use Rattle.muni_sched.specs.declared.lowest.Outcome.{Outcome}
 use Rattle.muni_sched.specs.declared.lowest.Outcome.TheVariants.{Print, Unsure, Below, Above, NoTime}
-use Rattle.muni_sched.specs.Basis.{at_yield, IsFigureInDoubt}
+use Rattle.muni_sched.specs.GivenFigure.{at_yield, IsFigureInDoubt}
 use Rattle.muni_sched.specs.Candidates.{IsCandidate}
 use Rattle.muni_sched.specs.Exact.{IsExactPriceBy, IsExactPriceOf}
 use Rattle.muni_sched.specs.Lowest.{outcome_at, AllAreAbove}

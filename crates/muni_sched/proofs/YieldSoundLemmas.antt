@@ -32,7 +32,7 @@ use Rattle.muni_sched.specs.declared.candidate.Shape.{Shape}
 use Rattle.muni_sched.specs.declared.candidate.Shape.TheVariants.{Many, One, AtRedemption, Discount}
 use Rattle.muni_sched.specs.declared.lowest.Outcome.{Outcome}
 use Rattle.muni_sched.specs.declared.lowest.Outcome.TheVariants.{Print, Unsure, Below, Above}
-use Rattle.muni_sched.specs.Basis.{at_price, IsFigureInDoubt}
+use Rattle.muni_sched.specs.GivenFigure.{at_price, IsFigureInDoubt}
 use Rattle.muni_sched.specs.Exact.{IsExactIn, IsExactSingle, IsExactYieldOf}
 use Rattle.muni_sched.specs.Shape.{IsPriceable}
 use Rattle.muni_sched.specs.Sound.{IsSoundUnsure, IsSound}

@@ -15,7 +15,7 @@ use Rattle.muni_sched.specs.declared.figure.FigureKind.TheVariants.{Price, Yield
 use Rattle.muni_sched.specs.declared.lowest.Lowest.{Lowest}
 use Rattle.muni_sched.specs.declared.lowest.Lowest.TheVariants as lowest
 use Rattle.muni_sched.specs.declared.lowest.Outcome.{Outcome}
-use Rattle.muni_sched.specs.Basis.{Basis, kind_of, IsOutcome, IsExact, IsInDoubt}
+use Rattle.muni_sched.specs.GivenFigure.{GivenFigure, kind_of, IsOutcome, IsExact, IsInDoubt}
 use Rattle.muni_sched.specs.Figures.{least_unsure, figure_of, boundary_of}
 use Rattle.muni_sched.specs.Lowest.{IsLowest}
 use Rattle.muni_sched.specs.Sound.{IsRight}
@@ -35,13 +35,13 @@ dated kind list (lowest.NoTime c) = option_map (λ date. NoTime date) (date_of l
 
 -- the rule's answer over what the ends tell of each candidate
 pub record IsLowestByRule
-    (ends : PaymentSeries → ℤ → WorthEnds) (basis : Basis) (list : List Candidate)
+    (ends : PaymentSeries → ℤ → WorthEnds) (given : GivenFigure) (list : List Candidate)
     (answer : LowAnswer) : Type 0 where
   pub lowest : Lowest
   pub outcomes : List Outcome
-  pub each : AllZip (IsOutcome ends basis) list outcomes
-  pub rule : IsLowest (least_unsure (kind_of basis)) outcomes lowest
-  pub answered : Some answer ≡ dated (kind_of basis) list lowest
+  pub each : AllZip (IsOutcome ends given) list outcomes
+  pub rule : IsLowest (least_unsure (kind_of given)) outcomes lowest
+  pub answered : Some answer ≡ dated (kind_of given) list lowest
 
 -- the exact outcome of candidate c; past the last one it is above all figures
 abbrev pub exact_at : List ExactOutcome → ℕ → ExactOutcome
@@ -49,35 +49,35 @@ exact_at exact c = slice_index_or exact c is_above
 
 -- an answer that is right for these exact outcomes
 pub record IsRightFor
-    (basis : Basis) (exact : List ExactOutcome) (list : List Candidate) (answer : LowAnswer)
+    (given : GivenFigure) (exact : List ExactOutcome) (list : List Candidate) (answer : LowAnswer)
     : Type 0 where
   pub lowest : Lowest
-  pub right : IsRight (IsInDoubt basis list) (exact_at exact) lowest
-  pub answered : Some answer ≡ dated (kind_of basis) list lowest
+  pub right : IsRight (IsInDoubt given list) (exact_at exact) lowest
+  pub answered : Some answer ≡ dated (kind_of given) list lowest
 
 -- it is right for all exact outcomes of the candidates
-abbrev pub IsRightLowest : Basis → List Candidate → LowAnswer → Type 0
-IsRightLowest basis list answer =
-    (exact : List ExactOutcome) → AllZip (IsExact basis) list exact
-    → IsRightFor basis exact list answer
+abbrev pub IsRightLowest : GivenFigure → List Candidate → LowAnswer → Type 0
+IsRightLowest given list answer =
+    (exact : List ExactOutcome) → AllZip (IsExact given) list exact
+    → IsRightFor given exact list answer
 
 -- a date and a boundary are those of a candidate, and it is in doubt whether that reaches the
 -- figure which begins at the boundary
 pub record AreInDoubt
-    (basis : Basis) (list : List Candidate) (date : Day) (boundary : Boundary) : Type 0 where
+    (given : GivenFigure) (list : List Candidate) (date : Day) (boundary : Boundary) : Type 0 where
   pub candidate : ℕ
   pub figure : ℤ
   pub there : date_of list candidate ≡ Some date
-  pub begins : boundary ≡ boundary_of (kind_of basis) figure
-  pub doubtful : IsInDoubt basis list candidate figure
+  pub begins : boundary ≡ boundary_of (kind_of given) figure
+  pub doubtful : IsInDoubt given list candidate figure
 
 -- an undecided answer names a candidate that is in doubt
-abbrev pub NamesDoubt : Basis → List Candidate → LowAnswer → Type 0
-NamesDoubt basis list (Undecided date boundary) = AreInDoubt basis list date boundary
-NamesDoubt basis list (Low found c) = ⊤
-NamesDoubt basis list (Below date) = ⊤
-NamesDoubt basis list Above = ⊤
-NamesDoubt basis list (NoTime date) = ⊤
+abbrev pub NamesDoubt : GivenFigure → List Candidate → LowAnswer → Type 0
+NamesDoubt given list (Undecided date boundary) = AreInDoubt given list date boundary
+NamesDoubt given list (Low found c) = ⊤
+NamesDoubt given list (Below date) = ⊤
+NamesDoubt given list Above = ⊤
+NamesDoubt given list (NoTime date) = ⊤
 
 -- an answer that is not undecided
 abbrev pub IsDecided : LowAnswer → Type 0
@@ -88,9 +88,9 @@ IsDecided Above = ⊤
 IsDecided (NoTime date) = ⊤
 
 -- where no candidate is in doubt at any figure, the answer is not undecided
-abbrev pub IsDecidedWithoutDoubt : Basis → List Candidate → LowAnswer → Type 0
-IsDecidedWithoutDoubt basis list answer =
-    ((c : ℕ) (t : ℤ) → ¬ (IsInDoubt basis list c t)) → IsDecided answer
+abbrev pub IsDecidedWithoutDoubt : GivenFigure → List Candidate → LowAnswer → Type 0
+IsDecidedWithoutDoubt given list answer =
+    ((c : ℕ) (t : ℤ) → ¬ (IsInDoubt given list c t)) → IsDecided answer
 
 -- A lowest price is 100,000 dollars at most, and names one of n candidates. A price is neither
 -- above all figures nor without time.
@@ -118,10 +118,10 @@ NamesFigure Yield n answer = NamesYield n answer
 -- The answer to what is asked of candidates: it is the rule's over what the ends tell of them,
 -- right by their exact outcomes, undecided only in doubt, and decided where none is in doubt.
 pub record IsLowestAnswer
-    (ends : PaymentSeries → ℤ → WorthEnds) (basis : Basis) (list : List Candidate)
+    (ends : PaymentSeries → ℤ → WorthEnds) (given : GivenFigure) (list : List Candidate)
     (answer : LowAnswer) : Type 0 where
-  pub rule : IsLowestByRule ends basis list answer
-  pub right : IsRightLowest basis list answer
-  pub undecided : NamesDoubt basis list answer
-  pub decided : IsDecidedWithoutDoubt basis list answer
-  pub figure : NamesFigure (kind_of basis) (length list) answer
+  pub rule : IsLowestByRule ends given list answer
+  pub right : IsRightLowest given list answer
+  pub undecided : NamesDoubt given list answer
+  pub decided : IsDecidedWithoutDoubt given list answer
+  pub figure : NamesFigure (kind_of given) (length list) answer

@@ -7,7 +7,7 @@ use Rattle.muni_rule.specs.WorthEnds.{WorthEnds}
 use Rattle.muni_sched.specs.declared.answer.LowAnswer.{LowAnswer}
 use Rattle.muni_sched.specs.declared.candidate.Candidate.{Candidate}
 use Rattle.muni_sched.specs.Answer.{IsDecided, IsLowestByRule, IsRightLowest}
-use Rattle.muni_sched.specs.Basis.{Basis, MayBeAsked, IsExact}
+use Rattle.muni_sched.specs.GivenFigure.{GivenFigure, MayBeAsked, IsExact}
 
 -- a value is such, and no other
 pub record HasOne {A : Type 0} (IsSuch : A → Type 0) : Type 0 where
@@ -18,24 +18,24 @@ pub record HasOne {A : Type 0} (IsSuch : A → Type 0) : Type 0 where
 -- a candidate has one exact outcome, and a list of them one list of outcomes
 abbrev pub HasOneExactOutcome : Type 0
 HasOneExactOutcome =
-    (basis : Basis) (candidate : Candidate)
-    → MayBeAsked basis (candidate ∷ []) → HasOne (IsExact basis candidate)
+    (given : GivenFigure) (candidate : Candidate)
+    → MayBeAsked given (candidate ∷ []) → HasOne (IsExact given candidate)
 
 abbrev pub HaveOneExactOutcomes : Type 0
 HaveOneExactOutcomes =
-    (basis : Basis) (list : List Candidate)
-    → MayBeAsked basis list → HasOne (AllZip (IsExact basis) list)
+    (given : GivenFigure) (list : List Candidate)
+    → MayBeAsked given list → HasOne (AllZip (IsExact given) list)
 
 -- for given ends of the worths the rule allows one answer
 abbrev pub AllowsOneAnswer : Type 0
 AllowsOneAnswer =
-    (ends : PaymentSeries → ℤ → WorthEnds) (basis : Basis) (list : List Candidate)
-    (one other : LowAnswer) → MayBeAsked basis list
-    → IsLowestByRule ends basis list one → IsLowestByRule ends basis list other → one ≡ other
+    (ends : PaymentSeries → ℤ → WorthEnds) (given : GivenFigure) (list : List Candidate)
+    (one other : LowAnswer) → MayBeAsked given list
+    → IsLowestByRule ends given list one → IsLowestByRule ends given list other → one ≡ other
 
 -- of the answers that are not undecided, at most one is right
 abbrev pub OneAnswerIsRight : Type 0
 OneAnswerIsRight =
-    (basis : Basis) (list : List Candidate) (one other : LowAnswer)
-    → MayBeAsked basis list → IsDecided one → IsDecided other
-    → IsRightLowest basis list one → IsRightLowest basis list other → one ≡ other
+    (given : GivenFigure) (list : List Candidate) (one other : LowAnswer)
+    → MayBeAsked given list → IsDecided one → IsDecided other
+    → IsRightLowest given list one → IsRightLowest given list other → one ≡ other

@@ -13,6 +13,6 @@ pub mod PriceOutcome
 pub mod YieldOutcome
 pub mod Search
 pub mod SearchedOut
-pub mod Basis
+pub mod GivenFigure
 pub mod Answer
 pub mod AnswerLaws

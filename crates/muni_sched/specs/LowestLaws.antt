@@ -6,7 +6,7 @@ use Rattle.muni_sched.specs.declared.lowest.Outcome.{Outcome}
 use Rattle.muni_sched.specs.declared.lowest.Outcome.TheVariants.{Unsure}
 use Rattle.muni_sched.specs.declared.lowest.Lowest.{Lowest}
 use Rattle.muni_sched.specs.declared.lowest.Lowest.TheVariants.{Undecided}
-use Rattle.muni_sched.specs.Basis.{Basis, kind_of, IsInDoubt}
+use Rattle.muni_sched.specs.GivenFigure.{GivenFigure, kind_of, IsInDoubt}
 use Rattle.muni_sched.specs.Figures.{least_unsure}
 use Rattle.muni_sched.specs.Lowest.{outcome_at, IsLowest}
 use Rattle.muni_sched.specs.Sound.{AreSound, IsRight}
@@ -20,11 +20,11 @@ AllowsOneLowest =
 -- the answer over sound outcomes is right
 abbrev pub SoundIsRight : Type 0
 SoundIsRight =
-    (basis : Basis) (list : List Candidate) (exact : ℕ → ExactOutcome) (outcomes : List Outcome)
+    (given : GivenFigure) (list : List Candidate) (exact : ℕ → ExactOutcome) (outcomes : List Outcome)
     (answer : Lowest)
-    → AreSound (least_unsure (kind_of basis)) (IsInDoubt basis list) outcomes exact
-    → IsLowest (least_unsure (kind_of basis)) outcomes answer
-    → IsRight (IsInDoubt basis list) exact answer
+    → AreSound (least_unsure (kind_of given)) (IsInDoubt given list) outcomes exact
+    → IsLowest (least_unsure (kind_of given)) outcomes answer
+    → IsRight (IsInDoubt given list) exact answer
 
 -- of the answers that are not undecided, at most one is right
 abbrev pub OneLowestIsRight : Type 0
@@ -41,8 +41,8 @@ UndecidedIsUnsure =
 -- where no candidate is in doubt at any figure, the answer over sound outcomes is not undecided
 abbrev pub NoDoubtIsDecided : Type 0
 NoDoubtIsDecided =
-    (basis : Basis) (list : List Candidate) (exact : ℕ → ExactOutcome) (outcomes : List Outcome)
+    (given : GivenFigure) (list : List Candidate) (exact : ℕ → ExactOutcome) (outcomes : List Outcome)
     (s : ℤ) (c : ℕ)
-    → ((k : ℕ) (t : ℤ) → ¬ (IsInDoubt basis list k t))
-    → AreSound (least_unsure (kind_of basis)) (IsInDoubt basis list) outcomes exact
-    → ¬ (IsLowest (least_unsure (kind_of basis)) outcomes (Undecided s c))
+    → ((k : ℕ) (t : ℤ) → ¬ (IsInDoubt given list k t))
+    → AreSound (least_unsure (kind_of given)) (IsInDoubt given list) outcomes exact
+    → ¬ (IsLowest (least_unsure (kind_of given)) outcomes (Undecided s c))

@@ -1,5 +1,5 @@
 -- What is known of the yield of a candidate at a price.
-use Rattle.std.specs.Prelude.{◌≡◌, ℕ, ◌*◌, ⊤, Option, Some, None, ℤ, pos, negsuc, ◌≤ℤ◌}
+use Rattle.std.specs.Prelude.{◌≡◌, ℕ, ⊤, Option, Some, None, ℤ, pos, negsuc, ◌≤ℤ◌}
 use Rattle.muni_rule.specs.Accuracy.{price_amount}
 use Rattle.muni_rule.specs.Payments.{PaymentSeries}
 use Rattle.muni_rule.specs.SinglePayment.{SinglePayment}

@@ -2,6 +2,7 @@
 
 ghost use Rattle.muni_sched.specs.AnswerLaws.{HasOneExactOutcome, HaveOneExactOutcomes, AllowsOneAnswer, OneAnswerIsRight};
 ghost use Rattle.muni_sched.specs.CandidateLaws.{AreOneList};
+ghost use Rattle.muni_sched.specs.LowestLaws.{AllowsOneLowest, SoundIsRight, OneLowestIsRight, UndecidedIsUnsure, NoDoubtIsDecided};
 
 /// A law of the rule: an issue has one list of redemption candidates at a settlement.
 pub fn the_candidates_are_one()
@@ -25,4 +26,23 @@ pub fn the_answer_is_one()
 /// A law of the rule: of the answers that are not undecided, at most one is right.
 pub fn one_answer_is_right()
     ensures { OneAnswerIsRight }
+{}
+
+/// A law of the rule: it allows at most one answer.
+pub fn the_lowest_is_one()
+    ensures { AllowsOneLowest }
+{}
+
+/// A law of the rule: if each outcome says what is exactly so, or is unsure with cause, the
+/// answer is right (MSRB Rule G-15(a)). Of all answers but the undecided, at most one is right.
+pub fn the_lowest_is_right()
+    ensures right { SoundIsRight }
+    ensures one { OneLowestIsRight }
+{}
+
+/// A law of the rule: an undecided answer names a candidate that is unsure, and if nothing is in
+/// doubt the answer is not undecided.
+pub fn the_lowest_is_undecided_only_in_doubt()
+    ensures unsure { UndecidedIsUnsure }
+    ensures decided { NoDoubtIsDecided }
 {}

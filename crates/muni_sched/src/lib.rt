@@ -5,7 +5,7 @@
 mod answer;
 mod candidate;
 mod figure;
-mod laws;
+pub mod laws;
 mod lowest;
 mod note;
 mod prices;
@@ -19,13 +19,7 @@ mod yields;
 pub use answer::{Figure, LowAnswer};
 pub use candidate::{Candidate, Shape};
 pub use figure::FigureKind;
-pub use laws::{
-    one_answer_is_right, the_answer_is_one, the_candidates_are_one, the_exact_outcome_is_one,
-};
-pub use lowest::{
-    Lowest, Outcome, lowest_of, the_lowest_is_one, the_lowest_is_right,
-    the_lowest_is_undecided_only_in_doubt,
-};
+pub use lowest::{Lowest, Outcome, lowest_of};
 pub use muni_terms::{Boundary, Label};
 pub use prices::lowest_price;
 pub use range::out_of_range;

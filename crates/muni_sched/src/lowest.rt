@@ -4,7 +4,6 @@ ghost use Rattle.std.specs.Prelude.{◌≡◌, All, length, int_lt};
 ghost use Rattle.muni_sched.specs.Figures as figures;
 ghost use Rattle.muni_sched.specs.Figures.{IsOf, IsLowestOf};
 ghost use Rattle.muni_sched.specs.Lowest.{IsLowest};
-ghost use Rattle.muni_sched.specs.LowestLaws.{AllowsOneLowest, SoundIsRight, OneLowestIsRight, UndecidedIsUnsure, NoDoubtIsDecided};
 ghost use Rattle.muni_sched.specs.Ranks.{rank, decided_by, IsRanked};
 
 use crate::figure::FigureKind;
@@ -91,22 +90,3 @@ fn decided(outcome: Outcome, candidate: usize) -> Lowest
         Outcome::Above => Lowest::Above,
     }
 }
-
-/// A law of the rule: it allows at most one answer.
-pub fn the_lowest_is_one()
-    ensures { AllowsOneLowest }
-{}
-
-/// A law of the rule: where each outcome says what is exactly so, or is unsure with cause, the
-/// answer is right (MSRB Rule G-15(a)). Of all answers but the undecided, at most one is right.
-pub fn the_lowest_is_right()
-    ensures right { SoundIsRight }
-    ensures one { OneLowestIsRight }
-{}
-
-/// A law of the rule: an undecided answer names a candidate that is unsure, and where nothing is
-/// in doubt the answer is not undecided.
-pub fn the_lowest_is_undecided_only_in_doubt()
-    ensures unsure { UndecidedIsUnsure }
-    ensures decided { NoDoubtIsDecided }
-{}

@@ -5,7 +5,7 @@ ghost use Rattle.std.specs.List.{AllZip};
 ghost use Rattle.muni_multi.specs.Prices as multi;
 ghost use Rattle.muni_simple.specs.Single as simple;
 ghost use Rattle.muni_sched.specs.Answer.{IsLowestAnswer};
-ghost use Rattle.muni_sched.specs.Basis.{at_yield};
+ghost use Rattle.muni_sched.specs.GivenFigure.{at_yield};
 ghost use Rattle.muni_sched.specs.Candidates.{IsCandidate};
 ghost use Rattle.muni_sched.specs.Figures.{IsOf};
 ghost use Rattle.muni_sched.specs.PriceOutcome as spec;

@@ -19,7 +19,8 @@ use arrayvec::ArrayVec;
 use muni_dec::Price;
 use muni_edge::Gate;
 use muni_multi::Encloser;
-use muni_yield::{Bracket, searches_are_in_order};
+use muni_yield::Bracket;
+use muni_yield::laws::searches_are_in_order;
 use std::thread;
 use std::thread::Threads;
 

@@ -2,7 +2,7 @@
 
 ghost use Rattle.std.specs.Prelude.{◌≡◌, ◌<◌, ◌≤◌, ◌+◌, ◌^◌, length, All};
 ghost use Rattle.muni_sched.specs.Answer.{IsLowestAnswer};
-ghost use Rattle.muni_sched.specs.Basis.{at_price};
+ghost use Rattle.muni_sched.specs.GivenFigure.{at_price};
 ghost use Rattle.muni_sched.specs.Candidates.{IsCandidate};
 ghost use Rattle.muni_sched.specs.SearchedOut.{AreSearchedOut, CountsRounds};
 

@@ -2,10 +2,11 @@
 #![tactic(auto)]
 
 mod bracket;
+pub mod laws;
 mod outcome;
 mod place;
 mod printed;
 
-pub use bracket::{Bracket, searches_are_in_order};
-pub use outcome::{Outcome, at_most_one_yield_is_right};
+pub use bracket::Bracket;
+pub use outcome::Outcome;
 pub use printed::printed_yield;

@@ -1,7 +1,5 @@
 //! What is known of a yield.
 
-ghost use Rattle.muni_yield.specs.Outcome.{OneYieldIsRight};
-
 use muni_dec::Yield3;
 
 /// The yield at a price, in the range from -5.000 to 100.000 percent.
@@ -17,9 +15,3 @@ pub enum Outcome {
     /// given one. Both are in thousandths of a percent, and `lower` is from -5,001 to 100,000.
     Unsure { lower: i32 },
 }
-
-/// A law of the definitions: of the outcomes that the contracts allow at most one is not `Unsure`,
-/// so that each of the others comes nowhere but where its case applies.
-pub fn at_most_one_yield_is_right()
-    ensures { OneYieldIsRight }
-{}

@@ -1,5 +1,5 @@
 use Rattle.std.proofs.Common.{rules, length}
-use Rattle.muni_sched.specs.Basis.{at_yield}
+use Rattle.muni_sched.specs.GivenFigure.{at_yield}
 use Rattle.muni_sched.specs.Lowest.{IsLowest}
 use Rattle.muni_sched.specs.PriceOutcome.{IsPriceOutcome}
 use Rattle.muni_sched.specs.Figures.{least_unsure, IsLowestOf}

@@ -1,6 +1,6 @@
 use Rattle.std.proofs.Common.{rules, length}
 use Rattle.muni_yield.specs.Places.{place_verdict}
-use Rattle.muni_sched.specs.Basis.{at_price}
+use Rattle.muni_sched.specs.GivenFigure.{at_price}
 use Rattle.muni_sched.specs.Lowest.{IsLowest}
 use Rattle.muni_sched.specs.Figures.{least_unsure, IsLowestOf}
 use Rattle.muni_sched.specs.Ranks.{IsRanked}

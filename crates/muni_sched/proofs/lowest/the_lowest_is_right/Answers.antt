@@ -1,7 +1,0 @@
-use Rattle.muni_sched.specs.Basis.{kind_of, IsInDoubt}
-use Rattle.muni_sched.specs.Figures.{least_unsure}
-use Rattle.muni_sched.proofs.SoundLemmas.{sound_right}
-use Rattle.muni_sched.proofs.lowest.the_lowest_is_right.Goals as goal
-
-pub returns-clause-right : goal.returns-clause-right
-returns-clause-right c = λ basis list. sound_right (least_unsure (kind_of basis)) (IsInDoubt basis list)
