@@ -24,7 +24,7 @@ use Rattle.muni_msg.specs.declared.asked.Terms.{Terms}
 use Rattle.muni_msg.specs.declared.command.Key.{Key}
 use Rattle.muni_msg.specs.declared.command.Command.{Command}
 use Rattle.muni_msg.specs.declared.command.Command.TheVariants.{AddIssue, Enter, Correct}
-use Rattle.muni_import.specs.Calls.{calls_field}
+use Rattle.muni_msg.specs.Calls.{calls_field}
 use Rattle.muni_import.specs.ColumnLaws.{is_day, is_first_date, pays_none, is_coupon, is_value, issue_columns, key_columns, number_columns, terms_columns, columns_of, IsCounted, IsBad, IsLeastBad}
 use Rattle.muni_import.specs.Row.{◌>>=◌, Row, field, in_column, key_in, is_basis, given_in, terms_in, is_kind, not_empty, kind_in, dates_in, calendar_in, issue_in, name_of, has_count, command_in, row_by, row_of}
 use Rattle.muni_import.specs.declared.row.RowFault.{RowFault}

@@ -1,4 +1,3 @@
-pub mod BlankLemmas
 pub mod ColumnLemmas
 pub mod LawLemmas
 pub mod MachineLemmas

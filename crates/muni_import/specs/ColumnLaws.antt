@@ -8,7 +8,7 @@ use Rattle.muni_msg.specs.Fields.{basis_field, side_reading, fee_field, version_
 use Rattle.muni_msg.specs.IssueFields.{cusip_reading, issue_name_reading}
 use Rattle.muni_msg.specs.Names.{is_desk_letter}
 use Rattle.muni_msg.specs.NameReading.{name_reading}
-use Rattle.muni_import.specs.Calls.{calls_field}
+use Rattle.muni_msg.specs.Calls.{calls_field}
 use Rattle.muni_import.specs.Row.{field, has_count, is_basis, is_kind, name_of, row_of}
 use Rattle.muni_import.specs.declared.row.RowFault.TheVariants.{FieldCount, BadField}
 use Rattle.muni_import.specs.declared.row.RowName.{RowName}

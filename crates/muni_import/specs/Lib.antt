@@ -1,6 +1,6 @@
-pub mod Calls
 pub mod ColumnLaws
 pub mod Fault
+pub mod Line
 pub mod Reader
 pub mod Report
 pub mod Row

@@ -18,7 +18,7 @@ use Rattle.muni_msg.specs.declared.asked.Terms.{Terms}
 use Rattle.muni_msg.specs.declared.command.Key.{Key}
 use Rattle.muni_msg.specs.declared.command.Command.{Command}
 use Rattle.muni_msg.specs.declared.command.Command.TheVariants.{AddIssue, Enter, Correct, Cancel}
-use Rattle.muni_import.specs.Calls.{calls_field}
+use Rattle.muni_msg.specs.Calls.{calls_field}
 use Rattle.muni_import.specs.declared.row.RowFault.{RowFault}
 use Rattle.muni_import.specs.declared.row.RowFault.TheVariants.{FieldCount, BadField}
 use Rattle.muni_import.specs.declared.row.RowName.{RowName}

@@ -1,16 +1,15 @@
 //! The lines of a report on rows.
 
-ghost use Rattle.std.specs.Prelude.{◌≡◌, ◌+◌, ◌≤◌, ◌++◌, [], ◌∷◌, length, decimal};
+ghost use Rattle.std.specs.Prelude.{◌≡◌, ◌+◌, ◌≤◌, ◌++◌};
 ghost use Rattle.arrayvec.specs.ArrayVec.{array_vec_len};
-ghost use Rattle.muni_days.specs.Day.{civil, day_text};
 ghost use Rattle.muni_import.specs.Report as spec;
 
 use crate::RowFault;
+use crate::line::{
+    push_amount, push_bad, push_day, push_digits, push_field, push_number, push_refused,
+};
 use arrayvec::ArrayVec;
-use itoa::Buffer;
-use muni_days::Day;
-use muni_dec::text::push;
-use muni_msg::{Figures, Key, Refusal, Reply, refusal_name};
+use muni_msg::{Figures, Key, Reply};
 
 /// Replaces the text by the line of a report on what came of a row, with its line end. Places are
 /// counted from 1.
@@ -48,7 +47,7 @@ fn push_reply(text: &mut ArrayVec<u8, 256>, reply: &Reply)
             version,
             ..
         } => push_confirmed(text, key, *number, &version.figures),
-        Reply::Refused(refusal) => push_refused(text, refusal),
+        Reply::Refused(refusal) => push_refused(text, refusal.number()),
         Reply::Quoted { .. } | Reply::Listed(_) => {}
     }
 }
@@ -73,11 +72,10 @@ fn push_prices(text: &mut ArrayVec<u8, 256>, figures: &Figures)
     ensures items { text.new.items ≡ text.old.items ++ spec.price_fields figures.now }
     ensures len { array_vec_len text.new ≤ array_vec_len text.old + 60 }
 {
-    let mut value = ArrayVec::new();
-    figures.price.print_into(&mut value);
-    push_field(text, &value);
-    figures.yld.print_into(&mut value);
-    push_field(text, &value);
+    push_amount(text, &figures.price);
+    let mut yld = ArrayVec::new();
+    figures.yld.print_into(&mut yld);
+    push_field(text, &yld);
 }
 
 #[tactic(auto, unfolding(crate::specs::Report::total_fields))]
@@ -86,70 +84,6 @@ fn push_total(text: &mut ArrayVec<u8, 256>, figures: &Figures)
     ensures items { text.new.items ≡ text.old.items ++ spec.total_fields figures.now }
     ensures len { array_vec_len text.new ≤ array_vec_len text.old + 41 }
 {
-    push_day(text, &figures.redemption);
-    let mut total = ArrayVec::new();
-    figures.total.print_into(&mut total);
-    push_field(text, &total);
-}
-
-fn push_day(text: &mut ArrayVec<u8, 256>, date: &Day)
-    requires { array_vec_len text.old ≤ 200 }
-    ensures items { text.new.items
-        ≡ text.old.items ++ spec.behind_commas (day_text (civil date.now) ∷ []) }
-    ensures len { array_vec_len text.new ≡ array_vec_len text.old + 11 }
-{
-    let mut value = ArrayVec::new();
-    date.print_into(&mut value);
-    push_field(text, &value);
-}
-
-#[tactic(auto, unfolding(crate::specs::Report::refused_fields))]
-fn push_refused(text: &mut ArrayVec<u8, 256>, refusal: &Refusal)
-    requires { array_vec_len text.old ≤ 10 }
-    ensures items { text.new.items ≡ text.old.items ++ spec.refused_fields refusal.now }
-    ensures len { array_vec_len text.new ≤ array_vec_len text.old + 35 }
-{
-    push_field(text, b"refused");
-    push_number(text, refusal.number());
-    push_field(text, refusal_name(refusal.number()).as_bytes());
-}
-
-#[tactic(auto, unfolding(crate::specs::Report::bad_fields))]
-fn push_bad(text: &mut ArrayVec<u8, 256>, fault: RowFault)
-    requires { array_vec_len text.old ≤ 10 }
-    ensures items { text.new.items ≡ text.old.items ++ spec.bad_fields fault }
-    ensures len { array_vec_len text.new ≤ array_vec_len text.old + 26 }
-{
-    push_field(text, b"bad");
-    push_number(text, fault.number());
-    if let RowFault::BadField { column } = fault {
-        push_number(text, column);
-    }
-}
-
-fn push_field(text: &mut ArrayVec<u8, 256>, field: &[u8])
-    requires { array_vec_len text.old + length field.now ≤ 250 }
-    ensures items { text.new.items ≡ text.old.items ++ spec.behind_commas (field.now ∷ []) }
-    ensures len { array_vec_len text.new ≡ array_vec_len text.old + length field.now + 1 }
-{
-    text.push(b',');
-    push(text, field);
-}
-
-fn push_number(text: &mut ArrayVec<u8, 256>, number: u32)
-    requires { array_vec_len text.old ≤ 200 }
-    ensures items { text.new.items ≡ text.old.items ++ spec.behind_commas (decimal number ∷ []) }
-    ensures len { array_vec_len text.new ≤ array_vec_len text.old + 11 }
-{
-    text.push(b',');
-    push_digits(text, number);
-}
-
-fn push_digits(text: &mut ArrayVec<u8, 256>, number: u32)
-    requires { array_vec_len text.old ≤ 201 }
-    ensures items { text.new.items ≡ text.old.items ++ decimal number }
-    ensures len { array_vec_len text.new ≤ array_vec_len text.old + 10 }
-{
-    let mut buffer = Buffer::new();
-    push(text, buffer.format(number).as_bytes());
+    push_day(text, figures.redemption);
+    push_amount(text, &figures.total);
 }

@@ -6,13 +6,13 @@ ghost use Rattle.csv.specs.Records.{fields_of};
 ghost use Rattle.muni_import.specs.Fault.{fault_number};
 ghost use Rattle.muni_import.specs.Row as spec;
 
-use crate::calls::read_calls;
+use crate::columns::{field, in_column};
 use csv::ByteRecord;
 use muni_days::Day;
 use muni_dec::Par;
 use muni_msg::{
-    Asked, Command, DeskName, Given, Key, Reference, Terms, read_basis_field, read_coupon,
-    read_cusip, read_fee_field, read_given, read_issue_name, read_kind, read_side,
+    Asked, Command, DeskName, Given, Key, Reference, Terms, read_basis_field, read_calls,
+    read_coupon, read_cusip, read_fee_field, read_given, read_issue_name, read_kind, read_side,
     read_version_number,
 };
 use muni_terms::{IssueRow, Kind};
@@ -110,24 +110,6 @@ pub(crate) fn read_row(row: &ByteRecord) -> Result<Command, RowFault>
             number: number(row)?,
         }),
     }
-}
-
-// The field of a column, counted from 1. Behind the last one each is empty.
-fn field(row: &ByteRecord, column: u32) -> &[u8]
-    requires { 1 ≤ column }
-    ensures { result.now ≡ spec.field column (fields_of row.now) }
-{
-    match row.get(column as usize - 1) {
-        Some(field) => field,
-        None => b"",
-    }
-}
-
-// What a column reads as, or that it does not.
-fn in_column<T>(column: u32, reading: Option<T>) -> Result<T, RowFault>
-    ensures { result ≡ spec.in_column column reading }
-{
-    reading.ok_or(RowFault::BadField { column })
 }
 
 fn key(row: &ByteRecord) -> Result<Key, RowFault>

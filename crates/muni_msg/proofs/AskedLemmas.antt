@@ -7,7 +7,8 @@ use Rattle.std.proofs.lemmas.Bool.Decides.{Decides-eqb, Decides-int_eq, Decides-
 use Rattle.std.proofs.lemmas.Slice.Eq.{slice_eq-Decides}
 use lib.Pointwise.{pointwise}
 use Rattle.muni_days.proofs.DayLemmas.{day_decides}
-use Rattle.muni_msg.specs.Asked.{basis_key, given_units, given_eq, side_key, side_eq, asked_eq, terms_eq}
+use Rattle.muni_msg.specs.Asked.{given_eq, side_eq, asked_eq, terms_eq}
+use Rattle.muni_msg.specs.Codes.{given_code, given_units, side_code}
 use Rattle.muni_msg.specs.declared.asked.Given.{Given}
 use Rattle.muni_msg.specs.declared.asked.Given.TheVariants.{AtYield, AtPrice, AtRate}
 use Rattle.muni_msg.specs.declared.asked.Side.{Side}
@@ -16,7 +17,7 @@ use Rattle.muni_msg.specs.declared.asked.Asked.{Asked}
 use Rattle.muni_msg.specs.declared.asked.Terms.{Terms}
 
 -- what is given
-same_given : (given other : Given) → basis_key given ≡ basis_key other → given_units given ≡ given_units other → given ≡ other
+same_given : (given other : Given) → given_code given ≡ given_code other → given_units given ≡ given_units other → given ≡ other
 same_given (AtYield y) (AtYield other) basis units = ap AtYield units
 same_given (AtYield y) (AtPrice other) basis units = absurd (cc)
 same_given (AtYield y) (AtRate other) basis units = absurd (cc)
@@ -31,18 +32,18 @@ pub given_decides : (given other : Given) → Decides (given_eq given other) (gi
 given_decides given other =
     Decides-like (given_eq given other)
     (λ same. same_given given other same.0 same.1)
-    (λ same. (ap basis_key same, ap given_units same))
-    (Decides-and (basis_key given == basis_key other) (int_eq (given_units given) (given_units other)) (Decides-eqb (basis_key given) (basis_key other)) (Decides-int_eq (given_units given) (given_units other)))
+    (λ same. (ap given_code same, ap given_units same))
+    (Decides-and (given_code given == given_code other) (int_eq (given_units given) (given_units other)) (Decides-eqb (given_code given) (given_code other)) (Decides-int_eq (given_units given) (given_units other)))
 
 -- sides
-same_side : (side other : Side) → side_key side ≡ side_key other → side ≡ other
+same_side : (side other : Side) → side_code side ≡ side_code other → side ≡ other
 same_side Buy Buy same = refl
 same_side Buy Sell same = absurd (cc)
 same_side Sell Buy same = absurd (cc)
 same_side Sell Sell same = refl
 
 pub side_decides : (side other : Side) → Decides (side_eq side other) (side ≡ other)
-side_decides side other = Decides-like (side_eq side other) (same_side side other) (ap side_key) (Decides-eqb (side_key side) (side_key other))
+side_decides side other = Decides-like (side_eq side other) (same_side side other) (ap side_code) (Decides-eqb (side_code side) (side_code other))
 
 -- what is asked
 pub numbers_decide : (xs ys : List ℕ) → Decides (pointwise nat_eq xs ys) (xs ≡ ys)

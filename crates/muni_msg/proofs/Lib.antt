@@ -1,3 +1,4 @@
 pub mod AskedLemmas
+pub mod BlankLemmas
 pub mod CallLemmas
 pub mod KeyLemmas

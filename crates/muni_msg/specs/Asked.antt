@@ -1,39 +1,21 @@
 -- What `==` says of what is asked, and of its parts.
-use Rattle.std.specs.Prelude.{ℕ, ℤ, pos, Bool, nat_eq}
+use Rattle.std.specs.Prelude.{Bool, nat_eq}
 use Rattle.std.specs.Ordering.{on, eq_of_both, int_eq}
 use lib.Pointwise.{pointwise}
 use Rattle.muni_days.specs.Day.{place_of}
+use Rattle.muni_msg.specs.Codes.{given_code, given_units, side_code}
 use Rattle.muni_msg.specs.declared.asked.Given.{Given}
-use Rattle.muni_msg.specs.declared.asked.Given.TheVariants.{AtYield, AtPrice, AtRate}
 use Rattle.muni_msg.specs.declared.asked.Side.{Side}
-use Rattle.muni_msg.specs.declared.asked.Side.TheVariants.{Buy, Sell}
 use Rattle.muni_msg.specs.declared.asked.Asked.{Asked}
 use Rattle.muni_msg.specs.declared.asked.Terms.{Terms}
 
--- a number that tells bases apart
-abbrev pub basis_key : Given → ℕ
-basis_key (AtYield y) = 0
-basis_key (AtPrice price) = 1
-basis_key (AtRate rate) = 2
-
--- what is given on any basis, in units
-abbrev pub given_units : Given → ℤ
-given_units (AtYield y) = y
-given_units (AtPrice price) = pos price
-given_units (AtRate rate) = rate
-
 -- what `==` says of two that are given
 abbrev pub given_eq : Given → Given → Bool
-given_eq = eq_of_both (on basis_key nat_eq) (on given_units int_eq)
-
--- a number that tells sides apart
-abbrev pub side_key : Side → ℕ
-side_key Buy = 0
-side_key Sell = 1
+given_eq = eq_of_both (on given_code nat_eq) (on given_units int_eq)
 
 -- of two sides
 abbrev pub side_eq : Side → Side → Bool
-side_eq = on side_key nat_eq
+side_eq = on side_code nat_eq
 
 -- of two amounts of an issue
 abbrev pub amount_eq : Asked → Asked → Bool

@@ -1,4 +1,6 @@
 pub mod Asked
+pub mod Calls
+pub mod Codes
 pub mod Fields
 pub mod IssueFields
 pub mod Key

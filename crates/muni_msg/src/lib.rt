@@ -2,6 +2,8 @@
 #![tactic(auto)]
 
 mod asked;
+mod calls;
+mod codes;
 mod command;
 mod fields;
 mod figures;
@@ -11,6 +13,8 @@ mod refusal;
 mod version;
 
 pub use asked::{Asked, Given, Side, Terms};
+pub use calls::read_calls;
+pub use codes::{basis_code, basis_of_code, kind_code, label_code, label_of_code};
 pub use command::{Command, Key, Line, Reply};
 pub use fields::{
     read_basis, read_basis_field, read_call, read_fee_field, read_given, read_kind, read_side,

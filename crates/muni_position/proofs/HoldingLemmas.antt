@@ -3,7 +3,7 @@ use Rattle.std.proofs.Common.{◌≡◌, ℕ, ◌+◌, ◌==◌, true, false, co
 use Rattle.std.specs.Prelude.{pos, ◌-ℤ◌}
 use Rattle.std.specs.List.{filter, sum_by}
 use Rattle.std.proofs.lemmas.List.Sums.{sum_by-cons, sum_by-append}
-use Rattle.muni_msg.specs.Asked.{side_key}
+use Rattle.muni_msg.specs.Codes.{side_code}
 use Rattle.muni_msg.specs.declared.asked.Side.{Side}
 use Rattle.muni_msg.specs.declared.asked.Side.TheVariants.{Buy, Sell}
 use Rattle.muni_msg.specs.declared.version.Version.{Version}
@@ -74,19 +74,19 @@ sum_is pick amount side cusip is none (v ∷ vs) =
       | false ↦ ap (λ n. n + sum) none ∙ zero-add sum ∙ rest
     ]
 
-bought_of : (s : Side) (par total : ℕ) → (one s par total).bought ≡ cond (side_key s == side_key Buy) par 0
+bought_of : (s : Side) (par total : ℕ) → (one s par total).bought ≡ cond (side_code s == side_code Buy) par 0
 bought_of Buy par total = refl
 bought_of Sell par total = refl
 
-sold_of : (s : Side) (par total : ℕ) → (one s par total).sold ≡ cond (side_key s == side_key Sell) par 0
+sold_of : (s : Side) (par total : ℕ) → (one s par total).sold ≡ cond (side_code s == side_code Sell) par 0
 sold_of Buy par total = refl
 sold_of Sell par total = refl
 
-paid_of : (s : Side) (par total : ℕ) → (one s par total).paid ≡ cond (side_key s == side_key Buy) total 0
+paid_of : (s : Side) (par total : ℕ) → (one s par total).paid ≡ cond (side_code s == side_code Buy) total 0
 paid_of Buy par total = refl
 paid_of Sell par total = refl
 
-received_of : (s : Side) (par total : ℕ) → (one s par total).received ≡ cond (side_key s == side_key Sell) total 0
+received_of : (s : Side) (par total : ℕ) → (one s par total).received ≡ cond (side_code s == side_code Sell) total 0
 received_of Buy par total = refl
 received_of Sell par total = refl
 

@@ -3,7 +3,7 @@ use Rattle.std.specs.Prelude.{ℕ, ◌==◌, ◌&&◌, ◌-ℤ◌, pos, Bool, tr
 use Rattle.std.specs.List.{filter, sum_by}
 use Rattle.std.specs.Ordering.{eq_by_cmp}
 use Rattle.std.specs.FinMap.{from_entries, entries}
-use Rattle.muni_msg.specs.Asked.{side_key}
+use Rattle.muni_msg.specs.Codes.{side_code}
 use Rattle.muni_msg.specs.declared.asked.Side.{Side}
 use Rattle.muni_msg.specs.declared.asked.Side.TheVariants.{Buy, Sell}
 use Rattle.muni_msg.specs.declared.version.Act.{Act}
@@ -29,7 +29,7 @@ counts cusip version = is_live version.act && eq_by_cmp by_bytes version.terms.a
 
 -- it is on this side
 abbrev pub is_on : Side → Version → Bool
-is_on side version = side_key version.terms.asked.side == side_key side
+is_on side version = side_code version.terms.asked.side == side_code side
 
 -- the versions that count for a CUSIP on one side
 abbrev pub counted_on : Side → List ℕ → List Version → List Version

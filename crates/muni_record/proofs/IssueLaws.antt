@@ -9,10 +9,10 @@ use Rattle.muni_terms.specs.declared.row.Call.{Call}
 use Rattle.muni_terms.specs.declared.row.Kind.{Kind}
 use Rattle.muni_terms.specs.declared.row.Kind.TheVariants.{Periodic, Zero, AtRedemption, Discount}
 use Rattle.muni_terms.specs.declared.row.IssueRow.{IssueRow}
+use Rattle.muni_msg.specs.Codes.{basis_code, kind_code}
 use Rattle.muni_record.specs.Words.{four, front}
-use Rattle.muni_record.specs.Codes.{basis_code}
 use Rattle.muni_record.specs.Fields.{day_bytes, text_bytes}
-use Rattle.muni_record.specs.IssueBody.{kind_code, first_bytes, first_size, kind_of, call_bytes, call_of, calls_of, name_of, few_calls_of, row_bytes, row_of, issue_of, CallFits, IssueFits}
+use Rattle.muni_record.specs.IssueBody.{first_bytes, first_size, kind_of, call_bytes, call_of, calls_of, name_of, few_calls_of, row_bytes, row_of, issue_of, CallFits, IssueFits}
 use Rattle.muni_record.proofs.WordLaws.{front_back, length-four, four_is, length-day, four_back, amount_back, basis_back, day_is, day_back, text_back}
 
 -- calls

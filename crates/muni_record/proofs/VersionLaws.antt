@@ -8,7 +8,7 @@ use Rattle.std.proofs.lemmas.Int.{ints}
 use Rattle.muni_dec.specs.Ranges.{IsPercent}
 use Rattle.muni_msg.specs.Names.{is_desk_letter, IsName}
 use Rattle.muni_msg.specs.NameReading.{name_reading}
-use Rattle.muni_msg.specs.Asked.{basis_key, given_units}
+use Rattle.muni_msg.specs.Codes.{act_code, side_code, label_code, given_code, given_units, given_of_code}
 use Rattle.muni_msg.specs.declared.asked.Asked.{Asked}
 use Rattle.muni_msg.specs.declared.asked.Given.{Given}
 use Rattle.muni_msg.specs.declared.asked.Given.TheVariants.{AtYield, AtPrice, AtRate}
@@ -16,9 +16,8 @@ use Rattle.muni_msg.specs.declared.command.Key.{Key}
 use Rattle.muni_msg.specs.declared.figures.Figures.{Figures}
 use Rattle.muni_msg.specs.declared.version.Version.{Version}
 use Rattle.muni_record.specs.Words.{four, eight, signed}
-use Rattle.muni_record.specs.Codes.{act_code, side_code, label_code}
 use Rattle.muni_record.specs.Fields.{day_bytes, text_bytes}
-use Rattle.muni_record.specs.VersionBody.{money_bytes, figures_bytes, money_of, figures_of, given_of, asked_bytes, asked_of, version_bytes, version_of, MoneyFits, FiguresFit, GivenFits, AskedFits, VersionFits}
+use Rattle.muni_record.specs.VersionBody.{money_bytes, figures_bytes, money_of, figures_of, asked_bytes, asked_of, version_bytes, version_of, MoneyFits, FiguresFit, GivenFits, AskedFits, VersionFits}
 use Rattle.muni_record.specs.declared.put.Put.TheVariants.{Version as PutVersion}
 use Rattle.muni_record.specs.declared.version_body.Money.{Money}
 use Rattle.muni_record.proofs.WordLaws.{front_back, length-four, length-signed, length-day, four_back, four_last, eight_back, eight_last, signed_back, amount_back, percent_back, printed_yield_back, act_back, side_back, label_back, day_is, day_back, text_back}
@@ -66,7 +65,7 @@ figures_back f fits =
     ) refl
 
 -- what is given
-given_back : (given : Given) → GivenFits given → given_of (basis_key given) (given_units given) ≡ Some given
+given_back : (given : Given) → GivenFits given → given_of_code (given_code given) (given_units given) ≡ Some given
 given_back (AtYield yld) fits = rw (percent_back 999_999 9_999_999 yld fits) refl
 given_back (AtPrice price) fits = rw (amount_back 0 999_999_999 price fits) refl
 given_back (AtRate rate) fits = rw (percent_back 999_999 9_999_999 rate fits) refl
@@ -81,13 +80,13 @@ asked_back : (a : Asked) → AskedFits a → asked_of (asked_bytes a) ≡ Some a
 unfolding asked_of
 asked_back a fits =
     let value = signed (given_units a.given) ++ four a.fee in
-    let day = day_bytes a.settle ++ (basis_key a.given ∷ value) in
+    let day = day_bytes a.settle ++ (given_code a.given ∷ value) in
     rw (
       front_back 9 a.cusip (side_code a.side ∷ (four a.par ++ day)) fits.cusip,
       side_back a.side,
       four_back a.par day (omega (arith, fits.par.1)),
       amount_back 1 1_000_000_000 a.par fits.par,
-      day_back a.settle (basis_key a.given ∷ value),
+      day_back a.settle (given_code a.given ∷ value),
       day_is a.settle,
       signed_back (given_units a.given) (four a.fee) (given_fits a.given fits.given),
       given_back a.given fits.given,
@@ -98,14 +97,14 @@ asked_back a fits =
 length-asked : (a : Asked) → AskedFits a → length (asked_bytes a) ≡ 27
 length-asked a fits =
     let value = signed (given_units a.given) ++ four a.fee in
-    let day = day_bytes a.settle ++ (basis_key a.given ∷ value) in
+    let day = day_bytes a.settle ++ (given_code a.given ∷ value) in
     omega (
       arith,
       fits.cusip,
       length-append a.cusip (side_code a.side ∷ (four a.par ++ day)),
       length-append (four a.par) day,
       length-four a.par,
-      length-append (day_bytes a.settle) (basis_key a.given ∷ value),
+      length-append (day_bytes a.settle) (given_code a.given ∷ value),
       length-day a.settle,
       length-append (signed (given_units a.given)) (four a.fee),
       length-signed (given_units a.given),

@@ -19,8 +19,8 @@ use Rattle.muni_msg.specs.declared.asked.Side.{Side}
 use Rattle.muni_msg.specs.declared.asked.Side.TheVariants.{Buy, Sell}
 use Rattle.muni_msg.specs.declared.version.Act.{Act}
 use Rattle.muni_msg.specs.declared.version.Act.TheVariants.{Entered, Corrected, Canceled}
+use Rattle.muni_msg.specs.Codes.{act_code, act_of_code, side_code, side_of_code, label_code, label_of_code, basis_code, basis_of_code}
 use Rattle.muni_record.specs.Words.{two, four, eight, signed, number_of_2, number_of_4, number_of_8, signed_of, front, four_front, eight_front, signed_front}
-use Rattle.muni_record.specs.Codes.{act_code, act_of, side_code, side_of, label_code, label_of, basis_code, basis_of}
 use Rattle.muni_record.specs.Fields.{day_bytes, date_of, day_of, text_bytes, text_front}
 
 -- a piece from the front
@@ -88,21 +88,21 @@ percent_back below greatest (pos n) range = let high : nat_le n greatest ≡ tru
 percent_back below greatest (negsuc n) range = let low : nat_lt n below ≡ true = grind (arith, nat_tests, ints, range.0) in rw low refl
 
 -- codes
-pub act_back : (act : Act) → act_of (act_code act) ≡ Some act
+pub act_back : (act : Act) → act_of_code (act_code act) ≡ Some act
 act_back Entered = refl
 act_back Corrected = refl
 act_back Canceled = refl
 
-pub side_back : (side : Side) → side_of (side_code side) ≡ Some side
+pub side_back : (side : Side) → side_of_code (side_code side) ≡ Some side
 side_back Buy = refl
 side_back Sell = refl
 
-pub label_back : (label : Label) → label_of (label_code label) ≡ Some label
+pub label_back : (label : Label) → label_of_code (label_code label) ≡ Some label
 label_back Maturity = refl
 label_back ParOption = refl
 label_back Call = refl
 
-pub basis_back : (basis : Basis) → basis_of (basis_code basis) ≡ Some basis
+pub basis_back : (basis : Basis) → basis_of_code (basis_code basis) ≡ Some basis
 basis_back Thirty360 = refl
 basis_back Actual365 = refl
 

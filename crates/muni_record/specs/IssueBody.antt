@@ -10,17 +10,11 @@ use Rattle.muni_terms.specs.declared.row.Call.{Call}
 use Rattle.muni_terms.specs.declared.row.Kind.{Kind}
 use Rattle.muni_terms.specs.declared.row.Kind.TheVariants.{Periodic, Zero, AtRedemption, Discount}
 use Rattle.muni_terms.specs.declared.row.IssueRow.{IssueRow}
+use Rattle.muni_msg.specs.Codes.{basis_code, basis_of_code, kind_code}
 use Rattle.muni_record.specs.Words.{four, number_of_4, front, byte_front, four_front}
-use Rattle.muni_record.specs.Codes.{basis_code, basis_of}
 use Rattle.muni_record.specs.Fields.{day_bytes, day_of, text_bytes, text_front}
 
--- the byte of a kind, and the first interest date, which only a periodic issue has
-abbrev pub kind_code : Kind → ℕ
-kind_code (Periodic first) = 0
-kind_code Zero = 1
-kind_code AtRedemption = 2
-kind_code Discount = 3
-
+-- the first interest date, which only a periodic issue has
 abbrev pub first_bytes : Kind → List ℕ
 first_bytes (Periodic first) = day_bytes first
 first_bytes Zero = []
@@ -90,7 +84,7 @@ row_of bytes =
       calls = record { items = calls };
     }) (few_calls_of count.0 count.1)) (byte_front units.1)) (if_coupon units.0)) (four_front maturity_day.1))
     (day_of maturity_day.0)) (front 4 first.1)) (kind_of code.0 first.0)) (front (first_size code.0) dated_day.1))
-    (day_of dated_day.0)) (front 4 days.1)) (basis_of days.0)) (byte_front code.1)) (byte_front text.1)) (name_of text.0))
+    (day_of dated_day.0)) (front 4 days.1)) (basis_of_code days.0)) (byte_front code.1)) (byte_front text.1)) (name_of text.0))
     (text_front cusip.1)) (front 9 bytes)
 
 -- an issue, which passes every test

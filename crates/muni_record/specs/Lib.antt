@@ -1,5 +1,4 @@
 pub mod Words
-pub mod Codes
 pub mod Fields
 pub mod IssueBody
 pub mod VersionBody

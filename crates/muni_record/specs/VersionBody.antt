@@ -5,10 +5,10 @@ use Rattle.std.specs.Option.{option_map, option_and_then}
 use Rattle.std.specs.Result.{result_ok}
 use Rattle.std.specs.Char.{is_ascii_alphanumeric}
 use Rattle.muni_dec.specs.Ranges.{IsAmount, IsPercent}
-use Rattle.muni_dec.specs.Values.{if_price, if_printed_price, if_yield, if_printed_yield, if_money, if_par, if_fee}
+use Rattle.muni_dec.specs.Values.{if_printed_price, if_price, if_printed_yield, if_money, if_par, if_fee}
 use Rattle.muni_msg.specs.Names.{is_desk_letter, IsName}
 use Rattle.muni_msg.specs.NameReading.{name_reading}
-use Rattle.muni_msg.specs.Asked.{basis_key, given_units}
+use Rattle.muni_msg.specs.Codes.{act_code, act_of_code, side_code, side_of_code, label_code, label_of_code, given_code, given_units, given_of_code}
 use Rattle.muni_msg.specs.declared.asked.Asked.{Asked}
 use Rattle.muni_msg.specs.declared.asked.Given.{Given}
 use Rattle.muni_msg.specs.declared.asked.Given.TheVariants.{AtYield, AtPrice, AtRate}
@@ -16,7 +16,6 @@ use Rattle.muni_msg.specs.declared.command.Key.{Key}
 use Rattle.muni_msg.specs.declared.figures.Figures.{Figures}
 use Rattle.muni_msg.specs.declared.version.Version.{Version}
 use Rattle.muni_record.specs.Words.{four, eight, signed, front, byte_front, four_front, eight_front, signed_front}
-use Rattle.muni_record.specs.Codes.{act_code, act_of, side_code, side_of, label_code, label_of}
 use Rattle.muni_record.specs.Fields.{day_bytes, day_of, text_bytes, text_front}
 use Rattle.muni_record.specs.declared.version_body.Money.{Money}
 use Rattle.muni_record.specs.declared.put.Put.{Put}
@@ -59,25 +58,14 @@ figures_of bytes =
       accrued = money.accrued;
       commission = money.commission;
       total = money.total;
-    }) (money_of days.1)) (signed_front code.1)) (label_of code.0)) (byte_front at_units.1)) (if_price at_units.0)) (four_front day.1))
+    }) (money_of days.1)) (signed_front code.1)) (label_of_code code.0)) (byte_front at_units.1)) (if_price at_units.0)) (four_front day.1))
     (day_of day.0)) (front 4 yield_units.1)) (if_printed_yield yield_units.0)) (signed_front price_units.1))
     (if_printed_price price_units.0)) (eight_front bytes)
-
--- what is given, by a byte of its basis, in units
-abbrev pub price_of_units : ℤ → Option ℕ
-price_of_units (pos units) = if_price units
-price_of_units (negsuc less) = None
-
-abbrev pub given_of : ℕ → ℤ → Option Given
-given_of zero units = option_map AtYield (if_yield units)
-given_of (suc zero) units = option_map AtPrice (price_of_units units)
-given_of (suc (suc zero)) units = option_map AtRate (if_yield units)
-given_of (suc (suc (suc more))) units = None
 
 -- what a trade asks for, in 27 bytes, and what is read as such
 abbrev pub asked_bytes : Asked → List ℕ
 asked_bytes a =
-    a.cusip ++ (side_code a.side ∷ (four a.par ++ (day_bytes a.settle ++ (basis_key a.given ∷ (signed (given_units a.given)
+    a.cusip ++ (side_code a.side ∷ (four a.par ++ (day_bytes a.settle ++ (given_code a.given ∷ (signed (given_units a.given)
     ++ four a.fee)))))
 
 unfoldable pub asked_of : List ℕ → Option Asked
@@ -91,8 +79,8 @@ asked_of bytes =
       given = given;
       side = side;
       fee = fee;
-    }) (if_fee cost.0)) (four_front value.1)) (given_of basis.0 value.0)) (signed_front basis.1)) (byte_front day.1))
-    (day_of day.0)) (front 4 units.1)) (if_par units.0)) (four_front code.1)) (side_of code.0)) (byte_front cusip.1)) (front 9 bytes)
+    }) (if_fee cost.0)) (four_front value.1)) (given_of_code basis.0 value.0)) (signed_front basis.1)) (byte_front day.1))
+    (day_of day.0)) (front 4 units.1)) (if_par units.0)) (four_front code.1)) (side_of_code code.0)) (byte_front cusip.1)) (front 9 bytes)
 
 -- the version of a trade with a number, and what is read as one
 abbrev pub version_bytes : Key → ℕ → Version → List ℕ
@@ -107,7 +95,7 @@ version_of bytes =
     option_and_then (λ asked. option_map (λ figures.
     PutVersion (record { desk = desk; reference = reference }) number.0
     (record { act = act; terms = record { asked = asked }; figures = figures }))
-    (figures_of piece.1)) (asked_of piece.0)) (front 27 code.1)) (act_of code.0)) (byte_front number.1))
+    (figures_of piece.1)) (asked_of piece.0)) (front 27 code.1)) (act_of_code code.0)) (byte_front number.1))
     (four_front reference_text.1)) (result_ok (name_reading is_ascii_alphanumeric 20 reference_text.0))) (text_front desk_text.1))
     (result_ok (name_reading is_desk_letter 16 desk_text.0))) (text_front bytes)
 

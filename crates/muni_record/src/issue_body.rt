@@ -7,7 +7,6 @@ ghost use Rattle.arrayvec.specs.ArrayVec.{array_vec_len};
 ghost use Rattle.muni_dec.specs.Ranges.{IsAmount};
 ghost use Rattle.muni_record.specs.IssueBody as spec;
 
-use crate::codes::{basis_code, basis_of};
 use crate::fields::{
     Body, byte_front, cusip_of, day_of, four_front, front, number_of_4, push_byte, push_day,
     push_four, push_text, text_front,
@@ -15,6 +14,7 @@ use crate::fields::{
 use arrayvec::ArrayVec;
 use muni_dec::text::push;
 use muni_dec::{Coupon, Price};
+use muni_msg::{basis_code, basis_of_code, kind_code};
 use muni_terms::{Call, Issue, IssueRow, Kind, check};
 
 fn push_call(body: &mut Body, call: &Call)
@@ -35,17 +35,6 @@ fn push_calls(body: &mut Body, calls: &[Call])
 {
     for (i, call) in calls.iter().enumerate() {
         push_call(body, call);
-    }
-}
-
-fn kind_code(kind: Kind) -> u8
-    ensures { result ≡ spec.kind_code kind }
-{
-    match kind {
-        Kind::Periodic { .. } => 0,
-        Kind::Zero => 1,
-        Kind::AtRedemption => 2,
-        Kind::Discount => 3,
     }
 }
 
@@ -174,7 +163,7 @@ fn row_of(bytes: &[u8]) -> Option<IssueRow>
     let name = name_of(text)?;
     let (code, rest) = byte_front(rest)?;
     let (basis, rest) = byte_front(rest)?;
-    let basis = basis_of(basis)?;
+    let basis = basis_of_code(basis)?;
     let (dated, rest) = front(rest, 4)?;
     let dated = day_of(dated)?;
     let (first, rest) = front(rest, first_size(code))?;

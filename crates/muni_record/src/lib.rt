@@ -3,7 +3,6 @@
 #![tactic(auto)]
 
 mod body;
-mod codes;
 mod fields;
 mod issue_body;
 mod laws;

@@ -2,11 +2,10 @@
 
 ghost use Rattle.std.specs.Prelude.{◌≡◌, ◌≤◌, ◌+◌, ◌++◌, ◌∷◌, length};
 ghost use Rattle.arrayvec.specs.ArrayVec.{array_vec_len};
-ghost use Rattle.muni_msg.specs.Asked.{basis_key, given_units};
+ghost use Rattle.muni_msg.specs.Codes.{given_code, given_units};
 ghost use Rattle.muni_record.specs.Words.{signed};
 ghost use Rattle.muni_record.specs.VersionBody as spec;
 
-use crate::codes::{act_code, act_of, label_code, label_of, side_code, side_of};
 use crate::fields::{
     Body, byte_front, cusip_of, day_of, eight_front, four_front, front, push_byte, push_day,
     push_eight, push_four, push_signed, push_text, signed_front, text_front,
@@ -14,7 +13,10 @@ use crate::fields::{
 use crate::put::Put;
 use muni_dec::text::push;
 use muni_dec::{Cents, Fee, Par, Price, Price3, Yield, Yield3};
-use muni_msg::{Asked, DeskName, Figures, Given, Key, Reference, Terms, Version};
+use muni_msg::{
+    Act, Asked, DeskName, Figures, Given, Key, Reference, Side, Terms, Version, label_code,
+    label_of_code,
+};
 
 /// The amounts of money of figures.
 #[derive(Clone, Copy)]
@@ -57,7 +59,7 @@ fn figures_of(bytes: &[u8]) -> Option<Figures>
     let (at, rest) = four_front(rest)?;
     let at = Price::of(u64::from(at))?;
     let (label, rest) = byte_front(rest)?;
-    let label = label_of(label)?;
+    let label = label_of_code(label)?;
     let (days, rest) = signed_front(rest)?;
     let money = money_of(rest)?;
     Some(Figures {
@@ -113,7 +115,7 @@ fn push_figures(body: &mut Body, figures: &Figures)
 fn push_given(body: &mut Body, given: Given)
     requires { array_vec_len body.old + 5 ≤ 1_024 }
     ensures items { body.new.items
-        ≡ body.old.items ++ basis_key given ∷ signed (given_units given) }
+        ≡ body.old.items ++ given_code given ∷ signed (given_units given) }
     ensures len { array_vec_len body.new ≡ array_vec_len body.old + 5 }
     ensures fits { spec.GivenFits given }
 {
@@ -140,7 +142,7 @@ fn push_asked(body: &mut Body, asked: &Asked)
     ensures fits { spec.AskedFits asked.now }
 {
     push(body, &asked.cusip);
-    push_byte(body, side_code(asked.side));
+    push_byte(body, asked.side.code());
     push_four(body, asked.par.units() as u32);
     push_day(body, asked.settle);
     push_given(body, asked.given);
@@ -158,29 +160,9 @@ pub(crate) fn push_version(body: &mut Body, key: &Key, number: u32, version: &Ve
     push_text(body, key.desk.bytes());
     push_text(body, key.reference.bytes());
     push_four(body, number);
-    push_byte(body, act_code(version.act));
+    push_byte(body, version.act.code());
     push_asked(body, &version.terms.asked);
     push_figures(body, &version.figures);
-}
-
-fn price_of_units(units: i32) -> Option<Price>
-    ensures { result ≡ spec.price_of_units units }
-{
-    if units < 0 {
-        return None;
-    }
-    Price::of(units as u64)
-}
-
-fn given_of(basis: u8, units: i32) -> Option<Given>
-    ensures { result ≡ spec.given_of basis units }
-{
-    match basis {
-        0 => Some(Given::AtYield(Yield::of(i64::from(units))?)),
-        1 => Some(Given::AtPrice(price_of_units(units)?)),
-        2 => Some(Given::AtRate(Yield::of(i64::from(units))?)),
-        _ => None,
-    }
 }
 
 #[tactic(auto, unfolding(crate::specs::VersionBody::asked_of))]
@@ -189,14 +171,14 @@ fn asked_of(bytes: &[u8]) -> Option<Asked>
 {
     let (cusip, rest) = front(bytes, 9)?;
     let (side, rest) = byte_front(rest)?;
-    let side = side_of(side)?;
+    let side = Side::of_code(side)?;
     let (par, rest) = four_front(rest)?;
     let par = Par::of(u64::from(par))?;
     let (settle, rest) = front(rest, 4)?;
     let settle = day_of(settle)?;
     let (basis, rest) = byte_front(rest)?;
     let (units, rest) = signed_front(rest)?;
-    let given = given_of(basis, units)?;
+    let given = Given::of_code(basis, i64::from(units))?;
     let (fee, _) = four_front(rest)?;
     let fee = Fee::of(u64::from(fee))?;
     Some(Asked {
@@ -220,7 +202,7 @@ pub(crate) fn version_of(bytes: &[u8]) -> Option<Put>
     let reference = Reference::read(reference).ok()?;
     let (number, rest) = four_front(rest)?;
     let (act, rest) = byte_front(rest)?;
-    let act = act_of(act)?;
+    let act = Act::of_code(act)?;
     let (asked, rest) = front(rest, 27)?;
     let asked = asked_of(asked)?;
     let figures = figures_of(rest)?;

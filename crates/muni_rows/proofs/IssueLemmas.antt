@@ -18,8 +18,9 @@ use Rattle.muni_terms.specs.declared.row.Kind.{Kind}
 use Rattle.muni_terms.specs.declared.row.Kind.TheVariants.{Periodic, Zero, AtRedemption, Discount}
 use Rattle.muni_terms.specs.declared.row.TermsFault.TheVariants.{BadCusip, BadName, CallOffCalendar, CallsNotRising, BadCallPrice}
 use Rattle.muni_terms.proofs.IssueLemmas.{passed, neither}
+use Rattle.muni_msg.specs.Codes.{basis_code, kind_code}
 use Rattle.muni_msg.specs.IssueFields.{cusip_reading, issue_name_reading}
-use Rattle.muni_rows.specs.Codes.{basis_code, basis_of, coupon_of, kind_code}
+use Rattle.muni_rows.specs.Codes.{basis_of, code_in, coupon_of}
 use Rattle.muni_rows.specs.Issue.{columns_of, first_of, issue_of, kind_of}
 use Rattle.muni_rows.proofs.TextLemmas.{ArePriced, day_again, calls-read-again}
 
@@ -69,14 +70,14 @@ issue_name-again name few is =
     let most : nat_le (length name.items) 60 ≡ true = grind (arith, nat_tests, few) in
     rw (least, most) refl
 
-kind-again : (kind : Kind) → kind_of (kind_code kind) (first_of kind) ≡ Some kind
+kind-again : (kind : Kind) → kind_of (pos (kind_code kind)) (first_of kind) ≡ Some kind
 kind-again (Periodic first) = rw (day_again first) refl
 kind-again Zero = refl
 kind-again AtRedemption = refl
 kind-again Discount = refl
 
-basis-again : (basis : Basis) → basis_of (basis_code basis) ≡ Some basis
-unfolding basis_of
+basis-again : (basis : Basis) → basis_of (pos (basis_code basis)) ≡ Some basis
+unfolding code_in
 basis-again Thirty360 = refl
 basis-again Actual365 = refl
 

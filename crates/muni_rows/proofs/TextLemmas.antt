@@ -23,7 +23,7 @@ use Rattle.muni_days.proofs.ReadingLemmas.{text-read}
 use Rattle.muni_terms.specs.declared.row.Call.{Call}
 use Rattle.muni_msg.specs.Fields.{day_in, call_reading}
 use Rattle.muni_msg.specs.IssueFields.{calls_reading}
-use Rattle.muni_import.specs.Calls.{cut_at_blanks, calls_field}
+use Rattle.muni_msg.specs.Calls.{cut_at_blanks, calls_field}
 use Rattle.muni_rows.specs.Calls.{call_text, calls_behind_blanks, calls_text, calls_of}
 
 -- ---- which bytes such a text has

@@ -5,7 +5,7 @@ use Rattle.std.specs.Str.{bytes_eq}
 use Rattle.muni_dec.specs.Decimal.{decimal_text}
 use Rattle.muni_days.specs.Day.{civil, day_text}
 use Rattle.muni_terms.specs.declared.row.Call.{Call}
-use Rattle.muni_import.specs.Calls.{calls_field}
+use Rattle.muni_msg.specs.Calls.{calls_field}
 
 -- a call: its date, a colon, and its price with six decimals
 abbrev pub call_text : Call → List ℕ

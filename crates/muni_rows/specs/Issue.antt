@@ -6,10 +6,11 @@ use Rattle.muni_terms.specs.Check.{checked}
 use Rattle.muni_terms.specs.declared.row.IssueRow.{IssueRow}
 use Rattle.muni_terms.specs.declared.row.Kind.{Kind}
 use Rattle.muni_terms.specs.declared.row.Kind.TheVariants.{Periodic, Zero, AtRedemption, Discount}
+use Rattle.muni_msg.specs.Codes.{basis_code, kind_code}
 use Rattle.muni_msg.specs.Fields.{day_in, ◌>>=◌}
 use Rattle.muni_msg.specs.IssueFields.{cusip_reading, issue_name_reading}
 use Rattle.muni_rows.specs.Calls.{calls_text, calls_of}
-use Rattle.muni_rows.specs.Codes.{natural, coupon_of, kind_code, basis_code, basis_of}
+use Rattle.muni_rows.specs.Codes.{natural, coupon_of, basis_of}
 
 -- the columns: texts as their bytes, and numbers
 pub record Columns : Type 0 where
@@ -35,13 +36,13 @@ unfoldable pub columns_of : IssueRow → Columns
 columns_of row = record {
   cusip = row.cusip;
   name = row.name.items;
-  kind = kind_code row.kind;
+  kind = pos (kind_code row.kind);
   dated = day_text (civil row.dated);
   first = first_of row.kind;
   maturity = day_text (civil row.maturity);
   coupon = pos row.coupon;
   calls = calls_text row.calls.items;
-  basis = basis_code row.basis;
+  basis = pos (basis_code row.basis);
 }
 
 -- the kind of a number, which has a first interest date exactly where it is periodic

@@ -12,7 +12,7 @@ use arrayvec::ArrayVec;
 use muni_days::Day;
 use muni_dec::Price;
 use muni_dec::text::push;
-use muni_import::read_calls;
+use muni_msg::read_calls;
 use muni_terms::Call;
 
 /// Room for the text of 40 calls, with a blank before each.

@@ -6,10 +6,10 @@ ghost use Rattle.muni_days.specs.Day.{civil, day_text};
 ghost use Rattle.muni_rows.specs.Issue as spec;
 
 use crate::calls::{CallsText, print_calls, print_day, without_first, written_calls};
-use crate::codes::{basis_code, kind_code, natural, read_basis, read_coupon, units};
+use crate::codes::{natural, read_code, read_coupon, units};
 use arrayvec::ArrayVec;
 use muni_days::Day;
-use muni_msg::{read_cusip, read_issue_name};
+use muni_msg::{basis_code, basis_of_code, kind_code, read_cusip, read_issue_name};
 use muni_terms::{Issue, IssueRow, Kind, check};
 use std::marker::Model;
 
@@ -68,13 +68,13 @@ pub fn issue_columns(issue: &Issue) -> IssueColumns
     IssueColumns {
         cusip: row.cusip,
         name: copy_name(&row.name),
-        kind: kind_code(row.kind),
+        kind: i64::from(kind_code(row.kind)),
         dated: print_day(row.dated),
         first: print_first(row.kind),
         maturity: print_day(row.maturity),
         coupon: units(&row.coupon),
         calls: print_calls(row.calls.as_slice()),
-        basis: basis_code(row.basis),
+        basis: i64::from(basis_code(row.basis)),
     }
 }
 
@@ -151,7 +151,7 @@ pub fn issue_2(
         cusip: read_cusip(cusip.as_bytes())?,
         name: read_issue_name(name.as_bytes())?,
         kind: read_kind(kind, first.as_bytes())?,
-        basis: read_basis(basis)?,
+        basis: basis_of_code(read_code(basis)?)?,
         dated: Day::read(dated.as_bytes()).ok()?,
         maturity: Day::read(maturity.as_bytes()).ok()?,
         coupon: read_coupon(coupon)?,

@@ -5,6 +5,7 @@
 ghost use Rattle.std.specs.Prelude.{◌≡◌, pos, length, Some};
 ghost use Rattle.muni_dec.specs.Values.{if_yield, if_printed_yield};
 ghost use Rattle.muni_days.specs.Day.{civil, day_text};
+ghost use Rattle.muni_msg.specs.Codes.{act_code, given_code, given_units, label_code, side_code};
 ghost use Rattle.muni_msg.specs.Fields.{day_in};
 ghost use Rattle.muni_rows.specs.Codes as codes;
 ghost use Rattle.muni_rows.specs.Issue as issues;
@@ -32,20 +33,13 @@ fn nine_characters(cusip: &[u8; 9])
 
 /// A law: the columns in which a version is written are read as that version, with its trade and
 /// its number.
-#[tactic(auto, unfolding(crate::specs::Version::trade_of))]
+#[tactic(auto, unfolding(crate::specs::Version::trade_of, crate::specs::Version::columns_of))]
 pub fn versions_are_read_again(key: &Key, number: u32, version: &Version)
-    ensures { versions.trade_of key.now.desk key.now.reference (pos number)
-        (versions.columns_of version.now) ≡ Some (key.now, number, version.now) }
+    ensures { versions.trade_of (versions.columns_of key.now number version.now)
+        ≡ Some (key.now, number, version.now) }
 {
     key_is_read_again(key);
     number_is_read_again(number);
-    version_is_read_again(version);
-}
-
-#[tactic(auto, unfolding(crate::specs::Version::version_of, crate::specs::Version::columns_of))]
-fn version_is_read_again(version: &Version)
-    ensures { versions.version_of (versions.columns_of version.now) ≡ Some version.now }
-{
     act_is_read_again(version.act);
     asked_is_read_again(&version.terms.asked);
     figures_are_read_again(&version.figures);
@@ -59,11 +53,9 @@ fn key_is_read_again(key: &Key)
     let _reference = key.reference.bytes();
 }
 
-#[tactic(auto, unfolding(crate::specs::Version::asked_of))]
+#[tactic(auto, unfolding(crate::specs::Version::asked_of, crate::specs::Version::asked_columns))]
 fn asked_is_read_again(asked: &Asked)
-    ensures { versions.asked_of asked.now.cusip (codes.side_code asked.now.side) (pos asked.now.par)
-        (day_text (civil asked.now.settle)) (codes.given_code asked.now.given)
-        (codes.given_units asked.now.given) (pos asked.now.fee) ≡ Some asked.now }
+    ensures { versions.asked_of (versions.asked_columns asked.now) ≡ Some asked.now }
 {
     given_is_read_again(asked.given);
     cusip_is_read_again(&asked.cusip);
@@ -73,13 +65,9 @@ fn asked_is_read_again(asked: &Asked)
     fee_is_read_again(asked.fee);
 }
 
-#[tactic(auto, unfolding(crate::specs::Version::figures_of))]
+#[tactic(auto, unfolding(crate::specs::Version::figures_of, crate::specs::Version::figure_columns))]
 fn figures_are_read_again(figures: &Figures)
-    ensures { versions.figures_of (pos figures.now.price) figures.now.yld
-        (day_text (civil figures.now.redemption)) (pos figures.now.at)
-        (codes.label_code figures.now.label) figures.now.days (pos figures.now.principal)
-        (pos figures.now.accrued) (pos figures.now.total) (pos figures.now.commission)
-        ≡ Some figures.now }
+    ensures { versions.figures_of (versions.figure_columns figures.now) ≡ Some figures.now }
 {
     printed_price_is_read_again(figures.price);
     printed_yield_is_read_again(figures.yld);
@@ -103,24 +91,24 @@ fn day_count_is_read_again(days: i32)
     ensures { codes.signed_count days ≡ Some days }
 {}
 
-#[tactic(auto, unfolding(crate::specs::Codes::act_of))]
+#[tactic(auto, unfolding(crate::specs::Codes::code_in))]
 fn act_is_read_again(act: Act)
-    ensures { codes.act_of (codes.act_code act) ≡ Some act }
+    ensures { codes.act_of (pos (act_code act)) ≡ Some act }
 {}
 
-#[tactic(auto, unfolding(crate::specs::Codes::side_of))]
+#[tactic(auto, unfolding(crate::specs::Codes::code_in))]
 fn side_is_read_again(side: Side)
-    ensures { codes.side_of (codes.side_code side) ≡ Some side }
+    ensures { codes.side_of (pos (side_code side)) ≡ Some side }
 {}
 
-#[tactic(auto, unfolding(crate::specs::Codes::label_of))]
+#[tactic(auto, unfolding(crate::specs::Codes::code_in))]
 fn label_is_read_again(label: Label)
-    ensures { codes.label_of (codes.label_code label) ≡ Some label }
+    ensures { codes.label_of (pos (label_code label)) ≡ Some label }
 {}
 
-#[tactic(auto, unfolding(crate::specs::Codes::given_of))]
+#[tactic(auto, unfolding(crate::specs::Codes::code_in))]
 fn given_is_read_again(given: Given)
-    ensures { codes.given_of (codes.given_code given) (codes.given_units given) ≡ Some given }
+    ensures { codes.given_of (pos (given_code given)) (given_units given) ≡ Some given }
 {
     match given {
         Given::AtYield(y) => yield_is_read_again(y),

@@ -9,4 +9,4 @@ mod version;
 
 pub use issue::{IssueColumns, issue_1, issue_2, issue_columns};
 pub use laws::{issues_are_read_again, versions_are_read_again};
-pub use version::{VersionColumns, version_1, version_2, version_columns};
+pub use version::{AskedRow, FigureRow, TradeRow, WrittenVersion, version_1, version_2};

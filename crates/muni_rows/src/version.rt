@@ -5,102 +5,269 @@ ghost use Rattle.muni_rows.specs.Version as spec;
 
 use crate::calls::print_day;
 use crate::codes::{
-    act_code, dollars, given_code, given_units, label_code, read_act, read_count, read_fee,
-    read_given, read_label, read_money, read_nine, read_par, read_price, read_printed_price,
-    read_side, read_signed, side_code, units,
+    dollars, read_code, read_count, read_fee, read_money, read_nine, read_par, read_price,
+    read_printed_price, read_signed, units,
 };
 use arrayvec::ArrayVec;
 use muni_days::Day;
 use muni_dec::Yield3;
-use muni_msg::{Asked, DeskName, Figures, Given, Key, Reference, Terms, Version};
+use muni_msg::{
+    Act, Asked, DeskName, Figures, Given, Key, Reference, Side, Terms, Version, label_code,
+    label_of_code,
+};
 use std::marker::Model;
 
-/// The columns in which a version is kept, beside its desk, its reference and its number.
-#[derive(Debug, Drop)]
-pub struct VersionColumns {
-    /// 0 to 2: entered, corrected, canceled.
-    pub act: i64,
-    pub cusip: [u8; 9],
-    /// 0 for a buy, and 1 for a sale.
+/// The columns of what a trade asks for.
+#[derive(Drop)]
+pub struct AskedRow<'a> {
+    pub cusip: &'a [u8],
+    /// The code of the side.
     pub side: i64,
     pub par: i64,
-    pub settle: ArrayVec<u8, 32>,
-    /// 0 to 2: at a yield, at a price, at a rate.
+    pub settle: &'a [u8],
+    /// The code of what is given.
     pub basis: i64,
     /// The units of what is given.
     pub value: i64,
+    pub fee: i64,
+}
+
+impl<'a> Model for AskedRow<'a> {
+    ghost use Rattle.muni_rows.specs.Version.{AskedColumns};
+
+    ghost Value = { AskedColumns };
+
+    ghost view = { λ row. record {
+      cusip = row.cusip.now;
+      side = row.side;
+      par = row.par;
+      settle = row.settle.now;
+      basis = row.basis;
+      value = row.value;
+      fee = row.fee;
+    } };
+}
+
+impl<'a> AskedRow<'a> {
+    #[tactic(auto, unfolding(crate::specs::Version::asked_of))]
+    fn asked(&self) -> Option<Asked>
+        ensures { result ≡ spec.asked_of self.now }
+    {
+        let given = Given::of_code(read_code(self.basis)?, self.value)?;
+        Some(Asked {
+            cusip: read_nine(self.cusip)?,
+            par: read_par(self.par)?,
+            settle: Day::read(self.settle).ok()?,
+            given,
+            side: Side::of_code(read_code(self.side)?)?,
+            fee: read_fee(self.fee)?,
+        })
+    }
+}
+
+/// The columns of the figures of a trade.
+#[derive(Drop)]
+pub struct FigureRow<'a> {
     pub price: i64,
     pub yld: i64,
-    pub redemption: ArrayVec<u8, 32>,
+    pub redemption: &'a [u8],
     pub at_price: i64,
-    /// 0 to 2: maturity, a call at par, another call.
+    /// The code of the redemption.
     pub label: i64,
     pub days: i64,
     pub principal: i64,
     pub accrued: i64,
     pub total: i64,
-    pub fee: i64,
     pub commission: i64,
 }
 
-impl Model for VersionColumns {
-    ghost use Rattle.muni_rows.specs.Version as spec;
+impl<'a> Model for FigureRow<'a> {
+    ghost use Rattle.muni_rows.specs.Version.{FigureColumns};
 
-    ghost Value = { spec.Columns };
+    ghost Value = { FigureColumns };
 
-    ghost view = { λ columns. record {
-      act = columns.act;
-      cusip = columns.cusip;
-      side = columns.side;
-      par = columns.par;
-      settle = columns.settle.items;
-      basis = columns.basis;
-      value = columns.value;
-      price = columns.price;
-      yld = columns.yld;
-      redemption = columns.redemption.items;
-      at_price = columns.at_price;
-      label = columns.label;
-      days = columns.days;
-      principal = columns.principal;
-      accrued = columns.accrued;
-      total = columns.total;
-      fee = columns.fee;
-      commission = columns.commission;
+    ghost view = { λ row. record {
+      price = row.price;
+      yld = row.yld;
+      redemption = row.redemption.now;
+      at_price = row.at_price;
+      label = row.label;
+      days = row.days;
+      principal = row.principal;
+      accrued = row.accrued;
+      total = row.total;
+      commission = row.commission;
     } };
 }
 
-/// The columns of a version.
-#[tactic(auto, unfolding(crate::specs::Version::columns_of))]
-pub fn version_columns(version: &Version) -> VersionColumns
-    ensures { result ≡ spec.columns_of version.now }
+impl<'a> FigureRow<'a> {
+    #[tactic(auto, unfolding(crate::specs::Version::figures_of))]
+    fn figures(&self) -> Option<Figures>
+        ensures { result ≡ spec.figures_of self.now }
+    {
+        Some(Figures {
+            price: read_printed_price(self.price)?,
+            yld: Yield3::of(self.yld)?,
+            redemption: Day::read(self.redemption).ok()?,
+            at: read_price(self.at_price)?,
+            label: label_of_code(read_code(self.label)?)?,
+            days: read_signed(self.days)?,
+            principal: read_money(self.principal)?,
+            accrued: read_money(self.accrued)?,
+            commission: read_money(self.commission)?,
+            total: read_money(self.total)?,
+        })
+    }
+}
+
+/// The columns in which a version of a trade is kept.
+#[derive(Drop)]
+pub struct TradeRow<'a> {
+    pub desk: &'a [u8],
+    pub reference: &'a [u8],
+    pub number: i64,
+    /// The code of what made the version.
+    pub act: i64,
+    pub asked: AskedRow<'a>,
+    pub figures: FigureRow<'a>,
+}
+
+impl<'a> Model for TradeRow<'a> {
+    ghost use Rattle.muni_rows.specs.Version.{Columns};
+
+    ghost Value = { Columns };
+
+    ghost view = { λ row. record {
+      desk = row.desk.now;
+      reference = row.reference.now;
+      number = row.number;
+      act = row.act;
+      asked = row.asked;
+      figures = row.figures;
+    } };
+}
+
+impl<'a> TradeRow<'a> {
+    /// The trade, the number and the version with these columns, if there are such.
+    #[tactic(auto, unfolding(crate::specs::Version::trade_of))]
+    pub fn trade(&self) -> Option<(Key, u32, Version)>
+        ensures { result ≡ spec.trade_of self.now }
+    {
+        let key = read_key(self.desk, self.reference)?;
+        let number = read_count(self.number)?;
+        let version = Version {
+            act: Act::of_code(read_code(self.act)?)?,
+            terms: Terms {
+                asked: self.asked.asked()?,
+            },
+            figures: self.figures.figures()?,
+        };
+        Some((key, number, version))
+    }
+}
+
+#[tactic(auto, unfolding(crate::specs::Version::key_of))]
+fn read_key(desk: &[u8], reference: &[u8]) -> Option<Key>
+    ensures { result ≡ spec.key_of desk.now reference.now }
 {
-    let asked = &version.terms.asked;
-    let figures = &version.figures;
-    VersionColumns {
-        act: act_code(version.act),
-        cusip: asked.cusip,
-        side: side_code(asked.side),
-        par: dollars(asked.par),
-        settle: print_day(asked.settle),
-        basis: given_code(asked.given),
-        value: given_units(asked.given),
-        price: units(&figures.price),
-        yld: figures.yld.units(),
-        redemption: print_day(figures.redemption),
-        at_price: units(&figures.at),
-        label: label_code(figures.label),
-        days: i64::from(figures.days),
-        principal: units(&figures.principal),
-        accrued: units(&figures.accrued),
-        total: units(&figures.total),
-        fee: units(&asked.fee),
-        commission: units(&figures.commission),
+    Some(Key {
+        desk: DeskName::read(desk).ok()?,
+        reference: Reference::read(reference).ok()?,
+    })
+}
+
+/// A version of a trade with the texts of its days.
+#[derive(Drop)]
+pub struct WrittenVersion<'a> {
+    key: &'a Key,
+    number: u32,
+    version: &'a Version,
+    settle: ArrayVec<u8, 32>,
+    redemption: ArrayVec<u8, 32>,
+}
+
+impl<'a> Model for WrittenVersion<'a> {
+    ghost use Rattle.std.specs.Prelude.{◌≡◌, ℕ};
+    ghost use Rattle.muni_days.specs.Day.{civil, day_text};
+    ghost use Rattle.muni_msg.specs.declared.command.Key.{Key};
+    ghost use Rattle.muni_msg.specs.declared.version.Version.{Version};
+
+    ghost Value = { Key × ℕ × Version };
+
+    ghost view = { λ written. (written.key.now, written.number, written.version.now) };
+
+    ghost invariant = { λ written.
+        (written.settle.items ≡ day_text (civil written.version.now.terms.asked.settle))
+        × (written.redemption.items ≡ day_text (civil written.version.now.figures.redemption)) };
+}
+
+impl<'a> WrittenVersion<'a> {
+    /// A version of a trade, with its number.
+    pub fn new(key: &'a Key, number: u32, version: &'a Version) -> WrittenVersion<'a>
+        ensures { result ≡ (key.now, number, version.now) }
+    {
+        WrittenVersion {
+            key,
+            number,
+            version,
+            settle: print_day(version.terms.asked.settle),
+            redemption: print_day(version.figures.redemption),
+        }
+    }
+
+    /// Its columns.
+    #[tactic(auto, unfolding(crate::specs::Version::columns_of))]
+    pub fn row(&self) -> TradeRow<'_>
+        ensures { result ≡ spec.columns_of self.now.0 self.now.1 self.now.2 }
+    {
+        TradeRow {
+            desk: self.key.desk.bytes(),
+            reference: self.key.reference.bytes(),
+            number: i64::from(self.number),
+            act: i64::from(self.version.act.code()),
+            asked: self.asked_row(),
+            figures: self.figure_row(),
+        }
+    }
+
+    #[tactic(auto, unfolding(crate::specs::Version::asked_columns))]
+    fn asked_row(&self) -> AskedRow<'_>
+        ensures { result ≡ spec.asked_columns self.now.2.terms.asked }
+    {
+        let asked = &self.version.terms.asked;
+        AskedRow {
+            cusip: &asked.cusip,
+            side: i64::from(asked.side.code()),
+            par: dollars(asked.par),
+            settle: &self.settle,
+            basis: i64::from(asked.given.code()),
+            value: asked.given.units(),
+            fee: units(&asked.fee),
+        }
+    }
+
+    #[tactic(auto, unfolding(crate::specs::Version::figure_columns))]
+    fn figure_row(&self) -> FigureRow<'_>
+        ensures { result ≡ spec.figure_columns self.now.2.figures }
+    {
+        let figures = &self.version.figures;
+        FigureRow {
+            price: units(&figures.price),
+            yld: figures.yld.units(),
+            redemption: &self.redemption,
+            at_price: units(&figures.at),
+            label: i64::from(label_code(figures.label)),
+            days: i64::from(figures.days),
+            principal: units(&figures.principal),
+            accrued: units(&figures.accrued),
+            total: units(&figures.total),
+            commission: units(&figures.commission),
+        }
     }
 }
 
 /// The trade, the number and the version with these columns, if there are such. There were no columns
-/// for a commission where there was none.
+/// for a fee and a commission when there was none.
 pub fn version_1(
     desk: &str,
     reference: &str,
@@ -122,25 +289,32 @@ pub fn version_1(
     accrued: i64,
     total: i64,
 ) -> Option<(Key, u32, Version)>
-    ensures read { result ≡ spec.trade_of desk.now reference.now number (record {
+    ensures read { result ≡ spec.trade_of (record {
+      desk = desk.now;
+      reference = reference.now;
+      number = number;
       act = act;
-      cusip = cusip.now;
-      side = side;
-      par = par;
-      settle = settle.now;
-      basis = basis;
-      value = value;
-      price = price;
-      yld = yld;
-      redemption = redemption.now;
-      at_price = at_price;
-      label = label;
-      days = days;
-      principal = principal;
-      accrued = accrued;
-      total = total;
-      fee = pos 0;
-      commission = pos 0;
+      asked = record {
+        cusip = cusip.now;
+        side = side;
+        par = par;
+        settle = settle.now;
+        basis = basis;
+        value = value;
+        fee = pos 0;
+      };
+      figures = record {
+        price = price;
+        yld = yld;
+        redemption = redemption.now;
+        at_price = at_price;
+        label = label;
+        days = days;
+        principal = principal;
+        accrued = accrued;
+        total = total;
+        commission = pos 0;
+      };
     }) }
 {
     version_2(
@@ -150,7 +324,6 @@ pub fn version_1(
 }
 
 /// The trade, the number and the version with these columns, if there are such.
-#[tactic(auto, unfolding(crate::specs::Version::trade_of))]
 pub fn version_2(
     desk: &str,
     reference: &str,
@@ -174,170 +347,62 @@ pub fn version_2(
     fee: i64,
     commission: i64,
 ) -> Option<(Key, u32, Version)>
-    ensures read { result ≡ spec.trade_of desk.now reference.now number (record {
+    ensures read { result ≡ spec.trade_of (record {
+      desk = desk.now;
+      reference = reference.now;
+      number = number;
       act = act;
-      cusip = cusip.now;
-      side = side;
-      par = par;
-      settle = settle.now;
-      basis = basis;
-      value = value;
-      price = price;
-      yld = yld;
-      redemption = redemption.now;
-      at_price = at_price;
-      label = label;
-      days = days;
-      principal = principal;
-      accrued = accrued;
-      total = total;
-      fee = fee;
-      commission = commission;
+      asked = record {
+        cusip = cusip.now;
+        side = side;
+        par = par;
+        settle = settle.now;
+        basis = basis;
+        value = value;
+        fee = fee;
+      };
+      figures = record {
+        price = price;
+        yld = yld;
+        redemption = redemption.now;
+        at_price = at_price;
+        label = label;
+        days = days;
+        principal = principal;
+        accrued = accrued;
+        total = total;
+        commission = commission;
+      };
     }) }
 {
-    let key = read_key(desk.as_bytes(), reference.as_bytes())?;
-    let number = read_count(number)?;
-    let version = read_version(
-        act,
-        cusip.as_bytes(),
+    let asked = AskedRow {
+        cusip: cusip.as_bytes(),
         side,
         par,
-        settle.as_bytes(),
+        settle: settle.as_bytes(),
         basis,
         value,
+        fee,
+    };
+    let figures = FigureRow {
         price,
         yld,
-        redemption.as_bytes(),
+        redemption: redemption.as_bytes(),
         at_price,
         label,
         days,
         principal,
         accrued,
         total,
-        fee,
         commission,
-    )?;
-    Some((key, number, version))
-}
-
-#[tactic(auto, unfolding(crate::specs::Version::version_of))]
-fn read_version(
-    act: i64,
-    cusip: &[u8],
-    side: i64,
-    par: i64,
-    settle: &[u8],
-    basis: i64,
-    value: i64,
-    price: i64,
-    yld: i64,
-    redemption: &[u8],
-    at_price: i64,
-    label: i64,
-    days: i64,
-    principal: i64,
-    accrued: i64,
-    total: i64,
-    fee: i64,
-    commission: i64,
-) -> Option<Version>
-    ensures { result ≡ spec.version_of (record {
-      act = act;
-      cusip = cusip.now;
-      side = side;
-      par = par;
-      settle = settle.now;
-      basis = basis;
-      value = value;
-      price = price;
-      yld = yld;
-      redemption = redemption.now;
-      at_price = at_price;
-      label = label;
-      days = days;
-      principal = principal;
-      accrued = accrued;
-      total = total;
-      fee = fee;
-      commission = commission;
-    }) }
-{
-    let act = read_act(act)?;
-    let asked = read_asked(cusip, side, par, settle, basis, value, fee)?;
-    let figures = read_figures(
-        price, yld, redemption, at_price, label, days, principal, accrued, total, commission,
-    )?;
-    Some(Version {
+    };
+    let row = TradeRow {
+        desk: desk.as_bytes(),
+        reference: reference.as_bytes(),
+        number,
         act,
-        terms: Terms { asked },
+        asked,
         figures,
-    })
-}
-
-#[tactic(auto, unfolding(crate::specs::Version::key_of))]
-fn read_key(desk: &[u8], reference: &[u8]) -> Option<Key>
-    ensures { result ≡ spec.key_of desk.now reference.now }
-{
-    Some(Key {
-        desk: DeskName::read(desk).ok()?,
-        reference: Reference::read(reference).ok()?,
-    })
-}
-
-#[tactic(auto, unfolding(crate::specs::Version::asked_of))]
-fn read_asked(
-    cusip: &[u8],
-    side: i64,
-    par: i64,
-    settle: &[u8],
-    basis: i64,
-    value: i64,
-    fee: i64,
-) -> Option<Asked>
-    ensures { result ≡ spec.asked_of cusip.now side par settle.now basis value fee }
-{
-    let given: Given = read_given(basis, value)?;
-    let cusip = read_nine(cusip)?;
-    let par = read_par(par)?;
-    let settle = Day::read(settle).ok()?;
-    let side = read_side(side)?;
-    let fee = read_fee(fee)?;
-    Some(Asked {
-        cusip,
-        par,
-        settle,
-        given,
-        side,
-        fee,
-    })
-}
-
-#[tactic(auto, unfolding(crate::specs::Version::figures_of))]
-fn read_figures(
-    price: i64,
-    yld: i64,
-    redemption: &[u8],
-    at_price: i64,
-    label: i64,
-    days: i64,
-    principal: i64,
-    accrued: i64,
-    total: i64,
-    commission: i64,
-) -> Option<Figures>
-    ensures { result ≡ spec.figures_of price yld redemption.now at_price label days principal
-        accrued total commission }
-{
-    Some(Figures {
-        price: read_printed_price(price)?,
-        yld: Yield3::of(yld)?,
-        redemption: Day::read(redemption).ok()?,
-        at: read_price(at_price)?,
-        label: read_label(label)?,
-        days: read_signed(days)?,
-        principal: read_money(principal)?,
-        accrued: read_money(accrued)?,
-        commission: read_money(commission)?,
-        total: read_money(total)?,
-    })
+    };
+    row.trade()
 }

@@ -1,8 +1,8 @@
 use Rattle.std.proofs.Common.{◌≡◌, ◌+◌, ◌-◌, ◌∙◌, length, take, drop, sym, ap}
 use Rattle.std.proofs.Math.Seq.{take-length}
 use Rattle.std.proofs.lemmas.List.{length-drop}
-use Rattle.muni_import.proofs.BlankLemmas.{cut_at}
-use Rattle.muni_import.proofs.calls.split_at_blank.Goals as goal
+use Rattle.muni_msg.proofs.BlankLemmas.{cut_at}
+use Rattle.muni_msg.proofs.calls.split_at_blank.Goals as goal
 
 pub returns-in-Some : goal.returns-in-Some
 returns-in-Some c =

@@ -2,8 +2,8 @@ use Rattle.std.proofs.Common.{◌≡◌, ◌+◌, length}
 use Rattle.arrayvec.specs.ArrayVec.{array_vec_len}
 use Rattle.muni_msg.specs.IssueFields.{calls_reading}
 use Rattle.muni_msg.proofs.CallLemmas.{with_more}
-use Rattle.muni_import.specs.Calls.{cut_at_blanks}
-use Rattle.muni_import.proofs.calls.read_some_calls.Given as goal
+use Rattle.muni_msg.specs.Calls.{cut_at_blanks}
+use Rattle.muni_msg.proofs.calls.read_some_calls.Given as goal
 
 -- what is read, and what is left
 abbrev pub invariant-loop-count : goal.invariant-loop-count

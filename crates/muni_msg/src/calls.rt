@@ -2,10 +2,10 @@
 
 ghost use Rattle.std.specs.Prelude.{◌≡◌, ◌==◌, ◌<◌, ◌∷◌, length, position, IfSome};
 ghost use Rattle.std.specs.Option.{option_map};
-ghost use Rattle.muni_import.specs.Calls as spec;
+ghost use Rattle.muni_msg.specs.Calls as spec;
 
 use arrayvec::ArrayVec;
-use muni_msg::read_call;
+use crate::read_call;
 use muni_terms::Call;
 
 /// At most 40 calls, as `2027-01-01:102 2028-01-01:100`. An empty text names none.
@@ -37,7 +37,7 @@ fn read_some_calls(text: &[u8]) -> Option<ArrayVec<Call, 40>>
     None
 }
 
-// What stands before the first blank, and behind it where there is one.
+// What is before the first blank, and what is after it, if there is one.
 #[tactic(auto, using(crate::proofs::BlankLemmas::cut_at, crate::proofs::BlankLemmas::uncut))]
 fn split_at_blank(text: &[u8]) -> (&[u8], Option<&[u8]>)
     ensures { spec.cut_at_blanks text.now

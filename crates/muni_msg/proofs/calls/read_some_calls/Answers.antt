@@ -1,7 +1,7 @@
 use Rattle.std.proofs.Common.{◌<◌, length, sym, arith}
-use Rattle.muni_import.specs.Calls.{cut_at_blanks}
-use Rattle.muni_import.proofs.BlankLemmas.{some_piece, many_calls}
-use Rattle.muni_import.proofs.calls.read_some_calls.Goals as goal
+use Rattle.muni_msg.specs.Calls.{cut_at_blanks}
+use Rattle.muni_msg.proofs.BlankLemmas.{some_piece, many_calls}
+use Rattle.muni_msg.proofs.calls.read_some_calls.Goals as goal
 
 pub returns : goal.returns
 returns c =

@@ -2,7 +2,7 @@
 use Rattle.std.proofs.Common.{◌≡◌, ◌<◌, ◌≤◌, ◌+◌, ◌==◌, ℕ, suc, Bool, true, false, cond, not, nat_le, nat_lt, List, [], ◌∷◌, length, take, drop, position, Some, None, refl, arith, subst}
 use Rattle.std.specs.List.{position_or_len}
 use Rattle.std.proofs.lemmas.Bool.Decides.{nat_tests}
-use Rattle.muni_import.specs.Calls.{in_front, cut_at_blanks, few_calls}
+use Rattle.muni_msg.specs.Calls.{in_front, cut_at_blanks, few_calls}
 
 abbrev first_blank : List ℕ → ℕ
 first_blank text = position_or_len (λ b. b == 32) text
