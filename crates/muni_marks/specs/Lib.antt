@@ -1,4 +1,5 @@
 pub mod Line
+pub mod Marked
 pub mod Marks
 pub mod Portfolio
 pub mod Rows

@@ -5,8 +5,6 @@ use Rattle.muni_terms.specs.declared.row.IssueRow.{IssueRow}
 use Rattle.muni_msg.specs.declared.asked.Asked.{Asked}
 use Rattle.muni_keep.specs.Tables.{Tables, issue_at}
 use Rattle.muni_import.specs.declared.row.RowFault.{RowFault}
-use Rattle.muni_office.specs.declared.end.End.{End}
-use Rattle.muni_office.specs.declared.end.End.TheVariants.{Done, Refused, ReadFault, WriteFault, StoreFault, NoMemory, TooLarge}
 use Rattle.muni_marks.specs.Line.{marks_text}
 use Rattle.muni_marks.specs.Marks.{Pricing, AreMarks}
 use Rattle.muni_marks.specs.Rows.{AreRows}
@@ -42,23 +40,3 @@ pub record IsPortfolioText (Prices : Pricing) (tables : Tables) (text : List ℕ
   pub read : AreRows text rows
   pub marks : AreMarks Prices (issue_at tables) rows said
   pub written : lines ≡ marks_text said
-
--- how a portfolio may end
-abbrev pub IsMarkEnd : End → Type 0
-IsMarkEnd Done = ⊤
-IsMarkEnd Refused = ⊥
-IsMarkEnd ReadFault = ⊤
-IsMarkEnd WriteFault = ⊤
-IsMarkEnd StoreFault = ⊤
-IsMarkEnd NoMemory = ⊤
-IsMarkEnd TooLarge = ⊤
-
--- the input was read whole
-abbrev pub WasReadWhole : End → Type 0
-WasReadWhole Done = ⊤
-WasReadWhole Refused = ⊥
-WasReadWhole ReadFault = ⊥
-WasReadWhole WriteFault = ⊤
-WasReadWhole StoreFault = ⊤
-WasReadWhole NoMemory = ⊥
-WasReadWhole TooLarge = ⊥

@@ -1,15 +1,19 @@
 //! The marks of a portfolio over the issues of a store.
 
-ghost use Rattle.std.specs.Prelude.{◌≡◌, ◌≤◌, ◌<◌, None, ℕ, List, length, IfOk, IfSome, OnOk, IsErrOf};
+ghost use Rattle.std.specs.Prelude.{◌≡◌, ◌≤◌, None, length, IfOk, IfSome, OnOk, IsErrOf};
 ghost use Rattle.std.specs.List.{AllByRecursion};
 ghost use Rattle.std.specs.BTreeMap as tree;
 ghost use Rattle.std.specs.BTreeSet as set;
 ghost use Rattle.muni_book.specs.Answers.{IsRightAnswer};
-ghost use Rattle.muni_edge.specs.Sink.{Rose, Wrote, WrotePart};
+ghost use Rattle.muni_edge.specs.Sink.{Rose};
+ghost use Rattle.muni_keep.specs.Cabinet.{LeavesAll};
+ghost use Rattle.muni_keep.specs.Keeper.{OnlyReads};
 ghost use Rattle.muni_keep.specs.Trades.{by_bytes};
 ghost use Rattle.muni_marks.specs.Line as lines;
 ghost use Rattle.muni_marks.specs.Marks as spec;
-ghost use Rattle.muni_marks.specs.Portfolio.{AreFetched, AreKnown, IsKnownNext, IsPortfolioText, IsMarkEnd, WasReadWhole};
+ghost use Rattle.muni_marks.specs.Portfolio.{AreFetched, AreKnown, IsKnownNext, IsPortfolioText};
+ghost use Rattle.muni_marks.specs.Marked.{Marked};
+ghost use Rattle.muni_office.specs.Lent.{lent};
 
 use crate::line::{mark_line, total, total_line};
 use crate::pricing::{MarkSaid, marks};
@@ -20,7 +24,7 @@ use muni_import::RowFault;
 use muni_keep::{Cabinet, KeepFault, Keeper};
 use muni_msg::Asked;
 use muni_multi::Encloser;
-use muni_office::{End, InputFault, read_input};
+use muni_office::{Fault, read_input, write};
 use muni_terms::Issue;
 use std::alloc::Global;
 use std::collections::{BTreeMap, BTreeSet};
@@ -42,47 +46,15 @@ pub fn mark<R: Threads + Sync, I: Source, O: Sink, C: Cabinet, E: Encloser + Syn
     output: &mut O,
     cabinet: &mut C,
     encloser: &E,
-) -> End
+) -> Result<(), Fault>
     requires { C.out cabinet.old ≡ None }
-
-    // What is written, where the input and the cabinet tell what they hold.
-    ensures done { result ≡ End.Done → IfSome (I.left input.old) (λ text. IfSome (C.told cabinet.old store.now) (λ t.
-        Wrote (IsPortfolioText (IsRightAnswer (E.ends encloser.now)) t text) (O.bytes output.old) (O.bytes output.new))) }
-    ensures write { result ≡ End.WriteFault → IfSome (I.left input.old) (λ text. IfSome (C.told cabinet.old store.now) (λ t.
-        WrotePart (IsPortfolioText (IsRightAnswer (E.ends encloser.now)) t text) (O.bytes output.old) (O.bytes output.new))) }
-    ensures store { result ≡ End.StoreFault → output.new ≡ output.old }
-    ensures memory { result ≡ End.NoMemory → output.new ≡ output.old }
-
-    // An input that is not read whole changes nothing.
-    ensures read { result ≡ End.ReadFault → (cabinet.new ≡ cabinet.old) × (output.new ≡ output.old) }
-    ensures too_large { result ≡ End.TooLarge → (cabinet.new ≡ cabinet.old) × (output.new ≡ output.old)
-        × IfSome (I.left input.old) (λ text. 1_048_576 < length text) }
-    ensures limit { WasReadWhole result → IfSome (I.left input.old) (λ text. length text ≤ 1_048_576) }
-
-    // No tables change, and no keeper stays out.
-    ensures tables { (other : List ℕ) → C.told cabinet.new other ≡ C.told cabinet.old other }
-    ensures none_out { C.out cabinet.new ≡ None }
-
-    // When each fault comes.
-    ensures read_fault { result ≡ End.ReadFault → Rose (I.faults input.old) (I.faults input.new) }
-    ensures store_fault { result ≡ End.StoreFault → Rose (C.faults cabinet.old) (C.faults cabinet.new) }
-    ensures write_fault { result ≡ End.WriteFault → Rose (O.faults output.old) (O.faults output.new) }
-    ensures ends { IsMarkEnd result }
+    ensures marked { Marked I.Source O.Sink C.Cabinet (IsRightAnswer (E.ends encloser.now)) store.now result
+        (lent input.old output.old cabinet.old) (lent input.new output.new cabinet.new) }
+    ensures leaves { LeavesAll C.Cabinet cabinet.old cabinet.new }
 {
-    let text = match read_input(alloc, input, LIMIT) {
-        Ok(text) => text,
-        Err(InputFault::Failed) => return End::ReadFault,
-        Err(InputFault::TooLarge) => return End::TooLarge,
-        Err(InputFault::NoMemory) => return End::NoMemory,
-    };
-    match marked_text(rt, alloc, store, text.as_slice(), cabinet, encloser) {
-        Ok(lines) => match output.put(lines.as_slice()) {
-            Ok(()) => End::Done,
-            Err(_) => End::WriteFault,
-        },
-        Err(KeepFault::Failed) => End::StoreFault,
-        Err(KeepFault::NoMemory) => End::NoMemory,
-    }
+    let text = read_input(alloc, input, LIMIT)?;
+    let lines = marked_text(rt, alloc, store, text.as_slice(), cabinet, encloser)?;
+    write(lines.as_slice(), output)
 }
 
 // The lines of the rows of a text, and the total.
@@ -98,8 +70,7 @@ fn marked_text<R: Threads + Sync, C: Cabinet, E: Encloser + Sync>(
     requires limit { length text.now ≤ 1_048_576 }
     ensures lines { IfOk result (λ lines. IfSome (C.told cabinet.old store.now)
         (λ t. IsPortfolioText (IsRightAnswer (E.ends encloser.now)) t text.now lines.items)) }
-    ensures tables { (other : List ℕ) → C.told cabinet.new other ≡ C.told cabinet.old other }
-    ensures none_out { C.out cabinet.new ≡ None }
+    ensures leaves { LeavesAll C.Cabinet cabinet.old cabinet.new }
     ensures failed { IsErrOf result KeepFault.Failed → Rose (C.faults cabinet.old) (C.faults cabinet.new) }
 {
     let rows = read_marks(alloc, text)?;
@@ -140,8 +111,7 @@ fn fetch_issues<C: Cabinet>(
     requires { C.out cabinet.old ≡ None }
     ensures issues { IfOk result (λ issues. IfSome (C.told cabinet.old store.now)
         (λ t. AreFetched t (tree.get by_bytes issues) rows.now)) }
-    ensures tables { (other : List ℕ) → C.told cabinet.new other ≡ C.told cabinet.old other }
-    ensures none_out { C.out cabinet.new ≡ None }
+    ensures leaves { LeavesAll C.Cabinet cabinet.old cabinet.new }
     ensures failed { IsErrOf result KeepFault.Failed → Rose (C.faults cabinet.old) (C.faults cabinet.new) }
 {
     let mut keeper = cabinet.fetch(store)?;
@@ -158,10 +128,7 @@ fn kept_issues<K: Keeper>(
 ) -> Result<BTreeMap<[u8; 9], Issue>, KeepFault>
     ensures issues { IfOk result (λ issues. IfSome (K.tables keeper.old)
         (λ t. AreFetched t (tree.get by_bytes issues) rows.now)) }
-    ensures unchanged { K.tables keeper.new ≡ K.tables keeper.old }
-    ensures later { K.faults keeper.old ≤ K.faults keeper.new }
-    ensures failed { IsErrOf result KeepFault.Failed → Rose (K.faults keeper.old) (K.faults keeper.new) }
-    ensures mark { K.mark keeper.new ≡ K.mark keeper.old }
+    ensures reads { OnlyReads K.Keeper result keeper.old keeper.new }
 {
     let mut issues = BTreeMap::new(alloc);
     let mut missing = BTreeSet::new(alloc);
@@ -183,10 +150,7 @@ fn ask<K: Keeper>(
     requires { IfSome (K.tables keeper.old) (λ t. AreKnown t (tree.get by_bytes issues.old) (set.contains by_bytes missing.old)) }
     ensures known { OnOk result (IfSome (K.tables keeper.old)
         (λ t. IsKnownNext t cusip.now (tree.get by_bytes issues.old) (tree.get by_bytes issues.new) (set.contains by_bytes missing.new))) }
-    ensures unchanged { K.tables keeper.new ≡ K.tables keeper.old }
-    ensures later { K.faults keeper.old ≤ K.faults keeper.new }
-    ensures failed { IsErrOf result KeepFault.Failed → Rose (K.faults keeper.old) (K.faults keeper.new) }
-    ensures mark { K.mark keeper.new ≡ K.mark keeper.old }
+    ensures reads { OnlyReads K.Keeper result keeper.old keeper.new }
 {
     if issues.contains_key(cusip) || missing.contains(cusip) {
         return Ok(());

@@ -19,9 +19,9 @@ loop-row-preserved g c =
           let next = subst (λ told. IfSome told (λ t. IsKnownNext t asked.cusip (tree.get by_bytes c.loop-row.issues) (tree.get by_bytes w.ask.new.issues) (set.contains by_bytes w.ask.new.missing))) inv.tables w.in_ok-ask.ensures.known in
           rw (w.issues-is, w.missing-is, w.keeper-is) record {
             far = row_fetched told (tree.get by_bytes c.loop-row.issues) (tree.get by_bytes w.ask.new.issues) (set.contains by_bytes c.loop-row.missing) (set.contains by_bytes w.ask.new.missing) rows c.loop-row.row-index asked c.loop-row-test.true (rw w.in-Ok.is at c.row-item.is) inv.far next;
-            tables = w.ask.ensures.unchanged ∙ inv.tables;
-            later = omega (arith, w.ask.ensures.later, inv.later);
-            mark = w.ask.ensures.mark ∙ inv.mark;
+            tables = w.ask.ensures.reads.unchanged ∙ inv.tables;
+            later = omega (arith, w.ask.ensures.reads.later, inv.later);
+            mark = w.ask.ensures.reads.mark ∙ inv.mark;
           }
       | in_default w ↦
           rw (w.issues-is, w.missing-is, w.keeper-is) record {

@@ -1,0 +1,30 @@
+-- What the marks of a portfolio write, and which fault ends them.
+use Rattle.std.specs.Prelude.{◌≡◌, ◌<◌, ◌≤◌, ℕ, List, length, Result, Ok, Err, IfSome}
+use Rattle.muni_edge.specs.Sink.{Rose, Wrote, WrotePart}
+use Rattle.muni_edge.specs.declared.sink.Sink as Sink
+use Rattle.muni_edge.specs.declared.source.Source as Source
+use Rattle.muni_keep.specs.declared.cabinet.Cabinet as Cabinet
+use Rattle.muni_office.specs.Lent.{Lent, IfExposed, ChangesOnlyInput}
+use Rattle.muni_office.specs.declared.fault.Fault.{Fault}
+use Rattle.muni_office.specs.declared.fault.Fault.TheVariants.{Read, Write, Store, NoMemory, TooLarge}
+use Rattle.muni_marks.specs.Marks.{Pricing}
+use Rattle.muni_marks.specs.Portfolio.{IsPortfolioText}
+
+-- The lines of the marks, of which a first part may be written if the output fails. After any other fault
+-- nothing is written.
+abbrev pub Marked : {I O C K T : Type 0} → Source.Ghosts I → Sink.Ghosts O → Cabinet.Ghosts C K → Pricing → (store : List ℕ) → Result T Fault → (old new : Lent I O C) → Type 0
+Marked source sink cabinet Prices store (Ok done) old new =
+    IfExposed source cabinet store old (λ text tables. Wrote (IsPortfolioText Prices tables text) (sink.bytes old.output) (sink.bytes new.output))
+    × IfSome (source.left old.input) (λ text. length text ≤ 1_048_576)
+Marked source sink cabinet Prices store (Err Write) old new =
+    IfExposed source cabinet store old (λ text tables. WrotePart (IsPortfolioText Prices tables text) (sink.bytes old.output) (sink.bytes new.output))
+    × IfSome (source.left old.input) (λ text. length text ≤ 1_048_576)
+    × Rose (sink.faults old.output) (sink.faults new.output)
+Marked source sink cabinet Prices store (Err Store) old new =
+    (new.output ≡ old.output) × IfSome (source.left old.input) (λ text. length text ≤ 1_048_576)
+    × Rose (cabinet.faults old.cabinet) (cabinet.faults new.cabinet)
+Marked source sink cabinet Prices store (Err NoMemory) old new = new.output ≡ old.output
+Marked source sink cabinet Prices store (Err Read) old new =
+    ChangesOnlyInput old new × Rose (source.faults old.input) (source.faults new.input)
+Marked source sink cabinet Prices store (Err TooLarge) old new =
+    ChangesOnlyInput old new × IfSome (source.left old.input) (λ text. 1_048_576 < length text)
