@@ -1,5 +1,5 @@
 -- One connection behind others.
-use Rattle.std.proofs.Common.{◌≡◌, ◌≢◌, ◌≤◌, ◌⊎◌, ◌+◌, ◌-◌, ◌∙◌, ℕ, List, [], ◌∷◌, ◌++◌, length, drop, map, Option, Some, None, IfSome, slice_get, option_map, inl, inr, refl, sym, ap, subst, arith}
+use Rattle.std.proofs.Common.{◌≡◌, ◌≢◌, ◌≤◌, ◌⊎◌, ◌+◌, ◌-◌, ◌∙◌, ℕ, List, [], ◌∷◌, ◌++◌, length, drop, map, Option, Some, None, IfSome, slice_get, option_map, Ok, Err, inl, inr, refl, sym, ap, subst, arith}
 use Rattle.std.specs.List.{Contains}
 use Rattle.std.proofs.lemmas.List.{append_assoc, append-nil, length-append, map-append}
 use Rattle.std.proofs.lemmas.List.Elements.{All-push, All-nil, Contains-append_left, Contains-push}
@@ -7,12 +7,11 @@ use Rattle.muni_edge.specs.Door.{DoorState, after_accept, handed_back, bound_to}
 use Rattle.muni_keep.specs.Tables.{Tables}
 use Rattle.muni_step.specs.Step.{Pricing}
 use Rattle.muni_server.specs.Connections.{Connection, Exchange, exchange, AreServed, NoneWanted, SomeWanted, AreHandedBack, AreAll, Ends, WereServed, IsRun, IsNext}
-use Rattle.muni_server.specs.End.{end_after}
+use Rattle.muni_server.specs.Fault.{Outcome, outcome_after}
 use Rattle.muni_server.specs.Serves.{Traffic, Serves, WasServed}
 use Rattle.muni_server.specs.declared.served.Served.{Served}
 use Rattle.muni_server.specs.declared.served.Served.TheVariants as served
-use Rattle.muni_server.specs.declared.end.End.{End}
-use Rattle.muni_server.specs.declared.end.End.TheVariants as end
+use Rattle.muni_server.specs.declared.fault.ServeFault.TheVariants as fault
 
 served-then : (Prices : Pricing) (old mid new : Option Tables) (exchanges : List Exchange) (next : Exchange) (faults one : ℕ)
     → AreServed Prices old exchanges mid faults → Serves Prices mid next.before next.came new next.after one
@@ -45,11 +44,11 @@ back-then door mid connections next handed first =
     }
 
 -- how a run goes on that is not at its end
-abbrev pub GoesOn : {L : Type 0} → End → List (Connection L) → Type 0
-GoesOn end.Done connections = NoneWanted connections
-GoesOn end.StoreFault connections = ⊥
-GoesOn end.DoorFault connections = ⊥
-GoesOn end.NoMemory connections = SomeWanted connections
+abbrev pub GoesOn : {L : Type 0} → Outcome → List (Connection L) → Type 0
+GoesOn (Ok done) connections = NoneWanted connections
+GoesOn (Err fault.Store) connections = ⊥
+GoesOn (Err fault.Door) connections = ⊥
+GoesOn (Err fault.NoMemory) connections = SomeWanted connections
 
 none-then : {L : Type 0} (connections : List (Connection L)) (next : Connection L) → next.came ≢ served.NoMemory → NoneWanted connections → NoneWanted (connections ++ next ∷ [])
 none-then {L} connections next not before = All-push (λ (c : Connection L). c.came ≢ served.NoMemory) connections next before not
@@ -67,28 +66,28 @@ wanted-last {L} connections next is =
     let before = map (λ (c : Connection L). c.came) connections in
     subst (λ answers. Contains answers served.NoMemory) (ap (λ came. before ++ came ∷ []) (sym is) ∙ sym (came-then connections next)) (Contains-push before served.NoMemory)
 
-goes-on-by : {L : Type 0} (now : End) (came : Served) (connections : List (Connection L)) (next : Connection L) → next.came ≡ came → GoesOn now connections
-    → GoesOn (end_after now came) (connections ++ next ∷ [])
-goes-on-by end.Done (served.Answered status) connections next is on = none-then connections next (λ e. cc (is, e)) on
-goes-on-by end.Done served.Gone connections next is on = none-then connections next (λ e. cc (is, e)) on
-goes-on-by end.Done served.LinkFault connections next is on = none-then connections next (λ e. cc (is, e)) on
-goes-on-by end.Done served.NoMemory connections next is on = wanted-last connections next is
-goes-on-by end.StoreFault came connections next is on = absurd on
-goes-on-by end.DoorFault came connections next is on = absurd on
-goes-on-by end.NoMemory (served.Answered status) connections next is on = some-then connections next on
-goes-on-by end.NoMemory served.Gone connections next is on = some-then connections next on
-goes-on-by end.NoMemory served.LinkFault connections next is on = some-then connections next on
-goes-on-by end.NoMemory served.NoMemory connections next is on = wanted-last connections next is
+goes-on-by : {L : Type 0} (now : Outcome) (came : Served) (connections : List (Connection L)) (next : Connection L) → next.came ≡ came → GoesOn now connections
+    → GoesOn (outcome_after now came) (connections ++ next ∷ [])
+goes-on-by (Ok done) (served.Answered status) connections next is on = none-then connections next (λ e. cc (is, e)) on
+goes-on-by (Ok done) served.Gone connections next is on = none-then connections next (λ e. cc (is, e)) on
+goes-on-by (Ok done) served.LinkFault connections next is on = none-then connections next (λ e. cc (is, e)) on
+goes-on-by (Ok done) served.NoMemory connections next is on = wanted-last connections next is
+goes-on-by (Err fault.Store) came connections next is on = absurd on
+goes-on-by (Err fault.Door) came connections next is on = absurd on
+goes-on-by (Err fault.NoMemory) (served.Answered status) connections next is on = some-then connections next on
+goes-on-by (Err fault.NoMemory) served.Gone connections next is on = some-then connections next on
+goes-on-by (Err fault.NoMemory) served.LinkFault connections next is on = some-then connections next on
+goes-on-by (Err fault.NoMemory) served.NoMemory connections next is on = wanted-last connections next is
 
-at-end : {L : Type 0} (now : End) (connections : List (Connection L)) (most : ℕ) (after : DoorState L) → GoesOn now connections → AreAll connections most after
+at-end : {L : Type 0} (now : Outcome) (connections : List (Connection L)) (most : ℕ) (after : DoorState L) → GoesOn now connections → AreAll connections most after
     → Ends now connections most after
-at-end end.Done connections most after on all = (on, all)
-at-end end.StoreFault connections most after on all = absurd on
-at-end end.DoorFault connections most after on all = tt
-at-end end.NoMemory connections most after on all = inr (on, all)
+at-end (Ok done) connections most after on all = (on, all)
+at-end (Err fault.Store) connections most after on all = absurd on
+at-end (Err fault.Door) connections most after on all = tt
+at-end (Err fault.NoMemory) connections most after on all = inr (on, all)
 
 -- so many connections were served, and the run goes on
-pub record IsOn {L : Type 0} (Prices : Pricing) (told : L → Traffic) (port count : ℕ) (door : DoorState L) (state : Option (DoorState L)) (old new : Option Tables) (before now : ℕ) (end : End) : Type 0 where
+pub record IsOn {L : Type 0} (Prices : Pricing) (told : L → Traffic) (port count : ℕ) (door : DoorState L) (state : Option (DoorState L)) (old new : Option Tables) (before now : ℕ) (end : Outcome) : Type 0 where
   pub connections : List (Connection L)
   pub after : DoorState L
   pub told_after : state ≡ Some after
@@ -125,7 +124,7 @@ more-served Prices told connections count most door after old new before now ser
     record { handed = served.handed; few = omega (arith, served.few, few); faults = served.faults; each = served.each; rose = served.rose }
 
 pub first-on : {L : Type 0} (Prices : Pricing) (told : L → Traffic) (port : ℕ) (state after : Option (DoorState L)) (old : Option Tables) (before : ℕ) → after ≡ option_map (bound_to port) state
-    → IfSome state (λ d. IsOn Prices told port 0 d after old old before before end.Done)
+    → IfSome state (λ d. IsOn Prices told port 0 d after old old before before (Ok tt))
 first-on Prices told port None after old before is = tt
 first-on {L} Prices told port (Some d) after old before is =
     record {
@@ -138,9 +137,9 @@ first-on {L} Prices told port (Some d) after old before is =
       on = All-nil (λ (c : Connection L). c.came ≢ served.NoMemory);
     }
 
-on-then : {L : Type 0} (Prices : Pricing) (told : L → Traffic) (port count : ℕ) (door : DoorState L) (mid new : Option (DoorState L)) (old kept kept' : Option Tables) (before at now : ℕ) (end : End) (came : Served)
+on-then : {L : Type 0} (Prices : Pricing) (told : L → Traffic) (port count : ℕ) (door : DoorState L) (mid new : Option (DoorState L)) (old kept kept' : Option Tables) (before at now : ℕ) (end : Outcome) (came : Served)
     → IsOn Prices told port count door mid old kept before at end → IfSome mid (λ d. IsNext Prices told d new kept kept' at now came)
-    → IsOn Prices told port (count + 1) door new old kept' before now (end_after end came)
+    → IsOn Prices told port (count + 1) door new old kept' before now (outcome_after end came)
 on-then {L} Prices told port count door mid new old kept kept' before at now end came on next =
     let one = subst (λ m. IfSome m (λ d. IsNext Prices told d new kept kept' at now came)) on.told_after next in
     let last : Connection L = record { accepted = one.accepted; back = one.back; came = came } in
@@ -154,15 +153,15 @@ on-then {L} Prices told port count door mid new old kept kept' before at now end
       on = goes-on-by end came on.connections last refl on.on;
     }
 
-pub next-on : {L : Type 0} (Prices : Pricing) (told : L → Traffic) (port count : ℕ) (state mid new : Option (DoorState L)) (old kept kept' : Option Tables) (before at now : ℕ) (end : End) (came : Served)
+pub next-on : {L : Type 0} (Prices : Pricing) (told : L → Traffic) (port count : ℕ) (state mid new : Option (DoorState L)) (old kept kept' : Option Tables) (before at now : ℕ) (end : Outcome) (came : Served)
     → IfSome state (λ d. IsOn Prices told port count d mid old kept before at end) → IfSome mid (λ d. IsNext Prices told d new kept kept' at now came)
-    → IfSome state (λ d. IsOn Prices told port (count + 1) d new old kept' before now (end_after end came))
+    → IfSome state (λ d. IsOn Prices told port (count + 1) d new old kept' before now (outcome_after end came))
 next-on Prices told port count None mid new old kept kept' before at now end came on next = tt
 next-on Prices told port count (Some d) mid new old kept kept' before at now end came on next =
     on-then Prices told port count d mid new old kept kept' before at now end came on next
 
 -- the end of a run
-ended : {L : Type 0} (Prices : Pricing) (told : L → Traffic) (port count most : ℕ) (door : DoorState L) (state : Option (DoorState L)) (old new : Option Tables) (before now : ℕ) (end result : End)
+ended : {L : Type 0} (Prices : Pricing) (told : L → Traffic) (port count most : ℕ) (door : DoorState L) (state : Option (DoorState L)) (old new : Option Tables) (before now : ℕ) (end result : Outcome)
     → (on : IsOn Prices told port count door state old new before now end) → count ≤ most → Ends result on.connections most on.after
     → IsRun Prices told port most door state old new before now result
 ended Prices told port count most door state old new before now end result on few ends =
@@ -176,19 +175,19 @@ ended Prices told port count most door state old new before now end result on fe
     }
 
 pub not-bound : {L : Type 0} (Prices : Pricing) (told : L → Traffic) (port most : ℕ) (state after : Option (DoorState L)) (old : Option Tables) (before : ℕ) → after ≡ state
-    → IfSome state (λ d. IsRun Prices told port most d after old old before before end.DoorFault)
+    → IfSome state (λ d. IsRun Prices told port most d after old old before before (Err fault.Door))
 not-bound Prices told port most None after old before same = tt
 not-bound Prices told port most (Some d) after old before same =
     record { connections = []; after = d; told_after = same; served = none-served Prices told most d d old before refl refl refl; bound = inl refl; ends = tt }
 
-pub door-failed : {L : Type 0} (Prices : Pricing) (told : L → Traffic) (port count most : ℕ) (state mid after : Option (DoorState L)) (old new : Option Tables) (before now : ℕ) (so_far : End)
+pub door-failed : {L : Type 0} (Prices : Pricing) (told : L → Traffic) (port count most : ℕ) (state mid after : Option (DoorState L)) (old new : Option Tables) (before now : ℕ) (so_far : Outcome)
     → IfSome state (λ d. IsOn Prices told port count d mid old new before now so_far) → count ≤ most → after ≡ mid
-    → IfSome state (λ d. IsRun Prices told port most d after old new before now end.DoorFault)
+    → IfSome state (λ d. IsRun Prices told port most d after old new before now (Err fault.Door))
 door-failed Prices told port count most None mid after old new before now so_far on few same = tt
 door-failed Prices told port count most (Some d) mid after old new before now so_far on few same =
-    rw same (ended Prices told port count most d mid old new before now so_far end.DoorFault on few tt)
+    rw same (ended Prices told port count most d mid old new before now so_far (Err fault.Door) on few tt)
 
-pub none-waits : {L : Type 0} (Prices : Pricing) (told : L → Traffic) (port count most : ℕ) (state mid after : Option (DoorState L)) (old new : Option Tables) (before now : ℕ) (end : End)
+pub none-waits : {L : Type 0} (Prices : Pricing) (told : L → Traffic) (port count most : ℕ) (state mid after : Option (DoorState L)) (old new : Option Tables) (before now : ℕ) (end : Outcome)
     → IfSome state (λ d. IsOn Prices told port count d mid old new before now end) → count ≤ most → after ≡ mid → IfSome mid (λ d. d.waiting ≡ [])
     → IfSome state (λ d. IsRun Prices told port most d after old new before now end)
 none-waits Prices told port count most None mid after old new before now end on few same empty = tt
@@ -196,7 +195,7 @@ none-waits Prices told port count most (Some d) mid after old new before now end
     let left = subst (λ m. IfSome m (λ d. d.waiting ≡ [])) on.told_after empty in
     rw same (ended Prices told port count most d mid old new before now end end on few (at-end end on.connections most on.after on.on (inr left)))
 
-pub all-served : {L : Type 0} (Prices : Pricing) (told : L → Traffic) (port most : ℕ) (state after : Option (DoorState L)) (old new : Option Tables) (before now : ℕ) (end : End)
+pub all-served : {L : Type 0} (Prices : Pricing) (told : L → Traffic) (port most : ℕ) (state after : Option (DoorState L)) (old new : Option Tables) (before now : ℕ) (end : Outcome)
     → IfSome state (λ d. IsOn Prices told port most d after old new before now end)
     → IfSome state (λ d. IsRun Prices told port most d after old new before now end)
 all-served Prices told port most None after old new before now end on = tt
@@ -204,7 +203,7 @@ all-served Prices told port most (Some d) after old new before now end on =
     ended Prices told port most most d after old new before now end end on (omega arith) (at-end end on.connections most on.after on.on (inl on.counted))
 
 -- a run that goes on is at no fault
-pub goes-on : (now : End) (came : Served) → (now ≡ end.Done) ⊎ (now ≡ end.NoMemory) → (end_after now came ≡ end.Done) ⊎ (end_after now came ≡ end.NoMemory)
+pub goes-on : (now : Outcome) (came : Served) → (now ≡ (Ok tt)) ⊎ (now ≡ (Err fault.NoMemory)) → (outcome_after now came ≡ (Ok tt)) ⊎ (outcome_after now came ≡ (Err fault.NoMemory))
 goes-on now (served.Answered status) is = is
 goes-on now served.Gone is = is
 goes-on now served.LinkFault is = is

@@ -1,14 +1,14 @@
 -- What is done with the connections of a door, one after another.
-use Rattle.std.specs.Prelude.{◌≡◌, ◌≢◌, ◌⊎◌, ◌≤◌, ◌+◌, ℕ, List, [], ◌∷◌, ◌++◌, length, map, Option, Some, IfSome, slice_get, ⊤}
+use Rattle.std.specs.Prelude.{◌≡◌, ◌≢◌, ◌⊎◌, ◌≤◌, ◌+◌, ℕ, List, [], ◌∷◌, ◌++◌, length, map, Option, Some, IfSome, Ok, Err, slice_get, ⊤}
 use Rattle.std.specs.List.{All, Contains}
 use Rattle.muni_edge.specs.Door.{DoorState, after_accept, handed_back}
 use Rattle.muni_keep.specs.Tables.{Tables}
 use Rattle.muni_step.specs.Step.{Pricing}
+use Rattle.muni_server.specs.Fault.{Outcome}
 use Rattle.muni_server.specs.Serves.{Traffic, Serves, RoseBy, WasServed}
 use Rattle.muni_server.specs.declared.served.Served.{Served}
 use Rattle.muni_server.specs.declared.served.Served.TheVariants as served
-use Rattle.muni_server.specs.declared.end.End.{End}
-use Rattle.muni_server.specs.declared.end.End.TheVariants as end
+use Rattle.muni_server.specs.declared.fault.ServeFault.TheVariants as fault
 
 -- a link as it was accepted and as it was handed back, and what came of it
 pub record Connection (L : Type 0) : Type 0 where
@@ -58,11 +58,11 @@ abbrev pub AreAll : {L : Type 0} → List (Connection L) → ℕ → DoorState L
 AreAll connections most after = (length connections ≡ most) ⊎ (after.waiting ≡ [])
 
 -- what the end of a run tells of its connections
-abbrev pub Ends : {L : Type 0} → End → List (Connection L) → ℕ → DoorState L → Type 0
-Ends end.Done connections most after = NoneWanted connections × AreAll connections most after
-Ends end.StoreFault connections most after = connections ≡ []
-Ends end.DoorFault connections most after = ⊤
-Ends end.NoMemory connections most after =
+abbrev pub Ends : {L : Type 0} → Outcome → List (Connection L) → ℕ → DoorState L → Type 0
+Ends (Ok done) connections most after = NoneWanted connections × AreAll connections most after
+Ends (Err fault.Store) connections most after = connections ≡ []
+Ends (Err fault.Door) connections most after = ⊤
+Ends (Err fault.NoMemory) connections most after =
     (connections ≡ []) ⊎ (SomeWanted connections × AreAll connections most after)
 
 -- Connections of a door were served, at most so many, from tables to tables; a count rose by the faults
@@ -75,7 +75,7 @@ pub record WereServed {L : Type 0} (Prices : Pricing) (told : L → Traffic) (co
   pub rose : RoseBy faults before now
 
 -- A run of connections, and how it ended. The door was bound to the port before the first one.
-pub record IsRun {L : Type 0} (Prices : Pricing) (told : L → Traffic) (port most : ℕ) (door : DoorState L) (state : Option (DoorState L)) (old new : Option Tables) (before now : ℕ) (end : End) : Type 0 where
+pub record IsRun {L : Type 0} (Prices : Pricing) (told : L → Traffic) (port most : ℕ) (door : DoorState L) (state : Option (DoorState L)) (old new : Option Tables) (before now : ℕ) (end : Outcome) : Type 0 where
   pub connections : List (Connection L)
   pub after : DoorState L
   pub told_after : state ≡ Some after
@@ -84,7 +84,7 @@ pub record IsRun {L : Type 0} (Prices : Pricing) (told : L → Traffic) (port mo
   pub ends : Ends end connections most after
 
 -- The tables of a run over a store: those that the store opens with and closes with, where it tells them.
-pub record IsRunOver {L : Type 0} (Prices : Pricing) (told : L → Traffic) (port most : ℕ) (door : DoorState L) (state : Option (DoorState L)) (opening closing : Option Tables) (before now : ℕ) (end : End) : Type 0 where
+pub record IsRunOver {L : Type 0} (Prices : Pricing) (told : L → Traffic) (port most : ℕ) (door : DoorState L) (state : Option (DoorState L)) (opening closing : Option Tables) (before now : ℕ) (end : Outcome) : Type 0 where
   pub first : Option Tables
   pub last : Option Tables
   pub opens : IfSome opening (λ t. first ≡ Some t)

@@ -1,5 +1,6 @@
 pub mod Answer
 pub mod Serves
-pub mod End
+pub mod Serving
+pub mod Fault
 pub mod Connections
 pub mod Laws

@@ -1,16 +1,18 @@
 //! Connections, served one after another.
 
-ghost use Rattle.std.specs.Prelude.{◌≡◌, ◌≢◌, ◌≤◌, ℕ, List, [], Some, None, is_some, IfOk, IfSome, IsSome, OnErr};
+ghost use Rattle.std.specs.Prelude.{◌≡◌, ◌≢◌, ◌≤◌, ℕ, List, [], Some, None, Err, is_some, IfSome, IsSome, IsErrOf, OnOk, OnErr};
 ghost use Rattle.muni_book.specs.Answers.{IsRightAnswer};
 ghost use Rattle.muni_edge.specs.Sink.{Rose};
-ghost use Rattle.muni_server.specs.Connections.{IsNext, IsRun, IsRunOver};
+ghost use Rattle.muni_keep.specs.Cabinet.{LeavesOthers};
+ghost use Rattle.muni_server.specs.Connections.{IsNext, IsRun};
 ghost use Rattle.muni_server.specs.Serves.{traffic};
+ghost use Rattle.muni_server.specs.Serving.{ServedStore};
 
 use crate::answers::answer_one;
-use crate::end::End;
+use crate::fault::{ServeFault, after};
 use crate::served::Served;
 use muni_edge::{Door, Failed, Gate};
-use muni_keep::{Cabinet, KeepFault, Keeper};
+use muni_keep::{Cabinet, Keeper};
 use muni_multi::Encloser;
 use std::alloc::Global;
 use std::thread::Threads;
@@ -32,33 +34,17 @@ pub fn serve<R: Threads + Sync, C: Cabinet, D: Door, E: Encloser + Sync, G: Gate
     door: &mut D,
     encloser: &E,
     gate: &G,
-) -> End
+) -> Result<(), ServeFault>
     requires workers { (1 ≤ workers) × (workers ≤ 16) }
     requires none_out { C.out cabinet.old ≡ None }
-
-    // Which connections are served, where the door tells its links.
-    ensures run { IfSome (D.state door.old) (λ d. IsRunOver (IsRightAnswer (E.ends encloser.now))
-        (traffic D.L.left D.L.bytes D.L.Source.faults D.L.Sink.faults) port connections
-        d (D.state door.new) (C.told cabinet.old store.now) (C.told cabinet.new store.now)
-        (C.faults cabinet.old) (C.faults cabinet.new) result) }
-    ensures bound { result ≡ End.Done → IfSome (D.state door.new) (λ d. d.port ≡ Some port) }
-
-    // The tables of other stores stay as they are, and no keeper stays out.
-    ensures others { (other : List ℕ) → other ≢ store.now → C.told cabinet.new other ≡ C.told cabinet.old other }
+    ensures served { ServedStore C.Cabinet D.Door (IsRightAnswer (E.ends encloser.now))
+        (traffic D.L.left D.L.bytes D.L.Source.faults D.L.Sink.faults) store.now port connections result
+        cabinet.old cabinet.new door.old door.new }
+    ensures leaves { LeavesOthers C.Cabinet store.now cabinet.old cabinet.new }
     ensures tells { (other : List ℕ) → is_some (C.told cabinet.new other) ≡ is_some (C.told cabinet.old other) }
-    ensures none_out { C.out cabinet.new ≡ None }
-
-    // When each fault comes. One of the store leaves the door as it was.
-    ensures store_fault { result ≡ End.StoreFault → Rose (C.faults cabinet.old) (C.faults cabinet.new) }
-    ensures unopened { result ≡ End.StoreFault → door.new ≡ door.old }
-    ensures door_fault { result ≡ End.DoorFault → Rose (D.faults door.old) (D.faults door.new) }
     ensures door_later { D.faults door.old ≤ D.faults door.new }
 {
-    let mut keeper = match cabinet.fetch(store) {
-        Ok(keeper) => keeper,
-        Err(KeepFault::Failed) => return End::StoreFault,
-        Err(KeepFault::NoMemory) => return End::NoMemory,
-    };
+    let mut keeper = cabinet.fetch(store)?;
     let end = serve_links(
         rt,
         alloc,
@@ -85,16 +71,16 @@ fn serve_links<R: Threads + Sync, K: Keeper, D: Door, E: Encloser + Sync, G: Gat
     door: &mut D,
     encloser: &E,
     gate: &G,
-) -> End
+) -> Result<(), ServeFault>
     requires workers { (1 ≤ workers) × (workers ≤ 16) }
 
     ensures run { IfSome (D.state door.old) (λ d. IsRun (IsRightAnswer (E.ends encloser.now))
         (traffic D.L.left D.L.bytes D.L.Source.faults D.L.Sink.faults) port connections
         d (D.state door.new) (K.tables keeper.old) (K.tables keeper.new)
         (K.faults keeper.old) (K.faults keeper.new) result) }
-    ensures bound { result ≡ End.Done → IfSome (D.state door.new) (λ d. d.port ≡ Some port) }
-    ensures door_fault { result ≡ End.DoorFault → Rose (D.faults door.old) (D.faults door.new) }
-    ensures no_store_fault { result ≢ End.StoreFault }
+    ensures bound { OnOk result (IfSome (D.state door.new) (λ d. d.port ≡ Some port)) }
+    ensures door_fault { IsErrOf result ServeFault.Door → Rose (D.faults door.old) (D.faults door.new) }
+    ensures no_store_fault { result ≢ Err ServeFault.Store }
 
     ensures tells { is_some (K.tables keeper.new) ≡ is_some (K.tables keeper.old) }
     ensures later { K.faults keeper.old ≤ K.faults keeper.new }
@@ -102,15 +88,15 @@ fn serve_links<R: Threads + Sync, K: Keeper, D: Door, E: Encloser + Sync, G: Gat
     ensures door_later { D.faults door.old ≤ D.faults door.new }
 {
     if door.bind(port).is_err() {
-        return End::DoorFault;
+        return Err(ServeFault::Door);
     }
-    let mut end = End::Done;
+    let mut end = Ok(());
     for count in 0..connections {
         let _count = count;
         match serve_next(rt, alloc, workers, keeper, door, encloser, gate) {
-            Ok(Some(served)) => end = end.after(served),
+            Ok(Some(served)) => end = after(end, served),
             Ok(None) => return end,
-            Err(Failed) => return End::DoorFault,
+            Err(Failed) => return Err(ServeFault::Door),
         }
     }
     end

@@ -4,11 +4,11 @@
 
 mod answers;
 mod connections;
-mod end;
+mod fault;
 pub mod laws;
 mod served;
 
 pub use answers::answer_one;
 pub use connections::serve;
-pub use end::End;
+pub use fault::ServeFault;
 pub use served::Served;

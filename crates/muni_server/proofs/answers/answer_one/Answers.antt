@@ -12,7 +12,7 @@ returns-in-Ok-apply-clause-served g c =
     replied (IsRightAnswer (g.E.Encloser.ends c.args.encloser.now)) (g.K.Keeper.tables c.args.keeper.now) (g.K.Keeper.tables c.apply.new.keeper)
     (g.K.Keeper.faults c.args.keeper.now) (g.K.Keeper.faults c.apply.new.keeper)
     (told c.args.link.now) (told c.read_request.new.link) (told c.answer_reply.new.link)
-    c.in-Ok.command c.in-Ok-apply.reply c.answer_reply.result did.later read.allowed did.step c.answer_reply.ensures.written read.keeps_bytes read.keeps_puts
+    c.in-Ok.command c.in-Ok-apply.reply c.answer_reply.result did.same.later read.allowed did.step c.answer_reply.ensures.written read.keeps_bytes read.keeps_puts
 
 pub returns-in-Err-Failed-clause-served : goal.returns-in-Err-Failed-clause-served
 returns-in-Err-Failed-clause-served g c =

@@ -1,7 +1,7 @@
-use Rattle.std.proofs.Common.{◌≡◌, ◌≤◌, ◌⊎◌, Some, IfSome, is_some}
+use Rattle.std.proofs.Common.{◌≡◌, ◌≤◌, ◌⊎◌, Some, IfSome, Ok, Err, is_some}
 use Rattle.muni_book.specs.Answers.{IsRightAnswer}
 use Rattle.muni_server.specs.Serves.{traffic}
-use Rattle.muni_server.specs.declared.end.End.TheVariants as end
+use Rattle.muni_server.specs.declared.fault.ServeFault.TheVariants as fault
 use Rattle.muni_server.proofs.ConnectionLemmas.{IsOn}
 use Rattle.muni_server.proofs.connections.serve_links.Given as goal
 
@@ -10,7 +10,7 @@ invariant-loop-count g l = record {
   run : IfSome (g.D.Door.state l.fn.door) (λ d. IsOn (IsRightAnswer (g.E.Encloser.ends l.fn.encloser))
       (traffic g.D.L.Source.left g.D.L.Sink.bytes g.D.L.Source.faults g.D.L.Sink.faults) l.port l.count d (g.D.Door.state l.door)
       (g.K.Keeper.tables l.fn.keeper) (g.K.Keeper.tables l.keeper) (g.K.Keeper.faults l.fn.keeper) (g.K.Keeper.faults l.keeper) l.end);
-  no_fault : (l.end ≡ end.Done) ⊎ (l.end ≡ end.NoMemory);
+  no_fault : (l.end ≡ (Ok tt)) ⊎ (l.end ≡ (Err fault.NoMemory));
   port : IfSome (g.D.Door.state l.door) (λ d. d.port ≡ Some l.port);
   tells : is_some (g.K.Keeper.tables l.keeper) ≡ is_some (g.K.Keeper.tables l.fn.keeper);
   later : g.K.Keeper.faults l.fn.keeper ≤ g.K.Keeper.faults l.keeper;
