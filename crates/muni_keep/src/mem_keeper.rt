@@ -129,7 +129,7 @@ impl Keeper for MemKeeper {
         ensures later { self.old.calls.faults ≤ self.new.calls.faults }
     {
         self.calls.make()?;
-        self.tables.put_version(key, version)?;
+        self.tables.put_version(key, number, version)?;
         Ok(())
     }
 

@@ -1,6 +1,6 @@
 //! The tables of the desk, in memory.
 
-ghost use Rattle.std.specs.Prelude.{◌≡◌, ◌<◌, ◌^◌, OnOk, OnErr};
+ghost use Rattle.std.specs.Prelude.{◌≡◌, OnOk, OnErr};
 ghost use Rattle.muni_keep.specs.History.{next_number};
 ghost use Rattle.muni_keep.specs.Tables.{no_tables, issue_at, trade_at, version_at, last_at, trade_count, page_at, with_issue, with_version};
 
@@ -80,9 +80,14 @@ impl MemTables {
         }
     }
 
-    /// Keeps the next version of a trade.
-    pub fn put_version(&mut self, key: &Key, version: &Version) -> Result<(), AllocError>
-        requires { next_number (trade_at self.old key.now) < 2 ^ 32 }
+    /// Keeps the next version of a trade, which has this number.
+    pub fn put_version(
+        &mut self,
+        key: &Key,
+        number: u32,
+        version: &Version,
+    ) -> Result<(), AllocError>
+        requires { number ≡ next_number (trade_at self.old key.now) }
         ensures put { OnOk result (self.new ≡ with_version key.now version.now self.old) }
         ensures unchanged { OnErr result (self.new ≡ self.old) }
     {
