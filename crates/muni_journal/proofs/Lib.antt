@@ -1,3 +1,4 @@
+pub mod CauseLemmas
 pub mod Ends
 pub mod GoesOn
 pub mod JournalImages

@@ -1,6 +1,6 @@
 -- What a cabinet tells as disks come back to their shelf.
 use Rattle.std.proofs.Common.{◌≡◌, ◌≢◌, sym, ap, ◌∙◌, refl, subst, Bool, true, false, ℕ, List, Option, Some, None, if◌then◌else◌, nat_eq}
-use Rattle.std.specs.Prelude.{is_some}
+use Rattle.std.specs.Prelude.{is_some, IfSome}
 use Rattle.std.specs.Option.{option_map, option_and_then}
 use Rattle.std.specs.Cmp.Lexicographic.{pointwise, same_text, other_text}
 use Rattle.std.proofs.lemmas.Cmp.{nat_list_eq_equiv}
@@ -59,3 +59,13 @@ told_still name kept old new bytes own stands tells others =
 -- a disk is lent and comes back as it was
 pub all_same : (name : List ℕ) (old new : Disks) → new name ≡ old name → ((o : List ℕ) → o ≢ name → new o ≡ old o) → (o : List ℕ) → told_of None new o ≡ told_of None old o
 all_same name old new own others o = ap (option_and_then tables_of) (by_name name (λ o. new o ≡ old o) own others o)
+
+all_kept : (lent kept : Tables) (told : Option (List ℕ)) → lent ≡ kept → IfSome (option_map (λ _. kept) told) (λ t. Some lent ≡ Some t)
+all_kept lent kept None same = tt
+all_kept lent kept (Some b) same = ap Some same
+
+-- the keeper that is held has the tables that are told for its name
+pub held_has : (held name : List ℕ) (kept lent : Tables) (disks : Disks) → name ≡ held → lent ≡ kept → IfSome (told_of (Some (held, kept)) disks name) (λ t. Some lent ≡ Some t)
+held_has held name kept lent disks named same =
+    subst (λ (n : List ℕ). IfSome (told_of (Some (held, kept)) disks n) (λ t. Some lent ≡ Some t)) (sym named)
+    (subst (λ (o : Option Tables). IfSome o (λ t. Some lent ≡ Some t)) (sym (at_name held kept disks)) (all_kept lent kept (disks held) same))

@@ -4,6 +4,7 @@ use Rattle.std.specs.Prelude.{◌≡◌, ◌<◌, ◌^◌, ℕ, zero, suc, ◌+�
 use Rattle.std.specs.Option.{option_map, option_and_then}
 use Rattle.muni_keep.specs.Tables.{Tables, no_tables}
 use Rattle.muni_disk.specs.Bytes.{byte_at, bytes_at}
+use Rattle.muni_disk.specs.Disk.{IfRead}
 use Rattle.muni_record.specs.Words.{four, number_of_4}
 use Rattle.muni_record.specs.Body.{body_of, put_of}
 use Rattle.muni_record.specs.declared.put.Put.{Put}
@@ -51,6 +52,10 @@ journal_of bytes = end_from (length bytes + 1) bytes start
 -- the tables for which a disk stands that reads so
 abbrev pub tables_of : List ℕ → Option Tables
 tables_of bytes = option_map (λ (at : Place). at.tables) (journal_of bytes)
+
+-- these tables, if the disk exposes its bytes
+abbrev pub HasTables : Option (List ℕ) → Tables → Type 0
+HasTables bytes tables = IfRead bytes (λ c. tables_of c ≡ Some tables)
 
 -- a disk that reads so is no journal: it stands for no tables, or its slots end past the limit
 abbrev pub IsNoJournal : List ℕ → Type 0

@@ -1,5 +1,9 @@
-pub mod Puts
+pub mod Cabinet
 pub mod Journal
-pub mod Stops
+pub mod Keeper
+pub mod Opened
+pub mod Piece
+pub mod Puts
 pub mod Reading
+pub mod Stops
 pub mod Told

@@ -1,17 +1,18 @@
 //! The cabinet that lends keepers over the journals of a shelf.
 
-ghost use Rattle.std.specs.Prelude.{◌≡◌, ◌≢◌, ◌≤◌, ◌⊎◌, ℕ, List, Some, None, is_some, IfOk, IfErr, IfSome, IsSomeAnd, OnOk, OnErr, IsErrOf};
+ghost use Rattle.std.specs.Prelude.{◌≡◌, ◌≢◌, ◌≤◌, ◌⊎◌, Some, None, is_some, IfErr, OnOk, OnErr};
 ghost use Rattle.std.specs.Option.{option_map, ForSome};
 ghost use Rattle.muni_edge.specs.Sink.{Rose};
-ghost use Rattle.muni_keep.specs.Tables.{no_tables};
-ghost use Rattle.muni_journal.specs.Journal.{IsNoJournal};
-ghost use Rattle.muni_journal.specs.Told.{off_shelf, told_of, mark_of};
+ghost use Rattle.muni_keep.specs.Cabinet.{Fetches};
+ghost use Rattle.muni_journal.specs.Cabinet.{IsBack, HeldFailed, DiskFailed};
+ghost use Rattle.muni_journal.specs.Keeper.{IsUnsettled};
+ghost use Rattle.muni_journal.specs.Told.{off_shelf};
 
 use crate::fetching::FetchFault;
 use crate::keeper::JournalKeeper;
 use crate::opening::{Unfetched, Unsettled, open};
 use muni_disk::{Disk, DiskFault, Shelf};
-use muni_keep::{Cabinet, KeepFault};
+use muni_keep::{Cabinet, KeepFault, Keeper};
 use std::alloc::Global;
 
 /// A keeper whose failed put could not be taken back, and its name.
@@ -51,22 +52,12 @@ fn release<S: Shelf>(shelf: &mut S, held: Held<S::D>) -> Result<(), Unreleased<S
     requires out { S.out shelf.old ≡ Some held.name.items }
     requires alike { is_some (S.told shelf.old held.name.items) ≡ is_some (S.D.bytes held.keeper.disk) }
 
-    ensures back { OnOk result (S.out shelf.new ≡ None) }
-    // The tables of each name stay.
-    ensures told { OnOk result ((name : List ℕ) → told_of None (S.told shelf.new) name
-        ≡ told_of (Some (held.name.items, held.keeper.kept)) (S.told shelf.old) name) }
+    ensures back { OnOk result (IsBack S.Shelf held.name.items held.keeper.kept shelf.old shelf.new) }
     ensures unchanged { OnErr result (shelf.new ≡ shelf.old) }
     ensures name { IfErr result (λ unreleased. unreleased.held.name.items ≡ held.name.items) }
-    ensures tables { IfErr result (λ unreleased. unreleased.held.keeper.kept ≡ held.keeper.kept) }
-    ensures disk { IfErr result (λ unreleased.
-        is_some (S.D.bytes unreleased.held.keeper.disk) ≡ is_some (S.D.bytes held.keeper.disk)) }
-    ensures failed { IfErr result (λ unreleased. unreleased.fault ≡ DiskFault.Failed
-        → Rose (S.D.faults held.keeper.disk) (S.D.faults unreleased.held.keeper.disk)) }
+    ensures refused { IfErr result (λ unreleased.
+        IsUnsettled S.D.Disk unreleased.fault held.keeper unreleased.held.keeper) }
     ensures uncounted { S.faults shelf.new ≡ S.faults shelf.old }
-    ensures others { OnOk result ((other : List ℕ) → other ≢ held.name.items
-        → S.told shelf.new other ≡ S.told shelf.old other) }
-    ensures other_faults { OnOk result ((other : List ℕ) → other ≢ held.name.items
-        → S.disk_faults shelf.new other ≡ S.disk_faults shelf.old other) }
 {
     let Held { name, keeper } = held;
     match keeper.into_disk() {
@@ -120,31 +111,12 @@ impl<S: Shelf> JournalCabinet<S> {
         requires none_out { self.old.out ≡ None }
         requires none_held { self.old.held ≡ None }
 
-        ensures tables { IfOk result (λ keeper.
-            IfSome (told_of None (S.told self.old.shelf) name.items) (λ t. keeper.kept ≡ t)) }
-        ensures count { IfOk result (λ keeper. keeper.faults ≡ 0) }
-        ensures out { OnOk result (option_map (λ out. out.items) self.new.out ≡ Some name.items) }
-        ensures alike { IfOk result (λ keeper.
-            is_some (S.told self.new.shelf name.items) ≡ is_some (S.D.bytes keeper.disk)) }
-
-        ensures tells { OnOk result ((other : List ℕ)
-            → is_some (told_of (Some (name.items, no_tables)) (S.told self.new.shelf) other)
-            ≡ is_some (told_of None (S.told self.old.shelf) other)) }
-        ensures others { OnOk result ((other : List ℕ) → other ≢ name.items
-            → told_of (Some (name.items, no_tables)) (S.told self.new.shelf) other
-            ≡ told_of None (S.told self.old.shelf) other) }
-        ensures unchanged { OnErr result ((other : List ℕ)
-            → told_of None (S.told self.new.shelf) other ≡ told_of None (S.told self.old.shelf) other) }
-
-        ensures lent_out { OnErr result (self.new.out ≡ None) }
+        ensures fetched { Fetches ⟦<JournalCabinet<S> as Cabinet>⟧ ⟦<JournalKeeper<S::D> as Keeper>⟧
+            name.items result self.old self.new }
         ensures held { self.new.held ≡ None }
-        ensures later { self.old.faults ≤ self.new.faults }
-        ensures failed { IsErrOf result KeepFault.Failed → Rose self.old.faults self.new.faults }
         ensures counted { self.new.faults ≢ self.old.faults
             → Rose (S.faults self.old.shelf) (S.faults self.new.shelf)
-            ⊎ IfSome (S.told self.old.shelf name.items) (λ bytes.
-            Rose (S.disk_faults self.old.shelf name.items) (S.disk_faults self.new.shelf name.items)
-            ⊎ IsNoJournal bytes) }
+            ⊎ DiskFailed S.Shelf name.items self.old.shelf self.new.shelf }
     {
         let disk = match self.shelf.take(&name) {
             Ok(disk) => disk,
@@ -190,33 +162,15 @@ impl<S: Shelf> Cabinet for JournalCabinet<S> {
     fn fetch(&mut self, name: &[u8]) -> Result<JournalKeeper<S::D>, KeepFault>
         requires { self.old.out ≡ None }
 
-        ensures tables { IfOk result (λ keeper.
-            IfSome (⟦<JournalCabinet<S> as Cabinet>⟧.told self.old name.now) (λ t. keeper.kept ≡ t)) }
-        ensures count { IfOk result (λ keeper. keeper.faults ≡ 0) }
-        ensures out { IfOk result (λ keeper. ⟦<JournalCabinet<S> as Cabinet>⟧.out self.new
-            ≡ Some (name.now, mark_of (S.D.bytes keeper.disk))) }
-        ensures tells { (other : List ℕ)
-            → is_some (⟦<JournalCabinet<S> as Cabinet>⟧.told self.new other)
-            ≡ is_some (⟦<JournalCabinet<S> as Cabinet>⟧.told self.old other) }
-        ensures others { (other : List ℕ) → other ≢ name.now
-            → ⟦<JournalCabinet<S> as Cabinet>⟧.told self.new other
-            ≡ ⟦<JournalCabinet<S> as Cabinet>⟧.told self.old other }
-        ensures unchanged { OnErr result ((other : List ℕ)
-            → ⟦<JournalCabinet<S> as Cabinet>⟧.told self.new other
-            ≡ ⟦<JournalCabinet<S> as Cabinet>⟧.told self.old other) }
-        ensures none_out { OnErr result (self.new.out ≡ None) }
-        ensures later { self.old.faults ≤ self.new.faults }
-        ensures failed { IsErrOf result KeepFault.Failed → Rose self.old.faults self.new.faults }
+        ensures fetched { Fetches ⟦<JournalCabinet<S> as Cabinet>⟧ ⟦<JournalKeeper<S::D> as Keeper>⟧
+            name.now result self.old self.new }
 
-        // It counts a fault only where its shelf failed, the disk of a held keeper did, or the disk of the
-        // name did or is no journal. The last is said of disks that tell what they read as.
+        // It counts a fault only if its shelf failed, the disk of a held keeper did, or the disk of the
+        // name failed or is no journal.
         ensures counted { self.new.faults ≢ self.old.faults
             → Rose (S.faults self.old.shelf) (S.faults self.new.shelf)
-            ⊎ IsSomeAnd self.old.held (λ h. IsSomeAnd self.new.held (λ still.
-            Rose (S.D.faults h.keeper.disk) (S.D.faults still.keeper.disk)))
-            ⊎ IfSome (S.told self.old.shelf name.now) (λ bytes.
-            Rose (S.disk_faults self.old.shelf name.now) (S.disk_faults self.new.shelf name.now)
-            ⊎ IsNoJournal bytes) }
+            ⊎ HeldFailed S.D.Disk self.old.held self.new.held
+            ⊎ DiskFailed S.Shelf name.now self.old.shelf self.new.shelf }
     {
         let name = name.to_vec(self.alloc)?;
         let Some(held) = self.held.take() else {

@@ -1,15 +1,16 @@
 //! Reads a journal.
 
-ghost use Rattle.std.specs.Prelude.{◌≡◌, ◌==◌, ◌<◌, ◌≤◌, ◌+◌, ◌^◌, ◌≢◌, List, ℕ, Ok, Err, Some, None, IfOk, IfErr};
-ghost use Rattle.muni_edge.specs.Sink.{Rose};
+ghost use Rattle.std.specs.Prelude.{◌≡◌, ◌==◌, ◌<◌, ◌≤◌, ◌+◌, ◌^◌, ◌≢◌, Err, Some, None, IfOk, IfErr};
 ghost use Rattle.muni_keep.specs.Tables.{no_tables};
 ghost use Rattle.muni_disk.specs.Bytes.{byte_at, bytes_at};
-ghost use Rattle.muni_disk.specs.Disk.{ReadsAs, HasCause};
+ghost use Rattle.muni_disk.specs.Calls.{KeepsBytes};
+ghost use Rattle.muni_disk.specs.Disk.{IfRead};
 ghost use Rattle.muni_record.specs.Body.{put_of as spec_put_of};
 ghost use Rattle.muni_journal.specs.Journal as spec;
 
-use crate::kept::Kept;
+use crate::kept::put_next;
 use muni_disk::{Disk, DiskFault};
+use muni_keep::MemTables;
 use muni_record::{Put, put_of};
 
 /// No slot of a journal ends past this place.
@@ -27,11 +28,9 @@ pub enum FetchFault {
 /// Whether the gate at a place is open.
 fn is_open<D: Disk>(disk: &mut D, place: u64) -> Result<bool, DiskFault>
     requires { place + 1 < 2 ^ 41 }
-    ensures gate { IfOk result (λ opened. (c : List ℕ) → ReadsAs (D.bytes disk.old) c
-        → opened ≡ (byte_at c place == 1)) }
-    ensures bytes { D.bytes disk.new ≡ D.bytes disk.old }
-    ensures images { (c : List ℕ) → D.image disk.new c → D.image disk.old c }
-    ensures cause { HasCause (D.faults disk.old) (D.faults disk.new) result }
+    ensures gate { IfOk result (λ opened. IfRead (D.bytes disk.old)
+        (λ c. opened ≡ (byte_at c place == 1))) }
+    ensures keeps { KeepsBytes D.Disk DiskFault.Failed result disk.old disk.new }
 {
     let mut room = [0];
     disk.read(place, &mut room)?;
@@ -42,11 +41,9 @@ fn is_open<D: Disk>(disk: &mut D, place: u64) -> Result<bool, DiskFault>
 #[tactic(auto, unfolding(crate::specs::Journal::number_at, muni_record::specs::Words::number_of_4))]
 fn number_at<D: Disk>(disk: &mut D, place: u64) -> Result<u32, DiskFault>
     requires { place + 4 < 2 ^ 41 }
-    ensures number { IfOk result (λ n. (c : List ℕ) → ReadsAs (D.bytes disk.old) c
-        → n ≡ spec.number_at c place) }
-    ensures bytes { D.bytes disk.new ≡ D.bytes disk.old }
-    ensures images { (c : List ℕ) → D.image disk.new c → D.image disk.old c }
-    ensures cause { HasCause (D.faults disk.old) (D.faults disk.new) result }
+    ensures number { IfOk result (λ n. IfRead (D.bytes disk.old)
+        (λ c. n ≡ spec.number_at c place)) }
+    ensures keeps { KeepsBytes D.Disk DiskFault.Failed result disk.old disk.new }
 {
     let mut room = [0; 4];
     disk.read(place, &mut room)?;
@@ -57,11 +54,9 @@ fn number_at<D: Disk>(disk: &mut D, place: u64) -> Result<u32, DiskFault>
 fn body_at<D: Disk>(disk: &mut D, place: u64, count: usize) -> Result<Option<Put>, DiskFault>
     requires room { place + 1_024 < 2 ^ 41 }
     requires length { count ≤ 1_024 }
-    ensures put { IfOk result (λ put. (c : List ℕ) → ReadsAs (D.bytes disk.old) c
-        → put ≡ spec_put_of (bytes_at c place count)) }
-    ensures bytes { D.bytes disk.new ≡ D.bytes disk.old }
-    ensures images { (c : List ℕ) → D.image disk.new c → D.image disk.old c }
-    ensures cause { HasCause (D.faults disk.old) (D.faults disk.new) result }
+    ensures put { IfOk result (λ put. IfRead (D.bytes disk.old)
+        (λ c. put ≡ spec_put_of (bytes_at c place count))) }
+    ensures keeps { KeepsBytes D.Disk DiskFault.Failed result disk.old disk.new }
 {
     let mut room = [0; 1024];
     disk.read(place, &mut room[..count])?;
@@ -70,19 +65,15 @@ fn body_at<D: Disk>(disk: &mut D, place: u64, count: usize) -> Result<Option<Put
 
 /// Puts what the open slot at a gate holds, and gives the gate behind it.
 #[tactic(auto, unfolding(crate::specs::Journal::behind_slot))]
-fn next_gate<D: Disk>(disk: &mut D, gate: u64, kept: &mut Kept) -> Result<u64, FetchFault>
+fn next_gate<D: Disk>(disk: &mut D, gate: u64, kept: &mut MemTables) -> Result<u64, FetchFault>
     requires { gate ≤ 2 ^ 40 }
-    ensures next { IfOk result (λ next. (c : List ℕ) → ReadsAs (D.bytes disk.old) c
-        → spec.behind_slot c (record { gate = gate; tables = kept.old })
-        ≡ Some (record { gate = next; tables = kept.new })) }
+    ensures next { IfOk result (λ next. IfRead (D.bytes disk.old)
+        (λ c. spec.behind_slot c (record { gate = gate; tables = kept.old })
+        ≡ Some (record { gate = next; tables = kept.new }))) }
     ensures further { IfOk result (λ next. gate < next) }
-    ensures none { result ≡ Err FetchFault.NotAJournal → (c : List ℕ) → ReadsAs (D.bytes disk.old) c
-        → spec.behind_slot c (record { gate = gate; tables = kept.old }) ≡ None }
-    ensures bytes { D.bytes disk.new ≡ D.bytes disk.old }
-    ensures images { (c : List ℕ) → D.image disk.new c → D.image disk.old c }
-    ensures later { D.faults disk.old ≤ D.faults disk.new }
-    ensures failed { result ≡ Err (FetchFault.Disk DiskFault.Failed)
-        → Rose (D.faults disk.old) (D.faults disk.new) }
+    ensures none { result ≡ Err FetchFault.NotAJournal → IfRead (D.bytes disk.old)
+        (λ c. spec.behind_slot c (record { gate = gate; tables = kept.old }) ≡ None) }
+    ensures keeps { KeepsBytes D.Disk (FetchFault.Disk DiskFault.Failed) result disk.old disk.new }
 {
     let place = gate + 1;
     let count = match number_at(disk, place) {
@@ -97,7 +88,7 @@ fn next_gate<D: Disk>(disk: &mut D, gate: u64, kept: &mut Kept) -> Result<u64, F
         Ok(None) => return Err(FetchFault::NotAJournal),
         Err(fault) => return Err(FetchFault::Disk(fault)),
     };
-    let Ok(is_put) = kept.put_next(&put) else {
+    let Ok(is_put) = put_next(kept, &put) else {
         return Err(FetchFault::Disk(DiskFault::NoMemory));
     };
     if !is_put {
@@ -108,14 +99,10 @@ fn next_gate<D: Disk>(disk: &mut D, gate: u64, kept: &mut Kept) -> Result<u64, F
 
 fn open_at<D: Disk>(disk: &mut D, place: u64) -> Result<bool, FetchFault>
     requires { place + 1 < 2 ^ 41 }
-    ensures gate { IfOk result (λ opened. (c : List ℕ) → ReadsAs (D.bytes disk.old) c
-        → opened ≡ (byte_at c place == 1)) }
+    ensures gate { IfOk result (λ opened. IfRead (D.bytes disk.old)
+        (λ c. opened ≡ (byte_at c place == 1))) }
     ensures disk { IfErr result (λ fault. fault ≢ FetchFault.NotAJournal) }
-    ensures bytes { D.bytes disk.new ≡ D.bytes disk.old }
-    ensures images { (c : List ℕ) → D.image disk.new c → D.image disk.old c }
-    ensures later { D.faults disk.old ≤ D.faults disk.new }
-    ensures failed { result ≡ Err (FetchFault.Disk DiskFault.Failed)
-        → Rose (D.faults disk.old) (D.faults disk.new) }
+    ensures keeps { KeepsBytes D.Disk (FetchFault.Disk DiskFault.Failed) result disk.old disk.new }
 {
     match is_open(disk, place) {
         Ok(opened) => Ok(opened),
@@ -124,19 +111,14 @@ fn open_at<D: Disk>(disk: &mut D, place: u64) -> Result<bool, FetchFault>
 }
 
 /// Puts what the slots hold up to the first closed gate, and gives that gate.
-pub(crate) fn read_slots<D: Disk>(disk: &mut D, kept: &mut Kept) -> Result<u64, FetchFault>
+pub(crate) fn read_slots<D: Disk>(disk: &mut D, kept: &mut MemTables) -> Result<u64, FetchFault>
     requires { kept.old ≡ no_tables }
-    ensures found { IfOk result (λ gate. (c : List ℕ) → ReadsAs (D.bytes disk.old) c
-        → spec.journal_of c ≡ Some (record { gate = gate; tables = kept.new })) }
+    ensures found { IfOk result (λ gate. IfRead (D.bytes disk.old)
+        (λ c. spec.journal_of c ≡ Some (record { gate = gate; tables = kept.new }))) }
     ensures room { IfOk result (λ gate. gate ≤ 2 ^ 40) }
     // It is no journal only where the disk stands for no tables, or its slots end past the limit.
-    ensures none { result ≡ Err FetchFault.NotAJournal → (c : List ℕ) → ReadsAs (D.bytes disk.old) c
-        → spec.IsNoJournal c }
-    ensures bytes { D.bytes disk.new ≡ D.bytes disk.old }
-    ensures images { (c : List ℕ) → D.image disk.new c → D.image disk.old c }
-    ensures later { D.faults disk.old ≤ D.faults disk.new }
-    ensures failed { result ≡ Err (FetchFault.Disk DiskFault.Failed)
-        → Rose (D.faults disk.old) (D.faults disk.new) }
+    ensures none { result ≡ Err FetchFault.NotAJournal → IfRead (D.bytes disk.old) spec.IsNoJournal }
+    ensures keeps { KeepsBytes D.Disk (FetchFault.Disk DiskFault.Failed) result disk.old disk.new }
 {
     let mut gate = 0;
     'slots: while open_at(disk, gate)? {

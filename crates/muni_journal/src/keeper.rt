@@ -1,26 +1,29 @@
 //! The keeper over a journal.
 
-ghost use Rattle.std.specs.Prelude.{◌≡◌, ◌≢◌, ◌<◌, ◌≤◌, ◌+◌, ◌^◌, ◌⊎◌, Some, None, Ok, true, List, ℕ, length, is_some, IfOk, OnOk, OnErr, IsErrOf};
+ghost use Rattle.std.specs.Prelude.{◌≡◌, ◌≢◌, ◌≤◌, ◌+◌, ◌^◌, Some, None, Ok, true, List, ℕ, length, is_some, OnOk, OnErr};
 ghost use Rattle.std.specs.Option.{ForSome, ForNone};
 ghost use Rattle.std.specs.Result.{result_map_both};
 ghost use Rattle.muni_edge.specs.Sink.{Rose};
 ghost use Rattle.muni_keep.specs.History.{next_number};
+ghost use Rattle.muni_keep.specs.Keeper.{EditsTables};
 ghost use Rattle.muni_keep.specs.Tables.{issue_at, trade_at, version_at, last_at, trade_count, page_at, with_issue, with_version};
-ghost use Rattle.muni_disk.specs.Disk.{StopsLeave, HasCause};
+ghost use Rattle.muni_disk.specs.Calls.{SameDisk};
+ghost use Rattle.muni_disk.specs.Disk.{StopsLeave};
 ghost use Rattle.muni_slots.specs.Slots.{AllImages};
-ghost use Rattle.muni_record.specs.Body.{body_of, PutFits};
+ghost use Rattle.muni_record.specs.Body.{body_of};
 ghost use Rattle.muni_record.specs.declared.put.Put.TheVariants as put;
 ghost use Rattle.muni_journal.specs.Puts.{is_next, after};
-ghost use Rattle.muni_journal.specs.Journal.{journal_of, piece_of as spec_piece};
+ghost use Rattle.muni_journal.specs.Journal.{journal_of};
+ghost use Rattle.muni_journal.specs.Piece.{IsPieceOf};
 ghost use Rattle.muni_journal.specs.Stops.{IsInDoubt, StandsFor};
 ghost use Rattle.muni_journal.specs.Told.{mark_of};
 
 use crate::fetching::LIMIT;
-use crate::kept::Kept;
+use crate::kept::put_on;
 use crate::piece::piece_of;
 use arrayvec::ArrayVec;
 use muni_disk::{Disk, DiskFault};
-use muni_keep::{KeepFault, Keeper};
+use muni_keep::{KeepFault, Keeper, MemTables};
 use muni_msg::{DeskName, Key, Line, Reference, Version};
 use muni_record::Put;
 use muni_slots::{Unput, put_slot, take_back};
@@ -31,7 +34,7 @@ use muni_terms::Issue;
 pub struct JournalKeeper<D: Disk> {
     pub(crate) disk: D,
     pub(crate) gate: u64,
-    pub(crate) kept: Kept,
+    pub(crate) kept: MemTables,
     pub(crate) in_doubt: Option<Put>,
     pub(crate) faults: u64,
     ghost room: { gate ≤ 2 ^ 40 },
@@ -41,6 +44,8 @@ pub struct JournalKeeper<D: Disk> {
 }
 
 impl<D: Disk> JournalKeeper<D> {
+    ghost use Rattle.muni_journal.specs.Keeper.{KeepsJournal, CountsForCause};
+
     /// Takes back a put that is in doubt.
     pub(crate) fn settle(&mut self) -> Result<(), DiskFault>
         ensures gate { self.new.gate ≡ self.old.gate }
@@ -50,8 +55,7 @@ impl<D: Disk> JournalKeeper<D> {
         ensures kept { OnErr result (self.new.in_doubt ≡ self.old.in_doubt) }
         ensures stops { StopsLeave D.clock D.since self.old.disk self.new.disk
             (StandsFor self.old.kept self.old.in_doubt None) }
-        ensures tells { is_some (D.bytes self.new.disk) ≡ is_some (D.bytes self.old.disk) }
-        ensures cause { HasCause (D.faults self.old.disk) (D.faults self.new.disk) result }
+        ensures same { SameDisk D.Disk DiskFault.Failed result self.old.disk self.new.disk }
     {
         if self.in_doubt.is_some() {
             take_back(&mut self.disk, self.gate)?;
@@ -65,10 +69,7 @@ impl<D: Disk> JournalKeeper<D> {
     fn add(&mut self, put: &Put, piece: &[u8]) -> Result<(), DiskFault>
         requires at_rest { self.old.in_doubt ≡ None }
         requires next { is_next self.old.kept put.now ≡ true }
-        requires fits { PutFits put.now }
-        requires body { (1 ≤ length (body_of put.now)) × (length (body_of put.now) ≤ 410) }
-        requires piece { piece.now ≡ spec_piece put.now }
-        requires size { length piece.now ≡ 5 + length (body_of put.now) }
+        requires piece { IsPieceOf put.now piece.now }
         requires room { self.old.gate + 5 + length (body_of put.now) ≤ 2 ^ 40 }
 
         ensures put { OnOk result (self.new.kept ≡ after self.old.kept put.now) }
@@ -76,11 +77,10 @@ impl<D: Disk> JournalKeeper<D> {
         ensures faults { self.new.faults ≡ self.old.faults }
         ensures stops { StopsLeave D.clock D.since self.old.disk self.new.disk
             (StandsFor self.old.kept None (Some put.now)) }
-        ensures tells { is_some (D.bytes self.new.disk) ≡ is_some (D.bytes self.old.disk) }
-        ensures cause { HasCause (D.faults self.old.disk) (D.faults self.new.disk) result }
+        ensures same { SameDisk D.Disk DiskFault.Failed result self.old.disk self.new.disk }
     {
         match put_slot(&mut self.disk, self.gate, piece) {
-            Ok(()) => match self.kept.put(put) {
+            Ok(()) => match put_on(&mut self.kept, put) {
                 Ok(()) => {
                     self.gate += piece.len() as u64;
                     Ok(())
@@ -100,10 +100,7 @@ impl<D: Disk> JournalKeeper<D> {
 
     /// Counts a refusal of the disk where it is a failure.
     fn refused(&mut self, fault: DiskFault) -> KeepFault
-        ensures disk { self.new.disk ≡ self.old.disk }
-        ensures gate { self.new.gate ≡ self.old.gate }
-        ensures tables { self.new.kept ≡ self.old.kept }
-        ensures in_doubt { self.new.in_doubt ≡ self.old.in_doubt }
+        ensures same { KeepsJournal self.old self.new }
         ensures later { self.old.faults ≤ self.new.faults }
         ensures counted { result ≡ KeepFault.Failed → Rose self.old.faults self.new.faults }
         ensures cause { self.new.faults ≢ self.old.faults → fault ≡ DiskFault.Failed }
@@ -122,17 +119,12 @@ impl<D: Disk> JournalKeeper<D> {
     fn put(&mut self, put: &Put) -> Result<(), KeepFault>
         requires { is_next self.old.kept put.now ≡ true }
 
-        ensures put { OnOk result (self.new.kept ≡ after self.old.kept put.now) }
-        ensures unchanged { OnErr result (self.new.kept ≡ self.old.kept) }
+        ensures edits { EditsTables ⟦<JournalKeeper<D> as Keeper>⟧ (λ t. after t put.now) result
+            self.old self.new }
         ensures stops { StopsLeave D.clock D.since self.old.disk self.new.disk
             (StandsFor self.old.kept self.old.in_doubt (Some put.now)) }
         ensures tells { is_some (D.bytes self.new.disk) ≡ is_some (D.bytes self.old.disk) }
-        ensures later { self.old.faults ≤ self.new.faults }
-        ensures failed { IsErrOf result KeepFault.Failed → Rose self.old.faults self.new.faults }
-        // It counts only failures of its disk, and puts whose slot would end past the limit.
-        ensures counted { self.new.faults ≢ self.old.faults
-            → Rose (D.faults self.old.disk) (D.faults self.new.disk)
-            ⊎ (2 ^ 40 < self.old.gate + 5 + length (body_of put.now)) }
+        ensures counted { CountsForCause D.Disk put.now self.old self.new }
     {
         if let Err(fault) = self.settle() {
             return Err(self.refused(fault));
@@ -157,6 +149,7 @@ impl<D: Disk> JournalKeeper<D> {
 }
 
 impl<D: Disk> Keeper for JournalKeeper<D> {
+    ghost use Rattle.muni_journal.specs.Keeper.{KeepsJournal, CountsForCause};
     ghost use Rattle.muni_journal.specs.Told.{mark_of};
 
     ghost tables = { λ keeper. Some keeper.kept };
@@ -167,27 +160,21 @@ impl<D: Disk> Keeper for JournalKeeper<D> {
 
     fn issue(&mut self, cusip: &[u8; 9]) -> Result<Option<Issue>, KeepFault>
         ensures found { result ≡ Ok (issue_at self.old.kept cusip.now) }
-        ensures unchanged { self.new.kept ≡ self.old.kept }
-        ensures disk { self.new.disk ≡ self.old.disk }
-        ensures in_doubt { self.new.in_doubt ≡ self.old.in_doubt }
+        ensures same { KeepsJournal self.old self.new }
         ensures faults { self.new.faults ≡ self.old.faults }
     {
-        self.kept.issue(cusip)
+        Ok(self.kept.issue(cusip))
     }
 
     fn put_issue(&mut self, issue: &Issue) -> Result<(), KeepFault>
         requires { issue_at self.old.kept issue.now.cusip ≡ None }
 
-        ensures kept { OnOk result (self.new.kept ≡ with_issue issue.now self.old.kept) }
-        ensures unchanged { OnErr result (self.new.kept ≡ self.old.kept) }
+        ensures edits { EditsTables ⟦<JournalKeeper<D> as Keeper>⟧ (with_issue issue.now) result
+            self.old self.new }
         ensures stops { StopsLeave D.clock D.since self.old.disk self.new.disk
             (StandsFor self.old.kept self.old.in_doubt (Some (put.Issue issue.now))) }
         ensures tells { is_some (D.bytes self.new.disk) ≡ is_some (D.bytes self.old.disk) }
-        ensures later { self.old.faults ≤ self.new.faults }
-        ensures failed { IsErrOf result KeepFault.Failed → Rose self.old.faults self.new.faults }
-        ensures counted { self.new.faults ≢ self.old.faults
-            → Rose (D.faults self.old.disk) (D.faults self.new.disk)
-            ⊎ (2 ^ 40 < self.old.gate + 5 + length (body_of (put.Issue issue.now))) }
+        ensures counted { CountsForCause D.Disk (put.Issue issue.now) self.old self.new }
     {
         let put = Put::Issue(issue.copy());
         self.put(&put)
@@ -195,38 +182,29 @@ impl<D: Disk> Keeper for JournalKeeper<D> {
 
     fn version(&mut self, key: &Key, number: u32) -> Result<Option<Version>, KeepFault>
         ensures found { result ≡ Ok (version_at self.old.kept key.now number) }
-        ensures unchanged { self.new.kept ≡ self.old.kept }
-        ensures disk { self.new.disk ≡ self.old.disk }
-        ensures in_doubt { self.new.in_doubt ≡ self.old.in_doubt }
+        ensures same { KeepsJournal self.old self.new }
         ensures faults { self.new.faults ≡ self.old.faults }
     {
-        self.kept.version(key, number)
+        Ok(self.kept.version(key, number))
     }
 
     fn last(&mut self, key: &Key) -> Result<Option<(u32, Version)>, KeepFault>
         ensures found { result ≡ Ok (last_at self.old.kept key.now) }
-        ensures unchanged { self.new.kept ≡ self.old.kept }
-        ensures disk { self.new.disk ≡ self.old.disk }
-        ensures in_doubt { self.new.in_doubt ≡ self.old.in_doubt }
+        ensures same { KeepsJournal self.old self.new }
         ensures faults { self.new.faults ≡ self.old.faults }
     {
-        self.kept.last(key)
+        Ok(self.kept.last(key))
     }
 
     fn put_version(&mut self, key: &Key, number: u32, version: &Version) -> Result<(), KeepFault>
         requires { number ≡ next_number (trade_at self.old.kept key.now) }
 
-        ensures kept { OnOk result
-            (self.new.kept ≡ with_version key.now version.now self.old.kept) }
-        ensures unchanged { OnErr result (self.new.kept ≡ self.old.kept) }
+        ensures edits { EditsTables ⟦<JournalKeeper<D> as Keeper>⟧ (with_version key.now version.now) result
+            self.old self.new }
         ensures stops { StopsLeave D.clock D.since self.old.disk self.new.disk
             (StandsFor self.old.kept self.old.in_doubt (Some (put.Version key.now number version.now))) }
         ensures tells { is_some (D.bytes self.new.disk) ≡ is_some (D.bytes self.old.disk) }
-        ensures later { self.old.faults ≤ self.new.faults }
-        ensures failed { IsErrOf result KeepFault.Failed → Rose self.old.faults self.new.faults }
-        ensures counted { self.new.faults ≢ self.old.faults
-            → Rose (D.faults self.old.disk) (D.faults self.new.disk)
-            ⊎ (2 ^ 40 < self.old.gate + 5 + length (body_of (put.Version key.now number version.now))) }
+        ensures counted { CountsForCause D.Disk (put.Version key.now number version.now) self.old self.new }
     {
         let put = Put::Version {
             key: key.copy(),
@@ -238,12 +216,10 @@ impl<D: Disk> Keeper for JournalKeeper<D> {
 
     fn trades(&mut self, desk: &DeskName) -> Result<u32, KeepFault>
         ensures found { result ≡ Ok (trade_count self.old.kept desk.now) }
-        ensures unchanged { self.new.kept ≡ self.old.kept }
-        ensures disk { self.new.disk ≡ self.old.disk }
-        ensures in_doubt { self.new.in_doubt ≡ self.old.in_doubt }
+        ensures same { KeepsJournal self.old self.new }
         ensures faults { self.new.faults ≡ self.old.faults }
     {
-        self.kept.trades(desk)
+        Ok(self.kept.trades(desk))
     }
 
     fn page(
@@ -253,11 +229,9 @@ impl<D: Disk> Keeper for JournalKeeper<D> {
     ) -> Result<ArrayVec<Line, 50>, KeepFault>
         ensures found { result_map_both (λ lines. lines.items) (λ fault. fault) result
             ≡ Ok (page_at self.old.kept desk.now after.now) }
-        ensures unchanged { self.new.kept ≡ self.old.kept }
-        ensures disk { self.new.disk ≡ self.old.disk }
-        ensures in_doubt { self.new.in_doubt ≡ self.old.in_doubt }
+        ensures same { KeepsJournal self.old self.new }
         ensures faults { self.new.faults ≡ self.old.faults }
     {
-        self.kept.page(desk, after)
+        Ok(self.kept.page(desk, after))
     }
 }

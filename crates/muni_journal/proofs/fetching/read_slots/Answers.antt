@@ -22,13 +22,13 @@ slots-preserved g c =
     let at : Place = record { gate = c.slots.gate; tables = c.slots.kept } in
     let next : Place = record { gate = c.in-Ok.next; tables = c.next_gate.new.kept } in
     record {
-      bytes = c.next_gate.ensures.bytes ∙ c.open_at.ensures.bytes ∙ so_far.bytes;
-      images = λ f now. so_far.images f (c.open_at.ensures.images f (c.next_gate.ensures.images f now));
-      faults = omega (arith, so_far.faults, c.open_at.ensures.later, c.next_gate.ensures.later);
+      bytes = c.next_gate.ensures.keeps.bytes ∙ c.open_at.ensures.keeps.bytes ∙ so_far.bytes;
+      images = λ f now. so_far.images f (c.open_at.ensures.keeps.images f (c.next_gate.ensures.keeps.images f now));
+      faults = omega (arith, so_far.faults, c.open_at.ensures.keeps.later, c.next_gate.ensures.keeps.later);
       room = omega arith;
       goes_on = λ f reads.
           let here = subst (λ (o : Option (List ℕ)). ReadsAs o f) (sym so_far.bytes) reads in
-          let there = subst (λ (o : Option (List ℕ)). ReadsAs o f) (sym c.open_at.ensures.bytes) here in
+          let there = subst (λ (o : Option (List ℕ)). ReadsAs o f) (sym c.open_at.ensures.keeps.bytes) here in
           one_on f at next (one_there c.in_ok-open_at.field-0 (byte_at f c.slots.gate) (c.in_ok-open_at.ensures.gate f here) c.if-branch.true) (c.in-Ok.ensures.next f there) (so_far.goes_on f reads);
     }
 
@@ -44,7 +44,7 @@ returns-then-next-gt-LIMIT-clause-none g c _ f reads e is =
     let so_far = c.slots.invariant in
     let at : Place = record { gate = c.slots.gate; tables = c.slots.kept } in
     let here = subst (λ (o : Option (List ℕ)). ReadsAs o f) (sym so_far.bytes) reads in
-    let there = subst (λ (o : Option (List ℕ)). ReadsAs o f) (sym c.open_at.ensures.bytes) here in
+    let there = subst (λ (o : Option (List ℕ)). ReadsAs o f) (sym c.open_at.ensures.keeps.bytes) here in
     let behind : Place = record { gate = c.in-Ok.next; tables = c.next_gate.new.kept } in
     let next = one_on f at behind (one_there c.in_ok-open_at.field-0 (byte_at f c.slots.gate) (c.in_ok-open_at.ensures.gate f here) c.if-branch.true) (c.in-Ok.ensures.next f there) (so_far.goes_on f reads) in
     omega (arith, not_before f behind e next is, c.if-next-gt-LIMIT.true)
@@ -54,6 +54,6 @@ returns-in-Err-clause-none g c none f reads e is =
     let so_far = c.slots.invariant in
     let at : Place = record { gate = c.slots.gate; tables = c.slots.kept } in
     let here = subst (λ (o : Option (List ℕ)). ReadsAs o f) (sym so_far.bytes) reads in
-    let there = subst (λ (o : Option (List ℕ)). ReadsAs o f) (sym c.open_at.ensures.bytes) here in
+    let there = subst (λ (o : Option (List ℕ)). ReadsAs o f) (sym c.open_at.ensures.keeps.bytes) here in
     let opened = one_there c.in_ok-open_at.field-0 (byte_at f c.slots.gate) (c.in_ok-open_at.ensures.gate f here) c.if-branch.true in
     absurd (no_journal f at e opened (c.next_gate.ensures.none (c.in-Err.is ∙ none) f there) (so_far.goes_on f reads) is)

@@ -1,15 +1,42 @@
-use Rattle.std.proofs.Common.{◌≡◌, sym, ap, ◌∙◌, is_some}
+use Rattle.std.proofs.Common.{◌≡◌, inr, sym, ap, ◌∙◌, is_some, rules, ℕ, List, None}
+use Rattle.muni_journal.specs.Told.{told_of}
+use Rattle.muni_journal.proofs.CauseLemmas.{shelf_cause}
 use Rattle.muni_journal.proofs.ToldLemmas.{all_same}
 use Rattle.muni_journal.proofs.cabinet.JournalCabinet.lend.Goals as goal
 
-pub returns-in-Err-open-clause-unchanged : goal.returns-in-Err-open-clause-unchanged
-returns-in-Err-open-clause-unchanged g c =
+pub returns-in-Err-open-clause-fetched : goal.returns-in-Err-open-clause-fetched
+returns-in-Err-open-clause-fetched g c =
     let name = c.deref.result.now in
     let old = g.S.Shelf.told c.args.self.now.shelf in
     let lent = g.S.Shelf.told c.take.new.self in
     let new = g.S.Shelf.told c.put_back.new.self in
     let back : c.deref-in-Err-open.result.now ≡ name = c.deref-in-Err-open.ensures.value ∙ sym c.deref.ensures.value in
-    let bytes = c.in-Err-open.ensures.refused_bytes ∙ c.in-Ok.ensures.disk in
-    let alike = ap (λ n. is_some (lent n)) back ∙ (c.take.ensures.tells name ∙ ap is_some (sym bytes)) in
-    all_same name old new (ap new (sym back) ∙ (c.put_back.ensures.disk alike ∙ bytes))
-    (λ o differs. c.put_back.ensures.others o (λ same. differs (same ∙ back)) ∙ c.take.ensures.others o differs)
+    let bytes = c.in-Err-open.ensures.bytes ∙ c.in-Ok.ensures.disk in
+    let alike = ap (λ n. is_some (lent n)) back ∙ (c.take.ensures.others.tells name ∙ ap is_some (sym bytes)) in
+    let all : (o : List ℕ) → told_of None new o ≡ told_of None old o = all_same name old new (ap new (sym back) ∙ (c.put_back.ensures.disk alike ∙ bytes))
+    (λ o differs. c.put_back.ensures.others.others o (λ same. differs (same ∙ back)) ∙ c.take.ensures.others.others o differs) in
+    record {
+      tables = search rules;
+      count = search rules;
+      out = search rules;
+      tells = λ o. rw (c.requires.none_out, c.requires.none_held) (ap is_some (all o));
+      others = λ o differs. rw (c.requires.none_out, c.requires.none_held) (all o);
+      unchanged = λ o. rw (c.requires.none_out, c.requires.none_held) (all o);
+      none_out = search rules;
+      later = search rules;
+      failed = search rules;
+    }
+
+pub returns-in-Err-open-clause-counted : goal.returns-in-Err-open-clause-counted
+returns-in-Err-open-clause-counted g c differs =
+    let S = g.S.Shelf in
+    let D = g.S.D.Disk in
+    let name = c.args.name.items in
+    let old = c.args.self.now.shelf in
+    let disk = c.in-Ok.disk in
+    let unfetched = c.in-Err-open.unfetched in
+    let named : c.deref.result.now ≡ name = c.deref.ensures.value in
+    let back : c.deref-in-Err-open.result.now ≡ name = c.deref-in-Err-open.ensures.value in
+    inr (shelf_cause (S.told old name) (S.told c.take.new.self name) (D.bytes disk) (S.disk_faults old name) (S.disk_faults c.put_back.new.self name) (D.faults disk) (D.faults unfetched.disk) unfetched.fault
+    (rw named at c.in-Ok.ensures.disk) (c.take.ensures.others.tells name) (rw named at c.in-Ok.ensures.disk_faults) (rw back at c.put_back.ensures.disk_faults)
+    c.in-Err-open.ensures.failed c.in-Err-open.ensures.none (c.disk_fault.ensures.cause (c.counted-in-Err-open.ensures.cause differs)))

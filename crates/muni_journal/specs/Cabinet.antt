@@ -1,0 +1,27 @@
+-- The disks of a cabinet of journals: what came back to the shelf, and what has failed.
+use Rattle.std.specs.Prelude.{◌≡◌, ◌⊎◌, ℕ, List, Option, Some, None, IfSome, IsSomeAnd}
+use Rattle.muni_edge.specs.Sink.{Rose}
+use Rattle.muni_keep.specs.Tables.{Tables}
+use Rattle.muni_disk.specs.Frames.{KeepsOthers}
+use Rattle.muni_disk.specs.declared.disk.Disk as disk
+use Rattle.muni_disk.specs.declared.shelf.Shelf as shelf
+use Rattle.muni_journal.specs.Journal.{IsNoJournal}
+use Rattle.muni_journal.specs.Told.{told_of}
+use Rattle.muni_journal.specs.declared.cabinet.Held.{Held}
+
+-- The disk of a name is back on its shelf, and stands there for the tables that were told for it. The tables
+-- of the other names stay.
+pub record IsBack {S D : Type 0} (of : shelf.Ghosts S D) (name : List ℕ) (tables : Tables) (old new : S) : Type 0 where
+  pub none_out : of.out new ≡ None
+  pub told : (other : List ℕ) → told_of None (of.told new) other ≡ told_of (Some (name, tables)) (of.told old) other
+  pub others : KeepsOthers of.told of.disk_faults name old new
+
+-- the disk of a keeper has failed that was held before and is held after
+abbrev pub HeldFailed : {D : Type 0} → (of : disk.Ghosts D) → Option (Held D of) → Option (Held D of) → Type 0
+HeldFailed of old new =
+    IsSomeAnd old (λ h. IsSomeAnd new (λ still. Rose (of.faults h.keeper.disk) (of.faults still.keeper.disk)))
+
+-- the disk of a name has failed or is no journal, if it exposes its bytes
+abbrev pub DiskFailed : {S D : Type 0} → shelf.Ghosts S D → List ℕ → S → S → Type 0
+DiskFailed of name old new =
+    IfSome (of.told old name) (λ bytes. Rose (of.disk_faults old name) (of.disk_faults new name) ⊎ IsNoJournal bytes)
