@@ -10,6 +10,7 @@ use crate::bytes::{fill, overlaid};
 use crate::disk::Disk;
 use crate::fault::DiskFault;
 use crate::past::{MadeCall, Piece, Step};
+use muni_edge::Faults;
 use std::alloc::{AllocError, Global};
 use std::collections::VecDeque;
 
@@ -24,7 +25,7 @@ pub struct MemDisk {
     bytes: Vec<u8>,
     past: VecDeque<MadeCall>,
     failing: Vec<u64>,
-    faults: u64,
+    faults: Faults,
     // What it read as before a call was an image then.
     ghost truth: { (k : ℕ) (call : MadeCall) → slice_get past.items k ≡ Some call → IsImage first.items (drop (k + 1) past.items) call.before.items },
     ghost sure: { (i : ℕ) → is_unsure past.items i ≡ false → byte_at bytes.items i ≡ byte_at (synced_bytes first.items past.items) i },
@@ -60,7 +61,7 @@ impl MemDisk {
             bytes: Vec::new(alloc),
             past: VecDeque::new(alloc),
             failing: failing.to_vec(alloc)?,
-            faults: 0,
+            faults: Faults::none(),
         })
     }
 
@@ -95,7 +96,7 @@ impl MemDisk {
             bytes,
             past: VecDeque::new(self.alloc),
             failing: Vec::new(self.alloc),
-            faults: 0,
+            faults: Faults::none(),
         })
     }
 
@@ -144,8 +145,7 @@ impl Disk for MemDisk {
         let step = Step::Read;
         self.past.push_front(MadeCall { before, step })?;
         if listed {
-            self.faults = self.faults.saturating_add(1);
-            return Err(DiskFault::Failed);
+            return Err(DiskFault::from(self.faults.fail()));
         }
         fill(&self.bytes, place as usize, room);
         Ok(())
@@ -159,8 +159,7 @@ impl Disk for MemDisk {
         let step = Step::Write(Piece { place, bytes });
         self.past.push_front(MadeCall { before, step })?;
         if listed {
-            self.faults = self.faults.saturating_add(1);
-            return Err(DiskFault::Failed);
+            return Err(DiskFault::from(self.faults.fail()));
         }
         self.bytes = next;
         Ok(())
@@ -172,8 +171,7 @@ impl Disk for MemDisk {
         if listed {
             let step = Step::Unsynced;
             self.past.push_front(MadeCall { before, step })?;
-            self.faults = self.faults.saturating_add(1);
-            return Err(DiskFault::Failed);
+            return Err(DiskFault::from(self.faults.fail()));
         }
         let step = Step::Synced;
         match self.past.push_front(MadeCall { before, step }) {

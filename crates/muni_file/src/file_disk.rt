@@ -1,9 +1,9 @@
 //! A disk over a file.
 
-ghost use Rattle.std.specs.Prelude.{◌≡◌, ◌≤◌, None};
-ghost use Rattle.muni_edge.specs.Sink.{Rose};
+ghost use Rattle.std.specs.Prelude.{◌≡◌, None};
 
 use muni_disk::{Disk, DiskFault};
+use muni_edge::Faults;
 use std::fs::File;
 use std::os::unix::fs::FileExt;
 
@@ -11,7 +11,7 @@ use std::os::unix::fs::FileExt;
 #[derive(Drop)]
 pub struct FileDisk {
     file: File,
-    faults: u64,
+    faults: Faults,
 }
 
 impl FileDisk {
@@ -19,16 +19,10 @@ impl FileDisk {
     pub fn new(file: File) -> FileDisk
         ensures { result.faults ≡ 0 }
     {
-        FileDisk { file, faults: 0 }
-    }
-
-    fn failed(&mut self) -> DiskFault
-        ensures failed { result ≡ DiskFault.Failed }
-        ensures counted { Rose self.old.faults self.new.faults }
-        ensures later { self.old.faults ≤ self.new.faults }
-    {
-        self.faults = self.faults.saturating_add(1);
-        DiskFault::Failed
+        FileDisk {
+            file,
+            faults: Faults::none(),
+        }
     }
 }
 
@@ -50,12 +44,12 @@ impl Disk for FileDisk {
     fn read(&mut self, place: u64, room: &mut [u8]) -> Result<(), DiskFault> {
         room.fill(0);
         let Ok(got) = self.file.read_at(room, place) else {
-            return Err(self.failed());
+            return Err(DiskFault::from(self.faults.fail()));
         };
         // What the file does not have is 0, and a read that ends before its end is a failure.
         if got < room.len() {
             let Ok(0) = self.file.read_at(&mut room[got..], place + got as u64) else {
-                return Err(self.failed());
+                return Err(DiskFault::from(self.faults.fail()));
             };
         }
         Ok(())
@@ -64,14 +58,14 @@ impl Disk for FileDisk {
     fn write(&mut self, place: u64, piece: &[u8]) -> Result<(), DiskFault> {
         match self.file.write_all_at(piece, place) {
             Ok(()) => Ok(()),
-            Err(_) => Err(self.failed()),
+            Err(_) => Err(DiskFault::from(self.faults.fail())),
         }
     }
 
     fn sync(&mut self) -> Result<(), DiskFault> {
         match self.file.sync_data() {
             Ok(()) => Ok(()),
-            Err(_) => Err(self.failed()),
+            Err(_) => Err(DiskFault::from(self.faults.fail())),
         }
     }
 }

@@ -5,6 +5,7 @@ ghost use Rattle.std.specs.Option.{option_map};
 
 use crate::file_disk::FileDisk;
 use muni_disk::{DiskFault, Shelf};
+use muni_edge::Faults;
 use std::fs::{File, OpenOptions};
 use std::io::{self, ErrorKind};
 
@@ -15,7 +16,7 @@ use std::io::{self, ErrorKind};
 pub struct FileShelf<'a> {
     rt: &'a HostRuntime,
     out: Option<Vec<u8>>,
-    faults: u64,
+    faults: Faults,
 }
 
 /// The folder of a path.
@@ -51,7 +52,7 @@ impl<'a> FileShelf<'a> {
         FileShelf {
             rt,
             out: None,
-            faults: 0,
+            faults: Faults::none(),
         }
     }
 
@@ -90,10 +91,7 @@ impl<'a> Shelf for FileShelf<'a> {
                 Ok(FileDisk::new(file))
             }
             Err(error) if error.kind() == ErrorKind::OutOfMemory => Err(DiskFault::NoMemory),
-            Err(_) => {
-                self.faults = self.faults.saturating_add(1);
-                Err(DiskFault::Failed)
-            }
+            Err(_) => Err(DiskFault::from(self.faults.fail())),
         }
     }
 
