@@ -1,13 +1,17 @@
 -- What a command does to the objects that it is lent.
 -- `ends` are those that the encloser gives to payments and a yield.
-use Rattle.std.specs.Prelude.{◌≡◌, ℕ, List, Some, None, is_some, ℤ}
+use Rattle.std.specs.Prelude.{◌≡◌, Some, None, is_some, ℤ}
 use Rattle.muni_rule.specs.Payments.{PaymentSeries}
 use Rattle.muni_rule.specs.WorthEnds.{WorthEnds}
+use Rattle.muni_edge.specs.declared.door.Door as Door
+use Rattle.muni_edge.specs.declared.sink.Sink as Sink
+use Rattle.muni_edge.specs.declared.source.Source as Source
+use Rattle.muni_keep.specs.declared.cabinet.Cabinet as Cabinet
 use Rattle.muni_book.specs.Answers.{IsRightAnswer}
+use Rattle.muni_office.specs.Lent.{Lent}
 use Rattle.muni_desk.specs.Answers.{IsAnswer}
 use Rattle.muni_server.specs.Serves.{Traffic}
-use Rattle.muni_desk.specs.Serving.{DoorTold, Served}
-use Rattle.muni_desk.specs.Store.{Objects, KeepsOthers, Imported, ImportedWith, DoesNoneOfTooMany, Confirmed, Listed, Marks}
+use Rattle.muni_desk.specs.Store.{Imports, ImportsWith, Confirms, Serves, Lists, Marks}
 use Rattle.muni_desk.specs.Written.{WritesAnswer, TellsFaults}
 use Rattle.muni_desk.specs.declared.command.DeskCommand.{DeskCommand}
 use Rattle.muni_desk.specs.declared.command.DeskCommand.TheVariants.{QuoteOne, Quote, Import, Confirm, Serve, Positions, Mark, Drill, Help}
@@ -16,39 +20,24 @@ use Rattle.muni_desk.specs.declared.status.Status.{Status}
 use Rattle.muni_desk.specs.declared.status.Status.TheVariants.{ReadFault, StoreFault, NoMemory, TooLarge}
 
 -- a right answer is written, and only a failing output keeps it from that
-pub record Says (IsRight : Answer → Type 0) (status : Status) (old new : Objects) : Type 0 where
-  pub answered : WritesAnswer IsRight status old.output new.output
-  pub tells : is_some new.output ≡ is_some old.output
-  pub faults : TellsFaults status old.output_faults new.output_faults
+pub record Says {O : Type 0} (sink : Sink.Ghosts O) (IsRight : Answer → Type 0) (status : Status) (old new : O) : Type 0 where
+  pub answered : WritesAnswer IsRight status (sink.bytes old) (sink.bytes new)
+  pub tells : is_some (sink.bytes new) ≡ is_some (sink.bytes old)
+  pub faults : TellsFaults status (sink.faults old) (sink.faults new)
 
--- rows are applied to the tables of a store, and those of no other
-pub record Imports (ends : PaymentSeries → ℤ → WorthEnds) (store : List ℕ) (status : Status) (old new : Objects) : Type 0 where
-  pub imported : Imported (IsRightAnswer ends) store status old new
-  pub others : KeepsOthers store old new
-
--- and the positions of a desk are listed behind the report on them
-pub record ImportsWith (ends : PaymentSeries → ℤ → WorthEnds) (store desk : List ℕ) (status : Status) (old new : Objects) : Type 0 where
-  pub imported : ImportedWith (IsRightAnswer ends) store desk status old new
-  pub too_many : DoesNoneOfTooMany store desk old new
-  pub others : KeepsOthers store old new
-
--- what the command does, where a door tells of each of its links by `told`
-abbrev pub Does : {L : Type 0} (ends : PaymentSeries → ℤ → WorthEnds) → (told : L → Traffic) → DeskCommand → Status → (old new : Objects) → (door after : DoorTold L) → Type 0
-Does ends told (QuoteOne request) status old new door after = Says (IsAnswer ends (QuoteOne request)) status old new
-Does ends told (Quote request) status old new door after = Says (IsAnswer ends (Quote request)) status old new
-Does ends told (Import store None) status old new door after = Imports ends store.items status old new
-Does ends told (Import store (Some desk)) status old new door after = ImportsWith ends store.items desk status old new
-Does ends told (Confirm store key) status old new door after =
-    Confirmed store.items key status old new × ((other : List ℕ) → new.tables other ≡ old.tables other)
-Does ends told (Serve store port connections) status old new door after =
-    Served (IsRightAnswer ends) told store.items port connections status old new door after
-    × KeepsOthers store.items old new
-Does ends told (Positions store desk) status old new door after =
-    Listed store.items desk status old new × ((other : List ℕ) → new.tables other ≡ old.tables other)
-Does ends told (Mark store) status old new door after =
-    Marks (IsRightAnswer ends) store.items status old new × ((other : List ℕ) → new.tables other ≡ old.tables other)
-Does ends told (Drill request) status old new door after = Says (IsAnswer ends (Drill request)) status old new
-Does ends told Help status old new door after = Says (IsAnswer ends Help) status old new
+-- what the command does, if `told` tells of each link of the door
+abbrev pub Does : {I O C K D L : Type 0} → Source.Ghosts I → Sink.Ghosts O → Cabinet.Ghosts C K → Door.Ghosts D L → (ends : PaymentSeries → ℤ → WorthEnds) → (told : L → Traffic) → DeskCommand → Status → (old new : Lent I O C) → (before after : D) → Type 0
+Does source sink cabinet door ends told (QuoteOne request) status old new before after = Says sink (IsAnswer ends (QuoteOne request)) status old.output new.output
+Does source sink cabinet door ends told (Quote request) status old new before after = Says sink (IsAnswer ends (Quote request)) status old.output new.output
+Does source sink cabinet door ends told (Import store None) status old new before after = Imports source sink cabinet (IsRightAnswer ends) store.items status old new
+Does source sink cabinet door ends told (Import store (Some desk)) status old new before after = ImportsWith source sink cabinet (IsRightAnswer ends) store.items desk status old new
+Does source sink cabinet door ends told (Confirm store key) status old new before after = Confirms sink cabinet store.items key status old new
+Does source sink cabinet door ends told (Serve store port connections) status old new before after =
+    Serves cabinet door (IsRightAnswer ends) told store.items port connections status old.cabinet new.cabinet before after
+Does source sink cabinet door ends told (Positions store desk) status old new before after = Lists sink cabinet store.items desk status old new
+Does source sink cabinet door ends told (Mark store) status old new before after = Marks source sink cabinet (IsRightAnswer ends) store.items status old new
+Does source sink cabinet door ends told (Drill request) status old new before after = Says sink (IsAnswer ends (Drill request)) status old.output new.output
+Does source sink cabinet door ends told Help status old new before after = Says sink (IsAnswer ends Help) status old.output new.output
 
 -- What stays as it is, of whether the input, the output, the cabinet and the door do: an object that the
 -- command does not name, one that it has not come to where the input is not read whole or the store fails,

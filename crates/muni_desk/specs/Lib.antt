@@ -13,7 +13,6 @@ pub mod Drill
 pub mod Answers
 pub mod Written
 pub mod Store
-pub mod Serving
 pub mod Does
 pub mod AnswerLaws
 pub mod WordLaws

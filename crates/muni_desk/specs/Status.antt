@@ -1,28 +1,40 @@
 -- How a command ended.
-use Rattle.std.specs.Prelude.{ℕ}
+use Rattle.std.specs.Prelude.{ℕ, Result, Ok, Err}
 use Rattle.muni_desk.specs.declared.status.Status.{Status}
 use Rattle.muni_desk.specs.declared.status.Status.TheVariants.{Done, Usage, Refused, ReadFault, WriteFault, StoreFault, DoorFault, NoMemory, TooLarge}
-use Rattle.muni_office.specs.declared.end.End.{End}
-use Rattle.muni_server.specs.declared.end.End as server
-use Rattle.muni_server.specs.declared.end.End.TheVariants as run
-use Rattle.muni_office.specs.declared.end.End.TheVariants as end
+use Rattle.muni_office.specs.declared.confirmations.Answered.{Answered}
+use Rattle.muni_office.specs.declared.confirmations.Answered.TheVariants.{Confirmed}
+use Rattle.muni_office.specs.declared.confirmations.Answered.TheVariants as answer
+use Rattle.muni_office.specs.declared.fault.Fault.{Fault}
+use Rattle.muni_office.specs.declared.fault.Fault.TheVariants as fault
+use Rattle.muni_server.specs.Fault.{Outcome}
+use Rattle.muni_server.specs.declared.fault.ServeFault.TheVariants as serve
 
--- of a command over a store
-abbrev pub status_of : End → Status
-status_of end.Done = Done
-status_of end.Refused = Refused
-status_of end.ReadFault = ReadFault
-status_of end.WriteFault = WriteFault
-status_of end.StoreFault = StoreFault
-status_of end.NoMemory = NoMemory
-status_of end.TooLarge = TooLarge
+-- of a fault of a command over a store
+abbrev pub of_fault : Fault → Status
+of_fault fault.Read = ReadFault
+of_fault fault.Write = WriteFault
+of_fault fault.Store = StoreFault
+of_fault fault.NoMemory = NoMemory
+of_fault fault.TooLarge = TooLarge
+
+-- of a command that is done or has met a fault
+abbrev pub of_done : Result (Unit {0}) Fault → Status
+of_done (Ok done) = Done
+of_done (Err why) = of_fault why
+
+-- of a confirmation
+abbrev pub of_answered : Result Answered Fault → Status
+of_answered (Ok Confirmed) = Done
+of_answered (Ok answer.Refused) = Refused
+of_answered (Err why) = of_fault why
 
 -- of a run of connections
-abbrev pub status_of_run : server.End → Status
-status_of_run run.Done = Done
-status_of_run run.StoreFault = StoreFault
-status_of_run run.DoorFault = DoorFault
-status_of_run run.NoMemory = NoMemory
+abbrev pub of_served : Outcome → Status
+of_served (Ok done) = Done
+of_served (Err serve.Store) = StoreFault
+of_served (Err serve.Door) = DoorFault
+of_served (Err serve.NoMemory) = NoMemory
 
 -- the program's exit status
 abbrev pub number_of : Status → ℕ

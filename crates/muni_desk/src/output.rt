@@ -4,8 +4,7 @@ ghost use Rattle.std.specs.Prelude.{◌≡◌, ◌≢◌, ◌↔◌, ◌≤◌, 
 ghost use Rattle.muni_edge.specs.Sink.{HasWritten, HasWrittenPart};
 ghost use Rattle.muni_desk.specs.Command.{command_of, IsAnswerable};
 ghost use Rattle.muni_desk.specs.Does.{Does, Spares};
-ghost use Rattle.muni_desk.specs.Serving.{door_told};
-ghost use Rattle.muni_desk.specs.Store.{objects};
+ghost use Rattle.muni_office.specs.Lent.{lent};
 ghost use Rattle.muni_server.specs.Serves.{traffic};
 ghost use Rattle.muni_desk.specs.Written.{TellsFaults};
 
@@ -62,12 +61,10 @@ pub fn desk<
 
     // Those that are a command do what it says, where the objects tell what they hold.
     ensures does { IfSome (command_of (map string_bytes words.now)) (λ line.
-        Does (E.ends encloser.now) (traffic D.L.left D.L.bytes D.L.Source.faults D.L.Sink.faults) line.command result
-        (objects (I.left input.old) (O.bytes output.old) (C.told cabinet.old)
-        (I.faults input.old) (O.faults output.old) (C.faults cabinet.old))
-        (objects (I.left input.new) (O.bytes output.new) (C.told cabinet.new)
-        (I.faults input.new) (O.faults output.new) (C.faults cabinet.new))
-        (door_told (D.state door.old) (D.faults door.old)) (door_told (D.state door.new) (D.faults door.new))) }
+        Does I.Source O.Sink C.Cabinet D.Door (E.ends encloser.now)
+        (traffic D.L.left D.L.bytes D.L.Source.faults D.L.Sink.faults) line.command result
+        (lent input.old output.old cabinet.old) (lent input.new output.new cabinet.new)
+        door.old door.new) }
     ensures spares { IfSome (command_of (map string_bytes words.now)) (λ line.
         Spares line.command result (input.new ≡ input.old) (output.new ≡ output.old) (cabinet.new ≡ cabinet.old) (door.new ≡ door.old)) }
 
@@ -104,12 +101,10 @@ fn carry_out<
     requires answerable { IsAnswerable line.command }
     requires workers { (1 ≤ line.workers) × (line.workers ≤ 16) }
     requires none_out { C.out cabinet.old ≡ None }
-    ensures does { Does (E.ends encloser.now) (traffic D.L.left D.L.bytes D.L.Source.faults D.L.Sink.faults) line.command result
-        (objects (I.left input.old) (O.bytes output.old) (C.told cabinet.old)
-        (I.faults input.old) (O.faults output.old) (C.faults cabinet.old))
-        (objects (I.left input.new) (O.bytes output.new) (C.told cabinet.new)
-        (I.faults input.new) (O.faults output.new) (C.faults cabinet.new))
-        (door_told (D.state door.old) (D.faults door.old)) (door_told (D.state door.new) (D.faults door.new)) }
+    ensures does { Does I.Source O.Sink C.Cabinet D.Door (E.ends encloser.now)
+        (traffic D.L.left D.L.bytes D.L.Source.faults D.L.Sink.faults) line.command result
+        (lent input.old output.old cabinet.old) (lent input.new output.new cabinet.new)
+        door.old door.new }
     ensures spares { Spares line.command result (input.new ≡ input.old) (output.new ≡ output.old) (cabinet.new ≡ cabinet.old) (door.new ≡ door.old) }
     ensures none_out { C.out cabinet.new ≡ None }
 {
@@ -120,19 +115,21 @@ fn carry_out<
             say(&quote_answer(rt, request, workers, encloser, gate), output)
         }
         DeskCommand::Import { store, listed } => match listed {
-            Some(desk) => Status::of(import_with_positions(
+            Some(desk) => Status::of_done(import_with_positions(
                 rt, alloc, &store, &desk, workers, input, output, cabinet, encloser, gate,
             )),
-            None => Status::of(import(
+            None => Status::of_done(import(
                 rt, alloc, &store, workers, input, output, cabinet, encloser, gate,
             )),
         },
-        DeskCommand::Confirm { store, key } => Status::of(confirm(&store, &key, output, cabinet)),
+        DeskCommand::Confirm { store, key } => Status::of_answered(confirm(
+            &store, &key, output, cabinet,
+        )),
         DeskCommand::Serve {
             store,
             port,
             connections,
-        } => Status::of_run(serve(
+        } => Status::of_served(serve(
             rt,
             alloc,
             &store,
@@ -145,10 +142,10 @@ fn carry_out<
             gate,
         )),
         DeskCommand::Positions { store, desk } => {
-            Status::of(positions(alloc, &store, &desk, output, cabinet))
+            Status::of_done(positions(alloc, &store, &desk, output, cabinet))
         }
         DeskCommand::Mark { store } => {
-            Status::of(mark(rt, alloc, &store, input, output, cabinet, encloser))
+            Status::of_done(mark(rt, alloc, &store, input, output, cabinet, encloser))
         }
         DeskCommand::Drill(request) => {
             say(&drill_answer(rt, request, workers, encloser, gate), output)

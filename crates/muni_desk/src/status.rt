@@ -1,10 +1,11 @@
 //! How a command ends, and what it says.
 
 ghost use Rattle.std.specs.Prelude.{◌≡◌};
-ghost use Rattle.muni_desk.specs.Status.{number_of, status_of, status_of_run};
+ghost use Rattle.muni_desk.specs.Status.{number_of, of_answered, of_done, of_fault, of_served};
 
 use arrayvec::ArrayVec;
-use muni_office::End;
+use muni_office::{Answered, Fault};
+use muni_server::ServeFault;
 
 /// How a command ended.
 #[derive(Clone, Copy, Debug, PartialEq, Eq)]
@@ -30,30 +31,48 @@ pub enum Status {
 }
 
 impl Status {
-    /// How a command over a store ended.
-    pub fn of(end: End) -> Status
-        ensures { result ≡ status_of end }
+    /// The status of a command over a store that is done or has met a fault.
+    pub fn of_done(done: Result<(), Fault>) -> Status
+        ensures { result ≡ of_done done }
     {
-        match end {
-            End::Done => Status::Done,
-            End::Refused => Status::Refused,
-            End::ReadFault => Status::ReadFault,
-            End::WriteFault => Status::WriteFault,
-            End::StoreFault => Status::StoreFault,
-            End::NoMemory => Status::NoMemory,
-            End::TooLarge => Status::TooLarge,
+        match done {
+            Ok(()) => Status::Done,
+            Err(fault) => Status::of_fault(fault),
         }
     }
 
-    /// How a run of connections ended.
-    pub fn of_run(end: muni_server::End) -> Status
-        ensures { result ≡ status_of_run end }
+    /// The status of a confirmation.
+    pub fn of_answered(answered: Result<Answered, Fault>) -> Status
+        ensures { result ≡ of_answered answered }
     {
-        match end {
-            muni_server::End::Done => Status::Done,
-            muni_server::End::StoreFault => Status::StoreFault,
-            muni_server::End::DoorFault => Status::DoorFault,
-            muni_server::End::NoMemory => Status::NoMemory,
+        match answered {
+            Ok(Answered::Confirmed) => Status::Done,
+            Ok(Answered::Refused) => Status::Refused,
+            Err(fault) => Status::of_fault(fault),
+        }
+    }
+
+    fn of_fault(fault: Fault) -> Status
+        ensures { result ≡ of_fault fault }
+    {
+        match fault {
+            Fault::Read => Status::ReadFault,
+            Fault::Write => Status::WriteFault,
+            Fault::Store => Status::StoreFault,
+            Fault::NoMemory => Status::NoMemory,
+            Fault::TooLarge => Status::TooLarge,
+        }
+    }
+
+    /// The status of a run of connections.
+    pub fn of_served(served: Result<(), ServeFault>) -> Status
+        ensures { result ≡ of_served served }
+    {
+        match served {
+            Ok(()) => Status::Done,
+            Err(ServeFault::Store) => Status::StoreFault,
+            Err(ServeFault::Door) => Status::DoorFault,
+            Err(ServeFault::NoMemory) => Status::NoMemory,
         }
     }
 
