@@ -10,7 +10,7 @@ use muni_cases::{Pieces, bytes_of};
 use muni_edge::{MemDoor, MemLink, NoGate};
 use muni_keep::{Cabinet, Keeper, MemKeeper};
 use muni_multi::Horner;
-use muni_server::{End, Served, answer_one, serve};
+use muni_server::{ServeFault, Served, answer_one, serve};
 use std::alloc::Global;
 use std::test::Fail;
 use std::thread::Threads;
@@ -84,7 +84,7 @@ pub fn serve_at<R: Threads + Sync, C: Cabinet>(
     cabinet: &mut C,
     connections: u32,
     door: &mut MemDoor,
-) -> End
+) -> Result<(), ServeFault>
     requires { C.out cabinet.old ≡ None }
     ensures none_out { C.out cabinet.new ≡ None }
 {
@@ -123,7 +123,7 @@ fn served<R: Threads + Sync, C: Cabinet>(
     cabinet: &mut C,
     connections: u32,
     failing: Failing,
-) -> Result<(End, usize, usize), Fail>
+) -> Result<(Result<(), ServeFault>, usize, usize), Fail>
     requires { C.out cabinet.old ≡ None }
 {
     let mut door = door(alloc, failing)?;
@@ -137,7 +137,7 @@ fn served_over<R: Threads + Sync>(
     alloc: Global,
     connections: u32,
     failing: Failing,
-) -> Result<(End, usize, usize), Fail> {
+) -> Result<(Result<(), ServeFault>, usize, usize), Fail> {
     let mut cabinet = cabinet(alloc, failing.fetch, failing.call)?;
     served(rt, alloc, &mut cabinet, connections, failing)
 }
@@ -146,19 +146,19 @@ fn served_over<R: Threads + Sync>(
 #[test]
 fn runs_end_where_they_are_told_to(rt: HostRuntime) -> Result<(), Fail> {
     for (connections, failing, end, count, bad) in [
-        (1_000_000, NOTHING, End::Done, 8, 0),
-        (9, NOTHING, End::Done, 8, 0),
-        (3, NOTHING, End::Done, 3, 0),
-        (8, Failing { call: 1, ..NOTHING }, End::Done, 8, 1),
-        (8, Failing { take: 0, ..NOTHING }, End::Done, 8, 1),
-        (8, Failing { put: 0, ..NOTHING }, End::Done, 8, 1),
+        (1_000_000, NOTHING, Ok(()), 8, 0),
+        (9, NOTHING, Ok(()), 8, 0),
+        (3, NOTHING, Ok(()), 3, 0),
+        (8, Failing { call: 1, ..NOTHING }, Ok(()), 8, 1),
+        (8, Failing { take: 0, ..NOTHING }, Ok(()), 8, 1),
+        (8, Failing { put: 0, ..NOTHING }, Ok(()), 8, 1),
         (
             8,
             Failing {
                 fetch: 0,
                 ..NOTHING
             },
-            End::StoreFault,
+            Err(ServeFault::Store),
             0,
             0,
         ),
@@ -168,7 +168,7 @@ fn runs_end_where_they_are_told_to(rt: HostRuntime) -> Result<(), Fail> {
                 accept: 0,
                 ..NOTHING
             },
-            End::DoorFault,
+            Err(ServeFault::Door),
             0,
             0,
         ),
@@ -178,7 +178,7 @@ fn runs_end_where_they_are_told_to(rt: HostRuntime) -> Result<(), Fail> {
                 accept: 2,
                 ..NOTHING
             },
-            End::DoorFault,
+            Err(ServeFault::Door),
             1,
             0,
         ),

@@ -8,13 +8,17 @@ use muni_edge::{MemSink, MemSource, NoGate};
 use muni_keep::Cabinet;
 use muni_msg::DeskName;
 use muni_multi::Horner;
-use muni_office::End;
+use muni_office::Fault;
 use std::alloc::Global;
 use std::test::Fail;
 use std::thread::Threads;
 
 // How the positions of ALPHA in the store S end where a put of the output fails, and what they write.
-fn list<C: Cabinet>(alloc: Global, put: u64, cabinet: &mut C) -> Result<(End, MemSink), Fail>
+fn list<C: Cabinet>(
+    alloc: Global,
+    put: u64,
+    cabinet: &mut C,
+) -> Result<(Result<(), Fault>, MemSink), Fail>
     requires { C.out cabinet.old ≡ None }
     ensures { C.out cabinet.new ≡ None }
 {
@@ -30,13 +34,13 @@ fn list_twice<R: Threads + Sync, C: Cabinet>(
     alloc: Global,
     put: u64,
     cabinet: &mut C,
-) -> Result<Option<End>, Fail>
+) -> Result<Option<Result<(), Fault>>, Fail>
     requires { C.out cabinet.old ≡ None }
 {
     let is_imported = is_imported(rt, alloc, cabinet, ROWS, REPORT)?;
     let (end, output) = list(alloc, put, cabinet)?;
     let (again, whole) = list(alloc, 9, cabinet)?;
-    let is_whole = again == End::Done && whole.bytes() == HELD.as_bytes();
+    let is_whole = again == Ok(()) && whole.bytes() == HELD.as_bytes();
     if is_imported && output.bytes().is_empty() && is_whole {
         Ok(Some(end))
     } else {
@@ -49,7 +53,7 @@ fn list_over<R: Threads + Sync>(
     rt: &R,
     alloc: Global,
     (fetch, call, put): (u64, u64, u64),
-) -> Result<Option<End>, Fail> {
+) -> Result<Option<Result<(), Fault>>, Fail> {
     let mut cabinet = cabinet(alloc, fetch, call)?;
     list_twice(rt, alloc, put, &mut cabinet)
 }
@@ -58,10 +62,10 @@ fn list_over<R: Threads + Sync>(
 #[test]
 fn each_fault_ends_the_list_with_nothing_written(rt: HostRuntime) -> Result<(), Fail> {
     for (failing, wanted) in [
-        ((1, 99, 9), End::StoreFault),
-        ((9, 10, 9), End::StoreFault),
-        ((9, 11, 9), End::StoreFault),
-        ((9, 99, 0), End::WriteFault),
+        ((1, 99, 9), Err(Fault::Store)),
+        ((9, 10, 9), Err(Fault::Store)),
+        ((9, 11, 9), Err(Fault::Store)),
+        ((9, 99, 0), Err(Fault::Write)),
     ] {
         assert_eq!(rt; list_over(&rt, rt.alloc(), failing)?, Some(wanted));
     }
@@ -73,7 +77,7 @@ fn import_listed<R: Threads + Sync, C: Cabinet>(
     rt: &R,
     alloc: Global,
     cabinet: &mut C,
-) -> Result<(End, MemSink), Fail>
+) -> Result<(Result<(), Fault>, MemSink), Fail>
     requires { C.out cabinet.old ≡ None }
 {
     let desk = DeskName::read(b"ALPHA").ok().ok_or("a desk")?;
@@ -100,7 +104,7 @@ fn listed_over<R: Threads + Sync>(
     rt: &R,
     alloc: Global,
     call: u64,
-) -> Result<(End, Option<usize>), Fail> {
+) -> Result<(Result<(), Fault>, Option<usize>), Fail> {
     let mut cabinet = cabinet(alloc, 9, call)?;
     let (end, output) = import_listed(rt, alloc, &mut cabinet)?;
     let listed = format!(in alloc; "{REPORT}{HELD}")?;
@@ -113,12 +117,12 @@ fn listed_over<R: Threads + Sync>(
 #[test]
 fn the_lines_behind_a_report_take_no_call(rt: HostRuntime) -> Result<(), Fail> {
     for (call, wanted, length) in [
-        (0, End::StoreFault, 0),
-        (1, End::StoreFault, 0),
-        (2, End::StoreFault, 0),
-        (3, End::StoreFault, 18),
-        (12, End::StoreFault, 72),
-        (13, End::Done, 165),
+        (0, Err(Fault::Store), 0),
+        (1, Err(Fault::Store), 0),
+        (2, Err(Fault::Store), 0),
+        (3, Err(Fault::Store), 18),
+        (12, Err(Fault::Store), 72),
+        (13, Ok(()), 165),
     ] {
         assert_eq!(rt; listed_over(&rt, rt.alloc(), call)?, (wanted, Some(length)));
     }

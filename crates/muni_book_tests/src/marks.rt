@@ -12,7 +12,7 @@ use muni_import::RowFault;
 use muni_keep::Cabinet;
 use muni_marks::{MarkSaid, mark, mark_line, total};
 use muni_multi::Doubling;
-use muni_office::End;
+use muni_office::Fault;
 use std::alloc::Global;
 use std::test::Fail;
 use std::thread::Threads;
@@ -54,14 +54,14 @@ fn marked<R: Threads + Sync, C: Cabinet>(
     alloc: Global,
     cabinet: &mut C,
     failing: Failing,
-) -> Result<Option<End>, Fail>
+) -> Result<Option<Result<(), Fault>>, Fail>
     requires { C.out cabinet.old ≡ None }
 {
     let is_added = is_imported(rt, alloc, cabinet, ISSUE, "1,added,123456AA3\n")?;
     let mut input = MemSource::new(alloc, ROWS, &[failing.take])?;
     let mut output = MemSink::new(alloc, 4096, &[failing.put])?;
     let end = mark(rt, alloc, b"S", &mut input, &mut output, cabinet, &Doubling);
-    let written = if end == End::Done { MARKS } else { b"" };
+    let written = if end.is_ok() { MARKS } else { b"" };
     if is_added && output.bytes() == written {
         Ok(Some(end))
     } else {
@@ -73,7 +73,7 @@ fn marked_over<R: Threads + Sync>(
     rt: &R,
     alloc: Global,
     failing: Failing,
-) -> Result<Option<End>, Fail> {
+) -> Result<Option<Result<(), Fault>>, Fail> {
     let mut cabinet = cabinet(alloc, failing.fetch, failing.call)?;
     marked(rt, alloc, &mut cabinet, failing)
 }
@@ -83,20 +83,20 @@ fn marked_over<R: Threads + Sync>(
 #[test]
 fn each_fault_ends_the_marks_with_nothing_written(rt: HostRuntime) -> Result<(), Fail> {
     for (failing, wanted) in [
-        (NOTHING, End::Done),
-        (Failing { take: 0, ..NOTHING }, End::ReadFault),
-        (Failing { take: 1, ..NOTHING }, End::ReadFault),
+        (NOTHING, Ok(())),
+        (Failing { take: 0, ..NOTHING }, Err(Fault::Read)),
+        (Failing { take: 1, ..NOTHING }, Err(Fault::Read)),
         (
             Failing {
                 fetch: 1,
                 ..NOTHING
             },
-            End::StoreFault,
+            Err(Fault::Store),
         ),
-        (Failing { call: 2, ..NOTHING }, End::StoreFault),
-        (Failing { call: 3, ..NOTHING }, End::StoreFault),
-        (Failing { call: 4, ..NOTHING }, End::Done),
-        (Failing { put: 0, ..NOTHING }, End::WriteFault),
+        (Failing { call: 2, ..NOTHING }, Err(Fault::Store)),
+        (Failing { call: 3, ..NOTHING }, Err(Fault::Store)),
+        (Failing { call: 4, ..NOTHING }, Ok(())),
+        (Failing { put: 0, ..NOTHING }, Err(Fault::Write)),
     ] {
         assert_eq!(rt; marked_over(&rt, rt.alloc(), failing)?, Some(wanted));
     }

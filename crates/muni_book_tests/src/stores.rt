@@ -5,7 +5,7 @@ ghost use Rattle.std.specs.Prelude.{◌≡◌, None, IfOk};
 use muni_edge::{MemSink, MemSource, NoGate};
 use muni_keep::{Cabinet, MemCabinet, MemKeeper};
 use muni_multi::Horner;
-use muni_office::{End, import};
+use muni_office::{Fault, import};
 use std::alloc::Global;
 use std::test::Fail;
 use std::thread::Threads;
@@ -40,7 +40,7 @@ pub fn imported<R: Threads + Sync, C: Cabinet>(
     alloc: Global,
     cabinet: &mut C,
     rows: &str,
-) -> Result<(End, MemSink), Fail>
+) -> Result<(Result<(), Fault>, MemSink), Fail>
     requires { C.out cabinet.old ≡ None }
     ensures none_out { C.out cabinet.new ≡ None }
 {
@@ -72,5 +72,5 @@ pub fn is_imported<R: Threads + Sync, C: Cabinet>(
     ensures none_out { C.out cabinet.new ≡ None }
 {
     let (end, output) = imported(rt, alloc, cabinet, rows)?;
-    Ok(end == End::Done && output.bytes() == report.as_bytes())
+    Ok(end.is_ok() && output.bytes() == report.as_bytes())
 }
