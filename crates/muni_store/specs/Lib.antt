@@ -3,3 +3,4 @@ pub mod Page
 pub mod Ran
 pub mod Rows
 pub mod Statements
+pub mod Faults

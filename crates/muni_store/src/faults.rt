@@ -1,8 +1,9 @@
 //! A count of faults.
 
-ghost use Rattle.std.specs.Prelude.{◌≡◌, ◌≤◌, IsErrOf};
+ghost use Rattle.std.specs.Prelude.{◌≡◌, ◌≤◌};
 ghost use Rattle.muni_edge.specs.Calls.{raised};
 ghost use Rattle.muni_edge.specs.Sink.{Rose};
+ghost use Rattle.muni_store.specs.Faults.{CountsFailure};
 
 use muni_keep::KeepFault;
 use std::marker::Model;
@@ -43,8 +44,7 @@ impl Faults {
     /// Counts what has failed.
     pub(crate) fn noted<T>(&mut self, answer: Result<T, KeepFault>) -> Result<T, KeepFault>
         ensures same { result ≡ answer }
-        ensures later { self.old ≤ self.new }
-        ensures failed { IsErrOf result KeepFault.Failed → Rose self.old self.new }
+        ensures counted { CountsFailure result self.old self.new }
     {
         match answer {
             Ok(value) => Ok(value),

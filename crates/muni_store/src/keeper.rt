@@ -1,11 +1,11 @@
 //! A keeper over a database.
 
-ghost use Rattle.std.specs.Prelude.{◌≡◌, ◌≤◌, ◌⊎◌, [], None, Ok, Some, IfOk, IfSome, OnOk, OnErr, IsErrOf, is_ok};
+ghost use Rattle.std.specs.Prelude.{◌≡◌, ◌⊎◌, [], None, Ok, Some, IfOk, IfSome, OnOk, OnErr, is_ok};
 ghost use Rattle.sqlite.specs.Held.{state};
-ghost use Rattle.muni_edge.specs.Sink.{Rose};
 ghost use Rattle.muni_rows.specs.Issue as issues;
 ghost use Rattle.muni_rows.specs.Version as versions;
 ghost use Rattle.muni_store.specs.Counts.{count_of, with_count, after_put};
+ghost use Rattle.muni_store.specs.Faults.{CountsFailure};
 ghost use Rattle.muni_store.specs.Page.{IsPage};
 ghost use Rattle.muni_store.specs.Ran.{Ran};
 ghost use Rattle.muni_store.specs.Rows as rows;
@@ -76,8 +76,7 @@ impl<S: Alter + Drop> Keeper for SqlKeeper<S> {
         ensures read { IfOk result (rows.Reads rows.issue_in (state S.Store self.old.database)
             (state S.Store self.new.database) spec.select_issue (spec.cusip_values cusip.now)) }
         ensures counts { self.new.trades ≡ self.old.trades }
-        ensures later { self.old.faults ≤ self.new.faults }
-        ensures failed { IsErrOf result KeepFault.Failed → Rose self.old.faults self.new.faults }
+        ensures counted { CountsFailure result self.old.faults self.new.faults }
     {
         let found = find_issue(&mut self.database, cusip);
         self.faults.noted(found)
@@ -87,8 +86,7 @@ impl<S: Alter + Drop> Keeper for SqlKeeper<S> {
         ensures ran { OnOk result (Ran (state S.Store self.old.database) (state S.Store self.new.database)
             spec.insert_issue (spec.issue_values (issues.columns_of issue.now))) }
         ensures counts { self.new.trades ≡ self.old.trades }
-        ensures later { self.old.faults ≤ self.new.faults }
-        ensures failed { IsErrOf result KeepFault.Failed → Rose self.old.faults self.new.faults }
+        ensures counted { CountsFailure result self.old.faults self.new.faults }
     {
         let put = insert_issue(&mut self.database, issue);
         self.faults.noted(put)
@@ -98,8 +96,7 @@ impl<S: Alter + Drop> Keeper for SqlKeeper<S> {
         ensures read { IfOk result (rows.Reads rows.version_in (state S.Store self.old.database)
             (state S.Store self.new.database) spec.select_version (spec.numbered_key_values key.now number)) }
         ensures counts { self.new.trades ≡ self.old.trades }
-        ensures later { self.old.faults ≤ self.new.faults }
-        ensures failed { IsErrOf result KeepFault.Failed → Rose self.old.faults self.new.faults }
+        ensures counted { CountsFailure result self.old.faults self.new.faults }
     {
         match find_version(&mut self.database, key, number) {
             Ok(found) => Ok(found),
@@ -111,8 +108,7 @@ impl<S: Alter + Drop> Keeper for SqlKeeper<S> {
         ensures read { IfOk result (rows.Reads rows.last_in (state S.Store self.old.database)
             (state S.Store self.new.database) spec.select_last (spec.key_values key.now)) }
         ensures counts { self.new.trades ≡ self.old.trades }
-        ensures later { self.old.faults ≤ self.new.faults }
-        ensures failed { IsErrOf result KeepFault.Failed → Rose self.old.faults self.new.faults }
+        ensures counted { CountsFailure result self.old.faults self.new.faults }
     {
         match find_last(&mut self.database, key) {
             Ok(found) => Ok(found),
@@ -125,8 +121,7 @@ impl<S: Alter + Drop> Keeper for SqlKeeper<S> {
             spec.insert_version (spec.version_values key.now number (versions.columns_of version.now))) }
         ensures counts { self.new.trades
             ≡ after_put key.now.desk number (is_ok result) self.old.trades }
-        ensures later { self.old.faults ≤ self.new.faults }
-        ensures failed { IsErrOf result KeepFault.Failed → Rose self.old.faults self.new.faults }
+        ensures counted { CountsFailure result self.old.faults self.new.faults }
     {
         let put = insert_version(&mut self.database, key, number, version);
         self.trades.note_put(&key.desk, number, put.is_ok());
@@ -145,8 +140,7 @@ impl<S: Alter + Drop> Keeper for SqlKeeper<S> {
         ensures counts { IfOk result (λ count. (self.new.trades ≡ self.old.trades)
             ⊎ (self.new.trades ≡ with_count desk.now count self.old.trades)) }
         ensures refused { OnErr result (self.new.trades ≡ self.old.trades) }
-        ensures later { self.old.faults ≤ self.new.faults }
-        ensures failed { IsErrOf result KeepFault.Failed → Rose self.old.faults self.new.faults }
+        ensures counted { CountsFailure result self.old.faults self.new.faults }
     {
         if let Some(count) = self.trades.of(desk) {
             return Ok(count);
@@ -164,8 +158,7 @@ impl<S: Alter + Drop> Keeper for SqlKeeper<S> {
         ensures read { IfOk result (λ lines. IsPage (state S.Store) desk.now after.now
             self.old.database self.new.database lines.items) }
         ensures counts { self.new.trades ≡ self.old.trades }
-        ensures later { self.old.faults ≤ self.new.faults }
-        ensures failed { IsErrOf result KeepFault.Failed → Rose self.old.faults self.new.faults }
+        ensures counted { CountsFailure result self.old.faults self.new.faults }
     {
         let lines = read_page(&mut self.database, desk, after);
         self.faults.noted(lines)
