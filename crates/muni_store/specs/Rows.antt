@@ -1,5 +1,5 @@
 -- What is read from the rows of the tables.
-use Rattle.std.specs.Prelude.{◌≡◌, ℕ, ◌-◌, ◌^◌, ℤ, pos, List, [], Option, Some, option_map, unwrap_or}
+use Rattle.std.specs.Prelude.{◌≡◌, ℕ, ◌-◌, ◌^◌, Bool, ℤ, pos, List, [], Option, Some, is_some, option_map, unwrap_or}
 use Rattle.std.specs.Result.{result_ok}
 use Rattle.std.specs.Char.{is_ascii_alphanumeric}
 use Rattle.sqlite.specs.declared.types.Value.{Value}
@@ -48,16 +48,20 @@ issue_in row = issues.issue_of (record {
   basis = number_in row 8;
 })
 
--- the trade, the number and the version in a row, if there are such
-abbrev pub trade_in : List Value → Option (Key × ℕ × Version)
-trade_in row = versions.trade_of (text_in row 0) (text_in row 1) (number_in row 2) (record {
-  act = number_in row 3;
+-- the columns of a version in a row, with a fee and a commission
+abbrev pub asked_columns : List Value → ℤ → versions.AskedColumns
+asked_columns row fee = record {
   cusip = text_in row 4;
   side = number_in row 5;
   par = number_in row 6;
   settle = text_in row 7;
   basis = number_in row 8;
   value = number_in row 9;
+  fee = fee;
+}
+
+abbrev pub figure_columns : List Value → ℤ → versions.FigureColumns
+figure_columns row commission = record {
   price = number_in row 10;
   yld = number_in row 11;
   redemption = text_in row 12;
@@ -67,9 +71,26 @@ trade_in row = versions.trade_of (text_in row 0) (text_in row 1) (number_in row 
   principal = number_in row 16;
   accrued = number_in row 17;
   total = number_in row 18;
-  fee = number_in row 19;
-  commission = number_in row 20;
-})
+  commission = commission;
+}
+
+abbrev pub trade_columns : List Value → ℤ → ℤ → versions.Columns
+trade_columns row fee commission = record {
+  desk = text_in row 0;
+  reference = text_in row 1;
+  number = number_in row 2;
+  act = number_in row 3;
+  asked = asked_columns row fee;
+  figures = figure_columns row commission;
+}
+
+-- the trade, the number and the version in a row, if there are such
+abbrev pub trade_in : List Value → Option (Key × ℕ × Version)
+trade_in row = versions.trade_of (trade_columns row (number_in row 19) (number_in row 20))
+
+-- whether a row of the table that had no columns for a fee and a commission is that of a version
+abbrev pub is_old_trade : List Value → Bool
+is_old_trade row = is_some (versions.trade_of (trade_columns row (pos 0) (pos 0)))
 
 abbrev pub version_in : List Value → Option Version
 version_in row = option_map (λ trade. trade.2) (trade_in row)

@@ -67,28 +67,28 @@ page_values desk after = Text desk ∷ Text (unwrap_or after []) ∷ []
 abbrev pub insert_version : List ℕ
 insert_version = codes "INSERT INTO versions_2 (desk, reference, number, act, cusip, side, par, settle, basis, value, price, yld, redemption, at_price, label, days, principal, accrued, total, fee, commission) VALUES (?1, ?2, ?3, ?4, ?5, ?6, ?7, ?8, ?9, ?10, ?11, ?12, ?13, ?14, ?15, ?16, ?17, ?18, ?19, ?20, ?21)"
 
--- the trade, the number and the columns of a version, in this order
-abbrev pub version_values : Key → ℕ → versions.Columns → List Value
-version_values key number columns =
-    Text key.desk
-    ∷ Text key.reference
-    ∷ Int (pos number)
+-- the columns of a version, in this order
+abbrev pub version_values : versions.Columns → List Value
+version_values columns =
+    Text columns.desk
+    ∷ Text columns.reference
+    ∷ Int columns.number
     ∷ Int columns.act
-    ∷ Text columns.cusip
-    ∷ Int columns.side
-    ∷ Int columns.par
-    ∷ Text columns.settle
-    ∷ Int columns.basis
-    ∷ Int columns.value
-    ∷ Int columns.price
-    ∷ Int columns.yld
-    ∷ Text columns.redemption
-    ∷ Int columns.at_price
-    ∷ Int columns.label
-    ∷ Int columns.days
-    ∷ Int columns.principal
-    ∷ Int columns.accrued
-    ∷ Int columns.total
-    ∷ Int columns.fee
-    ∷ Int columns.commission
+    ∷ Text columns.asked.cusip
+    ∷ Int columns.asked.side
+    ∷ Int columns.asked.par
+    ∷ Text columns.asked.settle
+    ∷ Int columns.asked.basis
+    ∷ Int columns.asked.value
+    ∷ Int columns.figures.price
+    ∷ Int columns.figures.yld
+    ∷ Text columns.figures.redemption
+    ∷ Int columns.figures.at_price
+    ∷ Int columns.figures.label
+    ∷ Int columns.figures.days
+    ∷ Int columns.figures.principal
+    ∷ Int columns.figures.accrued
+    ∷ Int columns.figures.total
+    ∷ Int columns.asked.fee
+    ∷ Int columns.figures.commission
     ∷ []

@@ -13,7 +13,7 @@ ghost use Rattle.muni_store.specs.Statements as spec;
 
 use crate::faults::Faults;
 use crate::page::read_page;
-use crate::rows::{
+use crate::statements::{
     count_trades, find_issue, find_last, find_version, insert_issue, insert_version,
 };
 use crate::trade_counts::TradeCounts;
@@ -118,7 +118,7 @@ impl<S: Alter + Drop> Keeper for SqlKeeper<S> {
 
     fn put_version(&mut self, key: &Key, number: u32, version: &Version) -> Result<(), KeepFault>
         ensures ran { OnOk result (Ran (state S.Store self.old.database) (state S.Store self.new.database)
-            spec.insert_version (spec.version_values key.now number (versions.columns_of version.now))) }
+            spec.insert_version (spec.version_values (versions.columns_of key.now number version.now))) }
         ensures counts { self.new.trades
             ≡ after_put key.now.desk number (is_ok result) self.old.trades }
         ensures counted { CountsFailure result self.old.faults self.new.faults }

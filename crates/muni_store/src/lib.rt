@@ -9,6 +9,7 @@ mod moving;
 mod page;
 mod rows;
 mod schema;
+mod statements;
 mod trade_counts;
 
 pub use cabinet::SqlCabinet;

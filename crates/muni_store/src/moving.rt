@@ -1,9 +1,9 @@
 //! The rows of the tables that had no columns for a basis and a commission, moved to those that have.
 
-use crate::rows::{asked_columns, figure_columns, number_at, text_at};
+use crate::rows::{is_old_trade, number_at, text_at};
 use crate::schema::{answered, has_table, if_found};
 use muni_keep::KeepFault;
-use muni_rows::{issue_1, version_1};
+use muni_rows::issue_1;
 use sqlite::types::ValueRef;
 use sqlite::{Alter, Connection, Row, Transaction, params};
 
@@ -99,7 +99,7 @@ fn move_version<S: Alter>(moving: &mut Transaction<'_, S>) -> Result<bool, KeepF
     let Some(row) = row else {
         return Ok(false);
     };
-    if !is_version(&row)? {
+    if !is_old_trade(&row)? {
         return Err(KeepFault::Failed);
     }
     let key = params![text_at(&row, 0)?, text_at(&row, 1)?, number_at(&row, 2)?];
@@ -118,33 +118,6 @@ fn move_version<S: Alter>(moving: &mut Transaction<'_, S>) -> Result<bool, KeepF
         key,
     )?;
     Ok(true)
-}
-
-fn is_version(row: &Row) -> Result<bool, KeepFault> {
-    let asked = asked_columns(row)?;
-    let figures = figure_columns(row)?;
-    let version = version_1(
-        text_at(row, 0)?,
-        text_at(row, 1)?,
-        number_at(row, 2)?,
-        number_at(row, 3)?,
-        asked.cusip,
-        asked.side,
-        asked.par,
-        asked.settle,
-        asked.basis,
-        asked.value,
-        figures.price,
-        figures.yld,
-        figures.redemption,
-        figures.at_price,
-        figures.label,
-        figures.days,
-        figures.principal,
-        figures.accrued,
-        figures.total,
-    );
-    Ok(version.is_some())
 }
 
 fn first_row<S: Alter>(

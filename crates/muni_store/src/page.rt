@@ -4,7 +4,8 @@ ghost use Rattle.std.specs.Prelude.{IfOk};
 ghost use Rattle.sqlite.specs.Held.{state};
 ghost use Rattle.muni_store.specs.Page as spec;
 
-use crate::rows::{find_last, read_reference, references_after};
+use crate::rows::read_reference;
+use crate::statements::{find_last, references_after};
 use arrayvec::ArrayVec;
 use muni_keep::KeepFault;
 use muni_msg::{DeskName, Key, Line, Reference};

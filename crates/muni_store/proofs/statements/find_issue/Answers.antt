@@ -1,5 +1,5 @@
 use Rattle.std.proofs.Common.{Some, ap}
-use Rattle.muni_store.proofs.rows.find_issue.Goals as goal
+use Rattle.muni_store.proofs.statements.find_issue.Goals as goal
 
 pub returns-in_ok-read_issue-in-Some : goal.returns-in_ok-read_issue-in-Some
 returns-in_ok-read_issue-in-Some g c = record {

@@ -1,5 +1,5 @@
 use Rattle.std.proofs.Common.{Some, None, refl, ap, option_map}
-use Rattle.muni_store.proofs.rows.find_last.Goals as goal
+use Rattle.muni_store.proofs.statements.find_last.Goals as goal
 
 pub returns-in_ok-number-in-Some : goal.returns-in_ok-number-in-Some
 returns-in_ok-number-in-Some g c = record {

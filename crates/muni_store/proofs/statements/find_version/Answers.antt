@@ -1,5 +1,5 @@
 use Rattle.std.proofs.Common.{Some, None, refl, ap, option_map}
-use Rattle.muni_store.proofs.rows.find_version.Goals as goal
+use Rattle.muni_store.proofs.statements.find_version.Goals as goal
 
 pub returns-in_ok-version-in-Some : goal.returns-in_ok-version-in-Some
 returns-in_ok-version-in-Some g c = record {

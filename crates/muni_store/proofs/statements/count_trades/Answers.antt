@@ -1,5 +1,5 @@
 use Rattle.std.proofs.Common.{Some, ap}
-use Rattle.muni_store.proofs.rows.count_trades.Goals as goal
+use Rattle.muni_store.proofs.statements.count_trades.Goals as goal
 
 pub returns-in_ok-read_count-in-Some : goal.returns-in_ok-read_count-in-Some
 returns-in_ok-read_count-in-Some g c = record {

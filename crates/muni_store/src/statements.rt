@@ -1,0 +1,233 @@
+//! The statements on the tables.
+
+ghost use Rattle.std.specs.Prelude.{◌≡◌, Some, IfOk, OnOk};
+ghost use Rattle.sqlite.specs.Held.{state};
+ghost use Rattle.sqlite.specs.State.{HasCleanDisk, Shown};
+ghost use Rattle.sqlite.specs.Values.{bound};
+ghost use Rattle.muni_rows.specs.Issue as issues;
+ghost use Rattle.muni_rows.specs.Version as versions;
+ghost use Rattle.muni_store.specs.Ran.{Ran};
+ghost use Rattle.muni_store.specs.Rows as rows;
+ghost use Rattle.muni_store.specs.Statements as spec;
+
+use crate::rows::{read_count, read_issue, read_trade};
+use crate::schema::{answered, first_row, write};
+use muni_keep::KeepFault;
+use muni_msg::{DeskName, Key, Reference, Version};
+use muni_rows::{IssueColumns, TradeRow, WrittenVersion, issue_columns};
+use muni_terms::Issue;
+use sqlite::types::ValueRef;
+use sqlite::{Alter, Connection, Row};
+
+/// The issue of a CUSIP, if it is kept.
+pub(crate) fn find_issue<S: Alter>(
+    database: &mut Connection<S>,
+    cusip: &[u8; 9],
+) -> Result<Option<Issue>, KeepFault>
+    ensures found { IfOk result (rows.Reads rows.issue_in (state S.Store database.old)
+        (state S.Store database.new) spec.select_issue (spec.cusip_values cusip.now)) }
+{
+    let row = first_row(
+        database,
+        "SELECT cusip, name, kind, dated, first, maturity, coupon, calls, basis \
+         FROM issues_2 WHERE cusip = ?1",
+        &[ValueRef::Text(cusip)],
+    )?;
+    match row {
+        Some(row) => Ok(Some(read_issue(&row)?)),
+        None => Ok(None),
+    }
+}
+
+/// Keeps an issue.
+pub(crate) fn insert_issue<S: Alter>(
+    database: &mut Connection<S>,
+    issue: &Issue,
+) -> Result<(), KeepFault>
+    ensures ran { OnOk result (Ran (state S.Store database.old) (state S.Store database.new)
+        spec.insert_issue (spec.issue_values (issues.columns_of issue.now))) }
+{
+    let columns = issue_columns(issue);
+    let values = issue_values(&columns);
+    write(
+        database,
+        "INSERT INTO issues_2 (cusip, name, kind, dated, first, maturity, coupon, calls, basis) \
+         VALUES (?1, ?2, ?3, ?4, ?5, ?6, ?7, ?8, ?9)",
+        &values,
+    )
+}
+
+fn issue_values<'a>(columns: &'a IssueColumns) -> [ValueRef<'a>; 9]
+    ensures { bound result ≡ spec.issue_values columns.now }
+{
+    [
+        ValueRef::Text(&columns.cusip),
+        ValueRef::Text(&columns.name),
+        ValueRef::Int(columns.kind),
+        ValueRef::Text(&columns.dated),
+        ValueRef::Text(&columns.first),
+        ValueRef::Text(&columns.maturity),
+        ValueRef::Int(columns.coupon),
+        ValueRef::Text(columns.calls()),
+        ValueRef::Int(columns.basis),
+    ]
+}
+
+fn key_values(key: &Key) -> [ValueRef<'_>; 2]
+    ensures { bound result ≡ spec.key_values key.now }
+{
+    [
+        ValueRef::Text(key.desk.bytes()),
+        ValueRef::Text(key.reference.bytes()),
+    ]
+}
+
+fn numbered_key_values(key: &Key, number: u32) -> [ValueRef<'_>; 3]
+    ensures { bound result ≡ spec.numbered_key_values key.now number }
+{
+    [
+        ValueRef::Text(key.desk.bytes()),
+        ValueRef::Text(key.reference.bytes()),
+        ValueRef::Int(i64::from(number)),
+    ]
+}
+
+/// The version of a trade with this number, if it is kept.
+pub(crate) fn find_version<S: Alter>(
+    database: &mut Connection<S>,
+    key: &Key,
+    number: u32,
+) -> Result<Option<Version>, KeepFault>
+    ensures found { IfOk result (rows.Reads rows.version_in (state S.Store database.old)
+        (state S.Store database.new) spec.select_version (spec.numbered_key_values key.now number)) }
+{
+    let row = first_row(
+        database,
+        "SELECT desk, reference, number, act, cusip, side, par, settle, basis, value, price, yld, \
+         redemption, at_price, label, days, principal, accrued, total, fee, commission \
+         FROM versions_2 WHERE desk = ?1 AND reference = ?2 AND number = ?3",
+        &numbered_key_values(key, number),
+    )?;
+    match row {
+        Some(row) => {
+            let (_, _, version) = read_trade(&row)?;
+            Ok(Some(version))
+        }
+        None => Ok(None),
+    }
+}
+
+/// The last version of a trade with its number, if any is kept.
+pub(crate) fn find_last<S: Alter>(
+    database: &mut Connection<S>,
+    key: &Key,
+) -> Result<Option<(u32, Version)>, KeepFault>
+    ensures found { IfOk result (rows.Reads rows.last_in (state S.Store database.old)
+        (state S.Store database.new) spec.select_last (spec.key_values key.now)) }
+{
+    let row = first_row(
+        database,
+        "SELECT desk, reference, number, act, cusip, side, par, settle, basis, value, price, yld, \
+         redemption, at_price, label, days, principal, accrued, total, fee, commission \
+         FROM versions_2 WHERE desk = ?1 AND reference = ?2 ORDER BY number DESC LIMIT 1",
+        &key_values(key),
+    )?;
+    match row {
+        Some(row) => {
+            let (_, number, version) = read_trade(&row)?;
+            Ok(Some((number, version)))
+        }
+        None => Ok(None),
+    }
+}
+
+/// Keeps a version of a trade.
+pub(crate) fn insert_version<S: Alter>(
+    database: &mut Connection<S>,
+    key: &Key,
+    number: u32,
+    version: &Version,
+) -> Result<(), KeepFault>
+    ensures ran { OnOk result (Ran (state S.Store database.old) (state S.Store database.new)
+        spec.insert_version (spec.version_values (versions.columns_of key.now number version.now))) }
+{
+    let written = WrittenVersion::new(key, number, version);
+    let row = written.row();
+    let values = version_values(&row);
+    write(
+        database,
+        "INSERT INTO versions_2 (desk, reference, number, act, cusip, side, par, settle, basis, value, \
+         price, yld, redemption, at_price, label, days, principal, accrued, total, fee, commission) \
+         VALUES (?1, ?2, ?3, ?4, ?5, ?6, ?7, ?8, ?9, ?10, ?11, ?12, ?13, ?14, ?15, ?16, ?17, ?18, \
+         ?19, ?20, ?21)",
+        &values,
+    )
+}
+
+fn version_values<'a>(row: &'a TradeRow<'a>) -> [ValueRef<'a>; 21]
+    ensures { bound result ≡ spec.version_values row.now }
+{
+    [
+        ValueRef::Text(row.desk),
+        ValueRef::Text(row.reference),
+        ValueRef::Int(row.number),
+        ValueRef::Int(row.act),
+        ValueRef::Text(row.asked.cusip),
+        ValueRef::Int(row.asked.side),
+        ValueRef::Int(row.asked.par),
+        ValueRef::Text(row.asked.settle),
+        ValueRef::Int(row.asked.basis),
+        ValueRef::Int(row.asked.value),
+        ValueRef::Int(row.figures.price),
+        ValueRef::Int(row.figures.yld),
+        ValueRef::Text(row.figures.redemption),
+        ValueRef::Int(row.figures.at_price),
+        ValueRef::Int(row.figures.label),
+        ValueRef::Int(row.figures.days),
+        ValueRef::Int(row.figures.principal),
+        ValueRef::Int(row.figures.accrued),
+        ValueRef::Int(row.figures.total),
+        ValueRef::Int(row.asked.fee),
+        ValueRef::Int(row.figures.commission),
+    ]
+}
+
+/// How many trades of a desk are kept. Each has a first version.
+pub(crate) fn count_trades<S: Alter>(
+    database: &mut Connection<S>,
+    desk: &DeskName,
+) -> Result<u32, KeepFault>
+    ensures found { IfOk result (λ count. rows.Reads rows.count_in (state S.Store database.old)
+        (state S.Store database.new) spec.count_trades (spec.desk_values desk.now) (Some count)) }
+{
+    let row = first_row(
+        database,
+        "SELECT COUNT(*) FROM versions_2 WHERE desk = ?1 AND number = 1",
+        &[ValueRef::Text(desk.bytes())],
+    )?;
+    match row {
+        Some(row) => Ok(read_count(&row)?),
+        None => Err(KeepFault::Failed),
+    }
+}
+
+/// The references of the first 50 trades of a desk after a reference, in their order.
+pub(crate) fn references_after<S: Alter>(
+    database: &mut Connection<S>,
+    desk: &DeskName,
+    after: &Option<Reference>,
+) -> Result<Vec<Row>, KeepFault>
+    ensures found { IfOk result (λ found. HasCleanDisk (state S.Store database.new)
+        → Shown spec.select_references (spec.page_values desk.now after.now)
+        (state S.Store database.old) (state S.Store database.new) found.items) }
+{
+    let after = match after {
+        Some(reference) => reference.bytes(),
+        None => b"",
+    };
+    answered(database.query_all(
+        "SELECT reference FROM versions_2 WHERE desk = ?1 AND reference > ?2 AND number = 1 \
+         ORDER BY reference LIMIT 50",
+        &[ValueRef::Text(desk.bytes()), ValueRef::Text(after)],
+    ))
+}
