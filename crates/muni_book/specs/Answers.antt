@@ -9,6 +9,7 @@ use Rattle.muni_rule.specs.Discount.{discount_price, discounted}
 use Rattle.muni_rule.specs.Payments.{PaymentSeries}
 use Rattle.muni_rule.specs.WorthEnds.{WorthEnds}
 use Rattle.muni_terms.specs.Issue.{settles, accrued_days}
+use Rattle.muni_terms.specs.declared.disclosure.Boundary.TheVariants as boundary
 use Rattle.muni_terms.specs.declared.row.IssueRow.{IssueRow}
 use Rattle.muni_simple.specs.Yields.{least_printed, IsYieldAnswer}
 use Rattle.muni_simple.specs.declared.single.Shape1.TheVariants as single
@@ -20,6 +21,10 @@ use Rattle.muni_sched.specs.Candidates.{AreCandidates}
 use Rattle.muni_sched.specs.declared.answer.Figure.TheVariants as figure
 use Rattle.muni_sched.specs.declared.answer.LowAnswer.{LowAnswer}
 use Rattle.muni_sched.specs.declared.answer.LowAnswer.TheVariants as answer
+use Rattle.muni_sched.specs.declared.answer.NoPrice.{NoPrice}
+use Rattle.muni_sched.specs.declared.answer.NoPrice.TheVariants as no_low_price
+use Rattle.muni_sched.specs.declared.answer.NoYield.{NoYield}
+use Rattle.muni_sched.specs.declared.answer.NoYield.TheVariants as no_low_yield
 use Rattle.muni_sched.specs.declared.candidate.Candidate.{Candidate}
 use Rattle.muni_sched.specs.declared.candidate.Shape.TheVariants as shape
 use Rattle.muni_msg.specs.declared.asked.Asked.{Asked}
@@ -61,6 +66,17 @@ found_at_price price list (answer.Undecided date boundary) =
 found_at_price price list (answer.Below date) = Some (Err (refusal.YieldBelow date))
 found_at_price price list answer.Above = Some (Err refusal.YieldAbove)
 found_at_price price list (answer.NoTime date) = Some (Err (refusal.NoTime date))
+
+-- why there is no lowest price, or no lowest yield, as it is refused
+abbrev pub no_price : NoPrice → Refusal
+no_price (no_low_price.Undecided date price) = refusal.Undecided date (boundary.Price price)
+no_price (no_low_price.Below date) = refusal.GivenOutOfRange range.PriceBelowZero
+
+abbrev pub no_yield : NoYield → Refusal
+no_yield (no_low_yield.Undecided date yld) = refusal.Undecided date (boundary.Yield yld)
+no_yield (no_low_yield.Below date) = refusal.YieldBelow date
+no_yield no_low_yield.Above = refusal.YieldAbove
+no_yield (no_low_yield.NoTime date) = refusal.NoTime date
 
 -- the return on a discounted note, so many days by its basis before its maturity, at a price that is
 -- an amount

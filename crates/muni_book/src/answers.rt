@@ -17,14 +17,14 @@ use muni_dec::{
     Price, Price3, Yield, Yield3, accrued_cents, commission_cents, principal_cents, round_yield,
     trunc3,
 };
-use muni_edge::{Gate, Steps};
+use muni_edge::Gate;
 use muni_msg::{Asked, Figures, Given, Range, Refusal, Side};
 use muni_multi::Encloser;
-use muni_sched::{Candidate, Figure, LowAnswer, Shape, candidates, lowest_price, lowest_yield};
+use muni_sched::{
+    Boundary, Candidate, NoPrice, NoYield, Shape, candidates, price_to_worst, yield_to_worst,
+};
 use muni_simple::{SimpleYield, rate_price, rate_return};
 use muni_terms::Issue;
-use std::marker::Brand;
-use std::sync::ledger::{Blank, Ledger};
 use std::thread::Threads;
 
 // A price and a yield that belong together, and the redemption that gives them.
@@ -103,8 +103,7 @@ fn find<R: Threads + Sync, E: Encloser + Sync, G: Gate + Sync>(
         Given::AtYield(y) => at_yield(list, y, encloser),
         Given::AtPrice(price) => {
             let net = Price::new(net_price(price, asked.side, asked.fee));
-            let blank = Blank::new(1);
-            at_price::<R, E, G, Brand>(rt, list, price, net, workers, encloser, gate, blank)
+            at_price(rt, list, price, net, workers, encloser, gate)
         }
         Given::AtRate(rate) => at_rate(list, rate),
     }
@@ -123,24 +122,30 @@ fn at_yield<E: Encloser>(
     ensures found { spec.IsFoundAtYield (E.ends encloser.now) y list.now result }
     ensures range { IfOk result (λ found. found.price ≤ 100_000_000) }
 {
-    match lowest_price(list, y, encloser) {
-        LowAnswer::Low { figure, candidate } => match figure {
-            Figure::Price(price) => Ok(PriceAndYield {
-                price,
-                yld: round_yield(y),
-                redemption: list[candidate],
-            }),
-            Figure::Yield(_) => unreachable!(),
-        },
-        LowAnswer::Undecided { date, boundary } => Err(Refusal::Undecided { date, boundary }),
-        LowAnswer::Below { .. } => Err(Refusal::GivenOutOfRange(Range::PriceBelowZero)),
-        LowAnswer::Above | LowAnswer::NoTime { .. } => unreachable!(),
+    match price_to_worst(list, y, encloser) {
+        Ok(lowest) => Ok(PriceAndYield {
+            price: lowest.price,
+            yld: round_yield(y),
+            redemption: list[lowest.candidate],
+        }),
+        Err(none) => Err(no_price(none)),
     }
 }
 
-// The given price is shown, and the yield is that at the net price. The count of rounds is of use to
-// none.
-fn at_price<R: Threads + Sync, E: Encloser + Sync, G: Gate + Sync, L: Ledger>(
+fn no_price(none: NoPrice) -> Refusal
+    ensures { result ≡ spec.no_price none }
+{
+    match none {
+        NoPrice::Undecided { date, boundary } => Refusal::Undecided {
+            date,
+            boundary: Boundary::Price(boundary),
+        },
+        NoPrice::Below { .. } => Refusal::GivenOutOfRange(Range::PriceBelowZero),
+    }
+}
+
+// The given price is shown, and the yield is that at the net price.
+fn at_price<R: Threads + Sync, E: Encloser + Sync, G: Gate + Sync>(
     rt: &R,
     list: &[Candidate],
     price: Price,
@@ -148,33 +153,36 @@ fn at_price<R: Threads + Sync, E: Encloser + Sync, G: Gate + Sync, L: Ledger>(
     workers: u32,
     encloser: &E,
     gate: &G,
-    blank: Blank,
 ) -> Result<PriceAndYield, Refusal>
     requires ranges { All IsCandidate list.now }
     requires few { length list.now ≤ 41 }
     requires net { 0 < net }
     requires workers { (1 ≤ workers) × (workers ≤ 16) }
-    requires name { blank.name ≡ L.name }
-    requires parts { blank.parts ≡ L.parts }
-    requires blank { 0 < blank.parts }
     ensures found { spec.IsFoundAtPrice (E.ends encloser.now) price net list.now result }
     ensures shown { IfOk result (λ found. found.price ≡ price / 1000) }
     ensures range { IfOk result (λ found. found.price ≤ 100_000_000) }
 {
-    let mut steps = Steps::<L>::open(blank);
-    match lowest_yield(rt, list, net, workers, encloser, gate, &mut steps) {
-        LowAnswer::Low { figure, candidate } => match figure {
-            Figure::Yield(yld) => Ok(PriceAndYield {
-                price: trunc3(price),
-                yld,
-                redemption: list[candidate],
-            }),
-            Figure::Price(_) => unreachable!(),
+    match yield_to_worst(rt, list, net, workers, encloser, gate) {
+        Ok(lowest) => Ok(PriceAndYield {
+            price: trunc3(price),
+            yld: lowest.yld,
+            redemption: list[lowest.candidate],
+        }),
+        Err(none) => Err(no_yield(none)),
+    }
+}
+
+fn no_yield(none: NoYield) -> Refusal
+    ensures { result ≡ spec.no_yield none }
+{
+    match none {
+        NoYield::Undecided { date, boundary } => Refusal::Undecided {
+            date,
+            boundary: Boundary::Yield(boundary),
         },
-        LowAnswer::Undecided { date, boundary } => Err(Refusal::Undecided { date, boundary }),
-        LowAnswer::Below { date } => Err(Refusal::YieldBelow { date }),
-        LowAnswer::Above => Err(Refusal::YieldAbove),
-        LowAnswer::NoTime { date } => Err(Refusal::NoTime { date }),
+        NoYield::Below { date } => Refusal::YieldBelow { date },
+        NoYield::Above => Refusal::YieldAbove,
+        NoYield::NoTime { date } => Refusal::NoTime { date },
     }
 }
 

@@ -13,11 +13,12 @@ use muni_dec::{Price3, Yield};
 use muni_terms::Flows;
 
 /// The price at a yield.
-#[derive(Clone, Copy, Debug, PartialEq, Eq)]
+#[derive(Clone, Copy, Debug, PartialEq, Eq, Default)]
 pub enum PriceAnswer {
     /// The exact price, truncated to thousandths of a dollar per 100 of par.
     Price(Price3),
-    /// The exact price is below zero.
+    /// The exact price is below zero. It also fills the empty slots of a list.
+    #[default]
     BelowZero,
     /// The exact price is too near the boundary to tell whether it reaches it. At the boundary
     /// 0.000 this is whether a price is printed at all.

@@ -14,12 +14,11 @@ use Rattle.muni_rule.proofs.EnclosedLemmas.{enclosed}
 use Rattle.muni_sched.specs.declared.answer.LowAnswer.{LowAnswer}
 use Rattle.muni_sched.specs.declared.answer.LowAnswer.TheVariants as answers
 use Rattle.muni_sched.specs.declared.candidate.Candidate.{Candidate}
-use Rattle.muni_sched.specs.declared.figure.FigureKind.{FigureKind}
-use Rattle.muni_sched.specs.declared.figure.FigureKind.TheVariants.{Price, Yield}
-use Rattle.muni_sched.specs.declared.lowest.Lowest.{Lowest}
-use Rattle.muni_sched.specs.declared.lowest.Lowest.TheVariants as lowest
-use Rattle.muni_sched.specs.declared.lowest.Outcome.{Outcome}
-use Rattle.muni_sched.specs.declared.lowest.Outcome.TheVariants.{Unsure, Above}
+use Rattle.muni_sched.specs.FigureKind.{FigureKind, Price, Yield}
+use Rattle.muni_sched.specs.LowestFigure.{Lowest}
+use Rattle.muni_sched.specs.LowestFigure as lowest
+use Rattle.muni_sched.specs.declared.outcome.CandidateOutcome.{CandidateOutcome}
+use Rattle.muni_sched.specs.declared.outcome.CandidateOutcome.TheVariants.{Unsure, Above}
 use Rattle.muni_sched.specs.Answer.{date_of, dated, exact_at, NamesDoubt, IsDecidedWithoutDoubt, NamesPrice, NamesYield, NamesFigure, IsLowestAnswer}
 use Rattle.muni_sched.specs.GivenFigure.{GivenFigure, at_yield, at_price, kind_of, MayBeAsked, IsOutcome, IsExact, IsFigureInDoubt, IsInDoubt}
 use Rattle.muni_sched.specs.Figures.{least_unsure, figure_of, boundary_of, IsLowestOf}
@@ -46,7 +45,7 @@ pub all-askable : (given : GivenFigure) (list : List Candidate) → MayBeAsked g
 all-askable (at_yield y) list all = λ i candidate inside. priced y (slice_index_or list i candidate) (all.candidates i candidate inside) (all.basis i candidate inside) (all.in_range i candidate inside)
 all-askable (at_price price) list all = λ i candidate inside. (all.0, timed (slice_index_or list i candidate).shape (all.1 i candidate inside))
 
-candidate-sound : (ends : PaymentSeries → ℤ → WorthEnds) (given : GivenFigure) (candidate : Candidate) (outcome : Outcome) (exact : ExactOutcome) → IsAskable given (to_come_of candidate.shape) → IsEncloser ends → IsOutcome ends given candidate outcome → IsExact given candidate exact
+candidate-sound : (ends : PaymentSeries → ℤ → WorthEnds) (given : GivenFigure) (candidate : Candidate) (outcome : CandidateOutcome) (exact : ExactOutcome) → IsAskable given (to_come_of candidate.shape) → IsEncloser ends → IsOutcome ends given candidate outcome → IsExact given candidate exact
     → IsSound (least_unsure (kind_of given)) (IsFigureInDoubt given (to_come_of candidate.shape)) outcome exact
 candidate-sound ends (at_yield y) candidate outcome exact range law is exactly =
     price-sound ends y (to_come_of candidate.shape) outcome exact range
@@ -55,7 +54,7 @@ candidate-sound ends (at_price price) candidate outcome exact range law is exact
     yield-sound ends price (to_come_of candidate.shape) outcome exact (bounds (to_come_of candidate.shape) range.1) range.0
     (λ series of more y within. enclosed series y (ends series y) of within (law.encloses series y of more within) (law.narrow series y of more within)) is exactly
 
-candidate-doubt : (ends : PaymentSeries → ℤ → WorthEnds) (given : GivenFigure) (candidate : Candidate) (outcome : Outcome) (s : ℤ) → IsAskable given (to_come_of candidate.shape) → IsEncloser ends → IsOutcome ends given candidate outcome → outcome ≡ Unsure s
+candidate-doubt : (ends : PaymentSeries → ℤ → WorthEnds) (given : GivenFigure) (candidate : Candidate) (outcome : CandidateOutcome) (s : ℤ) → IsAskable given (to_come_of candidate.shape) → IsEncloser ends → IsOutcome ends given candidate outcome → outcome ≡ Unsure s
     → IsFigureInDoubt given (to_come_of candidate.shape) (s +ℤ pos 1)
 candidate-doubt ends (at_yield y) candidate outcome s range law is same =
     price-doubt ends y s (to_come_of candidate.shape) outcome range
@@ -68,7 +67,7 @@ candidate-doubt ends (at_price price) candidate outcome s range law is same =
 abbrev AreAskable : GivenFigure → List Candidate → Type 0
 AreAskable given list = All (λ (candidate : Candidate). IsAskable given (to_come_of candidate.shape)) list
 
-list-sound : (ends : PaymentSeries → ℤ → WorthEnds) (given : GivenFigure) (list : List Candidate) (outcomes : List Outcome) (exact : List ExactOutcome) → AreAskable given list → IsEncloser ends → AllZip (IsOutcome ends given) list outcomes → AllZip (IsExact given) list exact
+list-sound : (ends : PaymentSeries → ℤ → WorthEnds) (given : GivenFigure) (list : List Candidate) (outcomes : List CandidateOutcome) (exact : List ExactOutcome) → AreAskable given list → IsEncloser ends → AllZip (IsOutcome ends given) list outcomes → AllZip (IsExact given) list exact
     → AreSound (least_unsure (kind_of given)) (IsInDoubt given list) outcomes (exact_at exact)
 list-sound ends given [] [] [] all law is exactly k = refl
 list-sound ends given [] [] (e ∷ exact) all law is exactly k = absurd exactly
@@ -80,7 +79,7 @@ list-sound ends given (candidate ∷ list) (x ∷ outcomes) (e ∷ exact) all la
 list-sound ends given (candidate ∷ list) (x ∷ outcomes) (e ∷ exact) all law is exactly (suc k) =
     list-sound ends given list outcomes exact (All-tail (λ (it : Candidate). IsAskable given (to_come_of it.shape)) candidate list all) law is.1 exactly.1 k
 
-list-doubt : (ends : PaymentSeries → ℤ → WorthEnds) (given : GivenFigure) (s : ℤ) (c : ℕ) (list : List Candidate) (outcomes : List Outcome) → AreAskable given list → IsEncloser ends → AllZip (IsOutcome ends given) list outcomes → outcome_at outcomes c ≡ Unsure s → IsInDoubt given list c (s +ℤ pos 1)
+list-doubt : (ends : PaymentSeries → ℤ → WorthEnds) (given : GivenFigure) (s : ℤ) (c : ℕ) (list : List Candidate) (outcomes : List CandidateOutcome) → AreAskable given list → IsEncloser ends → AllZip (IsOutcome ends given) list outcomes → outcome_at outcomes c ≡ Unsure s → IsInDoubt given list c (s +ℤ pos 1)
 list-doubt ends given s c [] [] all law is same = absurd (let never : Above ≡ Unsure s = same in cc)
 list-doubt ends given s c [] (x ∷ outcomes) all law is same = absurd is
 list-doubt ends given s c (candidate ∷ list) [] all law is same = absurd is
@@ -141,18 +140,18 @@ names-figure Yield list n lowest.Above answer is of told = subst (NamesYield n) 
 names-figure Yield list n (lowest.NoTime c) answer is of told = dated-other (NamesYield n) (λ day. answers.NoTime day) answer (date_of list c) (λ day. tt) is
 
 -- of prices the first outcome has a figure or is below all
-told-price : (ends : PaymentSeries → ℤ → WorthEnds) (y : ℤ) (list : List Candidate) (outcomes : List Outcome) (found : Lowest) → 0 < length list → AllZip (IsPriceOutcome ends y) list outcomes → IsLowest (negsuc 0) outcomes found → IsTold Price found
+told-price : (ends : PaymentSeries → ℤ → WorthEnds) (y : ℤ) (list : List Candidate) (outcomes : List CandidateOutcome) (found : Lowest) → 0 < length list → AllZip (IsPriceOutcome ends y) list outcomes → IsLowest (negsuc 0) outcomes found → IsTold Price found
 told-price ends y list outcomes (lowest.Low t c) some each is = tt
 told-price ends y list outcomes (lowest.Undecided s c) some each is = tt
 told-price ends y list outcomes (lowest.Below c) some each is = tt
 told-price ends y list outcomes lowest.Above some each is = never-above ends y list outcomes some each is
 told-price ends y list outcomes (lowest.NoTime c) some each is = all-timed ends y list outcomes each c is.such
 
-pub told : (ends : PaymentSeries → ℤ → WorthEnds) (given : GivenFigure) (list : List Candidate) (outcomes : List Outcome) (found : Lowest) → 0 < length list → AllZip (IsOutcome ends given) list outcomes → IsLowest (least_unsure (kind_of given)) outcomes found → IsTold (kind_of given) found
+pub told : (ends : PaymentSeries → ℤ → WorthEnds) (given : GivenFigure) (list : List Candidate) (outcomes : List CandidateOutcome) (found : Lowest) → 0 < length list → AllZip (IsOutcome ends given) list outcomes → IsLowest (least_unsure (kind_of given)) outcomes found → IsTold (kind_of given) found
 told ends (at_yield y) list outcomes found some each is = told-price ends y list outcomes found some each is
 told ends (at_price price) list outcomes found some each is = tt
 
-pub lowest-answer : (ends : PaymentSeries → ℤ → WorthEnds) (given : GivenFigure) (list : List Candidate) (outcomes : List Outcome) (found : Lowest) (answer : LowAnswer) → MayBeAsked given list → IsEncloser ends → AllZip (IsOutcome ends given) list outcomes → IsLowest (least_unsure (kind_of given)) outcomes found
+pub lowest-answer : (ends : PaymentSeries → ℤ → WorthEnds) (given : GivenFigure) (list : List Candidate) (outcomes : List CandidateOutcome) (found : Lowest) (answer : LowAnswer) → MayBeAsked given list → IsEncloser ends → AllZip (IsOutcome ends given) list outcomes → IsLowest (least_unsure (kind_of given)) outcomes found
     → IsLowestOf (kind_of given) (length list) found → IsTold (kind_of given) found → Some answer ≡ dated (kind_of given) list found → IsLowestAnswer ends given list answer
 lowest-answer ends given list outcomes found answer asked law each rule of tells is =
     let all = all-askable given list asked in

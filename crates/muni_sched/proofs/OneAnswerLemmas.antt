@@ -22,13 +22,13 @@ use Rattle.muni_simple.specs.declared.price.SimplePrice.TheVariants as exact
 use Rattle.muni_simple.proofs.OneAnswer.{answer-same}
 use Rattle.muni_yield.specs.Places.{place_verdict}
 use Rattle.muni_sched.specs.declared.candidate.Candidate.{Candidate}
-use Rattle.muni_sched.specs.declared.lowest.Outcome.{Outcome}
+use Rattle.muni_sched.specs.declared.outcome.CandidateOutcome.{CandidateOutcome}
 use Rattle.muni_sched.specs.Answer.{dated}
 use Rattle.muni_sched.specs.AnswerLaws.{AllowsOneAnswer}
 use Rattle.muni_sched.specs.GivenFigure.{GivenFigure, at_yield, at_price, kind_of, IsOutcome}
 use Rattle.muni_sched.specs.Figures.{least_unsure}
 use Rattle.muni_sched.specs.Lowest.{IsLowest}
-use Rattle.muni_sched.specs.PriceOutcome.{many_price, one_price, IsPriceOutcomeFor}
+use Rattle.muni_sched.specs.PriceOutcome.{price_outcome, one_price, IsPriceOutcomeFor}
 use Rattle.muni_sched.specs.ToCome.{ToCome, many, one, to_come_of}
 use Rattle.muni_sched.specs.YieldOutcome.{one_yield, IsYieldOutcomeFor}
 use Rattle.muni_sched.proofs.AllSoundLemmas.{IsAskable, all-askable, some-same}
@@ -38,7 +38,7 @@ use Rattle.muni_sched.proofs.YieldSoundLemmas.{IsBounded, bounds, price-above}
 use Rattle.muni_sched.proofs.ZipLemmas.{zip-same}
 
 -- ---- yields
-yield-same : (verdicts : PaymentSeries → ℕ → ℕ → Verdict) (price : ℕ) (to_be : ToCome) (x z : Outcome) → IsBounded to_be → 0 < price → IsYieldOutcomeFor verdicts price to_be x → IsYieldOutcomeFor verdicts price to_be z → x ≡ z
+yield-same : (verdicts : PaymentSeries → ℕ → ℕ → Verdict) (price : ℕ) (to_be : ToCome) (x z : CandidateOutcome) → IsBounded to_be → 0 < price → IsYieldOutcomeFor verdicts price to_be x → IsYieldOutcomeFor verdicts price to_be z → x ≡ z
 yield-same verdicts price (many series) x z range some is also = is ∙ sym also
 yield-same verdicts price (one least payment) x z range some is also =
     let above = price-above payment price range.2 some in
@@ -95,10 +95,10 @@ verdict-same said (found.Undecided a) (found.Price t) falls is also = absurd (is
 verdict-same said (found.Undecided a) found.BelowZero falls is also = absurd (is.not_below_zero also)
 verdict-same said (found.Undecided a) (found.Undecided b) falls is also = ap found.Undecided (open-same said a b is also)
 
-price-same : (ends : PaymentSeries → ℤ → WorthEnds) (y : ℤ) (to_be : ToCome) (x z : Outcome) → IsPriced y to_be → IsPriceOutcomeFor ends y to_be x → IsPriceOutcomeFor ends y to_be z → x ≡ z
+price-same : (ends : PaymentSeries → ℤ → WorthEnds) (y : ℤ) (to_be : ToCome) (x z : CandidateOutcome) → IsPriced y to_be → IsPriceOutcomeFor ends y to_be x → IsPriceOutcomeFor ends y to_be z → x ≡ z
 price-same ends y (many series) x z range is also =
     is.2
-    ∙ ap many_price (verdict-same (λ t. at_least_verdict (ends_of series y (ends series y)) (dirty_thousandths series.accrued t)) is.0 also.0 (falling series y (ends series y)) is.1 also.1)
+    ∙ ap price_outcome (verdict-same (λ t. at_least_verdict (ends_of series y (ends series y)) (dirty_thousandths series.accrued t)) is.0 also.0 (falling series y (ends series y)) is.1 also.1)
     ∙ sym also.2
 price-same ends y (one least payment) x z range is also =
     is.2
@@ -106,7 +106,7 @@ price-same ends y (one least payment) x z range is also =
     ∙ sym also.2
 
 -- ---- each candidate, and the answer over all
-outcome-same : (ends : PaymentSeries → ℤ → WorthEnds) (given : GivenFigure) (candidate : Candidate) (x z : Outcome) → IsAskable given (to_come_of candidate.shape) → IsOutcome ends given candidate x → IsOutcome ends given candidate z → x ≡ z
+outcome-same : (ends : PaymentSeries → ℤ → WorthEnds) (given : GivenFigure) (candidate : Candidate) (x z : CandidateOutcome) → IsAskable given (to_come_of candidate.shape) → IsOutcome ends given candidate x → IsOutcome ends given candidate z → x ≡ z
 outcome-same ends (at_yield y) candidate x z range is also = price-same ends y (to_come_of candidate.shape) x z range is also
 outcome-same ends (at_price price) candidate x z range is also = yield-same (place_verdict ends) price (to_come_of candidate.shape) x z (bounds (to_come_of candidate.shape) range.1) range.0 is also
 

@@ -8,8 +8,8 @@ use Rattle.muni_terms.specs.declared.disclosure.Boundary.{Boundary}
 use Rattle.muni_sched.specs.declared.answer.LowAnswer.{LowAnswer}
 use Rattle.muni_sched.specs.declared.answer.LowAnswer.TheVariants as answer
 use Rattle.muni_sched.specs.declared.candidate.Candidate.{Candidate}
-use Rattle.muni_sched.specs.declared.lowest.Lowest.{Lowest}
-use Rattle.muni_sched.specs.declared.lowest.Lowest.TheVariants as lowest
+use Rattle.muni_sched.specs.LowestFigure.{Lowest}
+use Rattle.muni_sched.specs.LowestFigure as lowest
 use Rattle.muni_sched.specs.Answer.{date_of, dated, exact_at, IsRightFor, IsDecided}
 use Rattle.muni_sched.specs.AnswerLaws.{HasOne, OneAnswerIsRight}
 use Rattle.muni_sched.specs.GivenFigure.{GivenFigure, kind_of, IsExact, IsInDoubt}

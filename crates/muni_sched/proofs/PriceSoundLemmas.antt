@@ -33,13 +33,13 @@ use Rattle.muni_simple.proofs.GrowthLemmas.{growth-within}
 use Rattle.muni_sched.specs.declared.candidate.Candidate.{Candidate}
 use Rattle.muni_sched.specs.declared.candidate.Shape.{Shape}
 use Rattle.muni_sched.specs.declared.candidate.Shape.TheVariants.{Many, One, AtRedemption, Discount}
-use Rattle.muni_sched.specs.declared.lowest.Outcome.{Outcome}
-use Rattle.muni_sched.specs.declared.lowest.Outcome.TheVariants.{Print, Unsure, Below, Above, NoTime}
+use Rattle.muni_sched.specs.declared.outcome.CandidateOutcome.{CandidateOutcome}
+use Rattle.muni_sched.specs.declared.outcome.CandidateOutcome.TheVariants.{Print, Unsure, Below, Above, NoTime}
 use Rattle.muni_sched.specs.GivenFigure.{at_yield, IsFigureInDoubt}
 use Rattle.muni_sched.specs.Candidates.{IsCandidate}
 use Rattle.muni_sched.specs.Exact.{IsExactPriceBy, IsExactPriceOf}
 use Rattle.muni_sched.specs.Lowest.{outcome_at, AllAreAbove}
-use Rattle.muni_sched.specs.PriceOutcome.{IsShapeAtYield, IsAtYield, many_price, one_price, IsPriceOutcomeFor, IsPriceOutcome}
+use Rattle.muni_sched.specs.PriceOutcome.{IsShapeAtYield, IsAtYield, price_outcome, one_price, IsPriceOutcomeFor, IsPriceOutcome, IsPrintable}
 use Rattle.muni_sched.specs.Range.{IsGivenFor, given_range}
 use Rattle.muni_sched.specs.Shape.{IsPriceable}
 use Rattle.muni_sched.specs.Sound.{IsSoundUnsure, IsSound}
@@ -120,7 +120,7 @@ many-unsure series y enclosure b exactly given is doubt exact_is = record {
 }
 
 many-sound : (series : PaymentSeries) (y : ℤ) (enclosure : WorthEnds) (answer : PriceAnswer) (exactly : ExactOutcome) → IsEnclosed series y enclosure → multi.IsPriceOutcome (λ t. at_least_verdict (ends_of series y enclosure) (dirty_thousandths series.accrued t)) answer → IsExactPriceOf y (many series) exactly
-    → IsSound (negsuc 0) (IsFigureInDoubt (at_yield y) (many series)) (many_price answer) exactly
+    → IsSound (negsuc 0) (IsFigureInDoubt (at_yield y) (many series)) (price_outcome answer) exactly
 many-sound series y enclosure (found.Price t) exactly given is exact_is =
     printed-same Thirty360 (periods.AtLeast (to_come series) y) t exactly (many-closed (to_come series) y) (outcome-exact series y enclosure (found.Price t) given is) exact_is
 many-sound series y enclosure found.BelowZero exactly given is exact_is =
@@ -140,7 +140,7 @@ single-sound payment y exact.BelowZero D exactly above is exact_is =
 abbrev pub AreEnclosedAt : (ends : PaymentSeries → ℤ → WorthEnds) → ℤ → Type 0
 AreEnclosedAt ends y = (series : PaymentSeries) → IsSeries series → 2 ≤ series.n → IsManyPeriodsBoundary y → IsEnclosed series y (ends series y)
 
-pub price-sound : (ends : PaymentSeries → ℤ → WorthEnds) (y : ℤ) (to_be : ToCome) (outcome : Outcome) (exactly : ExactOutcome) → IsPriced y to_be → AreEnclosedAt ends y → IsPriceOutcomeFor ends y to_be outcome → IsExactPriceOf y to_be exactly
+pub price-sound : (ends : PaymentSeries → ℤ → WorthEnds) (y : ℤ) (to_be : ToCome) (outcome : CandidateOutcome) (exactly : ExactOutcome) → IsPriced y to_be → AreEnclosedAt ends y → IsPriceOutcomeFor ends y to_be outcome → IsExactPriceOf y to_be exactly
     → IsSound (negsuc 0) (IsFigureInDoubt (at_yield y) to_be) outcome exactly
 price-sound ends y (many series) outcome exactly range law is exact_is =
     subst (λ x. IsSound (negsuc 0) (IsFigureInDoubt (at_yield y) (many series)) x exactly) (sym is.2)
@@ -153,7 +153,7 @@ simple-sure : (answer : SimplePrice) (s : ℤ) → ¬ (one_price answer ≡ Unsu
 simple-sure (exact.Price t) s same = cc
 simple-sure exact.BelowZero s same = cc
 
-found-doubt : (series : PaymentSeries) (y : ℤ) (s : ℤ) (answer : PriceAnswer) → multi.IsDoubtfulAnswer series y answer → many_price answer ≡ Unsure s → IsFigureInDoubt (at_yield y) (many series) (s +ℤ pos 1)
+found-doubt : (series : PaymentSeries) (y : ℤ) (s : ℤ) (answer : PriceAnswer) → multi.IsDoubtfulAnswer series y answer → price_outcome answer ≡ Unsure s → IsFigureInDoubt (at_yield y) (many series) (s +ℤ pos 1)
 found-doubt series y s (found.Price t) doubt same = absurd (let never : Print (pos t) ≡ Unsure s = same in cc)
 found-doubt series y s found.BelowZero doubt same = absurd (let never : Below ≡ Unsure s = same in cc)
 found-doubt series y s (found.Undecided b) doubt same =
@@ -161,13 +161,13 @@ found-doubt series y s (found.Undecided b) doubt same =
     let next : (s +ℤ pos 1) ≡ pos b = omega (arith, ints, figure) in
     subst (IsFigureInDoubt (at_yield y) (many series)) (sym next) doubt
 
-pub price-doubt : (ends : PaymentSeries → ℤ → WorthEnds) (y s : ℤ) (to_be : ToCome) (outcome : Outcome) → IsPriced y to_be → AreEnclosedAt ends y → IsPriceOutcomeFor ends y to_be outcome → outcome ≡ Unsure s → IsFigureInDoubt (at_yield y) to_be (s +ℤ pos 1)
+pub price-doubt : (ends : PaymentSeries → ℤ → WorthEnds) (y s : ℤ) (to_be : ToCome) (outcome : CandidateOutcome) → IsPriced y to_be → AreEnclosedAt ends y → IsPriceOutcomeFor ends y to_be outcome → outcome ≡ Unsure s → IsFigureInDoubt (at_yield y) to_be (s +ℤ pos 1)
 price-doubt ends y s (many series) outcome range law is same =
     found-doubt series y s is.0 (outcome-doubtful series y (ends series y) is.0 (law series range.0 range.1 range.2) is.1) (sym is.2 ∙ same)
 price-doubt ends y s (one least payment) outcome range law is same = absurd (simple-sure is.0 s (sym is.2 ∙ same))
 
 -- ---- a price is neither above all figures nor without time
-many-timed : (answer : PriceAnswer) → ¬ (many_price answer ≡ NoTime)
+many-timed : (answer : PriceAnswer) → ¬ (price_outcome answer ≡ NoTime)
 many-timed (found.Price t) never = cc
 many-timed found.BelowZero never = cc
 many-timed (found.Undecided b) never = cc
@@ -176,7 +176,7 @@ one-timed : (answer : SimplePrice) → ¬ (one_price answer ≡ NoTime)
 one-timed (exact.Price t) never = cc
 one-timed exact.BelowZero never = cc
 
-many-not_above : (answer : PriceAnswer) → ¬ (many_price answer ≡ Above)
+many-not_above : (answer : PriceAnswer) → ¬ (price_outcome answer ≡ Above)
 many-not_above (found.Price t) never = cc
 many-not_above found.BelowZero never = cc
 many-not_above (found.Undecided b) never = cc
@@ -185,11 +185,11 @@ one-not_above : (answer : SimplePrice) → ¬ (one_price answer ≡ Above)
 one-not_above (exact.Price t) never = cc
 one-not_above exact.BelowZero never = cc
 
-timed : (ends : PaymentSeries → ℤ → WorthEnds) (y : ℤ) (to_be : ToCome) (outcome : Outcome) → IsPriceOutcomeFor ends y to_be outcome → ¬ (outcome ≡ NoTime)
+timed : (ends : PaymentSeries → ℤ → WorthEnds) (y : ℤ) (to_be : ToCome) (outcome : CandidateOutcome) → IsPriceOutcomeFor ends y to_be outcome → ¬ (outcome ≡ NoTime)
 timed ends y (many series) outcome is never = many-timed is.0 (sym is.2 ∙ never)
 timed ends y (one least payment) outcome is never = one-timed is.0 (sym is.2 ∙ never)
 
-pub all-timed : (ends : PaymentSeries → ℤ → WorthEnds) (y : ℤ) (list : List Candidate) (outcomes : List Outcome) → AllZip (IsPriceOutcome ends y) list outcomes → (c : ℕ) → ¬ (outcome_at outcomes c ≡ NoTime)
+pub all-timed : (ends : PaymentSeries → ℤ → WorthEnds) (y : ℤ) (list : List Candidate) (outcomes : List CandidateOutcome) → AllZip (IsPriceOutcome ends y) list outcomes → (c : ℕ) → ¬ (outcome_at outcomes c ≡ NoTime)
 all-timed ends y [] [] is c never = let wrong : Above ≡ NoTime = never in cc
 all-timed ends y [] (x ∷ outcomes) is c never = absurd is
 all-timed ends y (candidate ∷ list) [] is c never = absurd is
@@ -197,19 +197,25 @@ all-timed ends y (candidate ∷ list) (x ∷ outcomes) is zero never = timed end
 all-timed ends y (candidate ∷ list) (x ∷ outcomes) is (suc c) never = all-timed ends y list outcomes is.1 c never
 
 -- where all are above, the first is none of these
-not-above : (outcomes : List Outcome) (outcome : Outcome) → outcome_at outcomes 0 ≡ outcome → ¬ (outcome ≡ Above) → ¬ (outcome ≡ NoTime) → ¬ (AllAreAbove (negsuc 0) outcomes)
+not-above : (outcomes : List CandidateOutcome) (outcome : CandidateOutcome) → outcome_at outcomes 0 ≡ outcome → ¬ (outcome ≡ Above) → ¬ (outcome ≡ NoTime) → ¬ (AllAreAbove (negsuc 0) outcomes)
 not-above outcomes (Print t) same other time all = all.none_printed t 0 same
 not-above outcomes (Unsure s) same other time all = all.none_material s 0 (record { unsure = same; matters = λ m h print. absurd (all.none_printed m h print.first.such) })
 not-above outcomes Below same other time all = all.reach.none_below 0 (inl same)
 not-above outcomes Above same other time all = other refl
 not-above outcomes NoTime same other time all = time refl
 
-first-below_all : (ends : PaymentSeries → ℤ → WorthEnds) (y : ℤ) (to_be : ToCome) (outcome : Outcome) → IsPriceOutcomeFor ends y to_be outcome → ¬ (outcome ≡ Above)
+first-below_all : (ends : PaymentSeries → ℤ → WorthEnds) (y : ℤ) (to_be : ToCome) (outcome : CandidateOutcome) → IsPriceOutcomeFor ends y to_be outcome → ¬ (outcome ≡ Above)
 first-below_all ends y (many series) outcome is never = many-not_above is.0 (sym is.2 ∙ never)
 first-below_all ends y (one least payment) outcome is never = one-not_above is.0 (sym is.2 ∙ never)
 
-pub never-above : (ends : PaymentSeries → ℤ → WorthEnds) (y : ℤ) (list : List Candidate) (outcomes : List Outcome) → 0 < length list → AllZip (IsPriceOutcome ends y) list outcomes → ¬ (AllAreAbove (negsuc 0) outcomes)
+pub never-above : (ends : PaymentSeries → ℤ → WorthEnds) (y : ℤ) (list : List Candidate) (outcomes : List CandidateOutcome) → 0 < length list → AllZip (IsPriceOutcome ends y) list outcomes → ¬ (AllAreAbove (negsuc 0) outcomes)
 never-above ends y [] outcomes some is all = absurd (omega arith)
 never-above ends y (candidate ∷ list) [] some is all = absurd is
 never-above ends y (candidate ∷ list) (x ∷ outcomes) some is all =
     not-above (x ∷ outcomes) x refl (first-below_all ends y (to_come_of candidate.shape) x is.0) (timed ends y (to_come_of candidate.shape) x is.0) all
+
+-- a price in its range is one that a candidate may have
+pub printable : (answer : PriceAnswer) → multi.figure answer ≤ 100_000_000 → IsPrintable answer
+printable (found.Price t) small = (omega (arith, ints), omega (arith, ints, small))
+printable found.BelowZero small = tt
+printable (found.Undecided b) small = (omega (arith, ints), omega (arith, ints, small))

@@ -9,7 +9,7 @@ use Rattle.muni_rule.specs.declared.verdict.Verdict.{Verdict}
 use Rattle.muni_yield.specs.Bracket.{is_settled}
 use Rattle.muni_yield.specs.Settled.{outcome_of}
 use Rattle.muni_yield.proofs.BracketLemmas.{halved-next}
-use Rattle.muni_sched.specs.declared.lowest.Outcome.{Outcome}
+use Rattle.muni_sched.specs.declared.outcome.CandidateOutcome.{CandidateOutcome}
 use Rattle.muni_sched.specs.declared.search.OpenSearch.{OpenSearch}
 use Rattle.muni_sched.specs.declared.search.Search.{Search}
 use Rattle.muni_sched.specs.Search.{IsSearch, IsOpen, asked, noted, recorded, ceiling_after, is_needed, refined}
@@ -34,23 +34,23 @@ pub asked-candidates : (verdicts : PaymentSeries → ℕ → ℕ → Verdict) (s
 asked-candidates verdicts searches n all = All-map (λ (one : OpenSearch). one.candidate < n) (asked verdicts) searches all
 
 -- no outcome is added and none lost
-length-set_if : (test : Bool) (place : ℕ) (outcome : Option Outcome) (known : List (Option Outcome)) → length (if test then slice_set known place outcome else known) ≡ length known
+length-set_if : (test : Bool) (place : ℕ) (outcome : Option CandidateOutcome) (known : List (Option CandidateOutcome)) → length (if test then slice_set known place outcome else known) ≡ length known
 length-set_if true place outcome known = length-set known place outcome
 length-set_if false place outcome known = refl
 
-pub length-noted : (one : OpenSearch) (known : List (Option Outcome)) → length (noted one known) ≡ length known
+pub length-noted : (one : OpenSearch) (known : List (Option CandidateOutcome)) → length (noted one known) ≡ length known
 length-noted one known = length-set_if (is_settled one.bracket) one.candidate (Some (many_yield (outcome_of one.bracket))) known
 
-pub length-recorded : (searches : List OpenSearch) (known : List (Option Outcome)) → length (recorded searches known) ≡ length known
+pub length-recorded : (searches : List OpenSearch) (known : List (Option CandidateOutcome)) → length (recorded searches known) ≡ length known
 length-recorded [] known = refl
 length-recorded (one ∷ rest) known = length-recorded rest (noted one known) ∙ length-noted one known
 
-pub recorded-now : (searches slice : List OpenSearch) (before known new : List (Option Outcome)) → slice ≡ searches → known ≡ before → new ≡ recorded slice known → refill (length before) before new ≡ recorded searches before
+pub recorded-now : (searches slice : List OpenSearch) (before known new : List (Option CandidateOutcome)) → slice ≡ searches → known ≡ before → new ≡ recorded slice known → refill (length before) before new ≡ recorded searches before
 recorded-now searches slice before known new same all is =
     let now : new ≡ recorded searches before = cc in
     written before new (refill (length before) before new) refl (ap length now ∙ length-recorded searches before) ∙ now
 
-pub refined-now : (verdicts : PaymentSeries → ℕ → ℕ → Verdict) (search : Search) (known : List (Option Outcome)) (searches : List OpenSearch) (ceiling : Option ℤ)
+pub refined-now : (verdicts : PaymentSeries → ℕ → ℕ → Verdict) (search : Search) (known : List (Option CandidateOutcome)) (searches : List OpenSearch) (ceiling : Option ℤ)
     → known ≡ recorded (map (asked verdicts) search.searches.items) search.known.items
     → searches ≡ filter (is_needed ceiling) (map (asked verdicts) search.searches.items)
     → ceiling ≡ ceiling_after search.ceiling (map (asked verdicts) search.searches.items)

@@ -18,10 +18,10 @@ use Rattle.muni_yield.specs.Settled.{printed_as, outcome_at, outcome_of}
 use Rattle.muni_yield.specs.declared.outcome.Outcome.TheVariants as found
 use Rattle.muni_yield.proofs.BracketLemmas.{few-asked, settled-next, halved-next, run-settled, run-next}
 use Rattle.muni_yield.proofs.FinalLemmas.{IsRunOut, run-out}
-use Rattle.muni_sched.specs.declared.figure.FigureKind.TheVariants.{Yield}
-use Rattle.muni_sched.specs.declared.lowest.Lowest.{Lowest}
-use Rattle.muni_sched.specs.declared.lowest.Outcome.{Outcome}
-use Rattle.muni_sched.specs.declared.lowest.Outcome.TheVariants.{Print, Unsure, Below, Above, NoTime}
+use Rattle.muni_sched.specs.FigureKind.{Yield}
+use Rattle.muni_sched.specs.LowestFigure.{Lowest}
+use Rattle.muni_sched.specs.declared.outcome.CandidateOutcome.{CandidateOutcome}
+use Rattle.muni_sched.specs.declared.outcome.CandidateOutcome.TheVariants.{Print, Unsure, Below, Above, NoTime}
 use Rattle.muni_sched.specs.declared.search.OpenSearch.{OpenSearch}
 use Rattle.muni_sched.specs.declared.search.Search.{Search}
 use Rattle.muni_sched.specs.Figures.{IsOf}
@@ -33,24 +33,24 @@ use Rattle.muni_sched.proofs.IntLemmas.{int_eq-same, int_eq-other, equal_or_not,
 use Rattle.muni_sched.proofs.RoundLemmas.{length-noted, length-recorded}
 
 -- the outcome of candidate k, its rank, and what is known of it: past the last one it is known to be Above
-abbrev at : List Outcome → ℕ → Outcome
+abbrev at : List CandidateOutcome → ℕ → CandidateOutcome
 at outcomes k = lowest.outcome_at outcomes k
 
-abbrev pub rank_of : Outcome → ℤ
+abbrev pub rank_of : CandidateOutcome → ℤ
 rank_of outcome = rank (negsuc 5000) outcome
 
-abbrev pub known_at : List (Option Outcome) → ℕ → Option Outcome
+abbrev pub known_at : List (Option CandidateOutcome) → ℕ → Option CandidateOutcome
 known_at known k = get_or known k (Some Above)
 
 -- ---- the rank of the outcome that a bracket comes to
 -- it lies between the two yields
-pub record IsBetween (bracket : YieldBracket) (outcome : Outcome) : Type 0 where
+pub record IsBetween (bracket : YieldBracket) (outcome : CandidateOutcome) : Type 0 where
   pub low : 1 ≤ bracket.low → yield_at bracket.low ≤ℤ rank_of outcome
   pub high : bracket.high ≤ 105002 → rank_of outcome <ℤ yield_at bracket.high
   pub of : IsOf Yield outcome
 
 -- of the outcome at the end, where the two are neighbours
-record IsBeside (low : ℕ) (outcome : Outcome) : Type 0 where
+record IsBeside (low : ℕ) (outcome : CandidateOutcome) : Type 0 where
   from : 1 ≤ low → yield_at low ≤ℤ rank_of outcome
   to : low < 105002 → rank_of outcome <ℤ yield_at (low + 1)
   of : IsOf Yield outcome
@@ -112,7 +112,7 @@ between count verdicts bracket is enough = between-last bracket (run count verdi
 
 -- ---- what is kept
 -- a search after r rounds that comes to the outcome of its candidate
-pub record IsRunning (verdicts : PaymentSeries → ℕ → ℕ → Verdict) (finals : List Outcome) (r : ℕ) (one : OpenSearch) : Type 0 where
+pub record IsRunning (verdicts : PaymentSeries → ℕ → ℕ → Verdict) (finals : List CandidateOutcome) (r : ℕ) (one : OpenSearch) : Type 0 where
   pub is : IsBracket one.bracket
   pub pending : is_settled one.bracket ≡ false
   pub halvings : one.bracket.halvings ≡ r
@@ -120,7 +120,7 @@ pub record IsRunning (verdicts : PaymentSeries → ℕ → ℕ → Verdict) (fin
   pub same : many_yield (outcome_of (run (19 - r) verdicts one.bracket)) ≡ at finals one.candidate
 
 -- the same without knowing whether it is settled, as a question leaves it
-record IsAsked (verdicts : PaymentSeries → ℕ → ℕ → Verdict) (finals : List Outcome) (r : ℕ) (one : OpenSearch) : Type 0 where
+record IsAsked (verdicts : PaymentSeries → ℕ → ℕ → Verdict) (finals : List CandidateOutcome) (r : ℕ) (one : OpenSearch) : Type 0 where
   is : IsBracket one.bracket
   halvings : one.bracket.halvings ≡ r
   within : one.candidate < length finals
@@ -137,17 +137,17 @@ IsPast None r = ⊥
 IsPast (Some ceiling) r = ceiling ≤ℤ r
 
 -- the rank of some candidate's outcome is below the ceiling, if there is one
-abbrev pub IsCeiling : List Outcome → Option ℤ → Type 0
+abbrev pub IsCeiling : List CandidateOutcome → Option ℤ → Type 0
 IsCeiling finals None = ⊤
 IsCeiling finals (Some ceiling) = (k : ℕ) × (rank_of (at finals k) <ℤ ceiling)
 
 -- The outcome of candidate k is known, or it decides nothing, since that of some other has a lower rank, or
 -- it is still searched.
-abbrev pub IsCovered : (finals : List Outcome) (known : List (Option Outcome)) (ceiling : Option ℤ) (searches : List OpenSearch) → ℕ → Type 0
+abbrev pub IsCovered : (finals : List CandidateOutcome) (known : List (Option CandidateOutcome)) (ceiling : Option ℤ) (searches : List OpenSearch) → ℕ → Type 0
 IsCovered finals known ceiling searches k =
     (known_at known k ≡ Some (at finals k)) ⊎ ((known_at known k ≡ None) × (IsPast ceiling (rank_of (at finals k)) ⊎ IsSearchedFor searches k))
 
-pub record IsRefined (verdicts : PaymentSeries → ℕ → ℕ → Verdict) (finals : List Outcome) (r : ℕ) (search : Search) : Type 0 where
+pub record IsRefined (verdicts : PaymentSeries → ℕ → ℕ → Verdict) (finals : List CandidateOutcome) (r : ℕ) (search : Search) : Type 0 where
   pub lengths : length search.known.items ≡ length finals
   pub of : (k : ℕ) → IsOf Yield (at finals k)
   pub ceiling : IsCeiling finals search.ceiling
@@ -156,7 +156,7 @@ pub record IsRefined (verdicts : PaymentSeries → ℕ → ℕ → Verdict) (fin
   pub covered : (k : ℕ) → IsCovered finals search.known.items search.ceiling search.searches.items k
 
 -- ---- one question
-one-asked : (verdicts : PaymentSeries → ℕ → ℕ → Verdict) (finals : List Outcome) (r : ℕ) (one : OpenSearch) → r < 19 → IsRunning verdicts finals r one → IsAsked verdicts finals (r + 1) (asked verdicts one)
+one-asked : (verdicts : PaymentSeries → ℕ → ℕ → Verdict) (finals : List CandidateOutcome) (r : ℕ) (one : OpenSearch) → r < 19 → IsRunning verdicts finals r one → IsAsked verdicts finals (r + 1) (asked verdicts one)
 one-asked verdicts finals r one few running =
     let next = halved-next verdicts one.bracket running.is running.pending in
     record {
@@ -166,14 +166,14 @@ one-asked verdicts finals r one few running =
       same = ap (λ (last : YieldBracket). many_yield (outcome_of last)) (sym (run-next r verdicts one.bracket few running.pending)) ∙ running.same;
     }
 
-all-asked : (verdicts : PaymentSeries → ℕ → ℕ → Verdict) (finals : List Outcome) (r : ℕ) (searches : List OpenSearch) → r < 19 → All (IsRunning verdicts finals r) searches → All (IsAsked verdicts finals (r + 1)) (map (asked verdicts) searches)
+all-asked : (verdicts : PaymentSeries → ℕ → ℕ → Verdict) (finals : List CandidateOutcome) (r : ℕ) (searches : List OpenSearch) → r < 19 → All (IsRunning verdicts finals r) searches → All (IsAsked verdicts finals (r + 1)) (map (asked verdicts) searches)
 all-asked verdicts finals r searches few all = All-map (IsAsked verdicts finals (r + 1)) (asked verdicts) searches (λ k d inside. one-asked verdicts finals r (get_or searches k d) few (all k d inside))
 
 searched-asked : (verdicts : PaymentSeries → ℕ → ℕ → Verdict) (searches : List OpenSearch) (k : ℕ) → IsSearchedFor searches k → IsSearchedFor (map (asked verdicts) searches) k
 searched-asked verdicts [] k has = has
 searched-asked verdicts (one ∷ rest) k has = ⊎_elim (λ (here : one.candidate ≡ k). inl here) (λ (later : IsSearchedFor rest k). inr (searched-asked verdicts rest k later)) has
 
-asked-between : (verdicts : PaymentSeries → ℕ → ℕ → Verdict) (finals : List Outcome) (r : ℕ) (one : OpenSearch) → r ≤ 19 → IsAsked verdicts finals r one → IsBetween one.bracket (at finals one.candidate)
+asked-between : (verdicts : PaymentSeries → ℕ → ℕ → Verdict) (finals : List CandidateOutcome) (r : ℕ) (one : OpenSearch) → r ≤ 19 → IsAsked verdicts finals r one → IsBetween one.bracket (at finals one.candidate)
 asked-between verdicts finals r one most is =
     let halvings = is.halvings in
     subst (IsBetween one.bracket) is.same (between (19 - r) verdicts one.bracket is.is (omega (arith, halvings)))
@@ -194,7 +194,7 @@ past-after : (ceiling : Option ℤ) (searches : List OpenSearch) (r : ℤ) → I
 past-after ceiling [] r past = past
 past-after ceiling (one ∷ rest) r past = past-after (lower_of ceiling (missed one)) rest r (past-lower ceiling (missed one) r past)
 
-pub lower-ceiling : (finals : List Outcome) (ceiling other : Option ℤ) → IsCeiling finals ceiling → IsCeiling finals other → IsCeiling finals (lower_of ceiling other)
+pub lower-ceiling : (finals : List CandidateOutcome) (ceiling other : Option ℤ) → IsCeiling finals ceiling → IsCeiling finals other → IsCeiling finals (lower_of ceiling other)
 lower-ceiling finals None other is also = also
 lower-ceiling finals (Some c) None is also = is
 lower-ceiling finals (Some c) (Some o) is also =
@@ -204,7 +204,7 @@ lower-ceiling finals (Some c) (Some o) is also =
     (less_or_not c o)
 
 -- no rank is past that of Above
-pub rank-most : (outcome : Outcome) → IsOf Yield outcome → rank_of outcome ≤ℤ pos 2147483647
+pub rank-most : (outcome : CandidateOutcome) → IsOf Yield outcome → rank_of outcome ≤ℤ pos 2147483647
 rank-most (Print t) of = omega (arith, ints, of.1)
 rank-most (Unsure s) of =
     ⊎_elim
@@ -215,14 +215,14 @@ rank-most Below of = omega (arith, ints)
 rank-most Above of = omega (arith, ints)
 rank-most NoTime of = omega (arith, ints)
 
-missed-by : (finals : List Outcome) (k : ℕ) (test : Bool) (figure : ℤ) → (test ≡ true → rank_of (at finals k) <ℤ figure) → IsCeiling finals (if test then Some figure else None)
+missed-by : (finals : List CandidateOutcome) (k : ℕ) (test : Bool) (figure : ℤ) → (test ≡ true → rank_of (at finals k) <ℤ figure) → IsCeiling finals (if test then Some figure else None)
 missed-by finals k true figure below = (k, below refl)
 missed-by finals k false figure below = tt
 
-own-ceiling : (finals : List Outcome) (one : OpenSearch) → IsBetween one.bracket (at finals one.candidate) → IsCeiling finals (missed one)
+own-ceiling : (finals : List CandidateOutcome) (one : OpenSearch) → IsBetween one.bracket (at finals one.candidate) → IsCeiling finals (missed one)
 own-ceiling finals one is = missed-by finals one.candidate (nat_le one.bracket.high 105002) (yield_at one.bracket.high) (λ asked. is.high (leb-true one.bracket.high 105002 asked))
 
-ceiling-holds : (verdicts : PaymentSeries → ℕ → ℕ → Verdict) (finals : List Outcome) (r : ℕ) (ceiling : Option ℤ) (searches : List OpenSearch) → r ≤ 19 → All (IsAsked verdicts finals r) searches → IsCeiling finals ceiling → IsCeiling finals (ceiling_after ceiling searches)
+ceiling-holds : (verdicts : PaymentSeries → ℕ → ℕ → Verdict) (finals : List CandidateOutcome) (r : ℕ) (ceiling : Option ℤ) (searches : List OpenSearch) → r ≤ 19 → All (IsAsked verdicts finals r) searches → IsCeiling finals ceiling → IsCeiling finals (ceiling_after ceiling searches)
 ceiling-holds verdicts finals r ceiling [] most all is = is
 ceiling-holds verdicts finals r ceiling (one ∷ rest) most all is =
     let here = All-head (IsAsked verdicts finals r) one rest all in
@@ -230,7 +230,7 @@ ceiling-holds verdicts finals r ceiling (one ∷ rest) most all is =
     (lower-ceiling finals ceiling (missed one) is (own-ceiling finals one (asked-between verdicts finals r one most here)))
 
 -- ---- what is written
-written-if : (test : Bool) (known : List (Option Outcome)) (c k : ℕ) (it wanted : Option Outcome) → c < length known → (c ≡ k → test ≡ true → it ≡ wanted) → known_at known k ≡ wanted → known_at (if test then slice_set known c it else known) k ≡ wanted
+written-if : (test : Bool) (known : List (Option CandidateOutcome)) (c k : ℕ) (it wanted : Option CandidateOutcome) → c < length known → (c ≡ k → test ≡ true → it ≡ wanted) → known_at known k ≡ wanted → known_at (if test then slice_set known c it else known) k ≡ wanted
 written-if true known c k it wanted inside right before =
     ⊎_elim
     (λ (here : c ≡ k). subst (λ n. known_at (slice_set known c it) n ≡ wanted) here (get_or-set_same known c it (Some Above) inside ∙ right here refl))
@@ -238,12 +238,12 @@ written-if true known c k it wanted inside right before =
     (cases_eq c k)
 written-if false known c k it wanted inside right before = before
 
-written-here : (test : Bool) (known : List (Option Outcome)) (c : ℕ) (it : Option Outcome) → c < length known → test ≡ true → known_at (if test then slice_set known c it else known) c ≡ it
+written-here : (test : Bool) (known : List (Option CandidateOutcome)) (c : ℕ) (it : Option CandidateOutcome) → c < length known → test ≡ true → known_at (if test then slice_set known c it else known) c ≡ it
 written-here true known c it inside settled = get_or-set_same known c it (Some Above) inside
 written-here false known c it inside settled = cc
 
 -- what stood at k still stands there, or the wanted outcome does
-written-or : (test : Bool) (known : List (Option Outcome)) (c k : ℕ) (it wanted before : Option Outcome) → c < length known → (c ≡ k → test ≡ true → it ≡ wanted) → known_at known k ≡ before → (known_at (if test then slice_set known c it else known) k ≡ wanted) ⊎ (known_at (if test then slice_set known c it else known) k ≡ before)
+written-or : (test : Bool) (known : List (Option CandidateOutcome)) (c k : ℕ) (it wanted before : Option CandidateOutcome) → c < length known → (c ≡ k → test ≡ true → it ≡ wanted) → known_at known k ≡ before → (known_at (if test then slice_set known c it else known) k ≡ wanted) ⊎ (known_at (if test then slice_set known c it else known) k ≡ before)
 written-or true known c k it wanted before inside right there =
     ⊎_elim
     (λ (here : c ≡ k). inl (subst (λ n. known_at (slice_set known c it) n ≡ wanted) here (get_or-set_same known c it (Some Above) inside ∙ right here refl)))
@@ -251,25 +251,25 @@ written-or true known c k it wanted before inside right there =
     (cases_eq c k)
 written-or false known c k it wanted before inside right there = inr there
 
-settled-final : (verdicts : PaymentSeries → ℕ → ℕ → Verdict) (finals : List Outcome) (r : ℕ) (one : OpenSearch) → IsAsked verdicts finals r one → is_settled one.bracket ≡ true → Some (many_yield (outcome_of one.bracket)) ≡ Some (at finals one.candidate)
+settled-final : (verdicts : PaymentSeries → ℕ → ℕ → Verdict) (finals : List CandidateOutcome) (r : ℕ) (one : OpenSearch) → IsAsked verdicts finals r one → is_settled one.bracket ≡ true → Some (many_yield (outcome_of one.bracket)) ≡ Some (at finals one.candidate)
 settled-final verdicts finals r one is settled = ap Some (ap (λ (last : YieldBracket). many_yield (outcome_of last)) (sym (run-settled (19 - r) verdicts one.bracket settled)) ∙ is.same)
 
-settled-for : (verdicts : PaymentSeries → ℕ → ℕ → Verdict) (finals : List Outcome) (r : ℕ) (one : OpenSearch) (k : ℕ) → IsAsked verdicts finals r one → one.candidate ≡ k → is_settled one.bracket ≡ true → Some (many_yield (outcome_of one.bracket)) ≡ Some (at finals k)
+settled-for : (verdicts : PaymentSeries → ℕ → ℕ → Verdict) (finals : List CandidateOutcome) (r : ℕ) (one : OpenSearch) (k : ℕ) → IsAsked verdicts finals r one → one.candidate ≡ k → is_settled one.bracket ≡ true → Some (many_yield (outcome_of one.bracket)) ≡ Some (at finals k)
 settled-for verdicts finals r one k is here settled = settled-final verdicts finals r one is settled ∙ ap (λ n. Some (at finals n)) here
 
-noted-keeps : (verdicts : PaymentSeries → ℕ → ℕ → Verdict) (finals : List Outcome) (known : List (Option Outcome)) (r : ℕ) (one : OpenSearch) (k : ℕ) → length known ≡ length finals → IsAsked verdicts finals r one → known_at known k ≡ Some (at finals k) → known_at (noted one known) k ≡ Some (at finals k)
+noted-keeps : (verdicts : PaymentSeries → ℕ → ℕ → Verdict) (finals : List CandidateOutcome) (known : List (Option CandidateOutcome)) (r : ℕ) (one : OpenSearch) (k : ℕ) → length known ≡ length finals → IsAsked verdicts finals r one → known_at known k ≡ Some (at finals k) → known_at (noted one known) k ≡ Some (at finals k)
 noted-keeps verdicts finals known r one k same is there =
     let within = is.within in
     written-if (is_settled one.bracket) known one.candidate k (Some (many_yield (outcome_of one.bracket))) (Some (at finals k)) (omega (arith, within, same))
     (settled-for verdicts finals r one k is) there
 
-recorded-keeps : (verdicts : PaymentSeries → ℕ → ℕ → Verdict) (finals : List Outcome) (known : List (Option Outcome)) (r : ℕ) (searches : List OpenSearch) (k : ℕ) → length known ≡ length finals → All (IsAsked verdicts finals r) searches → known_at known k ≡ Some (at finals k) → known_at (recorded searches known) k ≡ Some (at finals k)
+recorded-keeps : (verdicts : PaymentSeries → ℕ → ℕ → Verdict) (finals : List CandidateOutcome) (known : List (Option CandidateOutcome)) (r : ℕ) (searches : List OpenSearch) (k : ℕ) → length known ≡ length finals → All (IsAsked verdicts finals r) searches → known_at known k ≡ Some (at finals k) → known_at (recorded searches known) k ≡ Some (at finals k)
 recorded-keeps verdicts finals known r [] k same all there = there
 recorded-keeps verdicts finals known r (one ∷ rest) k same all there =
     recorded-keeps verdicts finals (noted one known) r rest k (length-noted one known ∙ same) (All-tail (IsAsked verdicts finals r) one rest all)
     (noted-keeps verdicts finals known r one k same (All-head (IsAsked verdicts finals r) one rest all) there)
 
-recorded-or : (verdicts : PaymentSeries → ℕ → ℕ → Verdict) (finals : List Outcome) (known : List (Option Outcome)) (r : ℕ) (searches : List OpenSearch) (k : ℕ) → length known ≡ length finals → All (IsAsked verdicts finals r) searches → known_at known k ≡ None
+recorded-or : (verdicts : PaymentSeries → ℕ → ℕ → Verdict) (finals : List CandidateOutcome) (known : List (Option CandidateOutcome)) (r : ℕ) (searches : List OpenSearch) (k : ℕ) → length known ≡ length finals → All (IsAsked verdicts finals r) searches → known_at known k ≡ None
     → (known_at (recorded searches known) k ≡ Some (at finals k)) ⊎ (known_at (recorded searches known) k ≡ None)
 recorded-or verdicts finals known r [] k same all there = inr there
 recorded-or verdicts finals known r (one ∷ rest) k same all there =
@@ -284,7 +284,7 @@ recorded-or verdicts finals known r (one ∷ rest) k same all there =
     (settled-for verdicts finals r one k is) there)
 
 -- ---- a search is settled, or dropped, or goes on
-abbrev IsSorted : (finals : List Outcome) (known : List (Option Outcome)) (ceiling : Option ℤ) (searches : List OpenSearch) (k : ℕ) → Type 0
+abbrev IsSorted : (finals : List CandidateOutcome) (known : List (Option CandidateOutcome)) (ceiling : Option ℤ) (searches : List OpenSearch) (k : ℕ) → Type 0
 IsSorted finals known ceiling searches k = (known_at known k ≡ Some (at finals k)) ⊎ (IsPast ceiling (rank_of (at finals k)) ⊎ IsSearchedFor searches k)
 
 kept-if : (test : Bool) (one : OpenSearch) (searches : List OpenSearch) (k : ℕ) → IsSearchedFor searches k → IsSearchedFor (if test then one ∷ searches else searches) k
@@ -300,12 +300,12 @@ at-ceiling : (ceiling : Option ℤ) (t r : ℤ) → is_at_ceiling ceiling t ≡ 
 at-ceiling None t r passed order = cc
 at-ceiling (Some c) t r passed order = let from : c ≤ℤ t = grind (arith, ints) in omega (arith, ints, from, order)
 
-passed-past : (verdicts : PaymentSeries → ℕ → ℕ → Verdict) (finals : List Outcome) (r : ℕ) (ceiling : Option ℤ) (one : OpenSearch) → r ≤ 19 → IsAsked verdicts finals r one → is_passed ceiling one.bracket ≡ true → IsPast ceiling (rank_of (at finals one.candidate))
+passed-past : (verdicts : PaymentSeries → ℕ → ℕ → Verdict) (finals : List CandidateOutcome) (r : ℕ) (ceiling : Option ℤ) (one : OpenSearch) → r ≤ 19 → IsAsked verdicts finals r one → is_passed ceiling one.bracket ≡ true → IsPast ceiling (rank_of (at finals one.candidate))
 passed-past verdicts finals r ceiling one most is passed =
     let both = and_parts (nat_le 1 one.bracket.low) (is_at_ceiling ceiling (yield_at one.bracket.low)) passed in
     at-ceiling ceiling (yield_at one.bracket.low) (rank_of (at finals one.candidate)) both.1 ((asked-between verdicts finals r one most is).low (leb-true 1 one.bracket.low both.0))
 
-sorted : (verdicts : PaymentSeries → ℕ → ℕ → Verdict) (finals : List Outcome) (known : List (Option Outcome)) (r : ℕ) (ceiling : Option ℤ) (searches : List OpenSearch) (k : ℕ) → r ≤ 19 → length known ≡ length finals → All (IsAsked verdicts finals r) searches → IsSearchedFor searches k → IsSorted finals (recorded searches known) ceiling (filter (is_needed ceiling) searches) k
+sorted : (verdicts : PaymentSeries → ℕ → ℕ → Verdict) (finals : List CandidateOutcome) (known : List (Option CandidateOutcome)) (r : ℕ) (ceiling : Option ℤ) (searches : List OpenSearch) (k : ℕ) → r ≤ 19 → length known ≡ length finals → All (IsAsked verdicts finals r) searches → IsSearchedFor searches k → IsSorted finals (recorded searches known) ceiling (filter (is_needed ceiling) searches) k
 sorted verdicts finals known r ceiling [] k most same all has = absurd has
 sorted verdicts finals known r ceiling (one ∷ rest) k most same all has =
     let is = All-head (IsAsked verdicts finals r) one rest all in
@@ -336,7 +336,7 @@ needed-pending : (settled passed : Bool) → (not settled && not passed) ≡ tru
 needed-pending true passed need = cc
 needed-pending false passed need = refl
 
-needed-running : (verdicts : PaymentSeries → ℕ → ℕ → Verdict) (finals : List Outcome) (r : ℕ) (ceiling : Option ℤ) (one : OpenSearch) → IsAsked verdicts finals r one → is_needed ceiling one ≡ true → IsRunning verdicts finals r one
+needed-running : (verdicts : PaymentSeries → ℕ → ℕ → Verdict) (finals : List CandidateOutcome) (r : ℕ) (ceiling : Option ℤ) (one : OpenSearch) → IsAsked verdicts finals r one → is_needed ceiling one ≡ true → IsRunning verdicts finals r one
 needed-running verdicts finals r ceiling one is need = record {
   is = is.is;
   pending = needed-pending (is_settled one.bracket) (is_passed ceiling one.bracket) need;
@@ -348,7 +348,7 @@ needed-running verdicts finals r ceiling one is need = record {
 length-filter_most : (test : OpenSearch → Bool) (searches : List OpenSearch) → length (filter test searches) ≤ length searches
 length-filter_most test searches = omega (arith, length-filter test searches, count_by-le-length test searches)
 
-covered-next : (verdicts : PaymentSeries → ℕ → ℕ → Verdict) (finals : List Outcome) (known : List (Option Outcome)) (r : ℕ) (before ceiling : Option ℤ) (searches : List OpenSearch) (k : ℕ) → r ≤ 19 → ((rank : ℤ) → IsPast before rank → IsPast ceiling rank) → length known ≡ length finals → All (IsAsked verdicts finals r) (map (asked verdicts) searches)
+covered-next : (verdicts : PaymentSeries → ℕ → ℕ → Verdict) (finals : List CandidateOutcome) (known : List (Option CandidateOutcome)) (r : ℕ) (before ceiling : Option ℤ) (searches : List OpenSearch) (k : ℕ) → r ≤ 19 → ((rank : ℤ) → IsPast before rank → IsPast ceiling rank) → length known ≡ length finals → All (IsAsked verdicts finals r) (map (asked verdicts) searches)
     → IsCovered finals known before searches k → IsCovered finals (recorded (map (asked verdicts) searches) known) ceiling (filter (is_needed ceiling) (map (asked verdicts) searches)) k
 covered-next verdicts finals known r before ceiling searches k most falls same all covered =
     let after = map (asked verdicts) searches in
@@ -366,7 +366,7 @@ covered-next verdicts finals known r before ceiling searches k most falls same a
     (recorded-or verdicts finals known r after k same all left.0))
     covered
 
-pub refined-keeps : (verdicts : PaymentSeries → ℕ → ℕ → Verdict) (finals : List Outcome) (r : ℕ) (search : Search) → r < 19 → IsRefined verdicts finals r search → IsRefined verdicts finals (r + 1) (refined verdicts search)
+pub refined-keeps : (verdicts : PaymentSeries → ℕ → ℕ → Verdict) (finals : List CandidateOutcome) (r : ℕ) (search : Search) → r < 19 → IsRefined verdicts finals r search → IsRefined verdicts finals (r + 1) (refined verdicts search)
 unfolding refined
 refined-keeps verdicts finals r search few is =
     let searches = map (asked verdicts) search.searches.items in
@@ -384,7 +384,7 @@ refined-keeps verdicts finals r search few is =
     }
 
 -- what a round asks for
-pub can-refine : (verdicts : PaymentSeries → ℕ → ℕ → Verdict) (finals : List Outcome) (r : ℕ) (search : Search) → IsRefined verdicts finals r search → CanRefine search
+pub can-refine : (verdicts : PaymentSeries → ℕ → ℕ → Verdict) (finals : List CandidateOutcome) (r : ℕ) (search : Search) → IsRefined verdicts finals r search → CanRefine search
 can-refine verdicts finals r search is = record {
   each = λ k d inside. let running = is.each k d inside in (running.is, running.pending);
   candidates = λ k d inside. let running = is.each k d inside in let within = running.within in omega (arith, within, is.lengths);
@@ -392,7 +392,7 @@ can-refine verdicts finals r search is = record {
 }
 
 -- there is a next round only before the nineteenth
-few-rounds : (verdicts : PaymentSeries → ℕ → ℕ → Verdict) (finals : List Outcome) (r : ℕ) (searches : List OpenSearch) → All (IsRunning verdicts finals r) searches → searches ≢ [] → r < 19
+few-rounds : (verdicts : PaymentSeries → ℕ → ℕ → Verdict) (finals : List CandidateOutcome) (r : ℕ) (searches : List OpenSearch) → All (IsRunning verdicts finals r) searches → searches ≢ [] → r < 19
 few-rounds verdicts finals r [] all some = absurd (some refl)
 few-rounds verdicts finals r (one ∷ rest) all some =
     let here = All-head (IsRunning verdicts finals r) one rest all in
@@ -402,35 +402,35 @@ few-rounds verdicts finals r (one ∷ rest) all some =
 not-over : (searches : List OpenSearch) → (length searches == 0) ≡ false → searches ≢ []
 not-over searches pending none = let over : (length searches == 0) ≡ true = rw none refl in let never : true ≡ false = sym over ∙ pending in cc
 
-pub round-few : (verdicts : PaymentSeries → ℕ → ℕ → Verdict) (finals : List Outcome) (r : ℕ) (search : Search) → IsRefined verdicts finals r search → (length search.searches.items == 0) ≡ false → r < 19
+pub round-few : (verdicts : PaymentSeries → ℕ → ℕ → Verdict) (finals : List CandidateOutcome) (r : ℕ) (search : Search) → IsRefined verdicts finals r search → (length search.searches.items == 0) ≡ false → r < 19
 round-few verdicts finals r search is pending = few-rounds verdicts finals r search.searches.items is.each (not-over search.searches.items pending)
 
 -- ---- at the end
 -- the outcomes that are told, where those that are not known stand as Above
-told-at : (known : List (Option Outcome)) (k : ℕ) → at (outcomes_of known) k ≡ unwrap_or (known_at known k) Above
+told-at : (known : List (Option CandidateOutcome)) (k : ℕ) → at (outcomes_of known) k ≡ unwrap_or (known_at known k) Above
 told-at known k =
     ⊎_elim
     (λ (inside : k < length known). get_or-map (λ outcome. unwrap_or outcome Above) known k (Some Above) Above inside)
     (λ (past : length known ≤ k).
     let long = length-map known (λ outcome. unwrap_or outcome Above) in
-    get_or_past (outcomes_of known) k Above (omega (arith, past, long)) ∙ sym (ap (λ (it : Option Outcome). unwrap_or it Above) (get_or_past known k (Some Above) past)))
+    get_or_past (outcomes_of known) k Above (omega (arith, past, long)) ∙ sym (ap (λ (it : Option CandidateOutcome). unwrap_or it Above) (get_or_past known k (Some Above) past)))
     (cases_lt k (length known))
 
-told-known : (known : List (Option Outcome)) (k : ℕ) (outcome : Outcome) → known_at known k ≡ Some outcome → at (outcomes_of known) k ≡ outcome
-told-known known k outcome is = told-at known k ∙ ap (λ (it : Option Outcome). unwrap_or it Above) is
+told-known : (known : List (Option CandidateOutcome)) (k : ℕ) (outcome : CandidateOutcome) → known_at known k ≡ Some outcome → at (outcomes_of known) k ≡ outcome
+told-known known k outcome is = told-at known k ∙ ap (λ (it : Option CandidateOutcome). unwrap_or it Above) is
 
-told-unknown : (known : List (Option Outcome)) (k : ℕ) → known_at known k ≡ None → at (outcomes_of known) k ≡ Above
-told-unknown known k is = told-at known k ∙ ap (λ (it : Option Outcome). unwrap_or it Above) is
+told-unknown : (known : List (Option CandidateOutcome)) (k : ℕ) → known_at known k ≡ None → at (outcomes_of known) k ≡ Above
+told-unknown known k is = told-at known k ∙ ap (λ (it : Option CandidateOutcome). unwrap_or it Above) is
 
 -- each outcome is told, or decides nothing
-record IsDropped (finals : List Outcome) (search : Search) (k : ℕ) : Type 0 where
+record IsDropped (finals : List CandidateOutcome) (search : Search) (k : ℕ) : Type 0 where
   told : at (outcomes_of search.known.items) k ≡ Above
   past : IsPast search.ceiling (rank_of (at finals k))
 
-abbrev IsDecided : (finals : List Outcome) (search : Search) → ℕ → Type 0
+abbrev IsDecided : (finals : List CandidateOutcome) (search : Search) → ℕ → Type 0
 IsDecided finals search k = (at (outcomes_of search.known.items) k ≡ at finals k) ⊎ IsDropped finals search k
 
-over-decided : (verdicts : PaymentSeries → ℕ → ℕ → Verdict) (finals : List Outcome) (r : ℕ) (search : Search) → IsRefined verdicts finals r search → search.searches.items ≡ [] → (k : ℕ) → IsDecided finals search k
+over-decided : (verdicts : PaymentSeries → ℕ → ℕ → Verdict) (finals : List CandidateOutcome) (r : ℕ) (search : Search) → IsRefined verdicts finals r search → search.searches.items ≡ [] → (k : ℕ) → IsDecided finals search k
 over-decided verdicts finals r search is none k =
     ⊎_elim
     (λ (right : known_at search.known.items k ≡ Some (at finals k)). inl (told-known search.known.items k (at finals k) right))
@@ -442,7 +442,7 @@ over-decided verdicts finals r search is none k =
 
 -- The first of least rank among the outcomes that are told is so among all. A candidate that holds the
 -- ceiling is told, so that the least rank is below the ceiling, and each that was dropped is not.
-below-dropped : (finals told : List Outcome) (ceiling : Option ℤ) (c k : ℕ) → IsCeiling finals ceiling → ((j : ℕ) → (at told j ≡ at finals j) ⊎ IsPast ceiling (rank_of (at finals j))) → IsFirstOfLeastRank (negsuc 5000) told c → IsPast ceiling (rank_of (at finals k)) → rank_of (at told c) <ℤ rank_of (at finals k)
+below-dropped : (finals told : List CandidateOutcome) (ceiling : Option ℤ) (c k : ℕ) → IsCeiling finals ceiling → ((j : ℕ) → (at told j ≡ at finals j) ⊎ IsPast ceiling (rank_of (at finals j))) → IsFirstOfLeastRank (negsuc 5000) told c → IsPast ceiling (rank_of (at finals k)) → rank_of (at told c) <ℤ rank_of (at finals k)
 below-dropped finals told None c k holder decided first past = absurd past
 below-dropped finals told (Some ceiling) c k holder decided first past =
     ⊎_elim
@@ -450,7 +450,7 @@ below-dropped finals told (Some ceiling) c k holder decided first past =
     (λ (dropped : ceiling ≤ℤ rank_of (at finals holder.0)). let holds = holder.1 in absurd (omega (arith, ints, dropped, holds)))
     (decided holder.0)
 
-first-of_all : (finals : List Outcome) (search : Search) (c : ℕ) → ((k : ℕ) → IsOf Yield (at finals k)) → IsCeiling finals search.ceiling → ((k : ℕ) → IsDecided finals search k) → IsFirstOfLeastRank (negsuc 5000) (outcomes_of search.known.items) c
+first-of_all : (finals : List CandidateOutcome) (search : Search) (c : ℕ) → ((k : ℕ) → IsOf Yield (at finals k)) → IsCeiling finals search.ceiling → ((k : ℕ) → IsDecided finals search k) → IsFirstOfLeastRank (negsuc 5000) (outcomes_of search.known.items) c
     → IsFirstOfLeastRank (negsuc 5000) finals c × (at (outcomes_of search.known.items) c ≡ at finals c)
 first-of_all finals search c of holder decided first =
     let told = outcomes_of search.known.items in
@@ -475,7 +475,7 @@ first-of_all finals search c of holder decided first =
       here,
     )
 
-pub ranked-of_all : (verdicts : PaymentSeries → ℕ → ℕ → Verdict) (finals : List Outcome) (r : ℕ) (search : Search) (answer : Lowest) → IsRefined verdicts finals r search → search.searches.items ≡ [] → IsRanked (negsuc 5000) (outcomes_of search.known.items) answer → IsRanked (negsuc 5000) finals answer
+pub ranked-of_all : (verdicts : PaymentSeries → ℕ → ℕ → Verdict) (finals : List CandidateOutcome) (r : ℕ) (search : Search) (answer : Lowest) → IsRefined verdicts finals r search → search.searches.items ≡ [] → IsRanked (negsuc 5000) (outcomes_of search.known.items) answer → IsRanked (negsuc 5000) finals answer
 ranked-of_all verdicts finals r search answer is none ranked =
     let decided = over-decided verdicts finals r search is none in
     let first = first-of_all finals search ranked.candidate is.of is.ceiling decided ranked.first in
@@ -486,7 +486,7 @@ ranked-of_all verdicts finals r search answer is none ranked =
     }
 
 -- what is told is of a yield
-pub told-of : (verdicts : PaymentSeries → ℕ → ℕ → Verdict) (finals : List Outcome) (r : ℕ) (search : Search) → IsRefined verdicts finals r search → All (IsOf Yield) (outcomes_of search.known.items)
+pub told-of : (verdicts : PaymentSeries → ℕ → ℕ → Verdict) (finals : List CandidateOutcome) (r : ℕ) (search : Search) → IsRefined verdicts finals r search → All (IsOf Yield) (outcomes_of search.known.items)
 told-of verdicts finals r search is = λ k d inside. subst (IsOf Yield) (get_or_default (outcomes_of search.known.items) k Above d inside)
     (⊎_elim
     (λ (right : known_at search.known.items k ≡ Some (at finals k)). subst (IsOf Yield) (sym (told-known search.known.items k (at finals k) right)) (is.of k))

@@ -15,9 +15,9 @@ use Rattle.muni_yield.proofs.BracketLemmas.{start-is}
 use Rattle.muni_sched.specs.declared.candidate.Candidate.{Candidate}
 use Rattle.muni_sched.specs.declared.candidate.Shape.{Shape}
 use Rattle.muni_sched.specs.declared.candidate.Shape.TheVariants.{Many, One, AtRedemption, Discount}
-use Rattle.muni_sched.specs.declared.figure.FigureKind.TheVariants.{Yield}
-use Rattle.muni_sched.specs.declared.lowest.Outcome.{Outcome}
-use Rattle.muni_sched.specs.declared.lowest.Outcome.TheVariants.{Print, Unsure, Below, Above, NoTime}
+use Rattle.muni_sched.specs.FigureKind.{Yield}
+use Rattle.muni_sched.specs.declared.outcome.CandidateOutcome.{CandidateOutcome}
+use Rattle.muni_sched.specs.declared.outcome.CandidateOutcome.TheVariants.{Print, Unsure, Below, Above, NoTime}
 use Rattle.muni_sched.specs.declared.search.OpenSearch.{OpenSearch}
 use Rattle.muni_sched.specs.declared.search.Search.{Search}
 use Rattle.muni_sched.specs.Candidates.{IsCandidate}
@@ -30,7 +30,7 @@ use Rattle.muni_sched.specs.ToCome.{ToCome, many, one, to_come_of}
 use Rattle.muni_sched.specs.YieldOutcome.{final, IsYieldOutcomeFor, IsYieldOutcome, IsKnownFor, IsKnownFirst}
 use Rattle.muni_sched.proofs.SearchLemmas.{rank_of, known_at, IsRunning, IsSearchedFor, IsCeiling, IsRefined, between, lower-ceiling, refined-keeps, ranked-of_all, over-none, told-of}
 
-abbrev at : List Outcome → ℕ → Outcome
+abbrev at : List CandidateOutcome → ℕ → CandidateOutcome
 at outcomes k = lowest.outcome_at outcomes k
 
 -- many payments that may be searched
@@ -45,28 +45,28 @@ may_be (AtRedemption payment) is = tt
 may_be (Discount days basis) is = tt
 
 -- The outcome that a candidate comes to: that of its search, or the one that is known.
-abbrev final-for : (verdicts : PaymentSeries → ℕ → ℕ → Verdict) (price : ℕ) → ToCome → Option Outcome → Outcome
+abbrev final-for : (verdicts : PaymentSeries → ℕ → ℕ → Verdict) (price : ℕ) → ToCome → Option CandidateOutcome → CandidateOutcome
 final-for verdicts price (many series) known = final verdicts price series
 final-for verdicts price (one least payment) known = unwrap_or known Above
 
-abbrev finals-of : (verdicts : PaymentSeries → ℕ → ℕ → Verdict) (price : ℕ) → List Candidate → List (Option Outcome) → List Outcome
+abbrev finals-of : (verdicts : PaymentSeries → ℕ → ℕ → Verdict) (price : ℕ) → List Candidate → List (Option CandidateOutcome) → List CandidateOutcome
 finals-of verdicts price [] known = []
 finals-of verdicts price (candidate ∷ list) [] = []
 finals-of verdicts price (candidate ∷ list) (it ∷ known) = final-for verdicts price (to_come_of candidate.shape) it ∷ finals-of verdicts price list known
 
-final-is : (verdicts : PaymentSeries → ℕ → ℕ → Verdict) (price : ℕ) (to_come : ToCome) (known : Option Outcome) → IsKnownFor price to_come known → IsYieldOutcomeFor verdicts price to_come (final-for verdicts price to_come known)
+final-is : (verdicts : PaymentSeries → ℕ → ℕ → Verdict) (price : ℕ) (to_come : ToCome) (known : Option CandidateOutcome) → IsKnownFor price to_come known → IsYieldOutcomeFor verdicts price to_come (final-for verdicts price to_come known)
 final-is verdicts price (many series) known is = refl
 final-is verdicts price (one least payment) known is =
     subst (λ it. IsYieldOutcomeFor verdicts price (one least payment) (unwrap_or it Above)) (sym is.2) is.1
 
-finals-are : (verdicts : PaymentSeries → ℕ → ℕ → Verdict) (price : ℕ) (list : List Candidate) (known : List (Option Outcome)) → AllZip (IsKnownFirst price) list known → AllZip (IsYieldOutcome verdicts price) list (finals-of verdicts price list known)
+finals-are : (verdicts : PaymentSeries → ℕ → ℕ → Verdict) (price : ℕ) (list : List Candidate) (known : List (Option CandidateOutcome)) → AllZip (IsKnownFirst price) list known → AllZip (IsYieldOutcome verdicts price) list (finals-of verdicts price list known)
 finals-are verdicts price [] [] all = tt
 finals-are verdicts price [] (it ∷ known) all = absurd all
 finals-are verdicts price (candidate ∷ list) [] all = absurd all
 finals-are verdicts price (candidate ∷ list) (it ∷ known) all =
     (final-is verdicts price (to_come_of candidate.shape) it all.0, finals-are verdicts price list known all.1)
 
-length-finals : (verdicts : PaymentSeries → ℕ → ℕ → Verdict) (price : ℕ) (list : List Candidate) (known : List (Option Outcome)) → AllZip (IsKnownFirst price) list known → (length known ≡ length list) × (length (finals-of verdicts price list known) ≡ length list)
+length-finals : (verdicts : PaymentSeries → ℕ → ℕ → Verdict) (price : ℕ) (list : List Candidate) (known : List (Option CandidateOutcome)) → AllZip (IsKnownFirst price) list known → (length known ≡ length list) × (length (finals-of verdicts price list known) ≡ length list)
 length-finals verdicts price [] [] all = (refl, refl)
 length-finals verdicts price [] (it ∷ known) all = absurd all
 length-finals verdicts price (candidate ∷ list) [] all = absurd all
@@ -78,15 +78,15 @@ final-of_yield : (verdicts : PaymentSeries → ℕ → ℕ → Verdict) (price :
 unfolding final_of
 final-of_yield verdicts price series more some = (between 19 verdicts (start_of series price) (start-is series price more some) (omega arith)).of
 
-known-of : (known : Option Outcome) → IsKnownYield known → IsOf Yield (unwrap_or known Above)
+known-of : (known : Option CandidateOutcome) → IsKnownYield known → IsOf Yield (unwrap_or known Above)
 known-of None of = tt
 known-of (Some outcome) of = of
 
-for-of : (verdicts : PaymentSeries → ℕ → ℕ → Verdict) (price : ℕ) (to_come : ToCome) (known : Option Outcome) → MayBeSearched to_come → 0 < price → IsKnownYield known → IsOf Yield (final-for verdicts price to_come known)
+for-of : (verdicts : PaymentSeries → ℕ → ℕ → Verdict) (price : ℕ) (to_come : ToCome) (known : Option CandidateOutcome) → MayBeSearched to_come → 0 < price → IsKnownYield known → IsOf Yield (final-for verdicts price to_come known)
 for-of verdicts price (many series) known more some of = final-of_yield verdicts price series more some
 for-of verdicts price (one least payment) known more some of = known-of known of
 
-finals-of_yield : (verdicts : PaymentSeries → ℕ → ℕ → Verdict) (price : ℕ) (list : List Candidate) (known : List (Option Outcome)) → 0 < price → All IsCandidate list → All IsKnownYield known → (k : ℕ) → IsOf Yield (at (finals-of verdicts price list known) k)
+finals-of_yield : (verdicts : PaymentSeries → ℕ → ℕ → Verdict) (price : ℕ) (list : List Candidate) (known : List (Option CandidateOutcome)) → 0 < price → All IsCandidate list → All IsKnownYield known → (k : ℕ) → IsOf Yield (at (finals-of verdicts price list known) k)
 finals-of_yield verdicts price [] known some all of k = tt
 finals-of_yield verdicts price (candidate ∷ list) [] some all of k = tt
 finals-of_yield verdicts price (candidate ∷ list) (it ∷ known) some all of zero =
@@ -95,7 +95,7 @@ finals-of_yield verdicts price (candidate ∷ list) (it ∷ known) some all of (
     finals-of_yield verdicts price list known some (All-tail IsCandidate candidate list all) (All-tail IsKnownYield it known of) k
 
 -- each search comes to the outcome of its candidate
-started-running : (verdicts : PaymentSeries → ℕ → ℕ → Verdict) (price : ℕ) (finals : List Outcome) (c : ℕ) (series : PaymentSeries) → 2 ≤ series.n → 0 < price → c < length finals → at finals c ≡ final verdicts price series → IsRunning verdicts finals 0 (record { candidate = c; bracket = start_of series price })
+started-running : (verdicts : PaymentSeries → ℕ → ℕ → Verdict) (price : ℕ) (finals : List CandidateOutcome) (c : ℕ) (series : PaymentSeries) → 2 ≤ series.n → 0 < price → c < length finals → at finals c ≡ final verdicts price series → IsRunning verdicts finals 0 (record { candidate = c; bracket = start_of series price })
 unfolding final_of
 started-running verdicts price finals c series more some inside is = record {
   is = start-is series price more some;
@@ -105,15 +105,15 @@ started-running verdicts price finals c series more some inside is = record {
   same = sym is;
 }
 
-running-for : (verdicts : PaymentSeries → ℕ → ℕ → Verdict) (price : ℕ) (finals : List Outcome) (c : ℕ) (to_come : ToCome) (known : Option Outcome) (rest : List OpenSearch) → MayBeSearched to_come → 0 < price → c < length finals → at finals c ≡ final-for verdicts price to_come known → All (IsRunning verdicts finals 0) rest → All (IsRunning verdicts finals 0) (searches_for price c to_come rest)
+running-for : (verdicts : PaymentSeries → ℕ → ℕ → Verdict) (price : ℕ) (finals : List CandidateOutcome) (c : ℕ) (to_come : ToCome) (known : Option CandidateOutcome) (rest : List OpenSearch) → MayBeSearched to_come → 0 < price → c < length finals → at finals c ≡ final-for verdicts price to_come known → All (IsRunning verdicts finals 0) rest → All (IsRunning verdicts finals 0) (searches_for price c to_come rest)
 running-for verdicts price finals c (many series) known rest more some inside is all =
     All-cons (IsRunning verdicts finals 0) (record { candidate = c; bracket = start_of series price }) rest (started-running verdicts price finals c series more some inside is) all
 running-for verdicts price finals c (one least payment) known rest more some inside is all = all
 
-next-candidate : (finals rest : List Outcome) (c : ℕ) (first : Outcome) → ((j : ℕ) → at finals (c + j) ≡ at (first ∷ rest) j) → (j : ℕ) → at finals (c + 1 + j) ≡ at rest j
+next-candidate : (finals rest : List CandidateOutcome) (c : ℕ) (first : CandidateOutcome) → ((j : ℕ) → at finals (c + j) ≡ at (first ∷ rest) j) → (j : ℕ) → at finals (c + 1 + j) ≡ at rest j
 next-candidate finals rest c first same j = let next : c + 1 + j ≡ c + suc j = omega arith in ap (at finals) next ∙ same (suc j)
 
-running-from : (verdicts : PaymentSeries → ℕ → ℕ → Verdict) (price : ℕ) (finals : List Outcome) (c : ℕ) (list : List Candidate) (known : List (Option Outcome)) → 0 < price → All IsCandidate list → AllZip (IsKnownFirst price) list known → c + length list ≤ length finals
+running-from : (verdicts : PaymentSeries → ℕ → ℕ → Verdict) (price : ℕ) (finals : List CandidateOutcome) (c : ℕ) (list : List Candidate) (known : List (Option CandidateOutcome)) → 0 < price → All IsCandidate list → AllZip (IsKnownFirst price) list known → c + length list ≤ length finals
     → ((j : ℕ) → at finals (c + j) ≡ at (finals-of verdicts price list known) j) → All (IsRunning verdicts finals 0) (searches_from price c list)
 running-from verdicts price finals c [] known some all zip room same = All-nil (IsRunning verdicts finals 0)
 running-from verdicts price finals c (candidate ∷ list) [] some all zip room same = absurd zip
@@ -133,10 +133,10 @@ few-from price c [] = omega arith
 few-from price c (candidate ∷ list) = few-for price c (to_come_of candidate.shape) (searches_from price (c + 1) list) (length list) (few-from price (c + 1) list)
 
 -- each outcome is known, or searched
-abbrev IsFound : (finals : List Outcome) (known : List (Option Outcome)) (searches : List OpenSearch) (c j : ℕ) → Type 0
+abbrev IsFound : (finals : List CandidateOutcome) (known : List (Option CandidateOutcome)) (searches : List OpenSearch) (c j : ℕ) → Type 0
 IsFound finals known searches c j = (known_at known j ≡ Some (at finals j)) ⊎ ((known_at known j ≡ None) × IsSearchedFor searches (c + j))
 
-found-here : (verdicts : PaymentSeries → ℕ → ℕ → Verdict) (price c : ℕ) (to_come : ToCome) (known : Option Outcome) (rest : List OpenSearch) → IsKnownFor price to_come known → (known ≡ Some (final-for verdicts price to_come known)) ⊎ ((known ≡ None) × IsSearchedFor (searches_for price c to_come rest) (c + 0))
+found-here : (verdicts : PaymentSeries → ℕ → ℕ → Verdict) (price c : ℕ) (to_come : ToCome) (known : Option CandidateOutcome) (rest : List OpenSearch) → IsKnownFor price to_come known → (known ≡ Some (final-for verdicts price to_come known)) ⊎ ((known ≡ None) × IsSearchedFor (searches_for price c to_come rest) (c + 0))
 found-here verdicts price c (many series) known rest is = inr (is, inl (omega arith))
 found-here verdicts price c (one least payment) known rest is = inl (is.2 ∙ ap (λ it. Some (unwrap_or it Above)) (sym is.2))
 
@@ -144,7 +144,7 @@ found-later : (price c : ℕ) (to_come : ToCome) (rest : List OpenSearch) (k : �
 found-later price c (many series) rest k has = inr has
 found-later price c (one least payment) rest k has = has
 
-found : (verdicts : PaymentSeries → ℕ → ℕ → Verdict) (price c : ℕ) (list : List Candidate) (known : List (Option Outcome)) → AllZip (IsKnownFirst price) list known → (j : ℕ) → IsFound (finals-of verdicts price list known) known (searches_from price c list) c j
+found : (verdicts : PaymentSeries → ℕ → ℕ → Verdict) (price c : ℕ) (list : List Candidate) (known : List (Option CandidateOutcome)) → AllZip (IsKnownFirst price) list known → (j : ℕ) → IsFound (finals-of verdicts price list known) known (searches_from price c list) c j
 found verdicts price c [] [] zip j = inl refl
 found verdicts price c [] (it ∷ known) zip j = absurd zip
 found verdicts price c (candidate ∷ list) [] zip j = absurd zip
@@ -158,7 +158,7 @@ found verdicts price c (candidate ∷ list) (it ∷ known) zip (suc j) =
     (found verdicts price (c + 1) list known zip.1 j)
 
 -- the ceiling of the outcomes that are known
-printed-ceiling : (finals : List Outcome) (k : ℕ) (known : Option Outcome) → (known ≡ Some (at finals k)) ⊎ (known ≡ None) → IsCeiling finals (missed_first known)
+printed-ceiling : (finals : List CandidateOutcome) (k : ℕ) (known : Option CandidateOutcome) → (known ≡ Some (at finals k)) ⊎ (known ≡ None) → IsCeiling finals (missed_first known)
 printed-ceiling finals k None from = tt
 printed-ceiling finals k (Some (Print t)) from = (
   k,
@@ -172,7 +172,7 @@ printed-ceiling finals k (Some Below) from = tt
 printed-ceiling finals k (Some Above) from = tt
 printed-ceiling finals k (Some NoTime) from = tt
 
-ceiling-from : (finals : List Outcome) (c : ℕ) (ceiling : Option ℤ) (known : List (Option Outcome)) → ((j : ℕ) → (known_at known j ≡ Some (at finals (c + j))) ⊎ (known_at known j ≡ None)) → IsCeiling finals ceiling → IsCeiling finals (ceiling_first ceiling known)
+ceiling-from : (finals : List CandidateOutcome) (c : ℕ) (ceiling : Option ℤ) (known : List (Option CandidateOutcome)) → ((j : ℕ) → (known_at known j ≡ Some (at finals (c + j))) ⊎ (known_at known j ≡ None)) → IsCeiling finals ceiling → IsCeiling finals (ceiling_first ceiling known)
 ceiling-from finals c ceiling [] from is = is
 ceiling-from finals c ceiling (it ∷ known) from is =
     ceiling-from finals (c + 1) (lower_of ceiling (missed_first it)) known
@@ -181,7 +181,7 @@ ceiling-from finals c ceiling (it ∷ known) from is =
 
 -- so they are refined no times
 pub record IsFinal (verdicts : PaymentSeries → ℕ → ℕ → Verdict) (price : ℕ) (list : List Candidate) (r : ℕ) (search : Search) : Type 0 where
-  pub finals : List Outcome
+  pub finals : List CandidateOutcome
   pub outcomes : AllZip (IsYieldOutcome verdicts price) list finals
   pub refined : IsRefined verdicts finals r search
 

@@ -30,8 +30,8 @@ use Rattle.muni_yield.proofs.FinalLemmas.{final-verdict, final-true, final-doubt
 use Rattle.muni_yield.proofs.PlaceLemmas.{AreEnclosed}
 use Rattle.muni_sched.specs.declared.candidate.Shape.{Shape}
 use Rattle.muni_sched.specs.declared.candidate.Shape.TheVariants.{Many, One, AtRedemption, Discount}
-use Rattle.muni_sched.specs.declared.lowest.Outcome.{Outcome}
-use Rattle.muni_sched.specs.declared.lowest.Outcome.TheVariants.{Print, Unsure, Below, Above}
+use Rattle.muni_sched.specs.declared.outcome.CandidateOutcome.{CandidateOutcome}
+use Rattle.muni_sched.specs.declared.outcome.CandidateOutcome.TheVariants.{Print, Unsure, Below, Above}
 use Rattle.muni_sched.specs.GivenFigure.{at_price, IsFigureInDoubt}
 use Rattle.muni_sched.specs.Exact.{IsExactIn, IsExactSingle, IsExactYieldOf}
 use Rattle.muni_sched.specs.Shape.{IsPriceable}
@@ -185,7 +185,7 @@ amount-above Actual365 accrued price from some = omega (arith, ints, from, some)
 pub price-above : (payment : SinglePayment) (price : ℕ) → pos 0 ≤ℤ payment.accrued → 0 < price → pos 0 <ℤ (price_amount payment.basis price +ℤ payment.accrued)
 price-above payment price accrued some = amount-above payment.basis payment.accrued price accrued some
 
-single-sound : (least : ℤ) (payment : SinglePayment) (price : ℕ) (outcome : Outcome) (IsDoubtfulAt : ℤ → Type 0) (exact : ExactOutcome) → IsBounded (one least payment) → 0 < price → IsOneOutcome price least payment outcome → IsExactSingle least payment (price_amount payment.basis price) exact → IsSound (negsuc 5000) IsDoubtfulAt outcome exact
+single-sound : (least : ℤ) (payment : SinglePayment) (price : ℕ) (outcome : CandidateOutcome) (IsDoubtfulAt : ℤ → Type 0) (exact : ExactOutcome) → IsBounded (one least payment) → 0 < price → IsOneOutcome price least payment outcome → IsExactSingle least payment (price_amount payment.basis price) exact → IsSound (negsuc 5000) IsDoubtfulAt outcome exact
 single-sound least payment price outcome D exact range some told exactly =
     let above = price-above payment price range.2 some in
     let wanted = exact-answer least payment (price_amount payment.basis price) exact exactly in
@@ -198,7 +198,7 @@ single-sound least payment price outcome D exact range some told exactly =
 abbrev pub EncloseAll : (ends : PaymentSeries → ℤ → WorthEnds) → Type 0
 EncloseAll ends = (series : PaymentSeries) → IsSeries series → 2 ≤ series.n → AreEnclosed series (ends series)
 
-pub yield-sound : (ends : PaymentSeries → ℤ → WorthEnds) (price : ℕ) (to_be : ToCome) (outcome : Outcome) (exact : ExactOutcome) → IsBounded to_be → 0 < price → EncloseAll ends → IsYieldOutcomeFor (place_verdict ends) price to_be outcome → IsExactYieldOf price to_be exact
+pub yield-sound : (ends : PaymentSeries → ℤ → WorthEnds) (price : ℕ) (to_be : ToCome) (outcome : CandidateOutcome) (exact : ExactOutcome) → IsBounded to_be → 0 < price → EncloseAll ends → IsYieldOutcomeFor (place_verdict ends) price to_be outcome → IsExactYieldOf price to_be exact
     → IsSound (negsuc 5000) (IsFigureInDoubt (at_price price) to_be) outcome exact
 yield-sound ends price (many series) outcome exact range some law is exactly =
     subst (λ x. IsSound (negsuc 5000) (IsFigureInDoubt (at_price price) (many series)) x exact) (sym is) (final-sound ends series price exact range.0 range.1 some (law series range.0 range.1) exactly)
@@ -220,7 +220,7 @@ found-doubt series price s (found.Unsure lower) doubt same =
     let figure : lower ≡ s = cc in
     subst (λ t. IsFigureInDoubt (at_price price) (many series) (t +ℤ pos 1)) figure doubt.doubtful
 
-pub yield-doubt : (ends : PaymentSeries → ℤ → WorthEnds) (price : ℕ) (s : ℤ) (to_be : ToCome) (outcome : Outcome) → IsBounded to_be → 0 < price → EncloseAll ends → IsYieldOutcomeFor (place_verdict ends) price to_be outcome → outcome ≡ Unsure s → IsFigureInDoubt (at_price price) to_be (s +ℤ pos 1)
+pub yield-doubt : (ends : PaymentSeries → ℤ → WorthEnds) (price : ℕ) (s : ℤ) (to_be : ToCome) (outcome : CandidateOutcome) → IsBounded to_be → 0 < price → EncloseAll ends → IsYieldOutcomeFor (place_verdict ends) price to_be outcome → outcome ≡ Unsure s → IsFigureInDoubt (at_price price) to_be (s +ℤ pos 1)
 yield-doubt ends price s (many series) outcome range some law is same =
     found-doubt series price s (final_of (place_verdict ends) series price) (final-doubtful ends series price range.1 some (law series range.0 range.1)) (sym is ∙ same)
 yield-doubt ends price s (one least payment) outcome range some law is same = absurd (simple-sure is.0 s (sym is.2 ∙ same))

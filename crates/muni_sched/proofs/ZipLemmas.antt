@@ -1,5 +1,5 @@
 -- Lists that stand for lists, item by item.
-use Rattle.std.proofs.Common.{◌≡◌, ℕ, ◌+◌, ◌<◌, List, [], ◌∷◌, ◌++◌, All, length, take, get_or, refl, ap, sym, subst, ◌∙◌}
+use Rattle.std.proofs.Common.{◌≡◌, ℕ, ◌+◌, ◌<◌, List, [], ◌∷◌, ◌++◌, All, length, map, take, get_or, refl, ap, sym, subst, ◌∙◌}
 use Rattle.std.specs.List.{AllZip}
 use Rattle.std.proofs.lemmas.List.{take_more}
 use Rattle.std.proofs.lemmas.Slice.Zip.{AllZip-long}
@@ -52,3 +52,15 @@ zip-next R xs i x ys new y inside is all one pushed =
 -- what holds of the length of one holds of that of the other
 pub zip-long : {X Y : Type 0} (Is : X → Y → Type 0) (xs : List X) (ys : List Y) (Long : ℕ → Type 0) → AllZip Is xs ys → Long (length ys) → Long (length xs)
 zip-long Is xs ys Long all long = subst Long (AllZip-long Is xs ys all) long
+
+-- where an item stands for each by its image, so does the list of the images
+pub zip-map : {X Y Z : Type 0} (Is : X → Z → Type 0) (f : Y → Z) (xs : List X) (ys : List Y) → AllZip (λ x y. Is x (f y)) xs ys → AllZip Is xs (map f ys)
+zip-map Is f [] [] is = tt
+zip-map Is f [] (y ∷ ys) is = absurd is
+zip-map Is f (x ∷ xs) [] is = absurd is
+zip-map Is f (x ∷ xs) (y ∷ ys) is = (is.0, zip-map Is f xs ys is.1)
+
+-- a list is its own image by the function that changes nothing
+pub map-same : {X : Type 0} (xs : List X) → map (λ (x : X). x) xs ≡ xs
+map-same [] = refl
+map-same (x ∷ xs) = ap (λ rest. x ∷ rest) (map-same xs)

@@ -10,11 +10,10 @@ use Rattle.muni_sched.specs.declared.answer.Figure.TheVariants as figure
 use Rattle.muni_sched.specs.declared.answer.LowAnswer.{LowAnswer}
 use Rattle.muni_sched.specs.declared.answer.LowAnswer.TheVariants.{Low, Undecided, Below, Above, NoTime}
 use Rattle.muni_sched.specs.declared.candidate.Candidate.{Candidate}
-use Rattle.muni_sched.specs.declared.figure.FigureKind.{FigureKind}
-use Rattle.muni_sched.specs.declared.figure.FigureKind.TheVariants.{Price, Yield}
-use Rattle.muni_sched.specs.declared.lowest.Lowest.{Lowest}
-use Rattle.muni_sched.specs.declared.lowest.Lowest.TheVariants as lowest
-use Rattle.muni_sched.specs.declared.lowest.Outcome.{Outcome}
+use Rattle.muni_sched.specs.FigureKind.{FigureKind, Price, Yield}
+use Rattle.muni_sched.specs.LowestFigure.{Lowest}
+use Rattle.muni_sched.specs.LowestFigure as lowest
+use Rattle.muni_sched.specs.declared.outcome.CandidateOutcome.{CandidateOutcome}
 use Rattle.muni_sched.specs.GivenFigure.{GivenFigure, kind_of, IsOutcome, IsExact, IsInDoubt}
 use Rattle.muni_sched.specs.Figures.{least_unsure, figure_of, boundary_of}
 use Rattle.muni_sched.specs.Lowest.{IsLowest}
@@ -38,7 +37,7 @@ pub record IsLowestByRule
     (ends : PaymentSeries → ℤ → WorthEnds) (given : GivenFigure) (list : List Candidate)
     (answer : LowAnswer) : Type 0 where
   pub lowest : Lowest
-  pub outcomes : List Outcome
+  pub outcomes : List CandidateOutcome
   pub each : AllZip (IsOutcome ends given) list outcomes
   pub rule : IsLowest (least_unsure (kind_of given)) outcomes lowest
   pub answered : Some answer ≡ dated (kind_of given) list lowest

@@ -6,12 +6,11 @@ use Rattle.muni_terms.specs.declared.disclosure.Boundary.{Boundary}
 use Rattle.muni_terms.specs.declared.disclosure.Boundary.TheVariants as boundary
 use Rattle.muni_sched.specs.declared.answer.Figure.{Figure}
 use Rattle.muni_sched.specs.declared.answer.Figure.TheVariants as figure
-use Rattle.muni_sched.specs.declared.figure.FigureKind.{FigureKind}
-use Rattle.muni_sched.specs.declared.figure.FigureKind.TheVariants.{Price, Yield}
-use Rattle.muni_sched.specs.declared.lowest.Lowest.{Lowest}
-use Rattle.muni_sched.specs.declared.lowest.Lowest.TheVariants as lowest
-use Rattle.muni_sched.specs.declared.lowest.Outcome.{Outcome}
-use Rattle.muni_sched.specs.declared.lowest.Outcome.TheVariants.{Print, Unsure, Below, Above, NoTime}
+use Rattle.muni_sched.specs.FigureKind.{FigureKind, Price, Yield}
+use Rattle.muni_sched.specs.LowestFigure.{Lowest}
+use Rattle.muni_sched.specs.LowestFigure as lowest
+use Rattle.muni_sched.specs.declared.outcome.CandidateOutcome.{CandidateOutcome}
+use Rattle.muni_sched.specs.declared.outcome.CandidateOutcome.TheVariants.{Print, Unsure, Below, Above, NoTime}
 
 -- The least figure at which a candidate may be unsure, just below 0.000 dollars or -5.000 percent.
 -- Lower yields are printed for one payment to come alone, and are exact.
@@ -31,7 +30,7 @@ boundary_of Yield t = boundary.Yield (boundary t)
 
 -- The outcomes that a candidate may have: a price is at most 100,000 dollars, and a yield at most
 -- 999.999 percent, and about 100 where it may be unsure.
-abbrev pub IsOf : FigureKind → Outcome → Type 0
+abbrev pub IsOf : FigureKind → CandidateOutcome → Type 0
 IsOf Price (Print t) = (pos 0 ≤ℤ t) × (t ≤ℤ pos 100_000_000)
 IsOf Price (Unsure s) = (least_unsure Price ≤ℤ s) × (s ≤ℤ pos 99_999_999)
 IsOf Yield (Print t) = (negsuc 89_999 ≤ℤ t) × (t ≤ℤ pos 999_999)

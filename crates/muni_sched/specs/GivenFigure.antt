@@ -11,9 +11,8 @@ use Rattle.muni_rule.specs.Schedule.{ExactOutcome}
 use Rattle.muni_rule.specs.WorthEnds.{WorthEnds}
 use Rattle.muni_yield.specs.Places.{place_verdict}
 use Rattle.muni_sched.specs.declared.candidate.Candidate.{Candidate}
-use Rattle.muni_sched.specs.declared.figure.FigureKind.{FigureKind}
-use Rattle.muni_sched.specs.declared.figure.FigureKind.TheVariants.{Price, Yield}
-use Rattle.muni_sched.specs.declared.lowest.Outcome.{Outcome}
+use Rattle.muni_sched.specs.FigureKind.{FigureKind, Price, Yield}
+use Rattle.muni_sched.specs.declared.outcome.CandidateOutcome.{CandidateOutcome}
 use Rattle.muni_sched.specs.Candidates.{IsCandidate}
 use Rattle.muni_sched.specs.Exact.{IsExactPrice, IsExactYield}
 use Rattle.muni_sched.specs.PriceOutcome.{IsAtYield, IsPriceOutcome}
@@ -41,7 +40,7 @@ MayBeAsked (at_yield y) list = ArePriced y list
 MayBeAsked (at_price price) list = (0 < price) × All IsCandidate list
 
 -- what the ends that an encloser gives tell of a candidate
-abbrev pub IsOutcome : (ends : PaymentSeries → ℤ → WorthEnds) → GivenFigure → Candidate → Outcome → Type 0
+abbrev pub IsOutcome : (ends : PaymentSeries → ℤ → WorthEnds) → GivenFigure → Candidate → CandidateOutcome → Type 0
 IsOutcome ends (at_yield y) candidate outcome = IsPriceOutcome ends y candidate outcome
 IsOutcome ends (at_price price) candidate outcome =
     IsYieldOutcome (place_verdict ends) price candidate outcome

@@ -1,3 +1,5 @@
+pub mod FigureKind
+pub mod LowestFigure
 pub mod Lowest
 pub mod Ranks
 pub mod Sound
@@ -15,4 +17,5 @@ pub mod Search
 pub mod SearchedOut
 pub mod GivenFigure
 pub mod Answer
+pub mod LowAnswers
 pub mod AnswerLaws

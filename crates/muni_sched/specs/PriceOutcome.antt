@@ -13,8 +13,10 @@ use Rattle.muni_simple.specs.declared.price.SimplePrice.TheVariants as exact
 use Rattle.muni_sched.specs.declared.candidate.Candidate.{Candidate}
 use Rattle.muni_sched.specs.declared.candidate.Shape.{Shape}
 use Rattle.muni_sched.specs.declared.candidate.Shape.TheVariants.{Many, One, AtRedemption, Discount}
-use Rattle.muni_sched.specs.declared.lowest.Outcome.{Outcome}
-use Rattle.muni_sched.specs.declared.lowest.Outcome.TheVariants.{Print, Unsure, Below}
+use Rattle.muni_sched.specs.declared.outcome.CandidateOutcome.{CandidateOutcome}
+use Rattle.muni_sched.specs.declared.outcome.CandidateOutcome.TheVariants.{Print, Unsure, Below}
+use Rattle.muni_sched.specs.FigureKind.{Price}
+use Rattle.muni_sched.specs.Figures.{IsOf}
 use Rattle.muni_sched.specs.ToCome.{ToCome, many, one, to_come_of}
 
 -- a yield is given for all but discounted notes
@@ -27,15 +29,14 @@ IsShapeAtYield (Discount days basis) = ⊥
 abbrev pub IsAtYield : Candidate → Type 0
 IsAtYield candidate = IsShapeAtYield candidate.shape
 
--- an answer for many payments: a boundary that is open begins the figure after the one that is
--- reached
-abbrev pub many_price : PriceAnswer → Outcome
-many_price (found.Price t) = Print (pos t)
-many_price found.BelowZero = Below
-many_price (found.Undecided boundary) = Unsure (pos boundary -ℤ pos 1)
+-- an answer as an outcome: a boundary that is open begins the figure after the one that is reached
+abbrev pub price_outcome : PriceAnswer → CandidateOutcome
+price_outcome (found.Price t) = Print (pos t)
+price_outcome found.BelowZero = Below
+price_outcome (found.Undecided boundary) = Unsure (pos boundary -ℤ pos 1)
 
--- and an answer for one payment to come
-abbrev pub one_price : SimplePrice → Outcome
+-- and an exact answer for one payment to come
+abbrev pub one_price : SimplePrice → CandidateOutcome
 one_price (exact.Price t) = Print (pos t)
 one_price exact.BelowZero = Below
 
@@ -47,15 +48,23 @@ IsManyOutcome ends y series answer =
     (dirty_thousandths series.accrued t)) answer
 
 -- One payment to come has its exact outcome, and many have that of verdicts.
-abbrev pub IsPriceOutcomeFor : (ends : PaymentSeries → ℤ → WorthEnds) → ℤ → ToCome → Outcome
+abbrev pub IsPriceOutcomeFor : (ends : PaymentSeries → ℤ → WorthEnds) → ℤ → ToCome → CandidateOutcome
     → Type 0
 IsPriceOutcomeFor ends y (many series) outcome =
-    (answer : PriceAnswer) × IsManyOutcome ends y series answer × (outcome ≡ many_price answer)
+    (answer : PriceAnswer) × IsManyOutcome ends y series answer × (outcome ≡ price_outcome answer)
 IsPriceOutcomeFor ends y (one least payment) outcome =
     (answer : SimplePrice) × simple.IsPriceAnswer payment.basis (AtLeast payment y) answer
     × (outcome ≡ one_price answer)
 
-abbrev pub IsPriceOutcome : (ends : PaymentSeries → ℤ → WorthEnds) → ℤ → Candidate → Outcome
+abbrev pub IsPriceOutcome : (ends : PaymentSeries → ℤ → WorthEnds) → ℤ → Candidate → CandidateOutcome
     → Type 0
 IsPriceOutcome ends y candidate outcome =
     IsPriceOutcomeFor ends y (to_come_of candidate.shape) outcome
+
+-- the price of a candidate as it is answered
+abbrev pub IsPriceAt : (ends : PaymentSeries → ℤ → WorthEnds) → ℤ → Candidate → PriceAnswer → Type 0
+IsPriceAt ends y candidate answer = IsPriceOutcome ends y candidate (price_outcome answer)
+
+-- a price that is answered is one that a candidate may have
+abbrev pub IsPrintable : PriceAnswer → Type 0
+IsPrintable answer = IsOf Price (price_outcome answer)

@@ -8,9 +8,9 @@ use Rattle.muni_yield.specs.Bracket.{YieldBracket, IsBracket, start_of, is_settl
 use Rattle.muni_yield.specs.Places.{yield_at}
 use Rattle.muni_yield.specs.Settled.{outcome_of}
 use Rattle.muni_sched.specs.declared.candidate.Candidate.{Candidate}
-use Rattle.muni_sched.specs.declared.figure.FigureKind.TheVariants.{Yield}
-use Rattle.muni_sched.specs.declared.lowest.Outcome.{Outcome}
-use Rattle.muni_sched.specs.declared.lowest.Outcome.TheVariants.{Print, Unsure, Below, Above, NoTime}
+use Rattle.muni_sched.specs.FigureKind.{Yield}
+use Rattle.muni_sched.specs.declared.outcome.CandidateOutcome.{CandidateOutcome}
+use Rattle.muni_sched.specs.declared.outcome.CandidateOutcome.TheVariants.{Print, Unsure, Below, Above, NoTime}
 use Rattle.muni_sched.specs.declared.search.OpenSearch.{OpenSearch}
 use Rattle.muni_sched.specs.declared.search.Search.{Search}
 use Rattle.muni_sched.specs.Figures.{IsOf}
@@ -32,14 +32,14 @@ asked verdicts search = record {
 }
 
 -- the outcome of a settled search is known of its candidate
-abbrev pub noted : OpenSearch → List (Option Outcome) → List (Option Outcome)
+abbrev pub noted : OpenSearch → List (Option CandidateOutcome) → List (Option CandidateOutcome)
 noted search known =
     if is_settled search.bracket
     then slice_set known search.candidate (Some (many_yield (outcome_of search.bracket)))
     else known
 
 -- and so for each
-abbrev pub recorded : List OpenSearch → List (Option Outcome) → List (Option Outcome)
+abbrev pub recorded : List OpenSearch → List (Option CandidateOutcome) → List (Option CandidateOutcome)
 recorded [] known = known
 recorded (search ∷ rest) known = recorded rest (noted search known)
 
@@ -48,7 +48,7 @@ abbrev pub missed : OpenSearch → Option ℤ
 missed search =
     if nat_le search.bracket.high 105_002 then Some (yield_at search.bracket.high) else None
 
-abbrev pub missed_first : Option Outcome → Option ℤ
+abbrev pub missed_first : Option CandidateOutcome → Option ℤ
 missed_first (Some (Print t)) = Some (t +ℤ pos 1)
 missed_first (Some (Unsure s)) = None
 missed_first (Some Below) = None
@@ -66,7 +66,7 @@ abbrev pub ceiling_after : Option ℤ → List OpenSearch → Option ℤ
 ceiling_after ceiling [] = ceiling
 ceiling_after ceiling (search ∷ rest) = ceiling_after (lower_of ceiling (missed search)) rest
 
-abbrev pub ceiling_first : Option ℤ → List (Option Outcome) → Option ℤ
+abbrev pub ceiling_first : Option ℤ → List (Option CandidateOutcome) → Option ℤ
 ceiling_first ceiling [] = ceiling
 ceiling_first ceiling (known ∷ rest) = ceiling_first (lower_of ceiling (missed_first known)) rest
 
@@ -95,7 +95,7 @@ searches_from price c (candidate ∷ rest) =
     searches_for price c (to_come_of candidate.shape) (searches_from price (c + 1) rest)
 
 -- an outcome that is known is one of a yield
-abbrev pub IsKnownYield : Option Outcome → Type 0
+abbrev pub IsKnownYield : Option CandidateOutcome → Type 0
 IsKnownYield known = IfSome known (IsOf Yield)
 
 -- all that is known before the first round
@@ -106,7 +106,7 @@ pub record IsStarted (price : ℕ) (list : List Candidate) (search : Search) : T
   pub ceiling : search.ceiling ≡ ceiling_first None search.known.items
 
 -- what is known after one more
-abbrev pub refined_by : List OpenSearch → List (Option Outcome) → Option ℤ → Search
+abbrev pub refined_by : List OpenSearch → List (Option CandidateOutcome) → Option ℤ → Search
 refined_by searches known ceiling = record {
   known = record { items = recorded searches known };
   searches = record { items = filter (is_needed (ceiling_after ceiling searches)) searches };
@@ -135,5 +135,5 @@ pub record CanRefine (search : Search) : Type 0 where
   pub few : length search.searches.items ≤ 41
 
 -- a candidate whose outcome is not known is above the figure that is the lowest
-abbrev pub outcomes_of : List (Option Outcome) → List Outcome
+abbrev pub outcomes_of : List (Option CandidateOutcome) → List CandidateOutcome
 outcomes_of known = map (λ outcome. unwrap_or outcome Above) known

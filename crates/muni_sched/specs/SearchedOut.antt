@@ -5,9 +5,9 @@ use Rattle.muni_rule.specs.Payments.{PaymentSeries}
 use Rattle.muni_rule.specs.WorthEnds.{WorthEnds}
 use Rattle.muni_yield.specs.Places.{place_verdict}
 use Rattle.muni_sched.specs.declared.candidate.Candidate.{Candidate}
-use Rattle.muni_sched.specs.declared.figure.FigureKind.TheVariants.{Yield}
-use Rattle.muni_sched.specs.declared.lowest.Lowest.{Lowest}
-use Rattle.muni_sched.specs.declared.lowest.Outcome.{Outcome}
+use Rattle.muni_sched.specs.FigureKind.{Yield}
+use Rattle.muni_sched.specs.LowestFigure.{Lowest}
+use Rattle.muni_sched.specs.declared.outcome.CandidateOutcome.{CandidateOutcome}
 use Rattle.muni_sched.specs.declared.search.Search.{Search}
 use Rattle.muni_sched.specs.Figures.{least_unsure, IsOf}
 use Rattle.muni_sched.specs.Ranks.{IsRanked}
@@ -17,8 +17,8 @@ use Rattle.muni_sched.specs.YieldOutcome.{IsYieldOutcome}
 -- the first of least rank among these outcomes is that among the outcomes of all candidates
 pub record AreSearchedOut
     (ends : PaymentSeries → ℤ → WorthEnds) (price : ℕ) (list : List Candidate)
-    (found : List Outcome) : Type 0 where
-  pub outcomes : List Outcome
+    (found : List CandidateOutcome) : Type 0 where
+  pub outcomes : List CandidateOutcome
   pub each : AllZip (IsYieldOutcome (place_verdict ends) price) list outcomes
   pub ranked : (lowest : Lowest) → IsRanked (least_unsure Yield) found lowest
       → IsRanked (least_unsure Yield) outcomes lowest

@@ -4,10 +4,10 @@
 
 mod answer;
 mod candidate;
-mod figure;
 pub mod laws;
 mod lowest;
 mod note;
+mod outcome;
 mod prices;
 mod range;
 mod redemptions;
@@ -16,12 +16,12 @@ mod shape;
 mod yield_outcome;
 mod yields;
 
-pub use answer::{Figure, LowAnswer};
+pub use answer::{Figure, LowAnswer, LowestPrice, LowestYield, NoPrice, NoYield};
 pub use candidate::{Candidate, Shape};
-pub use figure::FigureKind;
-pub use lowest::{Lowest, Outcome, lowest_of};
+pub use lowest::lowest_of;
 pub use muni_terms::{Boundary, Label};
-pub use prices::lowest_price;
+pub use outcome::{CandidateOutcome, Ranked};
+pub use prices::{lowest_price, price_to_worst};
 pub use range::out_of_range;
 pub use redemptions::candidates;
-pub use yields::lowest_yield;
+pub use yields::{lowest_yield, yield_to_worst};

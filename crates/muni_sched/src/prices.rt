@@ -1,21 +1,21 @@
 //! The lowest price over redemption candidates.
 
-ghost use Rattle.std.specs.Prelude.{◌≡◌, ◌<◌, ◌≤◌, length, All};
+ghost use Rattle.std.specs.Prelude.{◌≡◌, ◌<◌, ◌≤◌, Some, length, All};
 ghost use Rattle.std.specs.List.{AllZip};
 ghost use Rattle.muni_multi.specs.Prices as multi;
 ghost use Rattle.muni_simple.specs.Single as simple;
-ghost use Rattle.muni_sched.specs.Answer.{IsLowestAnswer};
-ghost use Rattle.muni_sched.specs.GivenFigure.{at_yield};
+ghost use Rattle.muni_sched.specs.Answer.{dated, IsLowestAnswer};
 ghost use Rattle.muni_sched.specs.Candidates.{IsCandidate};
+ghost use Rattle.muni_sched.specs.FigureKind.{Price};
 ghost use Rattle.muni_sched.specs.Figures.{IsOf};
-ghost use Rattle.muni_sched.specs.PriceOutcome as spec;
-ghost use Rattle.muni_sched.specs.PriceOutcome.{IsAtYield, IsPriceOutcome};
+ghost use Rattle.muni_sched.specs.GivenFigure.{at_yield};
+ghost use Rattle.muni_sched.specs.LowAnswers.{low_price};
+ghost use Rattle.muni_sched.specs.PriceOutcome.{price_outcome, one_price, IsAtYield, IsPriceAt, IsPrintable};
 ghost use Rattle.muni_sched.specs.Range.{IsGivenFor};
-ghost use Rattle.muni_sched.specs.declared.figure.FigureKind.TheVariants.{Price};
+ghost use Rattle.muni_sched.specs.Ranks.{decided_by};
 
-use crate::figure::{FigureKind, answer};
-use crate::lowest::{Outcome, lowest_of};
-use crate::{Candidate, LowAnswer, Shape};
+use crate::lowest::lowest_of;
+use crate::{Candidate, LowAnswer, LowestPrice, NoPrice, Shape};
 use arrayvec::ArrayVec;
 use muni_dec::Yield;
 use muni_multi::{Discount, Encloser, PriceAnswer, printed_price_at};
@@ -34,71 +34,97 @@ pub fn lowest_price<E: Encloser>(list: &[Candidate], y: Yield, encloser: &E) -> 
     requires in_range { All (IsGivenFor y) list.now }
     ensures { IsLowestAnswer (E.ends encloser.now) (at_yield y) list.now result }
 {
-    let outcomes = outcomes_at(encloser, list, y);
-    let lowest = lowest_of(outcomes.as_slice(), FigureKind::Price);
-    answer(FigureKind::Price, list, lowest)
+    LowAnswer::of_price(price_to_worst(list, y, encloser))
 }
 
-fn outcomes_at<E: Encloser>(encloser: &E, list: &[Candidate], y: Yield) -> ArrayVec<Outcome, 41>
+/// The same, with the price as such.
+pub fn price_to_worst<E: Encloser>(
+    list: &[Candidate],
+    y: Yield,
+    encloser: &E,
+) -> Result<LowestPrice, NoPrice>
+    requires some { 0 < length list.now }
     requires few { length list.now ≤ 41 }
     requires candidates { All IsCandidate list.now }
     requires basis { All IsAtYield list.now }
     requires in_range { All (IsGivenFor y) list.now }
-    ensures each { AllZip (IsPriceOutcome (E.ends encloser.now) y) list.now result.items }
-    ensures range { All (IsOf Price) result.items }
+    ensures { IsLowestAnswer (E.ends encloser.now) (at_yield y) list.now (low_price result) }
 {
-    let mut outcomes = ArrayVec::new();
+    let prices = prices_at(encloser, list, y);
+    let candidate = lowest_of(prices.as_slice());
+    decided_price(list, prices.as_slice()[candidate], candidate)
+}
+
+// The price of the candidate that decides, or why there is none.
+fn decided_price(
+    list: &[Candidate],
+    answer: PriceAnswer,
+    candidate: usize,
+) -> Result<LowestPrice, NoPrice>
+    requires { candidate < length list.now }
+    ensures { Some (low_price result)
+        ≡ dated Price list.now (decided_by (price_outcome answer) candidate) }
+{
+    match answer {
+        PriceAnswer::Price(price) => Ok(LowestPrice { price, candidate }),
+        PriceAnswer::BelowZero => Err(NoPrice::Below {
+            date: list[candidate].date,
+        }),
+        PriceAnswer::Undecided { boundary } => Err(NoPrice::Undecided {
+            date: list[candidate].date,
+            boundary,
+        }),
+    }
+}
+
+fn prices_at<E: Encloser>(encloser: &E, list: &[Candidate], y: Yield) -> ArrayVec<PriceAnswer, 41>
+    requires few { length list.now ≤ 41 }
+    requires candidates { All IsCandidate list.now }
+    requires basis { All IsAtYield list.now }
+    requires in_range { All (IsGivenFor y) list.now }
+    ensures each { AllZip (IsPriceAt (E.ends encloser.now) y) list.now result.items }
+    ensures range { All IsPrintable result.items }
+{
+    let mut prices = ArrayVec::new();
     let mut discount = None;
     for candidate in list {
-        outcomes.push(price_outcome(encloser, candidate, y, &mut discount));
+        prices.push(price_at(encloser, candidate, y, &mut discount));
     }
-    outcomes
+    prices
 }
 
 // The candidates after the first find the discount of the yield at hand.
-fn price_outcome<E: Encloser>(
+fn price_at<E: Encloser>(
     encloser: &E,
     candidate: &Candidate,
     y: Yield,
     discount: &mut Option<Discount>,
-) -> Outcome
+) -> PriceAnswer
     requires candidate { IsCandidate candidate.now }
     requires basis { IsAtYield candidate.now }
     requires in_range { IsGivenFor y candidate.now }
-    ensures outcome { IsPriceOutcome (E.ends encloser.now) y candidate.now result }
-    ensures range { IsOf Price result }
+    ensures outcome { IsPriceAt (E.ends encloser.now) y candidate.now result }
+    ensures range { IsPrintable result }
 {
     match &candidate.shape {
         Shape::Many(flows) => {
             let at = Discount::kept_or_at(discount.as_ref(), y.units() as i32, flows.a());
             *discount = Some(at);
-            many_price(printed_price_at(encloser, flows, &at))
+            printed_price_at(encloser, flows, &at)
         }
-        Shape::One(payment) => one_price(single_price(payment, Shape1::OnePeriod, y)),
-        Shape::AtRedemption(payment) => one_price(single_price(payment, Shape1::AtRedemption, y)),
+        Shape::One(payment) => sure(single_price(payment, Shape1::OnePeriod, y)),
+        Shape::AtRedemption(payment) => sure(single_price(payment, Shape1::AtRedemption, y)),
         Shape::Discount { .. } => unreachable!(),
     }
 }
 
-fn many_price(answer: PriceAnswer) -> Outcome
-    requires { multi.figure answer ≤ 100_000_000 }
-    ensures value { result ≡ spec.many_price answer }
-    ensures range { IsOf Price result }
-{
-    match answer {
-        PriceAnswer::Price(price) => Outcome::Print(price.units() as i32),
-        PriceAnswer::BelowZero => Outcome::Below,
-        PriceAnswer::Undecided { boundary } => Outcome::Unsure(boundary.units() as i32 - 1),
-    }
-}
-
-fn one_price(answer: SimplePrice) -> Outcome
+fn sure(answer: SimplePrice) -> PriceAnswer
     requires { simple.PrintsAtMost 100_000_000 answer }
-    ensures value { result ≡ spec.one_price answer }
-    ensures range { IsOf Price result }
+    ensures value { price_outcome result ≡ one_price answer }
+    ensures range { IsPrintable result }
 {
     match answer {
-        SimplePrice::Price(price) => Outcome::Print(price.units() as i32),
-        SimplePrice::BelowZero => Outcome::Below,
+        SimplePrice::Price(price) => PriceAnswer::Price(price),
+        SimplePrice::BelowZero => PriceAnswer::BelowZero,
     }
 }

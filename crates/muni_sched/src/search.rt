@@ -10,11 +10,10 @@ ghost use Rattle.muni_sched.specs.Figures.{IsOf};
 ghost use Rattle.muni_sched.specs.Search as spec;
 ghost use Rattle.muni_sched.specs.Search.{IsSearch, IsOpen, IsKnownYield, CanRefine, IsStarted, asked, recorded, missed, missed_first, ceiling_after, ceiling_first, outcomes_of, searches_from, refined};
 ghost use Rattle.muni_sched.specs.YieldOutcome.{IsKnownFirst, many_yield};
-ghost use Rattle.muni_sched.specs.declared.figure.FigureKind.TheVariants.{Yield};
+ghost use Rattle.muni_sched.specs.FigureKind.{Yield};
 
-use crate::lowest::Outcome;
 use crate::yield_outcome::{known_first, many_yield};
-use crate::{Candidate, Shape};
+use crate::{Candidate, CandidateOutcome, Shape};
 use arrayvec::ArrayVec;
 use muni_dec::Price;
 use muni_edge::Gate;
@@ -45,7 +44,7 @@ impl OpenSearch {
     }
 
     // The outcome, once it is known.
-    fn settled(&self) -> Option<Outcome>
+    fn settled(&self) -> Option<CandidateOutcome>
         requires { IsSearch self.now }
         ensures { result ≡ option_map many_yield (settled_as self.now.bracket) }
     {
@@ -83,7 +82,7 @@ fn is_at_ceiling(ceiling: Option<i32>, thousandths: i32) -> bool
 #[derive(Drop)]
 pub(crate) struct Search {
     /// The outcome of each candidate, if it is known.
-    known: ArrayVec<Option<Outcome>, 41>,
+    known: ArrayVec<Option<CandidateOutcome>, 41>,
     /// The searches that are still needed.
     searches: ArrayVec<OpenSearch, 41>,
     /// The least figure that a candidate is known not to reach.
@@ -110,12 +109,12 @@ impl Search {
 
     /// The outcomes, once nothing is left to ask. A candidate whose outcome is not known cannot be
     /// the lowest, and stands as above all figures.
-    pub(crate) fn outcomes(&self) -> ArrayVec<Outcome, 41>
+    pub(crate) fn outcomes(&self) -> ArrayVec<CandidateOutcome, 41>
         ensures { result.items ≡ outcomes_of self.now.known.items }
     {
         let mut outcomes = ArrayVec::new();
         for known in self.known.as_slice() {
-            outcomes.push(known.unwrap_or(Outcome::Above));
+            outcomes.push(known.unwrap_or(CandidateOutcome::Above));
         }
         outcomes
     }
@@ -156,7 +155,7 @@ impl Search {
     }
 }
 
-fn all_known_first(list: &[Candidate], price: Price) -> ArrayVec<Option<Outcome>, 41>
+fn all_known_first(list: &[Candidate], price: Price) -> ArrayVec<Option<CandidateOutcome>, 41>
     requires few { length list.now ≤ 41 }
     requires candidates { All IsCandidate list.now }
     requires price { 0 < price }
@@ -189,12 +188,12 @@ fn all_searches(list: &[Candidate], price: Price) -> ArrayVec<OpenSearch, 41>
 }
 
 // A yield that is printed is not reached at the next figure.
-fn missed_first(known: Option<Outcome>) -> Option<i32>
+fn missed_first(known: Option<CandidateOutcome>) -> Option<i32>
     requires { IsKnownYield known }
     ensures { result ≡ missed_first known }
 {
-    match known {
-        Some(Outcome::Print(thousandths)) => Some(thousandths + 1),
+    match known? {
+        CandidateOutcome::Print(yld) => Some(yld.units() as i32 + 1),
         _ => None,
     }
 }
@@ -209,7 +208,7 @@ fn lower_of(ceiling: Option<i32>, other: Option<i32>) -> Option<i32>
     }
 }
 
-fn ceiling_first(known: &[Option<Outcome>]) -> Option<i32>
+fn ceiling_first(known: &[Option<CandidateOutcome>]) -> Option<i32>
     requires { All IsKnownYield known.now }
     ensures { result ≡ ceiling_first None known.now }
 {
@@ -253,7 +252,7 @@ fn ask_each<R: Threads + Sync, E: Encloser + Sync, G: Gate + Sync>(
     );
 }
 
-fn record_settled(searches: &[OpenSearch], known: &mut [Option<Outcome>])
+fn record_settled(searches: &[OpenSearch], known: &mut [Option<CandidateOutcome>])
     requires each { All IsSearch searches.now }
     requires candidates { All (λ it. it.candidate < length known.old) searches.now }
     ensures { known.new ≡ recorded searches.now known.old }

@@ -6,41 +6,40 @@ ghost use Rattle.muni_sched.specs.Figures.{IsOf};
 ghost use Rattle.muni_sched.specs.Search.{IsKnownYield};
 ghost use Rattle.muni_sched.specs.YieldOutcome as spec;
 ghost use Rattle.muni_sched.specs.YieldOutcome.{IsSearched, IsKnownFirst};
-ghost use Rattle.muni_sched.specs.declared.figure.FigureKind.TheVariants.{Yield};
+ghost use Rattle.muni_sched.specs.FigureKind.{Yield};
 
-use crate::lowest::Outcome;
-use crate::{Candidate, Shape};
+use crate::{Candidate, CandidateOutcome, Shape};
 use muni_dec::Price;
 use muni_simple::{Shape1, SimpleYield, discount_return, single_yield};
 
 /// The outcome of a search for the yield of many payments.
-pub(crate) fn many_yield(outcome: muni_yield::Outcome) -> Outcome
+pub(crate) fn many_yield(outcome: muni_yield::Outcome) -> CandidateOutcome
     requires { IsSearched outcome }
     ensures value { result ≡ spec.many_yield outcome }
     ensures range { IsOf Yield result }
 {
     match outcome {
-        muni_yield::Outcome::Print(yld) => Outcome::Print(yld.units() as i32),
-        muni_yield::Outcome::Unsure { lower } => Outcome::Unsure(lower),
-        muni_yield::Outcome::Below => Outcome::Below,
-        muni_yield::Outcome::Above => Outcome::Above,
+        muni_yield::Outcome::Print(yld) => CandidateOutcome::Print(yld),
+        muni_yield::Outcome::Unsure { lower } => CandidateOutcome::Unsure(lower),
+        muni_yield::Outcome::Below => CandidateOutcome::Below,
+        muni_yield::Outcome::Above => CandidateOutcome::Above,
     }
 }
 
-fn one_yield(answer: SimpleYield) -> Outcome
+fn one_yield(answer: SimpleYield) -> CandidateOutcome
     ensures value { result ≡ spec.one_yield answer }
     ensures range { IsOf Yield result }
 {
     match answer {
-        SimpleYield::Print(yld) => Outcome::Print(yld.units() as i32),
-        SimpleYield::Below => Outcome::Below,
-        SimpleYield::Above => Outcome::Above,
-        SimpleYield::NoTime => Outcome::NoTime,
+        SimpleYield::Print(yld) => CandidateOutcome::Print(yld),
+        SimpleYield::Below => CandidateOutcome::Below,
+        SimpleYield::Above => CandidateOutcome::Above,
+        SimpleYield::NoTime => CandidateOutcome::NoTime,
     }
 }
 
 /// What is known before any search: the outcome of one payment to come, and nothing of many.
-pub(crate) fn known_first(candidate: &Candidate, price: Price) -> Option<Outcome>
+pub(crate) fn known_first(candidate: &Candidate, price: Price) -> Option<CandidateOutcome>
     requires candidate { IsCandidate candidate.now }
     requires price { 0 < price }
     ensures known { IsKnownFirst price candidate.now result }

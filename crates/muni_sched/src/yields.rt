@@ -1,17 +1,23 @@
 //! The lowest yield over redemption candidates.
 
-ghost use Rattle.std.specs.Prelude.{◌≡◌, ◌<◌, ◌≤◌, ◌+◌, ◌^◌, length, All};
-ghost use Rattle.muni_sched.specs.Answer.{IsLowestAnswer};
-ghost use Rattle.muni_sched.specs.GivenFigure.{at_price};
+ghost use Rattle.std.specs.Prelude.{◌≡◌, ◌<◌, ◌≤◌, ◌+◌, ◌^◌, ◌+ℤ◌, pos, Some, length, All};
+ghost use Rattle.muni_rule.specs.PrintedYield.{boundary};
+ghost use Rattle.muni_sched.specs.Answer.{dated, IsLowestAnswer};
 ghost use Rattle.muni_sched.specs.Candidates.{IsCandidate};
+ghost use Rattle.muni_sched.specs.FigureKind as kind;
+ghost use Rattle.muni_sched.specs.Figures.{IsOf, IsLowestOf};
+ghost use Rattle.muni_sched.specs.GivenFigure.{at_price};
+ghost use Rattle.muni_sched.specs.LowAnswers.{low_yield};
+ghost use Rattle.muni_sched.specs.Lowest as spec;
+ghost use Rattle.muni_sched.specs.Ranks.{decided_by};
 ghost use Rattle.muni_sched.specs.SearchedOut.{AreSearchedOut, CountsRounds};
+ghost use Rattle.muni_sched.specs.declared.outcome.CandidateOutcome.TheVariants.{Unsure};
 
-use crate::figure::{FigureKind, answer};
-use crate::lowest::{Outcome, lowest_of};
+use crate::lowest::lowest_of;
 use crate::search::Search;
-use crate::{Candidate, LowAnswer};
+use crate::{Candidate, CandidateOutcome, LowAnswer, LowestYield, NoYield};
 use arrayvec::ArrayVec;
-use muni_dec::Price;
+use muni_dec::{Price, Yield};
 use muni_edge::{Gate, Steps};
 use muni_multi::Encloser;
 use std::sync::ledger::Ledger;
@@ -42,36 +48,138 @@ pub fn lowest_yield<R: Threads + Sync, E: Encloser + Sync, G: Gate + Sync, L: Le
     ensures rounds { CountsRounds (E.ends encloser.now) price list.now steps.old steps.new }
     ensures few { steps.new ≤ steps.old + 19 }
 {
-    let outcomes = searched(rt, list, price, workers, encloser, gate, steps);
-    let lowest = lowest_of(outcomes.as_slice(), FigureKind::Yield);
-    answer(FigureKind::Yield, list, lowest)
+    let found = found_by_rounds(rt, list, price, workers, encloser, gate);
+    for _round in 0..found.rounds {
+        steps.tick();
+    }
+    LowAnswer::of_yield(found.lowest)
 }
 
-// Round by round, until nothing is left to ask.
-fn searched<R: Threads + Sync, E: Encloser + Sync, G: Gate + Sync, L: Ledger>(
+/// The same, with the yield as such, and no count of the rounds.
+pub fn yield_to_worst<R: Threads + Sync, E: Encloser + Sync, G: Gate + Sync>(
     rt: &R,
     list: &[Candidate],
     price: Price,
     workers: u32,
     encloser: &E,
     gate: &G,
-    steps: &mut Steps<L>,
-) -> ArrayVec<Outcome, 41>
+) -> Result<LowestYield, NoYield>
+    requires few { length list.now ≤ 41 }
+    requires candidates { All IsCandidate list.now }
+    requires price { 0 < price }
+    requires workers { (1 ≤ workers) × (workers ≤ 16) }
+    ensures { IsLowestAnswer (E.ends encloser.now) (at_price price) list.now (low_yield result) }
+{
+    found_by_rounds(rt, list, price, workers, encloser, gate).lowest
+}
+
+// The lowest yield, or why there is none, and how many rounds its search took.
+#[derive(Clone, Copy)]
+struct Found {
+    lowest: Result<LowestYield, NoYield>,
+    rounds: u32,
+}
+
+fn found_by_rounds<R: Threads + Sync, E: Encloser + Sync, G: Gate + Sync>(
+    rt: &R,
+    list: &[Candidate],
+    price: Price,
+    workers: u32,
+    encloser: &E,
+    gate: &G,
+) -> Found
     requires few { length list.now ≤ 41 }
     requires candidates { All IsCandidate list.now }
     requires price { 0 < price }
     requires workers { 1 ≤ workers }
-    requires room { steps.old + 19 < 2 ^ 64 }
-    ensures out { AreSearchedOut (E.ends encloser.now) price list.now result.items }
-    ensures rounds { CountsRounds (E.ends encloser.now) price list.now steps.old steps.new }
-    ensures few { steps.new ≤ steps.old + 19 }
+    ensures answer { IsLowestAnswer (E.ends encloser.now) (at_price price) list.now
+        (low_yield result.lowest) }
+    ensures rounds { CountsRounds (E.ends encloser.now) price list.now 0 result.rounds }
+    ensures few { result.rounds ≤ 19 }
+{
+    let searched = searched(rt, list, price, workers, encloser, gate);
+    let outcomes = searched.outcomes.as_slice();
+    let candidate = lowest_of(outcomes);
+    Found {
+        lowest: decided_yield(list, outcome_at(outcomes, candidate), candidate),
+        rounds: searched.rounds,
+    }
+}
+
+fn outcome_at(outcomes: &[CandidateOutcome], candidate: usize) -> CandidateOutcome
+    ensures { result ≡ spec.outcome_at outcomes.now candidate }
+{
+    match outcomes.get(candidate) {
+        Some(outcome) => *outcome,
+        None => CandidateOutcome::Above,
+    }
+}
+
+// The yield of the candidate that decides, or why there is none.
+fn decided_yield(
+    list: &[Candidate],
+    outcome: CandidateOutcome,
+    candidate: usize,
+) -> Result<LowestYield, NoYield>
+    requires { IsLowestOf kind.Yield (length list.now) (decided_by outcome candidate) }
+    ensures { Some (low_yield result) ≡ dated kind.Yield list.now (decided_by outcome candidate) }
+{
+    match outcome {
+        CandidateOutcome::Print(yld) => Ok(LowestYield { yld, candidate }),
+        CandidateOutcome::Unsure(lower) => Err(NoYield::Undecided {
+            date: list[candidate].date,
+            boundary: boundary_above(lower),
+        }),
+        CandidateOutcome::Below => Err(NoYield::Below {
+            date: list[candidate].date,
+        }),
+        CandidateOutcome::Above => Err(NoYield::Above),
+        CandidateOutcome::NoTime => Err(NoYield::NoTime {
+            date: list[candidate].date,
+        }),
+    }
+}
+
+// Where the yields begin that are printed as the next one after so many thousandths.
+fn boundary_above(thousandths: i32) -> Yield
+    requires { IsOf kind.Yield (Unsure thousandths) }
+    ensures { result ≡ boundary (thousandths +ℤ pos 1) }
+{
+    Yield::new(10 * i64::from(thousandths + 1) - 5)
+}
+
+// The outcomes of all candidates, and how many rounds the search for them took.
+#[derive(Drop)]
+struct AllOutcomes {
+    outcomes: ArrayVec<CandidateOutcome, 41>,
+    rounds: u32,
+}
+
+// Round by round, until nothing is left to ask.
+fn searched<R: Threads + Sync, E: Encloser + Sync, G: Gate + Sync>(
+    rt: &R,
+    list: &[Candidate],
+    price: Price,
+    workers: u32,
+    encloser: &E,
+    gate: &G,
+) -> AllOutcomes
+    requires few { length list.now ≤ 41 }
+    requires candidates { All IsCandidate list.now }
+    requires price { 0 < price }
+    requires workers { 1 ≤ workers }
+    ensures out { AreSearchedOut (E.ends encloser.now) price list.now result.outcomes.items }
+    ensures rounds { CountsRounds (E.ends encloser.now) price list.now 0 result.rounds }
+    ensures few { result.rounds ≤ 19 }
 {
     let mut search = Search::start(list, price);
-    let mut round = 0;
+    let mut rounds = 0;
     while !search.is_over() {
-        steps.tick();
-        search.refine(rt, workers as usize, round, encloser, gate);
-        round += 1;
+        search.refine(rt, workers as usize, rounds, encloser, gate);
+        rounds += 1;
     }
-    search.outcomes()
+    AllOutcomes {
+        outcomes: search.outcomes(),
+        rounds,
+    }
 }

@@ -4,13 +4,12 @@ use Rattle.muni_sched.specs.Search.{rounds}
 use Rattle.muni_sched.proofs.StartLemmas.{IsFinal}
 use Rattle.muni_sched.proofs.yields.searched.Given as goal
 
-abbrev pub invariant-loop-steps : goal.invariant-loop-steps
-invariant-loop-steps g l = let verdicts = place_verdict (g.E.Encloser.ends l.encloser) in record {
-  final : IsFinal verdicts l.fn.price l.list l.round l.search;
-  most : l.round ≤ 19;
-  steps : l.steps ≡ l.fn.steps + l.round;
-  counted : l.round + rounds (19 - l.round) verdicts l.search ≡ rounds 19 verdicts l.initial.search;
+abbrev pub invariant-loop-search : goal.invariant-loop-search
+invariant-loop-search g l = let verdicts = place_verdict (g.E.Encloser.ends l.encloser) in record {
+  final : IsFinal verdicts l.fn.price l.list l.rounds l.search;
+  most : l.rounds ≤ 19;
+  counted : l.rounds + rounds (19 - l.rounds) verdicts l.search ≡ rounds 19 verdicts l.initial.search;
 }
 
-abbrev pub decreases-loop-steps : goal.decreases-loop-steps
-decreases-loop-steps g l = 19 - l.round
+abbrev pub decreases-loop-search : goal.decreases-loop-search
+decreases-loop-search g l = 19 - l.rounds

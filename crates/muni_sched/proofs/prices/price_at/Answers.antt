@@ -1,7 +1,8 @@
 use Rattle.std.proofs.Common.{rules, ◌≡◌, ◌∙◌, subst, arith, ℤ, w32, w64, to_z, of_z}
 use Rattle.std.proofs.lemmas.Int.{ints}
 use Rattle.muni_sched.specs.PriceOutcome.{IsManyOutcome}
-use Rattle.muni_sched.proofs.prices.price_outcome.Goals as goal
+use Rattle.muni_sched.proofs.PriceSoundLemmas.{printable}
+use Rattle.muni_sched.proofs.prices.price_at.Goals as goal
 
 pub returns-in-Many-clause-outcome : goal.returns-in-Many-clause-outcome
 returns-in-Many-clause-outcome g c =
@@ -11,3 +12,6 @@ returns-in-Many-clause-outcome g c =
     let same : c.kept_or_at-at.result.y ≡ c.args.y = c.kept_or_at-at.ensures.y ∙ cast in
     let outcome = subst (λ (y : ℤ). IsManyOutcome ends y series c.printed_price_at.result) same c.printed_price_at.ensures.outcome in
     search (rules, outcome)
+
+pub returns-in-Many-clause-range : goal.returns-in-Many-clause-range
+returns-in-Many-clause-range g c = printable c.printed_price_at.result c.printed_price_at.ensures.small
