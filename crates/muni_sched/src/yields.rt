@@ -10,13 +10,12 @@ ghost use Rattle.muni_sched.specs.GivenFigure.{at_price};
 ghost use Rattle.muni_sched.specs.LowAnswers.{low_yield};
 ghost use Rattle.muni_sched.specs.Lowest as spec;
 ghost use Rattle.muni_sched.specs.Ranks.{decided_by};
-ghost use Rattle.muni_sched.specs.SearchedOut.{AreSearchedOut, CountsRounds};
+ghost use Rattle.muni_sched.specs.SearchedOut.{CountsRounds};
 ghost use Rattle.muni_sched.specs.declared.outcome.CandidateOutcome.TheVariants.{Unsure};
 
 use crate::lowest::lowest_of;
 use crate::search::Search;
 use crate::{Candidate, CandidateOutcome, LowAnswer, LowestYield, NoYield};
-use arrayvec::ArrayVec;
 use muni_dec::{Price, Yield};
 use muni_edge::{Gate, Steps};
 use muni_multi::Encloser;
@@ -48,7 +47,7 @@ pub fn lowest_yield<R: Threads + Sync, E: Encloser + Sync, G: Gate + Sync, L: Le
     ensures rounds { CountsRounds (E.ends encloser.now) price list.now steps.old steps.new }
     ensures few { steps.new ≤ steps.old + 19 }
 {
-    let found = found_by_rounds(rt, list, price, workers, encloser, gate);
+    let found = searched(rt, list, price, workers, encloser, gate);
     for _round in 0..found.rounds {
         steps.tick();
     }
@@ -70,7 +69,7 @@ pub fn yield_to_worst<R: Threads + Sync, E: Encloser + Sync, G: Gate + Sync>(
     requires workers { (1 ≤ workers) × (workers ≤ 16) }
     ensures { IsLowestAnswer (E.ends encloser.now) (at_price price) list.now (low_yield result) }
 {
-    found_by_rounds(rt, list, price, workers, encloser, gate).lowest
+    searched(rt, list, price, workers, encloser, gate).lowest
 }
 
 // The lowest yield, or why there is none, and how many rounds its search took.
@@ -80,7 +79,8 @@ struct Found {
     rounds: u32,
 }
 
-fn found_by_rounds<R: Threads + Sync, E: Encloser + Sync, G: Gate + Sync>(
+// Round by round, until nothing is left to ask.
+fn searched<R: Threads + Sync, E: Encloser + Sync, G: Gate + Sync>(
     rt: &R,
     list: &[Candidate],
     price: Price,
@@ -97,12 +97,18 @@ fn found_by_rounds<R: Threads + Sync, E: Encloser + Sync, G: Gate + Sync>(
     ensures rounds { CountsRounds (E.ends encloser.now) price list.now 0 result.rounds }
     ensures few { result.rounds ≤ 19 }
 {
-    let searched = searched(rt, list, price, workers, encloser, gate);
-    let outcomes = searched.outcomes.as_slice();
-    let candidate = lowest_of(outcomes);
+    let mut search = Search::start(list, price);
+    let mut rounds = 0;
+    while !search.is_over() {
+        search.refine(rt, workers as usize, rounds, encloser, gate);
+        rounds += 1;
+    }
+    let outcomes = search.outcomes();
+    let candidate = lowest_of(outcomes.as_slice());
+    let outcome = outcome_at(outcomes.as_slice(), candidate);
     Found {
-        lowest: decided_yield(list, outcome_at(outcomes, candidate), candidate),
-        rounds: searched.rounds,
+        lowest: decided_yield(list, outcome, candidate),
+        rounds,
     }
 }
 
@@ -146,40 +152,4 @@ fn boundary_above(thousandths: i32) -> Yield
     ensures { result ≡ boundary (thousandths +ℤ pos 1) }
 {
     Yield::new(10 * i64::from(thousandths + 1) - 5)
-}
-
-// The outcomes of all candidates, and how many rounds the search for them took.
-#[derive(Drop)]
-struct AllOutcomes {
-    outcomes: ArrayVec<CandidateOutcome, 41>,
-    rounds: u32,
-}
-
-// Round by round, until nothing is left to ask.
-fn searched<R: Threads + Sync, E: Encloser + Sync, G: Gate + Sync>(
-    rt: &R,
-    list: &[Candidate],
-    price: Price,
-    workers: u32,
-    encloser: &E,
-    gate: &G,
-) -> AllOutcomes
-    requires few { length list.now ≤ 41 }
-    requires candidates { All IsCandidate list.now }
-    requires price { 0 < price }
-    requires workers { 1 ≤ workers }
-    ensures out { AreSearchedOut (E.ends encloser.now) price list.now result.outcomes.items }
-    ensures rounds { CountsRounds (E.ends encloser.now) price list.now 0 result.rounds }
-    ensures few { result.rounds ≤ 19 }
-{
-    let mut search = Search::start(list, price);
-    let mut rounds = 0;
-    while !search.is_over() {
-        search.refine(rt, workers as usize, rounds, encloser, gate);
-        rounds += 1;
-    }
-    AllOutcomes {
-        outcomes: search.outcomes(),
-        rounds,
-    }
 }

@@ -1,9 +1,21 @@
-use Rattle.std.proofs.Common.{rules, arith, ◌≡◌, ◌+◌, ◌-◌, ◌<◌, ◌∙◌, sym, subst, false, true}
+use Rattle.std.proofs.Common.{rules, arith, ◌≡◌, ◌+◌, ◌-◌, ◌<◌, ◌∙◌, ap, sym, subst, false, true, All, length}
 use Rattle.muni_yield.specs.Places.{place_verdict}
+use Rattle.muni_sched.specs.GivenFigure.{at_price}
+use Rattle.muni_sched.specs.LowAnswers.{low_yield}
+use Rattle.muni_sched.specs.Lowest.{IsLowest, outcome_at}
+use Rattle.muni_sched.specs.Figures.{least_unsure, IsOf, IsLowestOf}
+use Rattle.muni_sched.specs.FigureKind.{Yield}
+use Rattle.muni_sched.specs.Ranks.{decided_by, IsRanked, IsFirstOfLeastRank}
 use Rattle.muni_sched.specs.Search.{rounds, is_over}
 use Rattle.muni_sched.specs.SearchedOut.{AreSearchedOut}
+use Rattle.muni_sched.specs.YieldOutcome.{IsYieldOutcome}
+use Rattle.muni_sched.proofs.AllSoundLemmas.{lowest-answer}
+use Rattle.muni_sched.proofs.RankLemmas.{ranked_lowest, ranked_of}
 use Rattle.muni_sched.proofs.SearchLemmas.{round-few}
 use Rattle.muni_sched.proofs.StartLemmas.{started-final, next-final, searched-out, rounds-over, rounds-next}
+use Rattle.muni_sched.proofs.ZipLemmas.{zip-long, map-same}
+use Rattle.muni_sched.proofs.yields.searched.Given as given
+use Rattle.muni_sched.proofs.yields.searched.Goals.{After-outcomes-outcomes, After-outcome_at-outcome}
 use Rattle.muni_sched.proofs.yields.searched.Goals as goal
 
 pub loop-search-init : goal.loop-search-init
@@ -39,24 +51,67 @@ loop-search-preserved g c =
       counted = sym (rounds-next verdicts c.loop-search.rounds c.loop-search.search c.refine.new.self few (sym c.is_over.ensures ∙ some) c.refine.ensures) ∙ known.counted;
     }
 
-pub returns : goal.returns
-returns g c =
+-- the outcomes that are told, once nothing is left to ask
+out : (g : given.Over) (c : After-outcomes-outcomes g) → AreSearchedOut (g.E.Encloser.ends c.args.encloser.now) c.args.price c.args.list.now c.outcomes-outcomes.result.items
+out g c =
     let ends = g.E.Encloser.ends c.args.encloser.now in
-    let verdicts = place_verdict ends in
-    let list = c.args.list.now in
+    let last = c.loop-search.search in
+    let over : is_over last ≡ true = sym c.is_over.ensures ∙ search rules in
+    subst (AreSearchedOut ends c.args.price c.args.list.now) (sym c.outcomes-outcomes.ensures) (searched-out ends c.args.price c.args.list.now c.loop-search.rounds last over c.loop-search.invariant.final)
+
+pub lowest_of-candidate-requires : goal.lowest_of-candidate-requires
+lowest_of-candidate-requires g c =
+    let told = c.as_slice.result.now in
+    subst (All (IsOf Yield)) (sym (map-same told)) (subst (All (IsOf Yield)) (sym c.as_slice.ensures.value) (out g (goal.at.lowest_of-candidate-requires g c).After-outcomes-outcomes).found_range)
+
+-- the candidate that decides among the outcomes that are told decides among those of all candidates
+ranked : (g : given.Over) (c : After-outcome_at-outcome g) (all : AreSearchedOut (g.E.Encloser.ends c.args.encloser.now) c.args.price c.args.list.now c.outcomes-outcomes.result.items) → IsRanked (least_unsure Yield) all.outcomes (decided_by c.outcome_at-outcome.result c.lowest_of-candidate.result)
+ranked g c all =
+    let candidate = c.lowest_of-candidate.result in
+    let told = c.outcomes-outcomes.result.items in
+    let first : IsFirstOfLeastRank (least_unsure Yield) told candidate = subst (λ xs. IsFirstOfLeastRank (least_unsure Yield) xs candidate) (map-same c.as_slice.result.now ∙ c.as_slice.ensures.value) c.lowest_of-candidate.ensures.ranked in
+    let there : c.outcome_at-outcome.result ≡ outcome_at told candidate = c.outcome_at-outcome.ensures ∙ ap (λ xs. outcome_at xs candidate) c.as_slice-2.ensures.value in
+    all.ranked (decided_by c.outcome_at-outcome.result candidate) (record { candidate = candidate; first = first; decides = ap (λ x. decided_by x candidate) there })
+
+of : (g : given.Over) (c : After-outcome_at-outcome g) (all : AreSearchedOut (g.E.Encloser.ends c.args.encloser.now) c.args.price c.args.list.now c.outcomes-outcomes.result.items) → IsLowestOf Yield (length c.args.list.now) (decided_by c.outcome_at-outcome.result c.lowest_of-candidate.result)
+of g c all =
+    let found = decided_by c.outcome_at-outcome.result c.lowest_of-candidate.result in
+    zip-long (IsYieldOutcome (place_verdict (g.E.Encloser.ends c.args.encloser.now)) c.args.price) c.args.list.now all.outcomes (λ n. IsLowestOf Yield n found) all.each
+    (ranked_of Yield all.outcomes found all.range (ranked g c all))
+
+pub decided_yield-requires : goal.decided_yield-requires
+decided_yield-requires g c =
+    let place = (goal.at.decided_yield-requires g c) in
+    of g place.After-outcome_at-outcome (out g place.After-outcomes-outcomes)
+
+pub returns-clause-answer : goal.returns-clause-answer
+returns-clause-answer g c =
+    let ends = g.E.Encloser.ends c.args.encloser.now in
+    let seen = goal.at.returns-clause-answer g c in
+    let place = seen.After-outcome_at-outcome in
+    let all = out g seen.After-outcomes-outcomes in
+    let found = decided_by c.outcome_at-outcome.result c.lowest_of-candidate.result in
+    let law = g.met.E.Encloser g.world.𝓛 g.world.𝓜 g.world.𝓡 ((λ s x. x), (λ x. x), (λ x. x), λ x. x) in
+    let rule : IsLowest (least_unsure Yield) all.outcomes found = ranked_lowest Yield all.outcomes found all.range (ranked g place all) in
+    lowest-answer ends (at_price c.args.price) c.args.list.now all.outcomes found (low_yield c.decided_yield.result)
+    (c.requires.price, c.requires.candidates)
+    (record { encloses = law.encloses c.args.encloser.now; narrow = law.narrow c.args.encloser.now })
+    all.each rule (of g place all) tt c.decided_yield.ensures
+
+pub returns-clause-rounds : goal.returns-clause-rounds
+returns-clause-rounds g c =
+    let verdicts = place_verdict (g.E.Encloser.ends c.args.encloser.now) in
     let known = c.loop-search.invariant in
-    let most = known.most in
     let round = c.loop-search.rounds in
     let last = c.loop-search.search in
     let over : is_over last ≡ true = sym c.is_over.ensures ∙ search rules in
     let no_more : rounds (19 - round) verdicts last ≡ 0 = rounds-over verdicts (19 - round) last over in
     let counted = known.counted in
     record {
-      out = subst (AreSearchedOut ends c.args.price list) (sym c.outcomes.ensures) (searched-out ends c.args.price list round last over known.final);
-      rounds = record {
-        search = c.start-search.result;
-        started = c.start-search.ensures;
-        counted = omega (arith, counted, no_more);
-      };
-      few = omega (arith, most);
+      search = c.start-search.result;
+      started = c.start-search.ensures;
+      counted = omega (arith, counted, no_more);
     }
+
+pub returns-clause-few : goal.returns-clause-few
+returns-clause-few g c = c.loop-search.invariant.most
