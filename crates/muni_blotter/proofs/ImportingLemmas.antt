@@ -1,5 +1,5 @@
 -- An import with the positions of a desk behind its report.
-use Rattle.std.proofs.Common.{◌≡◌, ◌⊎◌, ◌≤◌, ◌<◌, ◌∙◌, inl, inr, ℕ, arith, refl, sym, ap, subst, Option, Some, None, List, [], length, IfSome, Result, Ok, Err}
+use Rattle.std.proofs.Common.{◌≡◌, ◌⊎◌, ◌≤◌, ◌<◌, inl, inr, ℕ, arith, refl, ap, subst, Option, Some, None, List, [], length, IfSome, Result, Ok, Err}
 use Rattle.std.proofs.lemmas.List.{append-nil}
 use Rattle.muni_edge.specs.Sink.{Rose, HasWritten, HasWrittenPart}
 use Rattle.muni_edge.specs.declared.sink.Sink as Sink

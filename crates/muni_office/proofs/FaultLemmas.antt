@@ -1,5 +1,5 @@
 -- Imports that end with a fault.
-use Rattle.std.proofs.Common.{◌≡◌, ◌<◌, ◌≤◌, ◌∙◌, ℕ, List, [], Option, Some, None, Result, Err, IfSome, length, refl, sym, ap, subst}
+use Rattle.std.proofs.Common.{◌≡◌, ◌<◌, ◌≤◌, ℕ, List, [], Option, Some, None, Result, Err, IfSome, length, refl, sym, ap, subst}
 use Rattle.muni_edge.specs.Sink.{Rose}
 use Rattle.muni_edge.specs.declared.sink.Sink as Sink
 use Rattle.muni_edge.specs.declared.source.Source as Source
@@ -13,11 +13,10 @@ use Rattle.muni_book.specs.declared.fault.BookFault.TheVariants as book
 use Rattle.muni_step.specs.Step.{Pricing}
 use Rattle.muni_import.specs.Rows.{rows_of}
 use Rattle.muni_office.specs.Fault.{of_input, of_keeper, of_book}
-use Rattle.muni_office.specs.Import.{DidFirst, DidPart}
+use Rattle.muni_office.specs.Import.{DidFirst}
 use Rattle.muni_office.specs.Imported.{Applied, Imported}
 use Rattle.muni_office.specs.Lent.{Lent, ChangesOnlyInput}
 use Rattle.muni_office.specs.declared.fault.Fault.{Fault}
-use Rattle.muni_office.specs.declared.fault.Fault.TheVariants.{Write}
 use Rattle.muni_office.specs.declared.input.InputFault.{InputFault}
 use Rattle.muni_office.specs.declared.input.InputFault.TheVariants as input
 use Rattle.muni_office.proofs.ImportLemmas.{did-none}

@@ -1,5 +1,5 @@
 -- What is written to an output.
-use Rattle.std.specs.Prelude.{◌≡◌, ◌≤◌, ℕ, List, Result, Err, OnOk, OnErr, IsOkUnless}
+use Rattle.std.specs.Prelude.{◌≤◌, ℕ, List, Result, OnOk, OnErr, IsOkUnless}
 use Rattle.muni_edge.specs.Sink.{Rose, HasWritten, HasWrittenPart}
 use Rattle.muni_edge.specs.declared.sink.Sink.{Ghosts}
 

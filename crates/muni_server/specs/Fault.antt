@@ -1,5 +1,5 @@
 -- How a run of connections ends: done, or with a fault.
-use Rattle.std.specs.Prelude.{Result, Ok, Err}
+use Rattle.std.specs.Prelude.{Result, Err}
 use Rattle.muni_keep.specs.declared.fault.KeepFault.{KeepFault}
 use Rattle.muni_keep.specs.declared.fault.KeepFault.TheVariants as keeper
 use Rattle.muni_server.specs.declared.fault.ServeFault.{ServeFault}
