@@ -1,5 +1,5 @@
 -- The lines that show the figures of a trade.
-use Rattle.std.specs.Prelude.{ℕ, nat_lt, if◌then◌else◌, List, [], ◌∷◌, ◌++◌, codes}
+use Rattle.std.specs.Prelude.{ℕ, nat_lt, if◌then◌else◌, List, [], ◌∷◌, ◌++◌, codes, ℤ}
 use Rattle.std.specs.Fmt.{signed_decimal}
 use Rattle.muni_dec.specs.Decimal.{decimal_text, signed_text}
 use Rattle.muni_days.specs.Day.{civil, day_text}
@@ -29,7 +29,7 @@ rate_line (AtPrice price) = []
 rate_line (AtRate rate) = line (codes "RATE" ∷ signed_text 4 rate ∷ codes "GIVEN" ∷ [])
 
 -- the price, the yield, and the rate where it was given
-abbrev pub price_lines : Figures → Given → List ℕ
+unfoldable pub price_lines : Figures → Given → List ℕ
 price_lines figures given =
     line (codes "PRICE" ∷ decimal_text 3 figures.price ∷ price_source given ∷ [])
     ++ line (codes "YIELD" ∷ signed_text 3 figures.yld ∷ yield_source given ∷ [])
@@ -42,14 +42,14 @@ label_text ParOption = codes "PAR OPTION"
 label_text Call = codes "CALL"
 
 -- the disclosed redemption: its date, its price and which one it is
-abbrev pub redemption_line : Figures → List ℕ
+unfoldable pub redemption_line : Figures → List ℕ
 redemption_line figures =
     line (codes "REDEMPTION" ∷ day_text (civil figures.redemption) ∷ decimal_text 6 figures.at
     ∷ label_text figures.label ∷ [])
 
 -- the days of accrued interest
-abbrev pub days_line : Figures → List ℕ
-days_line figures = line (codes "ACCRUED DAYS" ∷ signed_decimal figures.days ∷ [])
+unfoldable pub days_line : ℤ → List ℕ
+days_line days = line (codes "ACCRUED DAYS" ∷ signed_decimal days ∷ [])
 
 -- a commission has a line where one is asked
 abbrev pub commission_line : Figures → ℕ → List ℕ
@@ -57,7 +57,7 @@ commission_line figures fee =
     if nat_lt 0 fee then line (codes "COMMISSION" ∷ decimal_text 2 figures.commission ∷ []) else []
 
 -- the money, in dollars
-abbrev pub money_lines : Figures → ℕ → List ℕ
+unfoldable pub money_lines : Figures → ℕ → List ℕ
 money_lines figures fee =
     line (codes "PRINCIPAL" ∷ decimal_text 2 figures.principal ∷ [])
     ++ line (codes "ACCRUED" ∷ decimal_text 2 figures.accrued ∷ [])
@@ -67,5 +67,5 @@ money_lines figures fee =
 -- the lines of the figures, in their order
 unfoldable pub figure_text : Figures → Given → ℕ → List ℕ
 figure_text figures given fee =
-    price_lines figures given ++ redemption_line figures ++ days_line figures
+    price_lines figures given ++ redemption_line figures ++ days_line figures.days
     ++ money_lines figures fee

@@ -1,3 +1,4 @@
 pub mod Confirmation
 pub mod Figures
+pub mod Laws
 pub mod Refusal

@@ -1,5 +1,5 @@
 -- The line that tells a refusal.
-use Rattle.std.specs.Prelude.{ℕ, List, [], ◌∷◌, codes, decimal}
+use Rattle.std.specs.Prelude.{ℕ, List, [], ◌∷◌, ◌++◌, codes, decimal}
 use Rattle.muni_dec.specs.Decimal.{decimal_text, signed_text}
 use Rattle.muni_days.specs.Day.{civil, day_text}
 use Rattle.muni_terms.specs.Fault.{fault_number}
@@ -14,7 +14,7 @@ use Rattle.muni_msg.specs.declared.refusal.Range.{Range}
 use Rattle.muni_msg.specs.declared.refusal.Range.TheVariants.{Below, Above, PriceBelowZero}
 use Rattle.muni_msg.specs.declared.refusal.Refusal.{Refusal}
 use Rattle.muni_msg.specs.declared.refusal.Refusal.TheVariants.{UnknownIssue, UnknownTrade, Conflict, BadTerms, SettleOutside, GivenOutOfRange, YieldBelow, YieldAbove, NoTime, Undecided, Canceled, WrongNumber, VersionsFull, DeskFull, WrongBasis}
-use Rattle.muni_dec.specs.Line.{line}
+use Rattle.muni_dec.specs.Line.{behind_blanks, line}
 
 -- other contents are kept: those of an issue, or of the version with this number
 abbrev pub kept_parts : Kept → List (List ℕ)
@@ -67,6 +67,10 @@ detail (WrongNumber next) = decimal next ∷ []
 detail VersionsFull = []
 detail DeskFull = []
 detail WrongBasis = []
+
+-- how the line of a refusal begins: with the number and the name
+abbrev pub name_text : ℕ → List ℕ
+name_text number = codes "REFUSED" ++ behind_blanks (decimal number ∷ name_of number ∷ [])
 
 -- the line of a refusal: its number, its name and what is told behind it
 abbrev pub refusal_text : Refusal → List ℕ

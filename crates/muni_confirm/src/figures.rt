@@ -3,8 +3,9 @@
 ghost use Rattle.std.specs.Prelude.{◌≡◌, ◌+◌, ◌≤◌, ◌++◌, [], ◌∷◌, length};
 ghost use Rattle.arrayvec.specs.ArrayVec.{array_vec_len};
 ghost use Rattle.muni_dec.specs.Line.{line};
-ghost use Rattle.muni_confirm.specs.Figures.{price_source, yield_source, rate_line, price_lines, label_text, redemption_line, commission_line, money_lines, figure_text};
+ghost use Rattle.muni_confirm.specs.Figures.{price_source, yield_source, rate_line, price_lines, label_text, redemption_line, days_line, commission_line, money_lines, figure_text};
 
+use crate::laws::figures_fit;
 use arrayvec::ArrayVec;
 use muni_dec::Fee;
 use muni_dec::text::{push, push_line, push_number_line, push_part};
@@ -12,8 +13,7 @@ use muni_msg::{Figures, Given};
 use muni_terms::Label;
 
 fn price_source(given: &Given) -> &'static [u8]
-    ensures bytes { result.now ≡ price_source given.now }
-    ensures short { length result.now ≤ 8 }
+    ensures { result.now ≡ price_source given.now }
 {
     match given {
         Given::AtPrice(_) => b"GIVEN",
@@ -22,8 +22,7 @@ fn price_source(given: &Given) -> &'static [u8]
 }
 
 fn yield_source(given: &Given) -> &'static [u8]
-    ensures bytes { result.now ≡ yield_source given.now }
-    ensures short { length result.now ≤ 8 }
+    ensures { result.now ≡ yield_source given.now }
 {
     match given {
         Given::AtYield(_) => b"GIVEN",
@@ -32,8 +31,7 @@ fn yield_source(given: &Given) -> &'static [u8]
 }
 
 fn label(label: &Label) -> &'static [u8]
-    ensures bytes { result.now ≡ label_text label.now }
-    ensures short { length result.now ≤ 10 }
+    ensures { result.now ≡ label_text label.now }
 {
     match label {
         Label::Maturity => b"MATURITY",
@@ -43,12 +41,9 @@ fn label(label: &Label) -> &'static [u8]
 }
 
 fn push_sourced(text: &mut ArrayVec<u8, 512>, word: &[u8], value: &[u8], source: &[u8])
-    requires { array_vec_len text.old + length word.now + length value.now + length source.now
-        ≤ 500 }
-    ensures items { text.new.items
-        ≡ text.old.items ++ line (word.now ∷ value.now ∷ source.now ∷ []) }
-    ensures len { array_vec_len text.new
-        ≡ array_vec_len text.old + length word.now + length value.now + length source.now + 3 }
+    requires { array_vec_len text.old + length (line (word.now ∷ value.now ∷ source.now ∷ []))
+        ≤ 512 }
+    ensures { text.new.items ≡ text.old.items ++ line (word.now ∷ value.now ∷ source.now ∷ []) }
 {
     push(text, word);
     push_part(text, value);
@@ -57,9 +52,8 @@ fn push_sourced(text: &mut ArrayVec<u8, 512>, word: &[u8], value: &[u8], source:
 }
 
 fn push_rate_line(text: &mut ArrayVec<u8, 512>, given: &Given)
-    requires { array_vec_len text.old ≤ 450 }
-    ensures items { text.new.items ≡ text.old.items ++ rate_line given.now }
-    ensures len { array_vec_len text.new ≤ array_vec_len text.old + 41 }
+    requires { array_vec_len text.old + length (rate_line given.now) ≤ 512 }
+    ensures { text.new.items ≡ text.old.items ++ rate_line given.now }
 {
     if let Given::AtRate(rate) = given {
         let mut value = ArrayVec::new();
@@ -68,10 +62,10 @@ fn push_rate_line(text: &mut ArrayVec<u8, 512>, given: &Given)
     }
 }
 
+#[tactic(auto, unfolding(crate::specs::Figures::price_lines))]
 fn push_price_lines(text: &mut ArrayVec<u8, 512>, figures: &Figures, given: &Given)
-    requires { array_vec_len text.old ≤ 350 }
-    ensures items { text.new.items ≡ text.old.items ++ price_lines figures.now given.now }
-    ensures len { array_vec_len text.new ≤ array_vec_len text.old + 131 }
+    requires { array_vec_len text.old + length (price_lines figures.now given.now) ≤ 512 }
+    ensures { text.new.items ≡ text.old.items ++ price_lines figures.now given.now }
 {
     let mut value = ArrayVec::new();
     figures.price.print_into(&mut value);
@@ -81,10 +75,10 @@ fn push_price_lines(text: &mut ArrayVec<u8, 512>, figures: &Figures, given: &Giv
     push_rate_line(text, given);
 }
 
+#[tactic(auto, unfolding(crate::specs::Figures::redemption_line))]
 fn push_redemption_line(text: &mut ArrayVec<u8, 512>, figures: &Figures)
-    requires { array_vec_len text.old ≤ 350 }
-    ensures items { text.new.items ≡ text.old.items ++ redemption_line figures.now }
-    ensures len { array_vec_len text.new ≤ array_vec_len text.old + 63 }
+    requires { array_vec_len text.old + length (redemption_line figures.now) ≤ 512 }
+    ensures { text.new.items ≡ text.old.items ++ redemption_line figures.now }
 {
     let mut value = ArrayVec::new();
     push(text, b"REDEMPTION");
@@ -97,9 +91,8 @@ fn push_redemption_line(text: &mut ArrayVec<u8, 512>, figures: &Figures)
 }
 
 fn push_commission_line(text: &mut ArrayVec<u8, 512>, figures: &Figures, fee: Fee)
-    requires { array_vec_len text.old ≤ 450 }
-    ensures items { text.new.items ≡ text.old.items ++ commission_line figures.now fee }
-    ensures len { array_vec_len text.new ≤ array_vec_len text.old + 41 }
+    requires { array_vec_len text.old + length (commission_line figures.now fee) ≤ 512 }
+    ensures { text.new.items ≡ text.old.items ++ commission_line figures.now fee }
 {
     if fee.units() > 0 {
         let mut value = ArrayVec::new();
@@ -108,10 +101,10 @@ fn push_commission_line(text: &mut ArrayVec<u8, 512>, figures: &Figures, fee: Fe
     }
 }
 
+#[tactic(auto, unfolding(crate::specs::Figures::money_lines))]
 fn push_money_lines(text: &mut ArrayVec<u8, 512>, figures: &Figures, fee: Fee)
-    requires { array_vec_len text.old ≤ 350 }
-    ensures items { text.new.items ≡ text.old.items ++ money_lines figures.now fee }
-    ensures len { array_vec_len text.new ≤ array_vec_len text.old + 155 }
+    requires { array_vec_len text.old + length (money_lines figures.now fee) ≤ 512 }
+    ensures { text.new.items ≡ text.old.items ++ money_lines figures.now fee }
 {
     let mut value = ArrayVec::new();
     figures.principal.print_into(&mut value);
@@ -123,20 +116,37 @@ fn push_money_lines(text: &mut ArrayVec<u8, 512>, figures: &Figures, fee: Fee)
     push_line(text, b"TOTAL", &value);
 }
 
+// The number is given room for the longest one.
+#[tactic(auto, unfolding(crate::specs::Figures::days_line))]
+fn push_days_line(text: &mut ArrayVec<u8, 512>, days: i32)
+    requires { array_vec_len text.old + length (days_line days) ≤ 500 }
+    ensures { text.new.items ≡ text.old.items ++ days_line days }
+{
+    push_number_line(text, b"ACCRUED DAYS", days);
+}
+
+#[tactic(auto, unfolding(crate::specs::Figures::figure_text))]
+fn push_figures(text: &mut ArrayVec<u8, 512>, figures: &Figures, given: &Given, fee: Fee)
+    requires { array_vec_len text.old + length (figure_text figures.now given.now fee) ≤ 500 }
+    ensures { text.new.items ≡ text.old.items ++ figure_text figures.now given.now fee }
+{
+    push_price_lines(text, figures, given);
+    push_redemption_line(text, figures);
+    push_days_line(text, figures.days);
+    push_money_lines(text, figures, fee);
+}
+
 /// Replaces the text by the lines of the figures, each with its line end: the price, the yield, a
 /// given discount rate, the disclosed redemption, the days of accrued interest, and the money. The
 /// commission has a line where the fee is above 0.
 ///
 /// A price or a yield is shown with three decimals, a rate with four, a redemption price with six,
 /// and money in dollars with two.
-#[tactic(auto, unfolding(crate::specs::Figures::figure_text))]
 pub fn figure_lines(figures: &Figures, given: &Given, fee: Fee, text: &mut ArrayVec<u8, 512>)
     ensures items { text.new.items ≡ figure_text figures.now given.now fee }
     ensures len { array_vec_len text.new ≤ 374 }
 {
+    figures_fit(figures, given, fee);
     text.clear();
-    push_price_lines(text, figures, given);
-    push_redemption_line(text, figures);
-    push_number_line(text, b"ACCRUED DAYS", figures.days);
-    push_money_lines(text, figures, fee);
+    push_figures(text, figures, given, fee);
 }

@@ -3,6 +3,7 @@
 #![tactic(auto)]
 
 mod figures;
+pub mod laws;
 mod refusal;
 mod trade;
 

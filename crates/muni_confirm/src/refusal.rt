@@ -1,12 +1,13 @@
 //! The line of a refusal.
 
-ghost use Rattle.std.specs.Prelude.{◌≡◌, ◌+◌, ◌≤◌, ◌++◌, [], ◌∷◌, length, codes, decimal};
+ghost use Rattle.std.specs.Prelude.{◌≡◌, ◌+◌, ◌≤◌, ◌++◌, [], ◌∷◌, length};
 ghost use Rattle.arrayvec.specs.ArrayVec.{array_vec_len};
-ghost use Rattle.muni_msg.specs.Refusal.{number_of, name_of};
+ghost use Rattle.muni_msg.specs.Refusal.{number_of};
 ghost use Rattle.muni_days.specs.Day.{civil, day_text};
 ghost use Rattle.muni_dec.specs.Line.{behind_blanks};
-ghost use Rattle.muni_confirm.specs.Refusal.{kept_parts, fault_day, fault_parts, range_text, boundary_parts, detail, refusal_text};
+ghost use Rattle.muni_confirm.specs.Refusal.{kept_parts, fault_day, fault_parts, range_text, boundary_parts, detail, name_text, refusal_text};
 
+use crate::laws::refusal_fits;
 use arrayvec::ArrayVec;
 use muni_days::Day;
 use muni_dec::text::{push, push_number, push_part};
@@ -14,10 +15,9 @@ use muni_msg::{Kept, Range, Refusal, refusal_name};
 use muni_terms::{Boundary, TermsFault};
 
 fn push_day(text: &mut ArrayVec<u8, 128>, date: &Day)
-    requires { array_vec_len text.old ≤ 100 }
-    ensures items { text.new.items
-        ≡ text.old.items ++ behind_blanks (day_text (civil date.now) ∷ []) }
-    ensures len { array_vec_len text.new ≡ array_vec_len text.old + 11 }
+    requires { array_vec_len text.old + length (behind_blanks (day_text (civil date.now) ∷ []))
+        ≤ 100 }
+    ensures { text.new.items ≡ text.old.items ++ behind_blanks (day_text (civil date.now) ∷ []) }
 {
     let mut value = ArrayVec::new();
     date.print_into(&mut value);
@@ -25,9 +25,8 @@ fn push_day(text: &mut ArrayVec<u8, 128>, date: &Day)
 }
 
 fn push_kept(text: &mut ArrayVec<u8, 128>, kept: &Kept)
-    requires { array_vec_len text.old ≤ 80 }
-    ensures items { text.new.items ≡ text.old.items ++ behind_blanks (kept_parts kept.now) }
-    ensures len { array_vec_len text.new ≤ array_vec_len text.old + 19 }
+    requires { array_vec_len text.old + length (behind_blanks (kept_parts kept.now)) ≤ 100 }
+    ensures { text.new.items ≡ text.old.items ++ behind_blanks (kept_parts kept.now) }
 {
     match kept {
         Kept::Issue(_) => push_part(text, b"issue"),
@@ -39,9 +38,8 @@ fn push_kept(text: &mut ArrayVec<u8, 128>, kept: &Kept)
 }
 
 fn push_fault_day(text: &mut ArrayVec<u8, 128>, fault: &TermsFault)
-    requires { array_vec_len text.old ≤ 100 }
-    ensures items { text.new.items ≡ text.old.items ++ behind_blanks (fault_day fault.now) }
-    ensures len { array_vec_len text.new ≤ array_vec_len text.old + 11 }
+    requires { array_vec_len text.old + length (behind_blanks (fault_day fault.now)) ≤ 100 }
+    ensures { text.new.items ≡ text.old.items ++ behind_blanks (fault_day fault.now) }
 {
     match fault {
         TermsFault::CallOffCalendar { date }
@@ -52,17 +50,15 @@ fn push_fault_day(text: &mut ArrayVec<u8, 128>, fault: &TermsFault)
 }
 
 fn push_fault(text: &mut ArrayVec<u8, 128>, fault: &TermsFault)
-    requires { array_vec_len text.old ≤ 80 }
-    ensures items { text.new.items ≡ text.old.items ++ behind_blanks (fault_parts fault.now) }
-    ensures len { array_vec_len text.new ≤ array_vec_len text.old + 22 }
+    requires { array_vec_len text.old + length (behind_blanks (fault_parts fault.now)) ≤ 100 }
+    ensures { text.new.items ≡ text.old.items ++ behind_blanks (fault_parts fault.now) }
 {
     push_number(text, fault.number());
     push_fault_day(text, fault);
 }
 
 fn range_text(range: &Range) -> &'static [u8]
-    ensures bytes { result.now ≡ range_text range.now }
-    ensures short { length result.now ≤ 16 }
+    ensures { result.now ≡ range_text range.now }
 {
     match range {
         Range::Below => b"below",
@@ -72,9 +68,8 @@ fn range_text(range: &Range) -> &'static [u8]
 }
 
 fn push_boundary(text: &mut ArrayVec<u8, 128>, boundary: &Boundary)
-    requires { array_vec_len text.old ≤ 80 }
-    ensures items { text.new.items ≡ text.old.items ++ behind_blanks (boundary_parts boundary.now) }
-    ensures len { array_vec_len text.new ≤ array_vec_len text.old + 36 }
+    requires { array_vec_len text.old + length (behind_blanks (boundary_parts boundary.now)) ≤ 100 }
+    ensures { text.new.items ≡ text.old.items ++ behind_blanks (boundary_parts boundary.now) }
 {
     let mut value = ArrayVec::new();
     match boundary {
@@ -92,9 +87,8 @@ fn push_boundary(text: &mut ArrayVec<u8, 128>, boundary: &Boundary)
 }
 
 fn push_detail(text: &mut ArrayVec<u8, 128>, refusal: &Refusal)
-    requires { array_vec_len text.old ≤ 69 }
-    ensures items { text.new.items ≡ text.old.items ++ behind_blanks (detail refusal.now) }
-    ensures len { array_vec_len text.new ≤ array_vec_len text.old + 47 }
+    requires { array_vec_len text.old + length (behind_blanks (detail refusal.now)) ≤ 100 }
+    ensures { text.new.items ≡ text.old.items ++ behind_blanks (detail refusal.now) }
 {
     match refusal {
         Refusal::Conflict(kept) => push_kept(text, kept),
@@ -112,10 +106,8 @@ fn push_detail(text: &mut ArrayVec<u8, 128>, refusal: &Refusal)
 
 fn push_name(text: &mut ArrayVec<u8, 128>, number: u32)
     requires number { (1 ≤ number) × (number ≤ 15) }
-    requires room { array_vec_len text.old ≤ 80 }
-    ensures items { text.new.items ≡ text.old.items ++ codes "REFUSED"
-        ++ behind_blanks (decimal number ∷ name_of number ∷ []) }
-    ensures len { array_vec_len text.new ≤ array_vec_len text.old + 34 }
+    requires room { array_vec_len text.old + length (name_text number) ≤ 100 }
+    ensures { text.new.items ≡ text.old.items ++ name_text number }
 {
     push(text, b"REFUSED");
     push_number(text, number);
@@ -131,6 +123,7 @@ pub fn refusal_line(refusal: &Refusal, text: &mut ArrayVec<u8, 128>)
     ensures items { text.new.items ≡ refusal_text refusal.now }
     ensures len { array_vec_len text.new ≤ 82 }
 {
+    refusal_fits(refusal);
     text.clear();
     push_name(text, refusal.number());
     push_detail(text, refusal);

@@ -5,6 +5,7 @@ ghost use Rattle.arrayvec.specs.ArrayVec.{array_vec_len};
 ghost use Rattle.muni_confirm.specs.Confirmation as spec;
 
 use crate::figure_lines;
+use crate::laws::confirmation_fits;
 use arrayvec::ArrayVec;
 use muni_days::{Basis, Day};
 use muni_dec::text::{push, push_line, push_number_line};
@@ -12,8 +13,7 @@ use muni_msg::{Act, Asked, Key, Side, Version};
 use muni_terms::{Issue, IssueRow};
 
 fn heading(act: Act) -> &'static [u8]
-    ensures bytes { result.now ≡ spec.heading act }
-    ensures short { length result.now ≤ 22 }
+    ensures { result.now ≡ spec.heading act }
 {
     match act {
         Act::Entered => b"CONFIRMATION",
@@ -23,8 +23,7 @@ fn heading(act: Act) -> &'static [u8]
 }
 
 fn side_text(side: Side) -> &'static [u8]
-    ensures bytes { result.now ≡ spec.side_text side }
-    ensures short { length result.now ≤ 6 }
+    ensures { result.now ≡ spec.side_text side }
 {
     match side {
         Side::Buy => b"BOUGHT",
@@ -33,9 +32,8 @@ fn side_text(side: Side) -> &'static [u8]
 }
 
 fn push_day_line(text: &mut ArrayVec<u8, 1024>, word: &[u8], date: &Day)
-    requires { array_vec_len text.old + length word.now ≤ 900 }
-    ensures items { text.new.items ≡ text.old.items ++ spec.day_line word.now date.now }
-    ensures len { array_vec_len text.new ≡ array_vec_len text.old + length word.now + 12 }
+    requires { array_vec_len text.old + length (spec.day_line word.now date.now) ≤ 1024 }
+    ensures { text.new.items ≡ text.old.items ++ spec.day_line word.now date.now }
 {
     let mut value = ArrayVec::new();
     date.print_into(&mut value);
@@ -44,9 +42,8 @@ fn push_day_line(text: &mut ArrayVec<u8, 1024>, word: &[u8], date: &Day)
 
 #[tactic(auto, unfolding(crate::specs::Confirmation::trade_lines))]
 fn push_trade_lines(text: &mut ArrayVec<u8, 1024>, act: Act, number: u32, key: &Key)
-    requires { array_vec_len text.old ≤ 500 }
-    ensures items { text.new.items ≡ text.old.items ++ spec.trade_lines act number key.now }
-    ensures len { array_vec_len text.new ≤ array_vec_len text.old + 87 }
+    requires { array_vec_len text.old + length (spec.trade_lines act number key.now) ≤ 1000 }
+    ensures { text.new.items ≡ text.old.items ++ spec.trade_lines act number key.now }
 {
     push_number_line(text, heading(act), number);
     push_line(text, b"DESK", key.desk.bytes());
@@ -54,9 +51,8 @@ fn push_trade_lines(text: &mut ArrayVec<u8, 1024>, act: Act, number: u32, key: &
 }
 
 fn push_par_line(text: &mut ArrayVec<u8, 1024>, asked: &Asked)
-    requires { array_vec_len text.old ≤ 500 }
-    ensures items { text.new.items ≡ text.old.items ++ spec.par_line asked.now }
-    ensures len { array_vec_len text.new ≤ array_vec_len text.old + 28 }
+    requires { array_vec_len text.old + length (spec.par_line asked.now) ≤ 1024 }
+    ensures { text.new.items ≡ text.old.items ++ spec.par_line asked.now }
 {
     let mut value = ArrayVec::new();
     asked.par.print_into(&mut value);
@@ -65,9 +61,8 @@ fn push_par_line(text: &mut ArrayVec<u8, 1024>, asked: &Asked)
 
 #[tactic(auto, unfolding(crate::specs::Confirmation::name_lines))]
 fn push_name_lines(text: &mut ArrayVec<u8, 1024>, issue: &IssueRow)
-    requires { array_vec_len text.old ≤ 500 }
-    ensures items { text.new.items ≡ text.old.items ++ spec.name_lines issue.now }
-    ensures len { array_vec_len text.new ≤ array_vec_len text.old + 83 }
+    requires { array_vec_len text.old + length (spec.name_lines issue.now) ≤ 1024 }
+    ensures { text.new.items ≡ text.old.items ++ spec.name_lines issue.now }
 {
     push_line(text, b"CUSIP", &issue.cusip);
     push_line(text, b"ISSUE", &issue.name);
@@ -75,9 +70,8 @@ fn push_name_lines(text: &mut ArrayVec<u8, 1024>, issue: &IssueRow)
 
 #[tactic(auto, unfolding(crate::specs::Confirmation::terms_lines))]
 fn push_terms_lines(text: &mut ArrayVec<u8, 1024>, issue: &IssueRow)
-    requires { array_vec_len text.old ≤ 500 }
-    ensures items { text.new.items ≡ text.old.items ++ spec.terms_lines issue.now }
-    ensures len { array_vec_len text.new ≤ array_vec_len text.old + 91 }
+    requires { array_vec_len text.old + length (spec.terms_lines issue.now) ≤ 1024 }
+    ensures { text.new.items ≡ text.old.items ++ spec.terms_lines issue.now }
 {
     let mut coupon = ArrayVec::new();
     issue.coupon.print_into(&mut coupon);
@@ -88,9 +82,8 @@ fn push_terms_lines(text: &mut ArrayVec<u8, 1024>, issue: &IssueRow)
 }
 
 fn push_basis_line(text: &mut ArrayVec<u8, 1024>, basis: Basis)
-    requires { array_vec_len text.old ≤ 600 }
-    ensures items { text.new.items ≡ text.old.items ++ spec.basis_line basis }
-    ensures len { array_vec_len text.new ≤ array_vec_len text.old + 17 }
+    requires { array_vec_len text.old + length (spec.basis_line basis) ≤ 1024 }
+    ensures { text.new.items ≡ text.old.items ++ spec.basis_line basis }
 {
     match basis {
         Basis::Thirty360 => {}
@@ -116,6 +109,7 @@ pub fn confirmation(
     ensures len { array_vec_len text.new ≤ 685 }
 {
     let asked = &version.terms.asked;
+    confirmation_fits(issue, key, number, version);
     text.clear();
     push_trade_lines(text, version.act, number, key);
     push_par_line(text, asked);
