@@ -24,7 +24,7 @@ loop-count-init g c =
       tells = refl;
       later = omega arith;
       mark = refl;
-      door_later = omega (arith, c.bind.ensures.later);
+      door_later = omega (arith, c.bind.ensures.counts.later);
     }
 
 pub loop-count-preserved : goal.loop-count-preserved
