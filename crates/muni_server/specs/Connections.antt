@@ -1,8 +1,11 @@
 -- What is done with the connections of a door, one after another.
-use Rattle.std.specs.Prelude.{◌≡◌, ◌≢◌, ◌⊎◌, ◌≤◌, ◌+◌, ℕ, List, [], ◌∷◌, ◌++◌, length, map, Option, Some, IfSome, Ok, Err, slice_get, ⊤}
+use Rattle.std.specs.Prelude.{◌≡◌, ◌≢◌, ◌⊎◌, ◌≤◌, ◌+◌, ℕ, List, [], ◌∷◌, ◌++◌, length, map, Option, Some, None, Result, IfSome, Ok, Err, slice_get, is_some, ⊤}
 use Rattle.std.specs.List.{All, Contains}
 use Rattle.muni_edge.specs.Door.{DoorState, after_accept, handed_back}
+use Rattle.muni_edge.specs.declared.door.Door as door
+use Rattle.muni_edge.specs.declared.fault.Failed.{Failed}
 use Rattle.muni_keep.specs.Tables.{Tables}
+use Rattle.muni_keep.specs.declared.keeper.Keeper as keeper
 use Rattle.muni_step.specs.Step.{Pricing}
 use Rattle.muni_server.specs.Fault.{Outcome}
 use Rattle.muni_server.specs.Serves.{Traffic, Serves, RoseBy, WasServed}
@@ -98,3 +101,19 @@ pub record IsNext {L : Type 0} (Prices : Pricing) (told : L → Traffic) (door :
   pub first : Some accepted ≡ slice_get door.waiting 0
   pub after : state ≡ Some (handed_back back (after_accept (Some accepted) door))
   pub served : WasServed Prices old before (told accepted) came new now (told back)
+
+-- what came of asking a door for its next connection
+abbrev pub AsksDoor : {K D L : Type 0} → keeper.Ghosts K → door.Ghosts D L → Pricing → (L → Traffic) → Result (Option Served) Failed → (old new : K) → (before after : D) → Type 0
+AsksDoor keeps opens Prices told (Ok (Some came)) old new before after =
+    IfSome (opens.state before) (λ d. IsNext Prices told d (opens.state after) (keeps.tables old) (keeps.tables new) (keeps.faults old) (keeps.faults new) came)
+AsksDoor keeps opens Prices told (Ok None) old new before after =
+    (new ≡ old) × (opens.state after ≡ opens.state before) × IfSome (opens.state before) (λ d. d.waiting ≡ [])
+AsksDoor keeps opens Prices told (Err failed) old new before after =
+    (new ≡ old) × (opens.state after ≡ opens.state before)
+
+-- what serving leaves of a keeper and of a door, whatever they expose
+pub record KeepsServing {K D L : Type 0} (keeps : keeper.Ghosts K) (opens : door.Ghosts D L) (old new : K) (before after : D) : Type 0 where
+  pub tells : is_some (keeps.tables new) ≡ is_some (keeps.tables old)
+  pub later : keeps.faults old ≤ keeps.faults new
+  pub mark : keeps.mark new ≡ keeps.mark old
+  pub door_later : opens.faults before ≤ opens.faults after

@@ -1,7 +1,10 @@
 -- What is done with one connection.
-use Rattle.std.specs.Prelude.{◌≡◌, ◌⊎◌, ◌≤◌, ◌+◌, ◌-◌, ◌^◌, min, ℕ, List, Option, IfSome}
+use Rattle.std.specs.Prelude.{◌≡◌, ◌⊎◌, ◌≤◌, ◌+◌, ◌-◌, ◌^◌, min, ℕ, List, Option, IfSome, is_some}
 use Rattle.muni_edge.specs.Sink.{Rose, HasWritten, HasWrittenPart}
+use Rattle.muni_edge.specs.declared.sink.Sink as sink
+use Rattle.muni_edge.specs.declared.source.Source as source
 use Rattle.muni_keep.specs.Tables.{Tables}
+use Rattle.muni_keep.specs.declared.keeper.Keeper as keeper
 use Rattle.muni_msg.specs.declared.command.Command.{Command}
 use Rattle.muni_msg.specs.declared.command.Reply.{Reply}
 use Rattle.muni_step.specs.Runs.{StepsTo}
@@ -99,3 +102,15 @@ pub record WasServed (Prices : Pricing) (old : Option Tables) (before : ℕ) (li
   pub faults : ℕ
   pub serves : Serves Prices old link answer new after faults
   pub rose : RoseBy faults before now
+
+-- What an answer leaves of a keeper and of a connection, whatever they expose: a fault that it tells of is
+-- counted, and what got no answer has not come to the keeper.
+pub record LeavesCounted {K L : Type 0} (keeps : keeper.Ghosts K) (takes : source.Ghosts L) (puts : sink.Ghosts L) (came : Served) (old new : K) (before after : L) : Type 0 where
+  pub unavailable : came ≡ served.Answered 503 → Rose (keeps.faults old) (keeps.faults new)
+  pub link_fault : came ≡ served.LinkFault → Rose (takes.faults before) (takes.faults after) ⊎ Rose (puts.faults before) (puts.faults after)
+  pub unanswered : came ≡ served.Gone → new ≡ old
+  pub tells : is_some (keeps.tables new) ≡ is_some (keeps.tables old)
+  pub later : keeps.faults old ≤ keeps.faults new
+  pub mark : keeps.mark new ≡ keeps.mark old
+  pub takes_later : takes.faults before ≤ takes.faults after
+  pub puts_later : puts.faults before ≤ puts.faults after

@@ -1,10 +1,9 @@
 //! One connection.
 
-ghost use Rattle.std.specs.Prelude.{◌≡◌, ◌≢◌, ◌≤◌, ◌⊎◌, is_some};
+ghost use Rattle.std.specs.Prelude.{◌≡◌, ◌≤◌};
 ghost use Rattle.muni_book.specs.Answers.{IsRightAnswer};
-ghost use Rattle.muni_edge.specs.Sink.{Rose};
 ghost use Rattle.muni_server.specs.Answer.{reply_answer, bad_answer, unavailable_answer, IsWritten};
-ghost use Rattle.muni_server.specs.Serves.{WasServed, traffic};
+ghost use Rattle.muni_server.specs.Serves.{LeavesCounted, WasServed, traffic};
 
 use crate::served::Served;
 use muni_book::{BookFault, apply};
@@ -33,25 +32,13 @@ pub fn answer_one<R: Threads + Sync, L: Link, K: Keeper, E: Encloser + Sync, G: 
 ) -> Served
     requires { (1 ≤ workers) × (workers ≤ 16) }
 
-    // What was answered, where the connection tells its bytes and the keeper its tables.
+    // What was answered, if the connection exposes its bytes and the keeper its tables.
     ensures served { WasServed (IsRightAnswer (E.ends encloser.now))
         (K.tables keeper.old) (K.faults keeper.old)
         (traffic L.left L.bytes L.Source.faults L.Sink.faults link.old) result
         (K.tables keeper.new) (K.faults keeper.new)
         (traffic L.left L.bytes L.Source.faults L.Sink.faults link.new) }
-
-    // When an answer tells of a fault, whatever is told.
-    ensures unavailable { result ≡ Served.Answered 503 → Rose (K.faults keeper.old) (K.faults keeper.new) }
-    ensures link_fault { result ≡ Served.LinkFault
-        → Rose (L.Source.faults link.old) (L.Source.faults link.new)
-        ⊎ Rose (L.Sink.faults link.old) (L.Sink.faults link.new) }
-    ensures unanswered { result ≡ Served.Gone → keeper.new ≡ keeper.old }
-
-    ensures tells { is_some (K.tables keeper.new) ≡ is_some (K.tables keeper.old) }
-    ensures later { K.faults keeper.old ≤ K.faults keeper.new }
-    ensures mark { K.mark keeper.new ≡ K.mark keeper.old }
-    ensures takes_later { L.Source.faults link.old ≤ L.Source.faults link.new }
-    ensures puts_later { L.Sink.faults link.old ≤ L.Sink.faults link.new }
+    ensures leaves { LeavesCounted K.Keeper L.Source L.Sink result keeper.old keeper.new link.old link.new }
 {
     let command = match read_request(alloc, link) {
         Ok(command) => command,

@@ -4,7 +4,7 @@ ghost use Rattle.std.specs.Prelude.{◌≡◌, ◌≢◌, ◌≤◌, ℕ, List, 
 ghost use Rattle.muni_book.specs.Answers.{IsRightAnswer};
 ghost use Rattle.muni_edge.specs.Sink.{Rose};
 ghost use Rattle.muni_keep.specs.Cabinet.{LeavesOthers};
-ghost use Rattle.muni_server.specs.Connections.{IsNext, IsRun};
+ghost use Rattle.muni_server.specs.Connections.{AsksDoor, IsRun, KeepsServing};
 ghost use Rattle.muni_server.specs.Serves.{traffic};
 ghost use Rattle.muni_server.specs.Serving.{ServedStore};
 
@@ -81,11 +81,7 @@ fn serve_links<R: Threads + Sync, K: Keeper, D: Door, E: Encloser + Sync, G: Gat
     ensures bound { OnOk result (IfSome (D.state door.new) (λ d. d.port ≡ Some port)) }
     ensures door_fault { IsErrOf result ServeFault.Door → Rose (D.faults door.old) (D.faults door.new) }
     ensures no_store_fault { result ≢ Err ServeFault.Store }
-
-    ensures tells { is_some (K.tables keeper.new) ≡ is_some (K.tables keeper.old) }
-    ensures later { K.faults keeper.old ≤ K.faults keeper.new }
-    ensures mark { K.mark keeper.new ≡ K.mark keeper.old }
-    ensures door_later { D.faults door.old ≤ D.faults door.new }
+    ensures keeps { KeepsServing K.Keeper D.Door keeper.old keeper.new door.old door.new }
 {
     if door.bind(port).is_err() {
         return Err(ServeFault::Door);
@@ -115,23 +111,12 @@ fn serve_next<R: Threads + Sync, K: Keeper, D: Door, E: Encloser + Sync, G: Gate
     requires workers { (1 ≤ workers) × (workers ≤ 16) }
     requires bound { IfSome (D.state door.old) (λ d. IsSome d.port) }
 
-    ensures next { (served : Served) → result ≡ Ok (Some served) → IfSome (D.state door.old) (λ d.
-        IsNext (IsRightAnswer (E.ends encloser.now))
-        (traffic D.L.left D.L.bytes D.L.Source.faults D.L.Sink.faults)
-        d (D.state door.new) (K.tables keeper.old) (K.tables keeper.new)
-        (K.faults keeper.old) (K.faults keeper.new) served) }
-    ensures none { result ≡ Ok None → (D.state door.new ≡ D.state door.old)
-        × IfSome (D.state door.old) (λ d. d.waiting ≡ []) }
-    ensures unchanged { OnErr result (D.state door.new ≡ D.state door.old) }
-    ensures unserved { (result ≡ Ok None → keeper.new ≡ keeper.old) × OnErr result (keeper.new ≡ keeper.old) }
+    ensures next { AsksDoor K.Keeper D.Door (IsRightAnswer (E.ends encloser.now))
+        (traffic D.L.left D.L.bytes D.L.Source.faults D.L.Sink.faults) result keeper.old keeper.new door.old door.new }
     ensures failed { OnErr result (Rose (D.faults door.old) (D.faults door.new)) }
-
     ensures port { (port : ℕ) → IfSome (D.state door.old) (λ d. d.port ≡ Some port)
         → IfSome (D.state door.new) (λ d. d.port ≡ Some port) }
-    ensures tells { is_some (K.tables keeper.new) ≡ is_some (K.tables keeper.old) }
-    ensures later { K.faults keeper.old ≤ K.faults keeper.new }
-    ensures mark { K.mark keeper.new ≡ K.mark keeper.old }
-    ensures door_later { D.faults door.old ≤ D.faults door.new }
+    ensures keeps { KeepsServing K.Keeper D.Door keeper.old keeper.new door.old door.new }
 {
     match door.accept() {
         Ok(Some(link)) => {

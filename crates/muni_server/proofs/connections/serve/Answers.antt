@@ -32,7 +32,7 @@ returns-clause-served g c =
           (g.C.K.Keeper.tables c.in_ok-keeper.keeper) (g.C.K.Keeper.tables c.serve_links-end.new.keeper)
           (g.C.Cabinet.faults c.args.cabinet.now) (g.C.Cabinet.faults c.fetch.new.self) (g.C.Cabinet.faults c.give_back.new.self)
           (g.C.K.Keeper.faults c.in_ok-keeper.keeper) (g.C.K.Keeper.faults c.serve_links-end.new.keeper) c.serve_links-end.result
-          served.run fetched.count fetched.later back.counted (fetched.tells c.args.store.now) fetched.out fetched.tables served.tells back.tables;
+          served.run fetched.count fetched.later back.counted (fetched.tells c.args.store.now) fetched.out fetched.tables served.keeps.tells back.tables;
       bound = served.bound;
       unopened = λ store. absurd (served.no_store_fault store);
       store_fault = λ store. absurd (served.no_store_fault store);

@@ -39,11 +39,11 @@ loop-count-preserved g c =
           (g.D.Door.state c.args.door.now) (g.D.Door.state c.loop-count.door) (g.D.Door.state c.serve_next.new.door)
           (g.K.Keeper.tables c.args.keeper.now) (g.K.Keeper.tables c.loop-count.keeper) (g.K.Keeper.tables c.serve_next.new.keeper)
           (g.K.Keeper.faults c.args.keeper.now) (g.K.Keeper.faults c.loop-count.keeper) (g.K.Keeper.faults c.serve_next.new.keeper)
-          c.loop-count.end served on.run (did.next served refl));
+          c.loop-count.end served on.run did.next);
       no_fault = rw c.after-end.ensures (goes-on c.loop-count.end served on.no_fault);
       port = did.port c.args.port on.port;
-      tells = did.tells ∙ on.tells;
-      later = omega (arith, on.later, did.later);
-      mark = did.mark ∙ on.mark;
-      door_later = omega (arith, on.door_later, did.door_later);
+      tells = did.keeps.tells ∙ on.tells;
+      later = omega (arith, on.later, did.keeps.later);
+      mark = did.keeps.mark ∙ on.mark;
+      door_later = omega (arith, on.door_later, did.keeps.door_later);
     }
