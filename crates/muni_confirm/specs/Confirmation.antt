@@ -28,7 +28,7 @@ side_text Buy = codes "BOUGHT"
 side_text Sell = codes "SOLD"
 
 -- a line of a word and a date
-abbrev pub day_line : List ℕ → Day → List ℕ
+unfoldable pub day_line : List ℕ → Day → List ℕ
 day_line word date = line (word ∷ day_text (civil date) ∷ [])
 
 -- which trade it is: the heading with the number of the version, the desk and the reference
@@ -39,7 +39,7 @@ trade_lines act number key =
     ++ line (codes "REFERENCE" ∷ key.reference ∷ [])
 
 -- how much was bought or sold
-abbrev pub par_line : Asked → List ℕ
+unfoldable pub par_line : Asked → List ℕ
 par_line asked = line (side_text asked.side ∷ decimal asked.par ∷ [])
 
 -- of which issue

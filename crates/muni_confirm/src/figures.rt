@@ -125,28 +125,21 @@ fn push_days_line(text: &mut ArrayVec<u8, 512>, days: i32)
     push_number_line(text, b"ACCRUED DAYS", days);
 }
 
-#[tactic(auto, unfolding(crate::specs::Figures::figure_text))]
-fn push_figures(text: &mut ArrayVec<u8, 512>, figures: &Figures, given: &Given, fee: Fee)
-    requires { array_vec_len text.old + length (figure_text figures.now given.now fee) ≤ 500 }
-    ensures { text.new.items ≡ text.old.items ++ figure_text figures.now given.now fee }
-{
-    push_price_lines(text, figures, given);
-    push_redemption_line(text, figures);
-    push_days_line(text, figures.days);
-    push_money_lines(text, figures, fee);
-}
-
 /// Replaces the text by the lines of the figures, each with its line end: the price, the yield, a
 /// given discount rate, the disclosed redemption, the days of accrued interest, and the money. The
 /// commission has a line where the fee is above 0.
 ///
 /// A price or a yield is shown with three decimals, a rate with four, a redemption price with six,
 /// and money in dollars with two.
+#[tactic(auto, unfolding(crate::specs::Figures::figure_text))]
 pub fn figure_lines(figures: &Figures, given: &Given, fee: Fee, text: &mut ArrayVec<u8, 512>)
     ensures items { text.new.items ≡ figure_text figures.now given.now fee }
     ensures len { array_vec_len text.new ≤ 374 }
 {
     figures_fit(figures, given, fee);
     text.clear();
-    push_figures(text, figures, given, fee);
+    push_price_lines(text, figures, given);
+    push_redemption_line(text, figures);
+    push_days_line(text, figures.days);
+    push_money_lines(text, figures, fee);
 }

@@ -7,7 +7,7 @@ ghost use Rattle.std.specs.Fmt.{signed_decimal};
 ghost use Rattle.muni_dec.specs.Decimal.{decimal_text, signed_text};
 ghost use Rattle.muni_dec.specs.Line.{behind_blanks};
 ghost use Rattle.muni_days.specs.Day.{civil, day_text};
-ghost use Rattle.muni_confirm.specs.Confirmation.{trade_lines, par_line, name_lines, terms_lines};
+ghost use Rattle.muni_confirm.specs.Confirmation.{day_line, trade_lines, par_line, name_lines, terms_lines};
 ghost use Rattle.muni_confirm.specs.Figures.{rate_line, price_lines, redemption_line, days_line, money_lines};
 ghost use Rattle.muni_confirm.specs.Laws.{FiguresFit, ConfirmationFits, RefusalFits};
 ghost use Rattle.muni_confirm.specs.Refusal.{kept_parts, fault_day, fault_parts, boundary_parts, detail, name_text};
@@ -34,10 +34,10 @@ pub fn confirmation_fits(issue: &Issue, key: &Key, number: u32, version: &Versio
 {
     let asked = &version.terms.asked;
     trade_lines_fit(version.act, number, key);
-    par_fits(asked.par);
+    par_line_fits(asked);
     name_lines_fit(issue.row());
     terms_lines_fit(issue.row());
-    day_fits(&asked.settle);
+    day_line_fits(b"SETTLEMENT", &asked.settle);
     figures_fit(&version.figures, &asked.given, asked.fee);
 }
 
@@ -135,6 +135,20 @@ fn money_lines_fit(figures: &Figures, fee: Fee)
     decimal_fits(&figures.total);
 }
 
+#[tactic(auto, unfolding(crate::specs::Confirmation::day_line))]
+fn day_line_fits(word: &[u8], date: &Day)
+    ensures { length (day_line word.now date.now) ≡ length word.now + 12 }
+{
+    day_fits(date);
+}
+
+#[tactic(auto, unfolding(crate::specs::Confirmation::par_line))]
+fn par_line_fits(asked: &Asked)
+    ensures { length (par_line asked.now) ≤ 18 }
+{
+    par_fits(asked.par);
+}
+
 #[tactic(auto, unfolding(crate::specs::Confirmation::trade_lines))]
 fn trade_lines_fit(act: Act, number: u32, key: &Key)
     ensures { length (trade_lines act number key.now) ≤ 87 }
@@ -157,8 +171,8 @@ fn terms_lines_fit(issue: &IssueRow)
     ensures { length (terms_lines issue.now) ≤ 91 }
 {
     decimal_fits(&issue.coupon);
-    day_fits(&issue.dated);
-    day_fits(&issue.maturity);
+    day_line_fits(b"DATED", &issue.dated);
+    day_line_fits(b"MATURITY", &issue.maturity);
 }
 
 fn name_fits(number: u32)

@@ -31,6 +31,7 @@ fn side_text(side: Side) -> &'static [u8]
     }
 }
 
+#[tactic(auto, unfolding(crate::specs::Confirmation::day_line))]
 fn push_day_line(text: &mut ArrayVec<u8, 1024>, word: &[u8], date: &Day)
     requires { array_vec_len text.old + length (spec.day_line word.now date.now) ≤ 1024 }
     ensures { text.new.items ≡ text.old.items ++ spec.day_line word.now date.now }
@@ -50,6 +51,7 @@ fn push_trade_lines(text: &mut ArrayVec<u8, 1024>, act: Act, number: u32, key: &
     push_line(text, b"REFERENCE", key.reference.bytes());
 }
 
+#[tactic(auto, unfolding(crate::specs::Confirmation::par_line))]
 fn push_par_line(text: &mut ArrayVec<u8, 1024>, asked: &Asked)
     requires { array_vec_len text.old + length (spec.par_line asked.now) ≤ 1024 }
     ensures { text.new.items ≡ text.old.items ++ spec.par_line asked.now }
