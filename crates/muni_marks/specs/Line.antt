@@ -4,8 +4,7 @@ use Rattle.std.specs.List.{sum_by, count_by}
 use Rattle.muni_dec.specs.Decimal.{decimal_text}
 use Rattle.muni_days.specs.Day.{civil, day_text}
 use Rattle.muni_days.specs.declared.day.Day.{Day}
-use Rattle.muni_msg.specs.Refusal.{name_of}
-use Rattle.muni_import.specs.Report.{behind_commas, bad_fields}
+use Rattle.muni_import.specs.Line.{behind_commas, refused_fields, bad_fields}
 use Rattle.muni_marks.specs.declared.pricing.MarkSaid.{MarkSaid}
 use Rattle.muni_marks.specs.declared.pricing.MarkSaid.TheVariants.{Marked, Refused, Bad}
 
@@ -20,20 +19,16 @@ unfoldable pub worth_fields : ℕ → Day → ℕ → List ℕ
 worth_fields price redemption total =
     behind_commas (decimal_text 3 price ∷ day_text (civil redemption) ∷ decimal_text 2 total ∷ [])
 
--- a refusal, by its number and its name
-unfoldable pub refused_fields : ℕ → List ℕ
-refused_fields number = behind_commas (codes "refused" ∷ decimal number ∷ name_of number ∷ [])
-
 -- what is told of a row
-unfoldable pub said_fields : MarkSaid → List ℕ
-said_fields (Marked cusip price redemption total) =
+unfoldable pub mark_fields : MarkSaid → List ℕ
+mark_fields (Marked cusip price redemption total) =
     behind_commas (codes "marked" ∷ cusip ∷ []) ++ worth_fields price redemption total
-said_fields (Refused number) = refused_fields number
-said_fields (Bad fault) = bad_fields fault
+mark_fields (Refused number) = refused_fields number
+mark_fields (Bad fault) = bad_fields fault
 
 -- the line of a row, which begins with its place
 abbrev pub mark_line : ℕ → MarkSaid → List ℕ
-mark_line place said = decimal place ++ said_fields said ++ 10 ∷ []
+mark_line place said = decimal place ++ mark_fields said ++ 10 ∷ []
 
 -- the lines of rows, whose places are counted on
 abbrev pub mark_lines : ℕ → List MarkSaid → List ℕ

@@ -1,8 +1,7 @@
 //! The rows of a text.
 
-ghost use Rattle.std.specs.Prelude.{◌≡◌, ◌≤◌, IfOk};
+ghost use Rattle.std.specs.Prelude.{◌≡◌, IfOk};
 ghost use Rattle.csv.specs.Records.{fields_of};
-ghost use Rattle.muni_import.specs.Row as columns;
 ghost use Rattle.muni_marks.specs.Rows as spec;
 
 use csv::{ByteRecord, ReaderBuilder};
@@ -10,6 +9,7 @@ use muni_days::Day;
 use muni_dec::{Fee, Par, Yield};
 use muni_edge::NoMemory;
 use muni_import::RowFault;
+use muni_import::columns::{field, in_column};
 use muni_msg::{Asked, Given, Side, read_cusip};
 use std::alloc::Global;
 
@@ -61,22 +61,4 @@ fn read_asked(row: &ByteRecord) -> Result<Asked, RowFault>
         side: Side::Buy,
         fee: Fee::ZERO,
     })
-}
-
-// The field of a column, counted from 1.
-fn field(row: &ByteRecord, column: u32) -> &[u8]
-    requires { 1 ≤ column }
-    ensures { result.now ≡ columns.field column (fields_of row.now) }
-{
-    match row.get(column as usize - 1) {
-        Some(field) => field,
-        None => b"",
-    }
-}
-
-// What a column reads as, or that it does not.
-fn in_column<T>(column: u32, reading: Option<T>) -> Result<T, RowFault>
-    ensures { result ≡ columns.in_column column reading }
-{
-    reading.ok_or(RowFault::BadField { column })
 }

@@ -1,6 +1,6 @@
 //! The body of a version.
 
-ghost use Rattle.std.specs.Prelude.{◌≡◌, ◌≤◌, ◌+◌, ◌++◌, ◌∷◌, length};
+ghost use Rattle.std.specs.Prelude.{◌≡◌, ◌≤◌, ◌+◌, ◌++◌, ◌∷◌};
 ghost use Rattle.arrayvec.specs.ArrayVec.{array_vec_len};
 ghost use Rattle.muni_msg.specs.Codes.{given_code, given_units};
 ghost use Rattle.muni_record.specs.Words.{signed};
