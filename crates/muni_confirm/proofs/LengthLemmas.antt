@@ -1,5 +1,5 @@
 -- How many bytes printed numbers and dates have at most.
-use Rattle.std.proofs.Common.{◌≡◌, ℕ, zero, suc, ◌+◌, ◌/◌, ◌^◌, ◌<◌, ◌≤◌, ℤ, pos, negsuc, List, ◌++◌, length, refl, arith, length-append}
+use Rattle.std.proofs.Common.{◌≡◌, ℕ, zero, suc, ◌+◌, ◌/◌, ◌^◌, ◌<◌, ◌≤◌, ℤ, pos, negsuc, length, refl, arith, length-append}
 use Rattle.std.specs.Prelude.{unsigned_abs}
 use Rattle.std.proofs.lemmas.Fmt.{length-decimal-le, length_signed_le}
 use Rattle.std.specs.Int.Signed.{mag}
@@ -35,10 +35,6 @@ length-day_text date =
 -- a number of 32 bits, with its sign
 pub length-days : (days : ℤ) → mag days < 2 ^ 32 → length (signed_decimal days) ≤ 11
 length-days days small = length_signed_le 10 days (omega arith) (omega arith)
-
--- four parts together are as long as the most of each
-pub length-four : {i j k l : ℕ} (a b c d : List ℕ) → length a ≤ i → length b ≤ j → length c ≤ k → length d ≤ l → length (a ++ b ++ c ++ d) ≤ i + j + k + l
-length-four a b c d p q r s = simp length-append (omega arith)
 
 -- a number of 32 bits without a sign
 pub length-count : (number : ℕ) → number < 2 ^ 32 → length (decimal number) ≤ 10
