@@ -3,3 +3,11 @@ pub mod FoundLemmas
 pub mod UniqueLemmas
 pub mod RunLemmas
 pub mod RightLemmas
+pub mod PutLemmas
+pub mod CauseLemmas
+pub mod IsolationLemmas
+pub mod KeepLemmas
+pub mod OnceLemmas
+pub mod ReplyLemmas
+pub mod SoundLemmas
+pub mod LawLemmas

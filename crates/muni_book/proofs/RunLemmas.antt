@@ -5,8 +5,8 @@ use Rattle.std.proofs.lemmas.List.{take_more, take_all}
 use Rattle.muni_msg.specs.declared.command.Command.{Command}
 use Rattle.muni_msg.specs.declared.command.Reply.{Reply}
 use Rattle.muni_keep.specs.Tables.{Tables}
-use Rattle.muni_step.specs.Runs.{StepsTo, Runs, RunsTo, RunsFirst}
-use Rattle.muni_step.specs.Step.{Pricing, Entry, IsStepOver, after}
+use Rattle.muni_book_step.specs.Runs.{StepsTo, Runs, RunsTo, RunsFirst}
+use Rattle.muni_book_step.specs.Step.{Pricing, Entry, IsStepOver, after}
 
 step-behind : (P : Pricing) (old mid : Tables) (commands : List Command) (replies : List Reply) (c : Command) (reply : Reply) (entry : Option Entry) → Runs P old commands replies mid
     → IsStepOver P mid c (record { reply = reply; entry = entry }) → Runs P old (commands ++ c ∷ []) (replies ++ reply ∷ []) (after entry mid)

@@ -5,3 +5,9 @@ pub mod GivenFor
 pub mod Fault
 pub mod RightFigures
 pub mod SoundTables
+pub mod Causes
+pub mod Isolation
+pub mod Once
+pub mod Unique
+pub mod StaysSound
+pub mod RunLaws

@@ -1,6 +1,7 @@
-//! Laws of the answers.
+//! Laws of the answers, and of runs over every list of commands.
 
 ghost use Rattle.muni_book.specs.AnswerLaws.{AnswersAreUnique, AnsweredFiguresAreRight};
+ghost use Rattle.muni_book.specs.RunLaws.{TablesAreSound, AcceptedCommandsActOnce, NothingKeptIsLost, EachDeskIsIsolated, RepliesAreUnique, EachEntryHasItsReason, EachRefusalHasItsCause};
 
 /// A law of the definitions: of one issue and one request they allow one answer, and so figures or a
 /// refusal but never both. So it does not depend on how many workers compute.
@@ -12,4 +13,48 @@ pub fn the_answer_to_a_request_is_unique()
 /// whatever encloser computed them.
 pub fn answered_figures_are_right()
     ensures { AnsweredFiguresAreRight }
+{}
+
+/// A law of the definitions: the empty tables are sound, and a run leaves sound tables sound. So
+/// every figure that is ever kept is right by the rule's exact formulas.
+pub fn tables_are_sound()
+    ensures { TablesAreSound }
+{}
+
+/// A law of the definitions: a command that was accepted acts once. Sent again at any later time it
+/// adds nothing, and is answered by an equal reply.
+pub fn accepted_commands_act_once()
+    ensures { AcceptedCommandsActOnce }
+{}
+
+/// A law of the definitions: a run changes and removes nothing that is kept.
+pub fn nothing_kept_is_lost()
+    ensures { NothingKeptIsLost }
+{}
+
+/// A law of the definitions: with equal issues and equal trades of one desk, a run tells that desk
+/// the same over all tables, whatever other desks keep and send.
+pub fn each_desk_is_isolated()
+    ensures { EachDeskIsIsolated }
+{}
+
+/// A law of the definitions: the replies to a list of commands over given tables are unique. So they
+/// do not depend on how many workers compute.
+pub fn replies_are_unique()
+    ensures { RepliesAreUnique }
+{}
+
+/// A law of the definitions: each entry has its reason. An issue is kept where it is new and passes
+/// its checks. A trade is kept where it is new and its desk has room, with the figures of its terms.
+/// A live trade takes a correction or a cancel with the next number. Where nothing is kept for a
+/// command that is accepted, it was kept before.
+pub fn each_entry_has_its_reason()
+    ensures { EachEntryHasItsReason }
+{}
+
+/// A law of the definitions: a refusal comes where it has its cause, or where the figures that are
+/// asked for are refused so. A conflict tells the issue or the version that is kept, which is not
+/// what was sent.
+pub fn each_refusal_has_its_cause()
+    ensures { EachRefusalHasItsCause }
 {}

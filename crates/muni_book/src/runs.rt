@@ -2,7 +2,7 @@
 
 ghost use Rattle.std.specs.Prelude.{◌≡◌, ◌≤◌, ◌++◌, ◌∷◌, [], IfOk, IfSome, OnOk, OnErr};
 ghost use Rattle.muni_keep.specs.Keeper.{SameKeeper};
-ghost use Rattle.muni_step.specs.Runs.{RunsTo, RunsFirst};
+ghost use Rattle.muni_book_step.specs.Runs.{RunsTo, RunsFirst};
 ghost use Rattle.muni_book.specs.Answers.{IsRightAnswer};
 
 use crate::{BookFault, apply};

@@ -4,17 +4,17 @@ ghost use Rattle.std.specs.Prelude.{◌≡◌, ◌≤◌, IfOk, IfSome, OnErr};
 ghost use Rattle.muni_keep.specs.History.{next_number};
 ghost use Rattle.muni_keep.specs.Keeper.{SameKeeper};
 ghost use Rattle.muni_keep.specs.Tables.{issue_at, trade_at};
-ghost use Rattle.muni_step.specs.Runs.{StepsTo, IsRefusal};
-ghost use Rattle.muni_step.specs.Step.{CanKeep};
-ghost use Rattle.muni_step.specs.CarriedOut.{IsCarriedOut, KeepsIssue, KeepsVersion};
+ghost use Rattle.muni_book_step.specs.Runs.{StepsTo, IsRefusal};
+ghost use Rattle.muni_book_step.specs.Step.{CanKeep};
+ghost use Rattle.muni_book_step.specs.CarriedOut.{IsCarriedOut, KeepsIssue, KeepsVersion};
 ghost use Rattle.muni_book.specs.Answers.{IsRightAnswer};
 
 use crate::{BookFault, figures};
+use muni_book_step::{Plan, plan_of};
 use muni_edge::Gate;
 use muni_keep::{KeepFault, Keeper};
 use muni_msg::{Command, Key, Reply, Version};
 use muni_multi::Encloser;
-use muni_step::{Plan, plan_of};
 use muni_terms::Issue;
 use std::thread::Threads;
 

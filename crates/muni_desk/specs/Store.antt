@@ -1,21 +1,21 @@
 -- What each command over a store does, by its status.
 use Rattle.std.specs.Prelude.{◌≡◌, ℕ, List}
-use Rattle.muni_edge.specs.Sink.{Rose}
+use Rattle.muni_edge.specs.Faults.{Rose}
 use Rattle.muni_edge.specs.declared.door.Door as Door
 use Rattle.muni_edge.specs.declared.sink.Sink as Sink
 use Rattle.muni_edge.specs.declared.source.Source as Source
 use Rattle.muni_keep.specs.Cabinet.{LeavesAll, LeavesOthers}
 use Rattle.muni_keep.specs.declared.cabinet.Cabinet as Cabinet
-use Rattle.muni_step.specs.Step.{Pricing}
+use Rattle.muni_book_step.specs.Step.{Pricing}
 use Rattle.muni_msg.specs.declared.command.Key.{Key}
-use Rattle.muni_office.specs.Confirmed.{Confirmed}
-use Rattle.muni_office.specs.Imported.{Imported}
-use Rattle.muni_office.specs.Lent.{Lent}
-use Rattle.muni_blotter.specs.Imported.{ImportedWith, DoesNoneOfTooMany}
-use Rattle.muni_blotter.specs.Listed.{Listed}
+use Rattle.muni_desk_import.specs.Confirmed.{Confirmed}
+use Rattle.muni_desk_import.specs.Imported.{Imported}
+use Rattle.muni_desk_import.specs.Lent.{Lent}
+use Rattle.muni_desk_positions.specs.Imported.{ImportedWith, DoesNoneOfTooMany}
+use Rattle.muni_desk_positions.specs.Listed.{Listed}
 use Rattle.muni_marks.specs.Marked.{Marked}
-use Rattle.muni_server.specs.Serves.{Traffic}
-use Rattle.muni_server.specs.Serving.{ServedStore}
+use Rattle.muni_desk_serve.specs.Serves.{Traffic}
+use Rattle.muni_desk_serve.specs.Serving.{ServedStore}
 use Rattle.muni_desk.specs.Status.{of_answered, of_done, of_served}
 use Rattle.muni_desk.specs.declared.status.Status.{Status}
 

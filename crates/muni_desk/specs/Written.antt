@@ -1,6 +1,7 @@
 -- What a command leaves on the output that it is lent.
 use Rattle.std.specs.Prelude.{◌≡◌, ◌≢◌, ℕ, ◌⊎◌, List, Option}
-use Rattle.muni_edge.specs.Sink.{Rose, HasWritten, HasWrittenPart}
+use Rattle.muni_edge.specs.Faults.{Rose}
+use Rattle.muni_edge.specs.Sink.{HasWritten, HasWrittenPart}
 use Rattle.muni_desk.specs.declared.status.Answer.{Answer}
 use Rattle.muni_desk.specs.declared.status.Status.{Status}
 use Rattle.muni_desk.specs.declared.status.Status.TheVariants.{WriteFault}

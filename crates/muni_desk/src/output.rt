@@ -4,20 +4,20 @@ ghost use Rattle.std.specs.Prelude.{◌≡◌, ◌≢◌, ◌↔◌, ◌≤◌, 
 ghost use Rattle.muni_edge.specs.Sink.{HasWritten, HasWrittenPart};
 ghost use Rattle.muni_desk.specs.Command.{command_of, IsAnswerable};
 ghost use Rattle.muni_desk.specs.Does.{Does, Spares};
-ghost use Rattle.muni_office.specs.Lent.{lent};
-ghost use Rattle.muni_server.specs.Serves.{traffic};
+ghost use Rattle.muni_desk_import.specs.Lent.{lent};
+ghost use Rattle.muni_desk_serve.specs.Serves.{traffic};
 ghost use Rattle.muni_desk.specs.Written.{TellsFaults};
 
 use crate::answers::{drill_answer, help_answer, quote_answer, quote_one_answer};
 use crate::command::read;
 use crate::{Answer, CommandLine, DeskCommand, Status};
-use muni_blotter::{import_with_positions, positions};
+use muni_desk_import::{confirm, import};
+use muni_desk_positions::{import_with_positions, positions};
+use muni_desk_serve::serve;
 use muni_edge::{Door, Gate, Sink, Source};
 use muni_keep::Cabinet;
 use muni_marks::mark;
 use muni_multi::Encloser;
-use muni_office::{confirm, import};
-use muni_server::serve;
 use std::alloc::Global;
 use std::thread::Threads;
 

@@ -4,8 +4,8 @@ ghost use Rattle.std.specs.Prelude.{◌≡◌};
 ghost use Rattle.muni_desk.specs.Status.{number_of, of_answered, of_done, of_fault, of_served};
 
 use arrayvec::ArrayVec;
-use muni_office::{Answered, Fault};
-use muni_server::ServeFault;
+use muni_desk_import::{Answered, Fault};
+use muni_desk_serve::ServeFault;
 
 /// How a command ended.
 #[derive(Clone, Copy, Debug, PartialEq, Eq)]

@@ -1,5 +1,4 @@
 -- Bytes that were written, if an object exposes them.
-pub use Rattle.muni_edge.specs.Faults.{Rose}
 use Rattle.std.specs.Prelude.{◌≡◌, ℕ, List, ◌++◌, take, Option, Some, Result, is_some, IfSome, OnOk, OnErr}
 
 -- if the bytes are exposed, this text was appended

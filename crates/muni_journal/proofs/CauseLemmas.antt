@@ -1,9 +1,9 @@
 -- Why a fault is counted for the disk of a name.
 use Rattle.std.proofs.Common.{◌≡◌, ◌⊎◌, inl, inr, ⊎_elim, sym, refl, subst, ℕ, List, Option, Some, None}
 use Rattle.std.specs.Prelude.{is_some, IfSome}
-use Rattle.muni_edge.specs.Sink.{Rose}
-use Rattle.muni_disk.specs.Disk.{ReadsAs, IfRead}
-use Rattle.muni_disk.specs.declared.fault.DiskFault.TheVariants.{Failed}
+use Rattle.muni_edge.specs.Faults.{Rose}
+use Rattle.muni_journal_disk.specs.Disk.{ReadsAs, IfRead}
+use Rattle.muni_journal_disk.specs.declared.fault.DiskFault.TheVariants.{Failed}
 use Rattle.muni_journal.specs.Journal.{IsNoJournal}
 use Rattle.muni_journal.specs.declared.fetching.FetchFault.{FetchFault}
 use Rattle.muni_journal.specs.declared.fetching.FetchFault.TheVariants.{Disk, NotAJournal}

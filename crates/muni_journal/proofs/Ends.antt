@@ -5,10 +5,10 @@ use Rattle.std.proofs.lemmas.Bool.{cases_eq, cases_lt}
 use Rattle.std.proofs.lemmas.Bool.Decides.{nat_tests}
 use Rattle.std.proofs.lemmas.List.{get_or_past}
 use Rattle.std.proofs.lemmas.Option.{option_and_then_some, none-some, same_Some}
-use Rattle.muni_disk.specs.Bytes.{byte_at, bytes_at, IsSameBefore}
+use Rattle.muni_journal_disk.specs.Bytes.{byte_at, bytes_at, IsSameBefore}
 use Rattle.muni_keep.specs.Tables.{Tables}
-use Rattle.muni_record.specs.Words.{number_of_4}
-use Rattle.muni_record.specs.Body.{put_of}
+use Rattle.muni_journal_record.specs.Words.{number_of_4}
+use Rattle.muni_journal_record.specs.Body.{put_of}
 use Rattle.muni_journal.specs.Puts.{put_on}
 use Rattle.muni_journal.specs.Journal.{Place, start, number_at, is_length, put_at, behind_slot, end_from, journal_of}
 

@@ -1,7 +1,7 @@
 -- A journal is read slot by slot, up to its end.
 use Rattle.std.proofs.Common.{◌≡◌, ◌≢◌, ℕ, zero, suc, ◌+◌, ◌≤◌, ◌==◌, Bool, true, false, List, length, Some, None, sym, ◌∙◌, ap}
 use Rattle.std.proofs.lemmas.Bool.{eqb-true}
-use Rattle.muni_disk.specs.Bytes.{byte_at}
+use Rattle.muni_journal_disk.specs.Bytes.{byte_at}
 use Rattle.muni_journal.specs.Journal.{Place, start, behind_slot, end_from, journal_of}
 use Rattle.muni_journal.specs.Reading.{GoesOn}
 use Rattle.muni_journal.proofs.Ends.{closed_step, has_next, with_next, gates_rise, journal_ends, from_journal}

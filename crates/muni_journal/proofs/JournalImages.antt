@@ -4,16 +4,16 @@ use Rattle.std.specs.Prelude.{is_some}
 use Rattle.std.specs.Option.{option_map, option_and_then}
 use Rattle.std.proofs.lemmas.Bool.{cases_eq}
 use Rattle.std.proofs.lemmas.Bool.Decides.{nat_tests}
-use Rattle.muni_disk.specs.Bytes.{byte_at, bytes_at, StandsAt, IsSameBefore, IsSameOutside}
-use Rattle.muni_disk.specs.Disk.{ComesFrom, StopsLeave}
-use Rattle.muni_disk.proofs.Pieces.{front, back, first_byte, held_piece}
-use Rattle.muni_slots.specs.Slots.{IsStep, IsUnopened, IsDoubtful, IsPut, IsTakenBack, AllImages}
+use Rattle.muni_journal_disk.specs.Bytes.{byte_at, bytes_at, StandsAt, IsSameBefore, IsSameOutside}
+use Rattle.muni_journal_disk.specs.Disk.{ComesFrom, StopsLeave}
+use Rattle.muni_journal_disk.proofs.Pieces.{front, back, first_byte, held_piece}
+use Rattle.muni_journal_slots.specs.Slots.{IsStep, IsUnopened, IsDoubtful, IsPut, IsTakenBack, AllImages}
 use Rattle.muni_keep.specs.Tables.{Tables}
-use Rattle.muni_record.specs.Words.{four, number_of_4}
-use Rattle.muni_record.specs.Body.{PutFits, body_of, put_of}
-use Rattle.muni_record.specs.declared.put.Put.{Put}
-use Rattle.muni_record.proofs.WordLaws.{length-four, four_is}
-use Rattle.muni_record.proofs.BodyLaws.{what_is_written_is_read}
+use Rattle.muni_journal_record.specs.Words.{four, number_of_4}
+use Rattle.muni_journal_record.specs.Body.{PutFits, body_of, put_of}
+use Rattle.muni_journal_record.specs.declared.put.Put.{Put}
+use Rattle.muni_journal_record.proofs.WordLaws.{length-four, four_is}
+use Rattle.muni_journal_record.proofs.BodyLaws.{what_is_written_is_read}
 use Rattle.muni_journal.specs.Puts.{is_next, after, put_on}
 use Rattle.muni_journal.specs.Journal.{Place, start, number_at, is_length, behind_slot, tables_of, end_from, journal_of, piece_of, place_with}
 use Rattle.muni_journal.specs.Stops.{IsInDoubt, StandsFor}

@@ -2,9 +2,9 @@
 use Rattle.std.proofs.Common.{◌≡◌, ℕ, ◌+◌, if◌then◌else◌, true, Option, Some, None, List, sym, ◌∙◌, ap}
 use Rattle.std.specs.Option.{option_map, option_and_then}
 use Rattle.muni_keep.specs.Tables.{Tables}
-use Rattle.muni_disk.specs.Bytes.{bytes_at}
-use Rattle.muni_record.specs.Body.{put_of}
-use Rattle.muni_record.specs.declared.put.Put.{Put}
+use Rattle.muni_journal_disk.specs.Bytes.{bytes_at}
+use Rattle.muni_journal_record.specs.Body.{put_of}
+use Rattle.muni_journal_record.specs.declared.put.Put.{Put}
 use Rattle.muni_journal.specs.Puts.{put_on}
 use Rattle.muni_journal.specs.Journal.{Place, is_length, number_at, behind_slot}
 

@@ -5,7 +5,7 @@ use Rattle.std.specs.Option.{option_map, option_and_then}
 use Rattle.std.specs.Cmp.Lexicographic.{pointwise, same_text, other_text}
 use Rattle.std.proofs.lemmas.Cmp.{nat_list_eq_equiv}
 use Rattle.muni_keep.specs.Tables.{Tables}
-use Rattle.muni_disk.specs.Disk.{ReadsAs}
+use Rattle.muni_journal_disk.specs.Disk.{ReadsAs}
 use Rattle.muni_journal.specs.Journal.{tables_of}
 use Rattle.muni_journal.specs.Told.{told_of}
 

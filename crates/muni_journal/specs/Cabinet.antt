@@ -1,10 +1,10 @@
 -- The disks of a cabinet of journals: what came back to the shelf, and what has failed.
 use Rattle.std.specs.Prelude.{◌≡◌, ◌⊎◌, ℕ, List, Option, Some, None, IfSome, IsSomeAnd}
-use Rattle.muni_edge.specs.Sink.{Rose}
+use Rattle.muni_edge.specs.Faults.{Rose}
 use Rattle.muni_keep.specs.Tables.{Tables}
-use Rattle.muni_disk.specs.Frames.{KeepsOthers}
-use Rattle.muni_disk.specs.declared.disk.Disk as disk
-use Rattle.muni_disk.specs.declared.shelf.Shelf as shelf
+use Rattle.muni_journal_disk.specs.Frames.{KeepsOthers}
+use Rattle.muni_journal_disk.specs.declared.disk.Disk as disk
+use Rattle.muni_journal_disk.specs.declared.shelf.Shelf as shelf
 use Rattle.muni_journal.specs.Journal.{IsNoJournal}
 use Rattle.muni_journal.specs.Told.{told_of}
 use Rattle.muni_journal.specs.declared.cabinet.Held.{Held}

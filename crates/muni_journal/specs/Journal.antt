@@ -3,11 +3,11 @@
 use Rattle.std.specs.Prelude.{◌≡◌, ◌<◌, ◌^◌, ℕ, zero, suc, ◌+◌, ◌==◌, ◌&&◌, Bool, nat_le, List, [], ◌∷◌, ◌++◌, length, Option, Some, None, if◌then◌else◌}
 use Rattle.std.specs.Option.{option_map, option_and_then}
 use Rattle.muni_keep.specs.Tables.{Tables, no_tables}
-use Rattle.muni_disk.specs.Bytes.{byte_at, bytes_at}
-use Rattle.muni_disk.specs.Disk.{IfRead}
-use Rattle.muni_record.specs.Words.{four, number_of_4}
-use Rattle.muni_record.specs.Body.{body_of, put_of}
-use Rattle.muni_record.specs.declared.put.Put.{Put}
+use Rattle.muni_journal_disk.specs.Bytes.{byte_at, bytes_at}
+use Rattle.muni_journal_disk.specs.Disk.{IfRead}
+use Rattle.muni_journal_record.specs.Words.{four, number_of_4}
+use Rattle.muni_journal_record.specs.Body.{body_of, put_of}
+use Rattle.muni_journal_record.specs.declared.put.Put.{Put}
 use Rattle.muni_journal.specs.Puts.{put_on, after}
 
 -- the gate behind some slots, and the tables to which these lead

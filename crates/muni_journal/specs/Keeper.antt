@@ -1,11 +1,11 @@
 -- What a call leaves of a keeper over a journal.
 use Rattle.std.specs.Prelude.{◌≡◌, ◌≢◌, ◌<◌, ◌+◌, ◌^◌, ◌⊎◌, length, is_some}
-use Rattle.muni_edge.specs.Sink.{Rose}
-use Rattle.muni_disk.specs.declared.fault.DiskFault.{DiskFault}
-use Rattle.muni_disk.specs.declared.fault.DiskFault.TheVariants.{Failed}
-use Rattle.muni_disk.specs.declared.disk.Disk.{Ghosts}
-use Rattle.muni_record.specs.Body.{body_of}
-use Rattle.muni_record.specs.declared.put.Put.{Put}
+use Rattle.muni_edge.specs.Faults.{Rose}
+use Rattle.muni_journal_disk.specs.declared.fault.DiskFault.{DiskFault}
+use Rattle.muni_journal_disk.specs.declared.fault.DiskFault.TheVariants.{Failed}
+use Rattle.muni_journal_disk.specs.declared.disk.Disk.{Ghosts}
+use Rattle.muni_journal_record.specs.Body.{body_of}
+use Rattle.muni_journal_record.specs.declared.put.Put.{Put}
 use Rattle.muni_journal.specs.declared.keeper.JournalKeeper.{JournalKeeper}
 
 -- Nothing but the count of faults may change.

@@ -1,6 +1,6 @@
 -- What comes of a disk that is opened.
 use Rattle.std.specs.Prelude.{Result, Ok, Err}
-use Rattle.muni_disk.specs.declared.disk.Disk.{Ghosts}
+use Rattle.muni_journal_disk.specs.declared.disk.Disk.{Ghosts}
 use Rattle.muni_journal.specs.declared.keeper.JournalKeeper.{JournalKeeper}
 use Rattle.muni_journal.specs.declared.opening.Unfetched.{Unfetched}
 

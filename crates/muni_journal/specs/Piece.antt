@@ -1,7 +1,7 @@
 -- What is written for a put, with the bounds of its size.
 use Rattle.std.specs.Prelude.{◌≡◌, ◌≤◌, ◌+◌, ℕ, List, length}
-use Rattle.muni_record.specs.Body.{PutFits, body_of}
-use Rattle.muni_record.specs.declared.put.Put.{Put}
+use Rattle.muni_journal_record.specs.Body.{PutFits, body_of}
+use Rattle.muni_journal_record.specs.declared.put.Put.{Put}
 use Rattle.muni_journal.specs.Journal.{piece_of}
 
 pub record IsPieceOf (put : Put) (piece : List ℕ) : Type 0 where

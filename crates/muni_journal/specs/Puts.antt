@@ -2,8 +2,8 @@
 use Rattle.std.specs.Prelude.{◌==◌, Bool, Option, Some, None, if◌then◌else◌, is_none}
 use Rattle.muni_keep.specs.History.{next_number}
 use Rattle.muni_keep.specs.Tables.{Tables, issue_at, trade_at, with_issue, with_version}
-use Rattle.muni_record.specs.declared.put.Put.{Put}
-use Rattle.muni_record.specs.declared.put.Put.TheVariants.{Issue, Version}
+use Rattle.muni_journal_record.specs.declared.put.Put.{Put}
+use Rattle.muni_journal_record.specs.declared.put.Put.TheVariants.{Issue, Version}
 
 -- the condition of a put: no issue of the CUSIP is kept, or the version is the next one of its trade
 abbrev pub is_next : Tables → Put → Bool

@@ -1,8 +1,8 @@
 -- What a stop leaves of a journal.
 use Rattle.std.specs.Prelude.{◌≡◌, ◌≢◌, ◌⊎◌, ℕ, List, Option, Some, None}
 use Rattle.muni_keep.specs.Tables.{Tables}
-use Rattle.muni_disk.specs.Bytes.{byte_at, IsSameOutside}
-use Rattle.muni_record.specs.declared.put.Put.{Put}
+use Rattle.muni_journal_disk.specs.Bytes.{byte_at, IsSameOutside}
+use Rattle.muni_journal_record.specs.declared.put.Put.{Put}
 use Rattle.muni_journal.specs.Puts.{after}
 use Rattle.muni_journal.specs.Journal.{Place, journal_of, tables_of, place_with}
 

@@ -21,5 +21,5 @@ told_of (Some off) disks name =
     else option_and_then tables_of (disks name)
 
 -- keepers are marked by whether their disk tells what it reads as
-abbrev pub mark_of : Option (List ℕ) → ℕ
-mark_of bytes = if is_some bytes then 1 else 0
+abbrev pub lent_as_of : Option (List ℕ) → ℕ
+lent_as_of bytes = if is_some bytes then 1 else 0

@@ -2,7 +2,7 @@
 
 ghost use Rattle.std.specs.Prelude.{◌≡◌, ◌≢◌, ◌≤◌, ◌⊎◌, Some, None, is_some, IfErr, OnOk, OnErr};
 ghost use Rattle.std.specs.Option.{option_map, ForSome};
-ghost use Rattle.muni_edge.specs.Sink.{Rose};
+ghost use Rattle.muni_edge.specs.Faults.{Rose};
 ghost use Rattle.muni_keep.specs.Cabinet.{Fetches};
 ghost use Rattle.muni_journal.specs.Cabinet.{IsBack, HeldFailed, DiskFailed};
 ghost use Rattle.muni_journal.specs.Keeper.{IsUnsettled};
@@ -11,7 +11,7 @@ ghost use Rattle.muni_journal.specs.Told.{off_shelf};
 use crate::fetching::FetchFault;
 use crate::keeper::JournalKeeper;
 use crate::opening::{Unfetched, Unsettled, open};
-use muni_disk::{Disk, DiskFault, Shelf};
+use muni_journal_disk::{Disk, DiskFault, Shelf};
 use muni_keep::{Cabinet, KeepFault, Keeper};
 use std::alloc::Global;
 
@@ -149,7 +149,7 @@ fn disk_fault(fault: FetchFault) -> DiskFault
 
 impl<S: Shelf> Cabinet for JournalCabinet<S> {
     ghost use Rattle.std.specs.Option.{option_map};
-    ghost use Rattle.muni_journal.specs.Told.{off_shelf, told_of, mark_of};
+    ghost use Rattle.muni_journal.specs.Told.{off_shelf, told_of, lent_as_of};
 
     type K = JournalKeeper<S::D>;
 
@@ -157,7 +157,7 @@ impl<S: Shelf> Cabinet for JournalCabinet<S> {
 
     ghost faults = { λ cabinet. cabinet.faults };
 
-    ghost out = { λ cabinet. option_map (λ name. (name.items, mark_of (S.told cabinet.shelf name.items))) cabinet.out };
+    ghost out = { λ cabinet. option_map (λ name. (name.items, lent_as_of (S.told cabinet.shelf name.items))) cabinet.out };
 
     fn fetch(&mut self, name: &[u8]) -> Result<JournalKeeper<S::D>, KeepFault>
         requires { self.old.out ≡ None }

@@ -2,16 +2,16 @@
 
 ghost use Rattle.std.specs.Prelude.{◌≡◌, ◌==◌, ◌<◌, ◌≤◌, ◌+◌, ◌^◌, ◌≢◌, Err, Some, None, IfOk, IfErr};
 ghost use Rattle.muni_keep.specs.Tables.{no_tables};
-ghost use Rattle.muni_disk.specs.Bytes.{byte_at, bytes_at};
-ghost use Rattle.muni_disk.specs.Calls.{KeepsBytes};
-ghost use Rattle.muni_disk.specs.Disk.{IfRead};
-ghost use Rattle.muni_record.specs.Body.{put_of as spec_put_of};
+ghost use Rattle.muni_journal_disk.specs.Bytes.{byte_at, bytes_at};
+ghost use Rattle.muni_journal_disk.specs.Calls.{KeepsBytes};
+ghost use Rattle.muni_journal_disk.specs.Disk.{IfRead};
+ghost use Rattle.muni_journal_record.specs.Body.{put_of as spec_put_of};
 ghost use Rattle.muni_journal.specs.Journal as spec;
 
 use crate::kept::put_next;
-use muni_disk::{Disk, DiskFault};
+use muni_journal_disk::{Disk, DiskFault};
+use muni_journal_record::{Put, put_of};
 use muni_keep::MemTables;
-use muni_record::{Put, put_of};
 
 /// No slot of a journal ends past this place.
 pub(crate) const LIMIT: u64 = 1 << 40;
@@ -38,7 +38,7 @@ fn is_open<D: Disk>(disk: &mut D, place: u64) -> Result<bool, DiskFault>
 }
 
 /// The number in the four bytes at a place.
-#[tactic(auto, unfolding(crate::specs::Journal::number_at, muni_record::specs::Words::number_of_4))]
+#[tactic(auto, unfolding(crate::specs::Journal::number_at, muni_journal_record::specs::Words::number_of_4))]
 fn number_at<D: Disk>(disk: &mut D, place: u64) -> Result<u32, DiskFault>
     requires { place + 4 < 2 ^ 41 }
     ensures number { IfOk result (λ n. IfRead (D.bytes disk.old)

@@ -3,30 +3,30 @@
 ghost use Rattle.std.specs.Prelude.{◌≡◌, ◌≢◌, ◌≤◌, ◌+◌, ◌^◌, Some, None, Ok, true, List, ℕ, length, is_some, OnOk, OnErr};
 ghost use Rattle.std.specs.Option.{ForSome, ForNone};
 ghost use Rattle.std.specs.Result.{result_map_both};
-ghost use Rattle.muni_edge.specs.Sink.{Rose};
+ghost use Rattle.muni_edge.specs.Faults.{Rose};
 ghost use Rattle.muni_keep.specs.History.{next_number};
 ghost use Rattle.muni_keep.specs.Keeper.{EditsTables};
 ghost use Rattle.muni_keep.specs.Tables.{issue_at, trade_at, version_at, last_at, trade_count, page_at, with_issue, with_version};
-ghost use Rattle.muni_disk.specs.Calls.{SameDisk};
-ghost use Rattle.muni_disk.specs.Disk.{StopsLeave};
-ghost use Rattle.muni_slots.specs.Slots.{AllImages};
-ghost use Rattle.muni_record.specs.Body.{body_of};
-ghost use Rattle.muni_record.specs.declared.put.Put.TheVariants as put;
+ghost use Rattle.muni_journal_disk.specs.Calls.{SameDisk};
+ghost use Rattle.muni_journal_disk.specs.Disk.{StopsLeave};
+ghost use Rattle.muni_journal_slots.specs.Slots.{AllImages};
+ghost use Rattle.muni_journal_record.specs.Body.{body_of};
+ghost use Rattle.muni_journal_record.specs.declared.put.Put.TheVariants as put;
 ghost use Rattle.muni_journal.specs.Puts.{is_next, after};
 ghost use Rattle.muni_journal.specs.Journal.{journal_of};
 ghost use Rattle.muni_journal.specs.Piece.{IsPieceOf};
 ghost use Rattle.muni_journal.specs.Stops.{IsInDoubt, StandsFor};
-ghost use Rattle.muni_journal.specs.Told.{mark_of};
+ghost use Rattle.muni_journal.specs.Told.{lent_as_of};
 
 use crate::fetching::LIMIT;
 use crate::kept::put_on;
 use crate::piece::piece_of;
 use arrayvec::ArrayVec;
-use muni_disk::{Disk, DiskFault};
+use muni_journal_disk::{Disk, DiskFault};
+use muni_journal_record::Put;
+use muni_journal_slots::{SlotFault, put_slot, take_back};
 use muni_keep::{KeepFault, Keeper, MemTables};
 use muni_msg::{DeskName, Key, Line, Reference, Version};
-use muni_record::Put;
-use muni_slots::{Unput, put_slot, take_back};
 use muni_terms::Issue;
 
 /// The tables in memory, and each put in a journal on a disk.
@@ -90,8 +90,8 @@ impl<D: Disk> JournalKeeper<D> {
                     Err(DiskFault::NoMemory)
                 }
             },
-            Err(Unput::Unopened(fault)) => Err(fault),
-            Err(Unput::InDoubt(fault)) => {
+            Err(SlotFault::Unopened(fault)) => Err(fault),
+            Err(SlotFault::InDoubt(fault)) => {
                 self.in_doubt = Some(put.copy());
                 Err(fault)
             }
@@ -150,13 +150,13 @@ impl<D: Disk> JournalKeeper<D> {
 
 impl<D: Disk> Keeper for JournalKeeper<D> {
     ghost use Rattle.muni_journal.specs.Keeper.{KeepsJournal, CountsForCause};
-    ghost use Rattle.muni_journal.specs.Told.{mark_of};
+    ghost use Rattle.muni_journal.specs.Told.{lent_as_of};
 
     ghost tables = { λ keeper. Some keeper.kept };
 
     ghost faults = { λ keeper. keeper.faults };
 
-    ghost mark = { λ keeper. mark_of (D.bytes keeper.disk) };
+    ghost lent_as = { λ keeper. lent_as_of (D.bytes keeper.disk) };
 
     fn issue(&mut self, cusip: &[u8; 9]) -> Result<Option<Issue>, KeepFault>
         ensures found { result ≡ Ok (issue_at self.old.kept cusip.now) }

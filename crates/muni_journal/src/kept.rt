@@ -5,9 +5,9 @@ ghost use Rattle.muni_keep.specs.History as history;
 ghost use Rattle.muni_keep.specs.Tables.{trade_at};
 ghost use Rattle.muni_journal.specs.Puts as spec;
 
+use muni_journal_record::Put;
 use muni_keep::MemTables;
 use muni_msg::Key;
-use muni_record::Put;
 use std::alloc::AllocError;
 
 /// Whether a put meets its condition.

@@ -1,15 +1,15 @@
 //! Opens a journal.
 
 ghost use Rattle.std.specs.Prelude.{◌≡◌, List, ℕ, None, is_some, IfOk, IfErr};
-ghost use Rattle.muni_edge.specs.Sink.{Rose};
-ghost use Rattle.muni_disk.specs.Disk.{IfRead};
+ghost use Rattle.muni_edge.specs.Faults.{Rose};
+ghost use Rattle.muni_journal_disk.specs.Disk.{IfRead};
 ghost use Rattle.muni_journal.specs.Journal.{IsNoJournal, HasTables};
 ghost use Rattle.muni_journal.specs.Keeper.{IsUnsettled};
 ghost use Rattle.muni_journal.specs.Opened.{left};
 
 use crate::fetching::{FetchFault, read_slots};
 use crate::keeper::JournalKeeper;
-use muni_disk::{Disk, DiskFault};
+use muni_journal_disk::{Disk, DiskFault};
 use muni_keep::MemTables;
 use std::alloc::Global;
 

@@ -1,6 +1,6 @@
 -- What a fetch gives, and what a command over a store leaves of the cabinet that lent its keeper.
 use Rattle.std.specs.Prelude.{◌≡◌, ◌≢◌, ◌≤◌, ℕ, List, Result, Some, None, is_some, IfOk, IfSome, OnErr, IsErrOf}
-use Rattle.muni_edge.specs.Sink.{Rose}
+use Rattle.muni_edge.specs.Faults.{Rose}
 use Rattle.muni_keep.specs.declared.fault.KeepFault.{KeepFault}
 use Rattle.muni_keep.specs.declared.fault.KeepFault.TheVariants.{Failed}
 use Rattle.muni_keep.specs.declared.cabinet.Cabinet.{Ghosts}
@@ -21,7 +21,7 @@ pub record LeavesAll {C K : Type 0} (cabinet : Ghosts C K) (old new : C) : Type 
 pub record Fetches {C K : Type 0} (cabinet : Ghosts C K) (lends : keeper.Ghosts K) (name : List ℕ) (result : Result K KeepFault) (old new : C) : Type 0 where
   pub tables : IfOk result (λ lent. IfSome (cabinet.told old name) (λ t. lends.tables lent ≡ Some t))
   pub count : IfOk result (λ lent. lends.faults lent ≡ 0)
-  pub out : IfOk result (λ lent. cabinet.out new ≡ Some (name, lends.mark lent))
+  pub out : IfOk result (λ lent. cabinet.out new ≡ Some (name, lends.lent_as lent))
   pub tells : (other : List ℕ) → is_some (cabinet.told new other) ≡ is_some (cabinet.told old other)
   pub others : (other : List ℕ) → other ≢ name → cabinet.told new other ≡ cabinet.told old other
   pub unchanged : OnErr result ((other : List ℕ) → cabinet.told new other ≡ cabinet.told old other)

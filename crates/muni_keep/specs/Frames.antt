@@ -2,7 +2,7 @@
 -- so that the trait itself can cite them.
 use Rattle.std.specs.Prelude.{◌≡◌, ◌≤◌, ℕ, Option, Result, IfOk, IfSome, OnOk, OnErr, IsErrOf}
 use Rattle.std.specs.Option.{option_map}
-use Rattle.muni_edge.specs.Sink.{Rose}
+use Rattle.muni_edge.specs.Faults.{Rose}
 use Rattle.muni_keep.specs.Tables.{Tables}
 use Rattle.muni_keep.specs.declared.fault.KeepFault.{KeepFault}
 use Rattle.muni_keep.specs.declared.fault.KeepFault.TheVariants.{Failed}
@@ -12,16 +12,16 @@ abbrev pub Found : {T E : Type 0} → Option Tables → Result T E → (Tables �
 Found exposed result value = IfOk result (λ found. IfSome exposed (λ tables. found ≡ value tables))
 
 -- a call that only looks
-pub record Reads {K T : Type 0} (tables_of : K → Option Tables) (faults_of mark_of : K → ℕ) (result : Result T KeepFault) (old new : K) : Type 0 where
+pub record Reads {K T : Type 0} (tables_of : K → Option Tables) (faults_of lent_as_of : K → ℕ) (result : Result T KeepFault) (old new : K) : Type 0 where
   pub unchanged : tables_of new ≡ tables_of old
   pub later : faults_of old ≤ faults_of new
   pub failed : IsErrOf result Failed → Rose (faults_of old) (faults_of new)
-  pub mark : mark_of new ≡ mark_of old
+  pub lent_as : lent_as_of new ≡ lent_as_of old
 
 -- a call that changes the tables by an edit, or after a refusal not at all
-pub record Edits {K T : Type 0} (tables_of : K → Option Tables) (faults_of mark_of : K → ℕ) (edit : Tables → Tables) (result : Result T KeepFault) (old new : K) : Type 0 where
+pub record Edits {K T : Type 0} (tables_of : K → Option Tables) (faults_of lent_as_of : K → ℕ) (edit : Tables → Tables) (result : Result T KeepFault) (old new : K) : Type 0 where
   pub kept : OnOk result (tables_of new ≡ option_map edit (tables_of old))
   pub unchanged : OnErr result (tables_of new ≡ tables_of old)
   pub later : faults_of old ≤ faults_of new
   pub failed : IsErrOf result Failed → Rose (faults_of old) (faults_of new)
-  pub mark : mark_of new ≡ mark_of old
+  pub lent_as : lent_as_of new ≡ lent_as_of old

@@ -2,7 +2,7 @@
 
 ghost use Rattle.std.specs.Prelude.{◌≡◌, ◌≢◌, ◌≤◌, ℕ, List, Option, Some, None, is_some, IfOk, IfSome, IsSomeAnd, OnErr, IsErrOf};
 ghost use Rattle.muni_edge.specs.Calls.{raised};
-ghost use Rattle.muni_edge.specs.Sink.{Rose};
+ghost use Rattle.muni_edge.specs.Faults.{Rose};
 ghost use Rattle.muni_keep.specs.Tables.{Tables};
 
 use crate::fault::KeepFault;
@@ -19,7 +19,7 @@ pub trait Cabinet {
     /// How often it has failed.
     ghost faults: { Self → ℕ };
 
-    /// The name of the keeper that is out, and its mark.
+    /// The name of the keeper that is out, and the number that it was lent as.
     ghost out: { Self → Option (List ℕ × ℕ) };
 
     /// Lends the keeper of a name. None may be out.
@@ -29,7 +29,7 @@ pub trait Cabinet {
         ensures tables { IfOk result
             (λ keeper. IfSome (told self.old name.now) (λ t. Self.K.tables keeper ≡ Some t)) }
         ensures count { IfOk result (λ keeper. Self.K.faults keeper ≡ 0) }
-        ensures out { IfOk result (λ keeper. out self.new ≡ Some (name.now, Self.K.mark keeper)) }
+        ensures out { IfOk result (λ keeper. out self.new ≡ Some (name.now, Self.K.lent_as keeper)) }
 
         // The tables of the other names stay as they are, and after a refusal those of all names.
         ensures tells { (other : List ℕ) → is_some (told self.new other) ≡ is_some (told self.old other) }
@@ -41,7 +41,7 @@ pub trait Cabinet {
 
     /// Takes back the keeper that is out, under the name by which it was lent.
     fn give_back(&mut self, keeper: Self::K)
-        requires { IsSomeAnd (out self.old) (λ lent. lent.1 ≡ Self.K.mark keeper) }
+        requires { IsSomeAnd (out self.old) (λ lent. lent.1 ≡ Self.K.lent_as keeper) }
 
         ensures tables { IfSome (out self.old) (λ lent. IfSome (told self.old lent.0)
             (λ _. IfSome (Self.K.tables keeper) (λ t. told self.new lent.0 ≡ Some t))) }

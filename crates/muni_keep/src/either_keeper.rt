@@ -21,7 +21,7 @@ impl<K: Keeper, L: Keeper> Keeper for EitherKeeper<K, L> {
 
     ghost faults = { by_side K.faults L.faults };
 
-    ghost mark = { by_side (λ keeper. 2 * K.mark keeper) (λ keeper. 2 * L.mark keeper + 1) };
+    ghost lent_as = { by_side (λ keeper. 2 * K.lent_as keeper) (λ keeper. 2 * L.lent_as keeper + 1) };
 
     fn issue(&mut self, cusip: &[u8; 9]) -> Result<Option<Issue>, KeepFault> {
         match self {

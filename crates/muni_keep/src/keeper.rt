@@ -18,40 +18,40 @@ pub trait Keeper {
     /// How often it has failed.
     ghost faults: { Self → ℕ };
 
-    /// A number by which the cabinet that lent it knows it again. No call changes it.
-    ghost mark: { Self → ℕ };
+    /// The number by which the cabinet that lent it knows it again. No call changes it.
+    ghost lent_as: { Self → ℕ };
 
     /// The issue of a CUSIP, if it is kept.
     fn issue(&mut self, cusip: &[u8; 9]) -> Result<Option<Issue>, KeepFault>
         ensures found { Found (tables self.old) result (λ t. issue_at t cusip.now) }
-        ensures reads { Reads tables faults mark result self.old self.new };
+        ensures reads { Reads tables faults lent_as result self.old self.new };
 
     /// Keeps an issue. No issue of its CUSIP may be kept yet.
     fn put_issue(&mut self, issue: &Issue) -> Result<(), KeepFault>
         requires { IfSome (tables self.old) (λ t. issue_at t issue.now.cusip ≡ None) }
 
-        ensures edits { Edits tables faults mark (with_issue issue.now) result self.old self.new };
+        ensures edits { Edits tables faults lent_as (with_issue issue.now) result self.old self.new };
 
     /// The version of a trade with this number, if it is kept.
     fn version(&mut self, key: &Key, number: u32) -> Result<Option<Version>, KeepFault>
         ensures found { Found (tables self.old) result (λ t. version_at t key.now number) }
-        ensures reads { Reads tables faults mark result self.old self.new };
+        ensures reads { Reads tables faults lent_as result self.old self.new };
 
     /// The last version of a trade, with its number, if any is kept.
     fn last(&mut self, key: &Key) -> Result<Option<(u32, Version)>, KeepFault>
         ensures found { Found (tables self.old) result (λ t. last_at t key.now) }
-        ensures reads { Reads tables faults mark result self.old self.new };
+        ensures reads { Reads tables faults lent_as result self.old self.new };
 
     /// Keeps the next version of a trade, which has this number.
     fn put_version(&mut self, key: &Key, number: u32, version: &Version) -> Result<(), KeepFault>
         requires { IfSome (tables self.old) (λ t. number ≡ next_number (trade_at t key.now)) }
 
-        ensures edits { Edits tables faults mark (with_version key.now version.now) result self.old self.new };
+        ensures edits { Edits tables faults lent_as (with_version key.now version.now) result self.old self.new };
 
     /// How many trades of a desk are kept, or 4,294,967,295 where there are more.
     fn trades(&mut self, desk: &DeskName) -> Result<u32, KeepFault>
         ensures found { Found (tables self.old) result (λ t. trade_count t desk.now) }
-        ensures reads { Reads tables faults mark result self.old self.new };
+        ensures reads { Reads tables faults lent_as result self.old self.new };
 
     /// The first 50 trades of a desk after a reference, or the first of all where none is given, in
     /// the order of their references. Each has its last version.
@@ -62,5 +62,5 @@ pub trait Keeper {
     ) -> Result<ArrayVec<Line, 50>, KeepFault>
         ensures found { IfOk result
             (λ lines. IfSome (tables self.old) (λ t. lines.items ≡ page_at t desk.now after.now)) }
-        ensures reads { Reads tables faults mark result self.old self.new };
+        ensures reads { Reads tables faults lent_as result self.old self.new };
 }

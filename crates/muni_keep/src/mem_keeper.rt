@@ -75,7 +75,7 @@ impl Keeper for MemKeeper {
 
     ghost faults = { λ keeper. keeper.calls.faults };
 
-    ghost mark = { λ _. 0 };
+    ghost lent_as = { λ _. 0 };
 
     fn issue(&mut self, cusip: &[u8; 9]) -> Result<Option<Issue>, KeepFault>
         ensures found { result ≡ unless_listed self.old (issue_at self.old.tables cusip.now) }

@@ -1,12 +1,13 @@
 -- What the marks of a portfolio write, and which fault ends them.
 use Rattle.std.specs.Prelude.{◌≡◌, ◌<◌, ◌≤◌, ℕ, List, length, Result, Ok, Err, IfSome}
-use Rattle.muni_edge.specs.Sink.{Rose, Wrote, WrotePart}
+use Rattle.muni_edge.specs.Faults.{Rose}
+use Rattle.muni_edge.specs.Sink.{Wrote, WrotePart}
 use Rattle.muni_edge.specs.declared.sink.Sink as Sink
 use Rattle.muni_edge.specs.declared.source.Source as Source
 use Rattle.muni_keep.specs.declared.cabinet.Cabinet as Cabinet
-use Rattle.muni_office.specs.Lent.{Lent, IfExposed, ChangesOnlyInput}
-use Rattle.muni_office.specs.declared.fault.Fault.{Fault}
-use Rattle.muni_office.specs.declared.fault.Fault.TheVariants.{Read, Write, Store, NoMemory, TooLarge}
+use Rattle.muni_desk_import.specs.Lent.{Lent, IfExposed, ChangesOnlyInput}
+use Rattle.muni_desk_import.specs.declared.fault.Fault.{Fault}
+use Rattle.muni_desk_import.specs.declared.fault.Fault.TheVariants.{Read, Write, Store, NoMemory, TooLarge}
 use Rattle.muni_marks.specs.Marks.{Pricing}
 use Rattle.muni_marks.specs.Portfolio.{IsPortfolioText}
 

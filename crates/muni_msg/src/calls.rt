@@ -4,8 +4,8 @@ ghost use Rattle.std.specs.Prelude.{◌≡◌, ◌==◌, ◌<◌, ◌∷◌, len
 ghost use Rattle.std.specs.Option.{option_map};
 ghost use Rattle.muni_msg.specs.Calls as spec;
 
-use arrayvec::ArrayVec;
 use crate::read_call;
+use arrayvec::ArrayVec;
 use muni_terms::Call;
 
 /// At most 40 calls, as `2027-01-01:102 2028-01-01:100`. An empty text names none.

@@ -7,7 +7,7 @@ ghost use Rattle.muni_keep.specs.Tables.{trade_at, with_version};
 ghost use Rattle.muni_position.specs.Change.{HasNoRoomFor};
 
 use crate::positioned::Positioned;
-use crate::unput::Unput;
+use crate::put_fault::PutFault;
 use arrayvec::ArrayVec;
 use muni_keep::{KeepFault, Keeper};
 use muni_msg::{DeskName, Key, Line, Reference, Version};
@@ -47,7 +47,7 @@ impl<K: Keeper> Keeper for Following<K> {
 
     ghost faults = { λ keeper. K.faults keeper.positioned.inner };
 
-    ghost mark = { λ keeper. K.mark keeper.positioned.inner };
+    ghost lent_as = { λ keeper. K.lent_as keeper.positioned.inner };
 
     fn issue(&mut self, cusip: &[u8; 9]) -> Result<Option<Issue>, KeepFault> {
         self.positioned.issue(cusip)
@@ -77,8 +77,8 @@ impl<K: Keeper> Keeper for Following<K> {
     {
         match self.positioned.put(key, number, version) {
             Ok(()) => Ok(()),
-            Err(Unput::Refused(fault)) => Err(fault),
-            Err(Unput::NoRoom) => {
+            Err(PutFault::Refused(fault)) => Err(fault),
+            Err(PutFault::NoRoom) => {
                 self.positioned.unwatch();
                 self.positioned.inner.put_version(key, number, version)
             }

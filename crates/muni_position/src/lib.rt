@@ -10,7 +10,7 @@ mod line;
 mod pages;
 mod position;
 mod positioned;
-mod unput;
+mod put_fault;
 
 pub use following::{Following, follow};
 pub use laws::positions_are_those_held;

@@ -18,7 +18,7 @@ use crate::holdings::{Holdings, kept};
 use crate::line::position_line;
 use crate::pages::sum_desk;
 use crate::position::Position;
-use crate::unput::Unput;
+use crate::put_fault::PutFault;
 use arrayvec::ArrayVec;
 use muni_edge::NoMemory;
 use muni_keep::{KeepFault, Keeper};
@@ -170,7 +170,7 @@ impl<K: Keeper> Keeper for Positioned<K> {
 
     ghost faults = { λ keeper. K.faults keeper.inner + keeper.faults };
 
-    ghost mark = { λ keeper. K.mark keeper.inner };
+    ghost lent_as = { λ keeper. K.lent_as keeper.inner };
 
     fn issue(&mut self, cusip: &[u8; 9]) -> Result<Option<Issue>, KeepFault>
         ensures found { Found (K.tables self.old.inner) result (λ t. issue_at t cusip.now) }
@@ -221,8 +221,8 @@ impl<K: Keeper> Keeper for Positioned<K> {
     {
         match self.put(key, number, version) {
             Ok(()) => Ok(()),
-            Err(Unput::Refused(fault)) => Err(fault),
-            Err(Unput::NoRoom) => {
+            Err(PutFault::Refused(fault)) => Err(fault),
+            Err(PutFault::NoRoom) => {
                 self.faults = self.faults.saturating_add(1);
                 Err(KeepFault::Failed)
             }
@@ -256,20 +256,20 @@ impl<K: Keeper> Positioned<K> {
     ghost use Rattle.muni_position.specs.Holdings.{is_watched};
 
     /// Puts the next version of a trade and changes the totals by it, where they have room for it.
-    pub(crate) fn put(&mut self, key: &Key, number: u32, version: &Version) -> Result<(), Unput>
+    pub(crate) fn put(&mut self, key: &Key, number: u32, version: &Version) -> Result<(), PutFault>
         requires { IfSome (K.tables self.old.inner) (λ t. number ≡ next_number (trade_at t key.now)) }
 
         ensures kept { OnOk result
             (K.tables self.new.inner ≡ option_map (with_version key.now version.now) (K.tables self.old.inner)) }
         ensures unchanged { OnErr result (K.tables self.new.inner ≡ K.tables self.old.inner) }
-        ensures same { SameKeeper K.Keeper (Unput.Refused KeepFault.Failed) result
+        ensures same { SameKeeper K.Keeper (PutFault.Refused KeepFault.Failed) result
             self.old.inner self.new.inner }
         ensures desk { self.new.desk ≡ self.old.desk }
         ensures own { self.new.faults ≡ self.old.faults }
         ensures totals { OnErr result ((cusip : List ℕ) → kept self.new.holdings cusip ≡ kept self.old.holdings cusip) }
 
         // Where the tables are told, it has no room exactly where the desk that is watched has none.
-        ensures no_room { result ≡ Err Unput.NoRoom
+        ensures no_room { result ≡ Err PutFault.NoRoom
             → IfSome (K.tables self.old.inner) (λ t. HasNoRoomFor self.old.desk key.now version.now t) }
         ensures room { OnOk result
             (IfSome (K.tables self.old.inner) (λ t. ¬ (HasNoRoomFor self.old.desk key.now version.now t))) }
@@ -279,7 +279,7 @@ impl<K: Keeper> Positioned<K> {
         }
         let last = self.inner.last(key)?;
         let Some(change) = Change::of(&self.holdings, &last, version) else {
-            return Err(Unput::NoRoom);
+            return Err(PutFault::NoRoom);
         };
         change.make_room(&mut self.holdings)?;
         self.inner.put_version(key, number, version)?;

@@ -6,9 +6,9 @@ ghost use Rattle.std.specs.Prelude.{◌≡◌};
 
 use muni_desk::{Status, desk};
 use muni_edge::NoGate;
-use muni_file::FileShelf;
 use muni_host::{Input, LoopbackDoor, NoWords, Output, words};
 use muni_journal::JournalCabinet;
+use muni_journal_file::FileShelf;
 use muni_keep::Either;
 use muni_multi::Doubling;
 use muni_store::SqlCabinet;

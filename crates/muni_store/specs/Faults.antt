@@ -1,6 +1,6 @@
 -- Faults that a call counts.
 use Rattle.std.specs.Prelude.{◌≤◌, ℕ, Result, IsErrOf}
-use Rattle.muni_edge.specs.Sink.{Rose}
+use Rattle.muni_edge.specs.Faults.{Rose}
 use Rattle.muni_keep.specs.declared.fault.KeepFault.{KeepFault}
 use Rattle.muni_keep.specs.declared.fault.KeepFault.TheVariants.{Failed}
 

@@ -10,9 +10,9 @@ use Rattle.muni_terms.specs.declared.row.IssueRow.{IssueRow}
 use Rattle.muni_msg.specs.declared.command.Key.{Key}
 use Rattle.muni_msg.specs.declared.version.Version.{Version}
 use Rattle.muni_msg.specs.NameReading.{name_reading}
-use Rattle.muni_rows.specs.Codes.{count}
-use Rattle.muni_rows.specs.Issue as issues
-use Rattle.muni_rows.specs.Version as versions
+use Rattle.muni_store_rows.specs.Codes.{count}
+use Rattle.muni_store_rows.specs.Issue as issues
+use Rattle.muni_store_rows.specs.Version as versions
 use Rattle.muni_store.specs.Ran.{Found}
 
 abbrev pub text_of : Value → List ℕ

@@ -3,8 +3,8 @@ use Rattle.std.specs.Prelude.{ℕ, pos, List, [], ◌∷◌, codes, Option, unwr
 use Rattle.sqlite.specs.declared.types.Value.{Value}
 use Rattle.sqlite.specs.declared.types.Value.TheVariants.{Int, Text}
 use Rattle.muni_msg.specs.declared.command.Key.{Key}
-use Rattle.muni_rows.specs.Issue as issues
-use Rattle.muni_rows.specs.Version as versions
+use Rattle.muni_store_rows.specs.Issue as issues
+use Rattle.muni_store_rows.specs.Version as versions
 
 -- finds the issue of a CUSIP
 abbrev pub select_issue : List ℕ

@@ -2,7 +2,7 @@
 
 ghost use Rattle.std.specs.Prelude.{◌≡◌, ◌≤◌};
 ghost use Rattle.muni_edge.specs.Calls.{raised};
-ghost use Rattle.muni_edge.specs.Sink.{Rose};
+ghost use Rattle.muni_edge.specs.Faults.{Rose};
 ghost use Rattle.muni_store.specs.Faults.{CountsFailure};
 
 use muni_keep::KeepFault;

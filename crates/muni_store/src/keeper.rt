@@ -2,8 +2,8 @@
 
 ghost use Rattle.std.specs.Prelude.{◌≡◌, ◌⊎◌, [], None, Ok, Some, IfOk, IfSome, OnOk, OnErr, is_ok};
 ghost use Rattle.sqlite.specs.Held.{state};
-ghost use Rattle.muni_rows.specs.Issue as issues;
-ghost use Rattle.muni_rows.specs.Version as versions;
+ghost use Rattle.muni_store_rows.specs.Issue as issues;
+ghost use Rattle.muni_store_rows.specs.Version as versions;
 ghost use Rattle.muni_store.specs.Counts.{count_of, with_count, after_put};
 ghost use Rattle.muni_store.specs.Faults.{CountsFailure};
 ghost use Rattle.muni_store.specs.Page.{IsPage};
@@ -70,7 +70,7 @@ impl<S: Alter + Drop> Keeper for SqlKeeper<S> {
 
     ghost faults = { λ keeper. keeper.faults };
 
-    ghost mark = { λ _. 0 };
+    ghost lent_as = { λ _. 0 };
 
     fn issue(&mut self, cusip: &[u8; 9]) -> Result<Option<Issue>, KeepFault>
         ensures read { IfOk result (rows.Reads rows.issue_in (state S.Store self.old.database)

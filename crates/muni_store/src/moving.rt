@@ -3,7 +3,7 @@
 use crate::rows::{is_old_trade, number_at, text_at};
 use crate::schema::{answered, has_table, if_found};
 use muni_keep::KeepFault;
-use muni_rows::issue_1;
+use muni_store_rows::issue_1;
 use sqlite::types::ValueRef;
 use sqlite::{Alter, Connection, Row, Transaction, params};
 

@@ -6,7 +6,7 @@ ghost use Rattle.muni_store.specs.Rows as rows;
 use crate::schema::text;
 use muni_keep::KeepFault;
 use muni_msg::{Key, Reference, Version};
-use muni_rows::{AskedRow, FigureRow, TradeRow, issue_2};
+use muni_store_rows::{AskedRow, FigureRow, TradeRow, issue_2};
 use muni_terms::Issue;
 use sqlite::Row;
 use sqlite::types::ValueRef;
@@ -49,7 +49,7 @@ pub(crate) fn read_issue(row: &Row) -> Result<Issue, KeepFault>
     issue.ok_or(KeepFault::Failed)
 }
 
-#[tactic(auto, unfolding(muni_rows::specs::Codes::count))]
+#[tactic(auto, unfolding(muni_store_rows::specs::Codes::count))]
 pub(crate) fn read_count(row: &Row) -> Result<u32, KeepFault>
     ensures { IfOk result (λ count. rows.count_in row.now ≡ Some count) }
 {

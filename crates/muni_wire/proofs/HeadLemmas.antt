@@ -8,9 +8,9 @@ use Rattle.httparse.specs.declared.spans.RequestSpans.{RequestSpans}
 use Rattle.httparse.specs.declared.spans.HeaderSpan.{HeaderSpan}
 use Rattle.httparse.proofs.GrammarLemmas.{ReadsRequest-append}
 use Rattle.muni_wire.specs.Head.{IsNoHead, IsHeadTooLarge, EndsInHead, head_limit, field_limit}
-use Rattle.muni_wire.specs.Plan.{plan_of, plan_by}
+use Rattle.muni_wire.specs.Awaited.{plan_of, plan_by}
 use Rattle.muni_wire.specs.Taken.{IsHeadOf, IsWholeAt, IsWithinLimit}
-use Rattle.muni_wire.specs.declared.head.Plan.{Plan}
+use Rattle.muni_wire.specs.declared.head.Awaited.{Awaited}
 use Rattle.muni_wire.specs.declared.head.Head.{Head}
 use Rattle.muni_wire.specs.declared.head.Head.TheVariants as head
 
@@ -19,7 +19,7 @@ few-fields : (bytes : List ℕ) (headers : List HeaderSpan) (spans : RequestSpan
 few-fields bytes headers spans h at =
     omega (arith, ap length at.fields, length-map (take spans.headers headers) (header_bytes bytes), length-map h.fields name_and_value, length-take spans.headers headers)
 
-pub whole-later : (bytes : List ℕ) (headers : List HeaderSpan) (spans : RequestSpans) (p : Plan)
+pub whole-later : (bytes : List ℕ) (headers : List HeaderSpan) (spans : RequestSpans) (p : Awaited)
     → length bytes ≤ head_limit → length headers ≤ field_limit
     → IsRequestWithin bytes headers spans → IsRequestOf bytes headers spans
     → p ≡ plan_by (span_bytes bytes spans.method) (span_bytes bytes spans.path) (map (header_bytes bytes) (take spans.headers headers))
@@ -38,7 +38,7 @@ whole-later bytes headers spans p short room within (h, at) is more = (
 
 -- a head, by what a look says of it
 pub head-said : (h : Head) (bytes : List ℕ) (left : Option (List ℕ))
-    → ((end : ℕ) (plan : Plan) → h ≡ head.Whole end plan → IsWholeAt bytes end plan × IsWithinLimit plan)
+    → ((end : ℕ) (plan : Awaited) → h ≡ head.Whole end plan → IsWholeAt bytes end plan × IsWithinLimit plan)
     → ((rest : List ℕ) → h ≡ head.Never → IsNoHead (bytes ++ rest))
     → ((rest : List ℕ) → h ≡ head.TooLarge → IsHeadTooLarge (bytes ++ rest))
     → (h ≡ head.More → EndsInHead bytes × IsAtEnd left) → IsHeadOf h bytes left

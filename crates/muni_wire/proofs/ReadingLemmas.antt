@@ -14,11 +14,11 @@ use Rattle.muni_wire.specs.declared.fault.Bad.TheVariants as bad
 use Rattle.muni_wire.specs.declared.fault.WireFault.{WireFault}
 use Rattle.muni_wire.specs.declared.fault.WireFault.TheVariants as fault
 use Rattle.muni_wire.specs.declared.routes.Form.{Form}
-use Rattle.muni_wire.specs.declared.head.Plan.{Plan}
-use Rattle.muni_wire.specs.declared.head.Plan.TheVariants as plan
+use Rattle.muni_wire.specs.declared.head.Awaited.{Awaited}
+use Rattle.muni_wire.specs.declared.head.Awaited.TheVariants as plan
 use Rattle.muni_wire.proofs.TakenLemmas.{told, told-at-end}
 
-asks : (bytes more : List ℕ) (end : ℕ) (p : Plan) (reading : Reading) → IsWholeAt bytes end p
+asks : (bytes more : List ℕ) (end : ℕ) (p : Awaited) (reading : Reading) → IsWholeAt bytes end p
     → reading ≡ carried_out p (drop end bytes ++ more) → Reads (bytes ++ more) reading
 asks bytes more end p reading whole is =
     let w = whole more in

@@ -7,7 +7,7 @@ use Rattle.httparse.proofs.GrammarLemmas.{request_unique}
 use Rattle.muni_msg.specs.declared.command.Command.{Command}
 use Rattle.muni_wire.specs.Head.{HasHead, IsNoHead, IsUnfinished, EndsInHead, head_limit, field_limit}
 use Rattle.muni_wire.specs.Laws.{IsAmbiguous, IsCutOff, IsTheAnswer, answer_to}
-use Rattle.muni_wire.specs.Plan.{plan_of}
+use Rattle.muni_wire.specs.Awaited.{plan_of}
 use Rattle.muni_wire.specs.Reading.{Reading, Whole, Faulty, Short, HeadAsks, carried_out, Reads, Allows}
 use Rattle.muni_wire.specs.declared.fault.WireFault.{WireFault}
 use Rattle.muni_wire.specs.declared.fault.WireFault.TheVariants as fault

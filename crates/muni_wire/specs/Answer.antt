@@ -7,22 +7,22 @@ use Rattle.muni_dec.specs.Line.{line}
 use Rattle.muni_msg.specs.declared.command.Reply.{Reply}
 use Rattle.muni_msg.specs.declared.command.Reply.TheVariants.{Added, Quoted, Listed, Confirmed, Refused}
 use Rattle.muni_wire.specs.List.{list_text}
-use Rattle.muni_wire.specs.Status.{code, phrase, status_of_reply, status_of_bad}
+use Rattle.muni_wire.specs.HttpStatus.{code, phrase, status_of_reply, status_of_bad}
 use Rattle.muni_wire.specs.declared.fault.Bad.{Bad}
 use Rattle.muni_wire.specs.declared.fault.Bad.TheVariants as bad
-use Rattle.muni_wire.specs.declared.status.Status.{Status}
-use Rattle.muni_wire.specs.declared.status.Status.TheVariants as status
+use Rattle.muni_wire.specs.declared.status.HttpStatus.{HttpStatus}
+use Rattle.muni_wire.specs.declared.status.HttpStatus.TheVariants as status
 
 -- the end of a line of a head
 abbrev pub crlf : List ℕ
 crlf = 13 ∷ 10 ∷ []
 
 -- a status: its number and its phrase
-abbrev pub status_text : Status → List ℕ
+abbrev pub status_text : HttpStatus → List ℕ
 status_text status = decimal (code status) ++ codes " " ++ phrase status
 
 -- the first line of an answer
-unfoldable pub status_line : Status → List ℕ
+unfoldable pub status_line : HttpStatus → List ℕ
 status_line status = codes "HTTP/1.1 " ++ status_text status ++ crlf
 
 -- the header lines that tell what its text is, and how long
@@ -35,15 +35,15 @@ abbrev pub last_lines : List ℕ
 last_lines = codes "Connection: close" ++ crlf ++ crlf
 
 -- the head of an answer, with a header line more, or none
-abbrev pub head : Status → List ℕ → ℕ → List ℕ
+abbrev pub head : HttpStatus → List ℕ → ℕ → List ℕ
 head status allow size = status_line status ++ text_lines size ++ allow ++ last_lines
 
 -- an answer: its head and its text
-abbrev pub answer : Status → List ℕ → List ℕ → List ℕ
+abbrev pub answer : HttpStatus → List ℕ → List ℕ → List ℕ
 answer status allow text = head status allow (length text) ++ text
 
 -- an answer whose text is a line of its status
-abbrev pub status_answer : Status → List ℕ → List ℕ
+abbrev pub status_answer : HttpStatus → List ℕ → List ℕ
 status_answer status allow = answer status allow (status_text status ++ 10 ∷ [])
 
 -- the text of a reply

@@ -4,7 +4,7 @@ pub mod Members
 pub mod Calls
 pub mod Body
 pub mod Head
-pub mod Plan
+pub mod Awaited
 pub mod Faults
 pub mod Reading
 pub mod Taken
@@ -12,5 +12,5 @@ pub mod Laws
 pub mod LeftOut
 pub mod PathLaws
 pub mod List
-pub mod Status
+pub mod HttpStatus
 pub mod Answer

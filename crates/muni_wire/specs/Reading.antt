@@ -4,13 +4,13 @@ use Rattle.httparse.specs.Grammar.{RequestHead}
 use Rattle.muni_msg.specs.declared.command.Command.{Command}
 use Rattle.muni_wire.specs.Body.{command_of}
 use Rattle.muni_wire.specs.Head.{HasHead, IsNoHead, IsHeadTooLarge, EndsInHead}
-use Rattle.muni_wire.specs.Plan.{plan_of}
+use Rattle.muni_wire.specs.Awaited.{plan_of}
 use Rattle.muni_wire.specs.declared.fault.Bad.{Bad}
 use Rattle.muni_wire.specs.declared.fault.Bad.TheVariants as bad
 use Rattle.muni_wire.specs.declared.fault.WireFault.{WireFault}
 use Rattle.muni_wire.specs.declared.fault.WireFault.TheVariants as fault
-use Rattle.muni_wire.specs.declared.head.Plan.{Plan}
-use Rattle.muni_wire.specs.declared.head.Plan.TheVariants as plan
+use Rattle.muni_wire.specs.declared.head.Awaited.{Awaited}
+use Rattle.muni_wire.specs.declared.head.Awaited.TheVariants as plan
 
 -- a whole command, a bad request, or bytes that end before the request does
 pub data Reading : Type 0 where
@@ -24,7 +24,7 @@ of_body (Some command) = Whole command
 of_body None = Faulty bad.BadRequest
 
 -- what comes of a plan with the bytes behind the head
-abbrev pub carried_out : Plan → List ℕ → Reading
+abbrev pub carried_out : Awaited → List ℕ → Reading
 carried_out (plan.Refuse kind) rest = Faulty kind
 carried_out (plan.Ask command) rest = Whole command
 carried_out (plan.Read form size) rest =

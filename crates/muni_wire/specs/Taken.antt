@@ -5,24 +5,24 @@ use Rattle.httparse.specs.Grammar.{RequestHead}
 use Rattle.muni_msg.specs.declared.command.Command.{Command}
 use Rattle.muni_wire.specs.BodyLength.{body_limit}
 use Rattle.muni_wire.specs.Head.{HasHead, IsNoHead, IsHeadTooLarge, EndsInHead}
-use Rattle.muni_wire.specs.Plan.{plan_of}
+use Rattle.muni_wire.specs.Awaited.{plan_of}
 use Rattle.muni_wire.specs.Reading.{Whole, Faulty, Short, carried_out}
 use Rattle.muni_wire.specs.declared.fault.WireFault.{WireFault}
 use Rattle.muni_wire.specs.declared.fault.WireFault.TheVariants as fault
 use Rattle.muni_wire.specs.declared.routes.Form.{Form}
-use Rattle.muni_wire.specs.declared.head.Plan.{Plan}
-use Rattle.muni_wire.specs.declared.head.Plan.TheVariants as plan
+use Rattle.muni_wire.specs.declared.head.Awaited.{Awaited}
+use Rattle.muni_wire.specs.declared.head.Awaited.TheVariants as plan
 use Rattle.muni_wire.specs.declared.head.Head.{Head}
 use Rattle.muni_wire.specs.declared.head.Head.TheVariants as head
 
 -- the bytes begin with a head of this plan, which ends at a place, whatever follows
-abbrev pub IsWholeAt : List ℕ → ℕ → Plan → Type 0
+abbrev pub IsWholeAt : List ℕ → ℕ → Awaited → Type 0
 IsWholeAt bytes end plan =
     (more : List ℕ) → (end ≤ length bytes) × (h : RequestHead)
     × HasHead (bytes ++ more) h (drop end bytes ++ more) × (plan ≡ plan_of h)
 
 -- a body that is to be read is within its limit
-abbrev pub IsWithinLimit : Plan → Type 0
+abbrev pub IsWithinLimit : Awaited → Type 0
 IsWithinLimit (plan.Refuse kind) = ⊤
 IsWithinLimit (plan.Ask command) = ⊤
 IsWithinLimit (plan.Read form size) = size ≤ body_limit

@@ -10,7 +10,7 @@ ghost use Rattle.muni_wire.specs.Answer as spec;
 
 use crate::Bad;
 use crate::list::push_list;
-use crate::status::Status;
+use crate::status::HttpStatus;
 use arrayvec::ArrayVec;
 use itoa::Buffer;
 use muni_confirm::{confirmation, figure_lines, refusal_line};
@@ -28,7 +28,7 @@ pub fn write_reply<L: Link>(link: &mut L, reply: &Reply) -> Result<(), Failed>
 {
     let mut text = ArrayVec::new();
     push_reply(&mut text, reply);
-    write(link, Status::of_reply(reply), b"", &text)
+    write(link, HttpStatus::of_reply(reply), b"", &text)
 }
 
 /// Answers a request that is no command: its status, and that with its phrase as the text. Where the
@@ -38,7 +38,7 @@ pub fn write_reply<L: Link>(link: &mut L, reply: &Reply) -> Result<(), Failed>
 pub fn write_bad<L: Link>(link: &mut L, bad: Bad) -> Result<(), Failed>
     ensures { OnlyPuts L.Source L.Sink (spec.answer_to_bad bad) result link.old link.new }
 {
-    write_status(link, Status::of_bad(bad), allowed(bad))
+    write_status(link, HttpStatus::of_bad(bad), allowed(bad))
 }
 
 /// Answers that the store has failed: 503, and that with its phrase as the text.
@@ -47,7 +47,7 @@ pub fn write_bad<L: Link>(link: &mut L, bad: Bad) -> Result<(), Failed>
 pub fn write_unavailable<L: Link>(link: &mut L) -> Result<(), Failed>
     ensures { OnlyPuts L.Source L.Sink spec.unavailable result link.old link.new }
 {
-    write_status(link, Status::Unavailable, b"")
+    write_status(link, HttpStatus::Unavailable, b"")
 }
 
 // The header line that names the method that is allowed.
@@ -63,7 +63,7 @@ fn allowed(bad: Bad) -> &'static [u8]
 }
 
 // Writes an answer whose text is its status and phrase.
-fn write_status<L: Link>(link: &mut L, status: Status, allow: &[u8]) -> Result<(), Failed>
+fn write_status<L: Link>(link: &mut L, status: HttpStatus, allow: &[u8]) -> Result<(), Failed>
     requires { length allow.now ≤ 13 }
 
     ensures { OnlyPuts L.Source L.Sink (spec.status_answer status allow.now) result link.old link.new }
@@ -77,7 +77,7 @@ fn write_status<L: Link>(link: &mut L, status: Status, allow: &[u8]) -> Result<(
 // Writes an answer with a header line more, or none, and a text.
 fn write<L: Link>(
     link: &mut L,
-    status: Status,
+    status: HttpStatus,
     allow: &[u8],
     text: &ArrayVec<u8, 8192>,
 ) -> Result<(), Failed>
@@ -92,7 +92,7 @@ fn write<L: Link>(
 }
 
 // The head of an answer whose text has so many bytes.
-fn push_head(answer: &mut ArrayVec<u8, 8448>, status: Status, allow: &[u8], size: usize)
+fn push_head(answer: &mut ArrayVec<u8, 8448>, status: HttpStatus, allow: &[u8], size: usize)
     requires empty { array_vec_len answer.old ≡ 0 }
     requires allow { length allow.now ≤ 13 }
 
@@ -106,7 +106,7 @@ fn push_head(answer: &mut ArrayVec<u8, 8448>, status: Status, allow: &[u8], size
 }
 
 #[tactic(auto, unfolding(crate::specs::Answer::status_line))]
-fn push_status_line(answer: &mut ArrayVec<u8, 8448>, status: Status)
+fn push_status_line(answer: &mut ArrayVec<u8, 8448>, status: HttpStatus)
     requires { array_vec_len answer.old ≤ 1000 }
 
     ensures items { answer.new.items ≡ answer.old.items ++ spec.status_line status }
@@ -129,7 +129,7 @@ fn push_text_lines(answer: &mut ArrayVec<u8, 8448>, size: usize)
     push(answer, b"\r\n");
 }
 
-fn push_status<const ROOM: usize>(text: &mut ArrayVec<u8, ROOM>, status: Status)
+fn push_status<const ROOM: usize>(text: &mut ArrayVec<u8, ROOM>, status: HttpStatus)
     requires { array_vec_len text.old + 60 ≤ ROOM }
 
     ensures items { text.new.items ≡ text.old.items ++ spec.status_text status }

@@ -3,7 +3,7 @@
 ghost use Rattle.std.specs.Prelude.{◌≡◌, ◌≤◌, ◌<◌, ℕ, List, true, false, length, take, map, ◌++◌};
 ghost use Rattle.httparse.specs.Spans.{IsRequestWithin, header_bytes, span_bytes};
 ghost use Rattle.muni_wire.specs.Head.{IsNoHead, IsHeadTooLarge, EndsInHead, head_limit};
-ghost use Rattle.muni_wire.specs.Plan as spec;
+ghost use Rattle.muni_wire.specs.Awaited as spec;
 ghost use Rattle.muni_wire.specs.Routes.{routes as all_routes};
 ghost use Rattle.muni_wire.specs.Taken.{IsWholeAt, IsWithinLimit};
 
@@ -17,7 +17,7 @@ use muni_msg::Command;
 
 /// What is to be done about a request, as its head alone tells it.
 #[derive(Drop)]
-pub(crate) enum Plan {
+pub(crate) enum Awaited {
     Refuse(Bad),
     Ask(Command),
     /// A body of so many bytes is to be read.
@@ -28,7 +28,7 @@ pub(crate) enum Plan {
 #[derive(Drop)]
 pub(crate) enum Head {
     /// A whole head, which ends at a place.
-    Whole { end: usize, plan: Plan },
+    Whole { end: usize, plan: Awaited },
     /// More is to come.
     More,
     /// Nothing that could come makes a head of them.
@@ -84,7 +84,7 @@ fn plan_for(
     bytes: &[u8],
     head: &RequestSpans,
     headers: &[HeaderSpan],
-) -> Plan
+) -> Awaited
     requires routes { routes.now ≡ all_routes }
     requires head { IsRequestWithin bytes.now headers.now head.now }
 
@@ -95,21 +95,21 @@ fn plan_for(
 {
     let method = head.method.of(bytes);
     match find_target(routes, path_of(head.path.of(bytes))) {
-        None => Plan::Refuse(Bad::NotFound),
+        None => Awaited::Refuse(Bad::NotFound),
         Some(Target::Get(command)) => {
             if method == b"GET".as_slice() {
-                Plan::Ask(command)
+                Awaited::Ask(command)
             } else {
-                Plan::Refuse(Bad::NotAllowed { post: false })
+                Awaited::Refuse(Bad::NotAllowed { post: false })
             }
         }
         Some(Target::Post(form)) => {
             if method != b"POST".as_slice() {
-                return Plan::Refuse(Bad::NotAllowed { post: true });
+                return Awaited::Refuse(Bad::NotAllowed { post: true });
             }
             match body_length(bytes, &headers[..head.headers]) {
-                Ok(size) => Plan::Read { form, size },
-                Err(bad) => Plan::Refuse(bad),
+                Ok(size) => Awaited::Read { form, size },
+                Err(bad) => Awaited::Refuse(bad),
             }
         }
     }

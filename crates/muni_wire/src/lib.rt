@@ -17,4 +17,4 @@ mod taking;
 pub use answer::{write_bad, write_reply, write_unavailable};
 pub use fault::{Bad, WireFault};
 pub use request::read_request;
-pub use status::Status;
+pub use status::HttpStatus;

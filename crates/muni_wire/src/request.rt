@@ -9,7 +9,7 @@ ghost use Rattle.muni_wire.specs.Reading.{Allows};
 ghost use Rattle.muni_wire.specs.Taken.{IsAnswerTo};
 
 use crate::body::read_body;
-use crate::head::{Head, Plan};
+use crate::head::{Awaited, Head};
 use crate::routes::{Form, routes};
 use crate::taking::{fill, read_head};
 use crate::{Bad, WireFault};
@@ -44,9 +44,9 @@ fn read_by_head<L: Link>(alloc: Global, link: &mut L) -> Result<Command, WireFau
         Head::Never => Err(WireFault::Bad(Bad::BadRequest)),
         Head::TooLarge => Err(WireFault::Bad(Bad::HeadTooLarge)),
         Head::Whole { end, plan } => match plan {
-            Plan::Refuse(bad) => Err(WireFault::Bad(bad)),
-            Plan::Ask(command) => Ok(command),
-            Plan::Read { form, size } => take_body(alloc, link, &mut bytes, end, form, size),
+            Awaited::Refuse(bad) => Err(WireFault::Bad(bad)),
+            Awaited::Ask(command) => Ok(command),
+            Awaited::Read { form, size } => take_body(alloc, link, &mut bytes, end, form, size),
         },
     }
 }

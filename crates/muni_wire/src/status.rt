@@ -2,7 +2,7 @@
 
 ghost use Rattle.std.specs.Prelude.{◌≡◌, ◌≤◌, length};
 ghost use Rattle.muni_msg.specs.Refusal.{number_of};
-ghost use Rattle.muni_wire.specs.Status as spec;
+ghost use Rattle.muni_wire.specs.HttpStatus as spec;
 
 use crate::Bad;
 use http::StatusCode;
@@ -10,7 +10,7 @@ use muni_msg::{Refusal, Reply};
 
 /// The statuses of answers (RFC 9110, section 15).
 #[derive(Clone, Copy, Debug, PartialEq, Eq)]
-pub enum Status {
+pub enum HttpStatus {
     Success,
     BadRequest,
     NotFound,
@@ -23,44 +23,44 @@ pub enum Status {
     Unavailable,
 }
 
-impl Status {
+impl HttpStatus {
     /// The status of a reply: success, or by its refusal.
-    pub fn of_reply(reply: &Reply) -> Status
+    pub fn of_reply(reply: &Reply) -> HttpStatus
         ensures { result ≡ spec.status_of_reply reply.now }
     {
         match reply {
-            Reply::Refused(refusal) => Status::of_refusal(refusal),
-            _ => Status::Success,
+            Reply::Refused(refusal) => HttpStatus::of_refusal(refusal),
+            _ => HttpStatus::Success,
         }
     }
 
     // What is unknown is not found, what stands against the book is a conflict, and all else that
     // is refused cannot be processed.
-    fn of_refusal(refusal: &Refusal) -> Status
+    fn of_refusal(refusal: &Refusal) -> HttpStatus
         ensures { result ≡ spec.status_of_refusal refusal.now }
     {
         match refusal {
-            Refusal::UnknownIssue | Refusal::UnknownTrade => Status::NotFound,
+            Refusal::UnknownIssue | Refusal::UnknownTrade => HttpStatus::NotFound,
             Refusal::Conflict(_)
             | Refusal::Canceled
             | Refusal::WrongNumber { .. }
             | Refusal::VersionsFull
-            | Refusal::DeskFull => Status::Conflict,
-            _ => Status::Unprocessable,
+            | Refusal::DeskFull => HttpStatus::Conflict,
+            _ => HttpStatus::Unprocessable,
         }
     }
 
     /// The status of a bad request.
-    pub fn of_bad(bad: Bad) -> Status
+    pub fn of_bad(bad: Bad) -> HttpStatus
         ensures { result ≡ spec.status_of_bad bad }
     {
         match bad {
-            Bad::BadRequest => Status::BadRequest,
-            Bad::NotFound => Status::NotFound,
-            Bad::NotAllowed { .. } => Status::NotAllowed,
-            Bad::LengthRequired => Status::LengthRequired,
-            Bad::TooLarge => Status::TooLarge,
-            Bad::HeadTooLarge => Status::HeadTooLarge,
+            Bad::BadRequest => HttpStatus::BadRequest,
+            Bad::NotFound => HttpStatus::NotFound,
+            Bad::NotAllowed { .. } => HttpStatus::NotAllowed,
+            Bad::LengthRequired => HttpStatus::LengthRequired,
+            Bad::TooLarge => HttpStatus::TooLarge,
+            Bad::HeadTooLarge => HttpStatus::HeadTooLarge,
         }
     }
 
@@ -87,16 +87,16 @@ impl Status {
         ensures { result ≡ spec.code self }
     {
         match self {
-            Status::Success => StatusCode::OK,
-            Status::BadRequest => StatusCode::BAD_REQUEST,
-            Status::NotFound => StatusCode::NOT_FOUND,
-            Status::NotAllowed => StatusCode::METHOD_NOT_ALLOWED,
-            Status::Conflict => StatusCode::CONFLICT,
-            Status::LengthRequired => StatusCode::LENGTH_REQUIRED,
-            Status::TooLarge => StatusCode::PAYLOAD_TOO_LARGE,
-            Status::Unprocessable => StatusCode::UNPROCESSABLE_ENTITY,
-            Status::HeadTooLarge => StatusCode::REQUEST_HEADER_FIELDS_TOO_LARGE,
-            Status::Unavailable => StatusCode::SERVICE_UNAVAILABLE,
+            HttpStatus::Success => StatusCode::OK,
+            HttpStatus::BadRequest => StatusCode::BAD_REQUEST,
+            HttpStatus::NotFound => StatusCode::NOT_FOUND,
+            HttpStatus::NotAllowed => StatusCode::METHOD_NOT_ALLOWED,
+            HttpStatus::Conflict => StatusCode::CONFLICT,
+            HttpStatus::LengthRequired => StatusCode::LENGTH_REQUIRED,
+            HttpStatus::TooLarge => StatusCode::PAYLOAD_TOO_LARGE,
+            HttpStatus::Unprocessable => StatusCode::UNPROCESSABLE_ENTITY,
+            HttpStatus::HeadTooLarge => StatusCode::REQUEST_HEADER_FIELDS_TOO_LARGE,
+            HttpStatus::Unavailable => StatusCode::SERVICE_UNAVAILABLE,
         }
     }
 }

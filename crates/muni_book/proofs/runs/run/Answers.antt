@@ -8,7 +8,7 @@ loop-command-init g c = record {
   run = begins (IsRightAnswer (g.E.Encloser.ends c.args.encloser.now)) _ _ c.new-replies.ensures.items;
   tells = search rules;
   later = omega arith;
-  mark = search rules;
+  lent_as = search rules;
 }
 
 pub returns-in_err-reply-clause-first : goal.returns-in_err-reply-clause-first
@@ -31,7 +31,7 @@ loop-command-preserved g c = record {
       c.loop-command-test.true (sym c.command-item.is) c.in_ok-push.ensures c.loop-command.invariant.run c.in_ok-reply.ensures.step;
   tells = c.apply.ensures.same.tells ∙ c.loop-command.invariant.tells;
   later = omega arith;
-  mark = c.apply.ensures.same.mark ∙ c.loop-command.invariant.mark;
+  lent_as = c.apply.ensures.same.lent_as ∙ c.loop-command.invariant.lent_as;
 }
 
 pub returns-clause-run : goal.returns-clause-run

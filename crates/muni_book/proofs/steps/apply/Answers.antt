@@ -1,5 +1,5 @@
 use Rattle.muni_book.specs.Answers.{IsRightAnswer}
-use Rattle.muni_step.proofs.CarriedOutLemmas.{still-ready, refused-unchanged}
+use Rattle.muni_book_step.proofs.CarriedOutLemmas.{still-ready, refused-unchanged}
 use Rattle.muni_book.proofs.steps.apply.Goals as goal
 
 pub carry_out-requires-clause-can_keep : goal.carry_out-requires-clause-can_keep

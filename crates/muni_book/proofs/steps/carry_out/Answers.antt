@@ -1,6 +1,6 @@
 use Rattle.std.proofs.lemmas.Result.{IfOk-weaker}
 use Rattle.muni_book.specs.Answers.{IsRightAnswer}
-use Rattle.muni_step.proofs.CarriedOutLemmas.{issue-carried, version-carried, priced-carried}
+use Rattle.muni_book_step.proofs.CarriedOutLemmas.{issue-carried, version-carried, priced-carried}
 use Rattle.muni_book.proofs.steps.carry_out.Goals as goal
 
 pub returns-in-KeepIssue-clause-done : goal.returns-in-KeepIssue-clause-done

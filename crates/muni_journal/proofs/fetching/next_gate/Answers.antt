@@ -1,6 +1,6 @@
 use Rattle.std.proofs.Common.{◌≡◌, ◌+◌, Bool, true, ap, ℕ, List, Option, Some, None, Ok, sym, ◌∙◌, subst, arith}
 use Rattle.std.proofs.lemmas.Bool.Decides.{nat_tests}
-use Rattle.muni_disk.specs.Disk.{ReadsAs}
+use Rattle.muni_journal_disk.specs.Disk.{ReadsAs}
 use Rattle.muni_journal.specs.Journal.{Place, is_length}
 use Rattle.muni_journal.proofs.SlotLemmas.{slot_is}
 use Rattle.muni_journal.proofs.fetching.next_gate.Goals as goal

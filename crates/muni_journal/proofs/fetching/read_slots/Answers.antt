@@ -1,7 +1,7 @@
 use Rattle.std.proofs.Common.{ℕ, List, Option, refl, sym, ◌∙◌, subst, arith}
 use Rattle.muni_keep.specs.Tables.{Tables}
-use Rattle.muni_disk.specs.Bytes.{byte_at}
-use Rattle.muni_disk.specs.Disk.{ReadsAs}
+use Rattle.muni_journal_disk.specs.Bytes.{byte_at}
+use Rattle.muni_journal_disk.specs.Disk.{ReadsAs}
 use Rattle.muni_journal.specs.Journal.{Place}
 use Rattle.muni_journal.specs.Reading.{GoesOn}
 use Rattle.muni_journal.proofs.GoesOn.{at_start, one_on, at_end, no_journal, not_before, one_there, not_one}

@@ -1,5 +1,5 @@
 use Rattle.std.proofs.Common.{◌≡◌, ℕ, ◌-◌, ◌^◌, ◌≤◌, List}
-use Rattle.muni_disk.specs.Disk.{ReadsAs}
+use Rattle.muni_journal_disk.specs.Disk.{ReadsAs}
 use Rattle.muni_journal.specs.Reading.{GoesOn}
 use Rattle.muni_journal.proofs.fetching.read_slots.Given as goal
 

@@ -21,13 +21,13 @@ loop-row-preserved g c =
             far = row_fetched told (tree.get by_bytes c.loop-row.issues) (tree.get by_bytes w.ask.new.issues) (set.contains by_bytes c.loop-row.missing) (set.contains by_bytes w.ask.new.missing) rows c.loop-row.row-index asked c.loop-row-test.true (rw w.in-Ok.is at c.row-item.is) inv.far next;
             tables = w.ask.ensures.reads.unchanged ∙ inv.tables;
             later = omega (arith, w.ask.ensures.reads.later, inv.later);
-            mark = w.ask.ensures.reads.mark ∙ inv.mark;
+            lent_as = w.ask.ensures.reads.lent_as ∙ inv.lent_as;
           }
       | in_default w ↦
           rw (w.issues-is, w.missing-is, w.keeper-is) record {
             far = row_default told (tree.get by_bytes c.loop-row.issues) (set.contains by_bytes c.loop-row.missing) rows c.loop-row.row-index c.row-item.result c.loop-row-test.true c.row-item.is w.in_default.not-Ok inv.far;
             tables = inv.tables;
             later = inv.later;
-            mark = inv.mark;
+            lent_as = inv.lent_as;
           }
     ]

@@ -12,5 +12,5 @@ invariant-loop-row g l = record {
   far : IfSome (g.K.Keeper.tables l.fn.keeper) (λ t. IsSoFar t (tree.get by_bytes l.issues) (set.contains by_bytes l.missing) (take l.row-index l.rows));
   tables : g.K.Keeper.tables l.keeper ≡ g.K.Keeper.tables l.fn.keeper;
   later : g.K.Keeper.faults l.fn.keeper ≤ g.K.Keeper.faults l.keeper;
-  mark : g.K.Keeper.mark l.keeper ≡ g.K.Keeper.mark l.fn.keeper;
+  lent_as : g.K.Keeper.lent_as l.keeper ≡ g.K.Keeper.lent_as l.fn.keeper;
 }

@@ -18,7 +18,7 @@ pages-init g c =
       count = omega arith;
       tables = refl;
       later = omega arith;
-      mark = refl;
+      lent_as = refl;
       summed = each _ (g.K.Keeper.tables c.args.keeper.now) (λ t. none_read c.args.desk.now t c.new-holdings.result none);
     }
 
@@ -44,6 +44,6 @@ pages-preserved g c =
       count = omega (arith, c.if-count-gt-MOST_TRADES.false);
       tables = c.in_ok-page.ensures.reads.unchanged ∙ c.pages.invariant.tables;
       later = omega (arith, c.pages.invariant.later, c.page.ensures.reads.later);
-      mark = c.page.ensures.reads.mark ∙ c.pages.invariant.mark;
+      lent_as = c.page.ensures.reads.lent_as ∙ c.pages.invariant.lent_as;
       summed = rw c.copy.ensures (told_read c.args.desk.now told c.pages.after c.pages.count (c.pages.count + c.len.result) lines c.in-Some.last.now c.pages.holdings c.add_lines.new.holdings c.pages.invariant.summed are last (rw c.as_slice.ensures.value at c.in_ok-add_lines.ensures.sums) (omega (arith, count)));
     }

@@ -13,6 +13,6 @@ invariant-pages g l = record {
   count : l.count ≤ 100_000;
   tables : g.K.Keeper.tables l.keeper ≡ g.K.Keeper.tables l.fn.keeper;
   later : g.K.Keeper.faults l.fn.keeper ≤ g.K.Keeper.faults l.keeper;
-  mark : g.K.Keeper.mark l.keeper ≡ g.K.Keeper.mark l.fn.keeper;
+  lent_as : g.K.Keeper.lent_as l.keeper ≡ g.K.Keeper.lent_as l.fn.keeper;
   summed : IfSome (g.K.Keeper.tables l.fn.keeper) (λ t. IsSummed l.desk t l.after l.count l.holdings);
 }

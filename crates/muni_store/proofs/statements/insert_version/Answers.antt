@@ -1,5 +1,5 @@
 use Rattle.std.proofs.Common.{ap, ◌∙◌}
-use Rattle.muni_rows.specs.Version.{columns_of}
+use Rattle.muni_store_rows.specs.Version.{columns_of}
 use Rattle.muni_store.specs.Statements.{version_values}
 use Rattle.muni_store.proofs.statements.insert_version.Goals as goal
 

@@ -1,8 +1,8 @@
 use Rattle.std.proofs.Common.{◌≡◌, ℕ, ◌+◌, List, Some, None, length, subst, sym, arith}
 use Rattle.muni_keep.specs.Tables.{Tables}
-use Rattle.muni_disk.specs.Disk.{StopsLeave, ComesFrom}
-use Rattle.muni_slots.specs.Slots.{IsStep, IsPut, IsUnopened, IsDoubtful, AllImages}
-use Rattle.muni_record.specs.declared.put.Put.{Put}
+use Rattle.muni_journal_disk.specs.Disk.{StopsLeave, ComesFrom}
+use Rattle.muni_journal_slots.specs.Slots.{IsStep, IsPut, IsUnopened, IsDoubtful, AllImages}
+use Rattle.muni_journal_record.specs.declared.put.Put.{Put}
 use Rattle.muni_journal.specs.Journal.{Place, piece_of, journal_of}
 use Rattle.muni_journal.specs.Stops.{StandsFor, IsInDoubt}
 use Rattle.muni_journal.proofs.JournalImages.{put_images, unopened_images, doubtful_images, put_doubtful, step_stops, closed_end, behind_piece, run_of}

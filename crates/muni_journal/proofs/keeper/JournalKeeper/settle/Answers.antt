@@ -1,7 +1,7 @@
 use Rattle.std.proofs.Common.{◌≡◌, true, None, arith, rules}
 use Rattle.std.specs.Prelude.{is_some}
-use Rattle.muni_disk.specs.Bytes.{IsSameOutside}
-use Rattle.muni_disk.specs.Disk.{ComesFrom}
+use Rattle.muni_journal_disk.specs.Bytes.{IsSameOutside}
+use Rattle.muni_journal_disk.specs.Disk.{ComesFrom}
 use Rattle.muni_journal.specs.Journal.{Place}
 use Rattle.muni_journal.specs.Stops.{StandsFor}
 use Rattle.muni_journal.proofs.JournalImages.{doubt_stops_by, taken_back_by, run_of}

@@ -1,0 +1,93 @@
+-- What is kept stays.
+use Rattle.std.proofs.Common.{◌≡◌, inl, inr, ℕ, zero, suc, ◌-◌, ◌==◌, true, false, cond, refl, sym, ap, subst, ◌∙◌, Option, Some, None, List, [], ◌∷◌, ◌++◌}
+use Rattle.std.specs.Prelude.{if◌then◌else◌, slice_get}
+use Rattle.std.specs.Option.{option_and_then}
+use Rattle.std.specs.Ordering.{eq_by_cmp}
+use Rattle.std.specs.Cmp.Lexicographic.{nat_list_cmp_total}
+use Rattle.std.specs.FinMap.{get, insert, get-insert}
+use Rattle.muni_terms.specs.declared.row.IssueRow.{IssueRow}
+use Rattle.muni_msg.specs.declared.command.Command.{Command}
+use Rattle.muni_msg.specs.declared.command.Key.{Key}
+use Rattle.muni_msg.specs.declared.command.Reply.{Reply}
+use Rattle.muni_msg.specs.declared.version.Version.{Version}
+use Rattle.muni_keep.specs.History.{History, versions, version_in, grown}
+use Rattle.muni_keep.specs.Tables.{Tables, version_at, with_version}
+use Rattle.muni_keep.specs.Trades.{by_bytes}
+use Rattle.muni_book_step.specs.Plan.{Issues}
+use Rattle.muni_book_step.specs.Step.{Pricing, Entry, NewIssue, NewVersion, IsStepOver, after}
+use Rattle.muni_book_step.specs.Reasons.{IsReasoned}
+use Rattle.muni_book_step.proofs.OutcomeLemmas.{step-reason}
+use Rattle.muni_book.specs.Once.{Keeps, RunsKeep}
+use Rattle.muni_book.proofs.PutLemmas.{itself, same-name, trade-put}
+
+some-none : {A : Type 0} (x : A) (o : Option A) → o ≡ None → o ≡ Some x → ⊥
+some-none x o none some = let never : None ≡ Some x = sym none ∙ some in cc
+
+-- ---- issues
+pub issue-put : (issues : Issues) (issue : IssueRow) → get (insert issues issue.cusip issue) issue.cusip ≡ Some issue
+issue-put issues issue =
+    get-insert nat_list_cmp_total issues issue.cusip issue issue.cusip ∙ ap (λ b. cond b (Some issue) (get issues issue.cusip)) (itself issue.cusip)
+
+issue-stays : (issues : Issues) (cusip q : List ℕ) (added issue : IssueRow) → get issues cusip ≡ None → get issues q ≡ Some issue → get (insert issues cusip added) q ≡ Some issue
+issue-stays issues cusip q added issue none kept =
+    get-insert nat_list_cmp_total issues cusip added q
+    ∙ elim (eq_by_cmp by_bytes q cusip) as (λ b. eq_by_cmp by_bytes q cusip ≡ b → cond b (Some added) (get issues q) ≡ Some issue) [
+      | true ↦ λ same. absurd (some-none issue (get issues cusip) none (subst (λ x. get issues x ≡ Some issue) (same-name q cusip same) kept))
+      | false ↦ λ other. kept
+    ] refl
+
+-- ---- versions
+read-before : {A : Type 0} (xs ys : List A) (i : ℕ) (x : A) → slice_get xs i ≡ Some x → slice_get (xs ++ ys) i ≡ Some x
+read-before [] ys i x there = absurd (some-none x None refl there)
+read-before (a ∷ xs) ys zero x there = there
+read-before (a ∷ xs) ys (suc i) x there = read-before xs ys i x there
+
+history-stays : {V : Type 0} (history : History V) (added : V) (number : ℕ) (v : V) → version_in history number ≡ Some v → version_in (grown (Some history) added) number ≡ Some v
+history-stays history added number v kept =
+    elim (number == 0) as (λ b. (if b then None else slice_get (versions history) (number - 1)) ≡ Some v → (if b then None else slice_get (versions history ++ added ∷ []) (number - 1)) ≡ Some v) [
+      | true ↦ λ none. none
+      | false ↦ λ there. read-before (versions history) (added ∷ []) (number - 1) v there
+    ] kept
+
+grown-stays : {V : Type 0} (trade : Option (History V)) (added : V) (number : ℕ) (v : V) → option_and_then (λ history. version_in history number) trade ≡ Some v → version_in (grown trade added) number ≡ Some v
+grown-stays None added number v kept = absurd (some-none v None refl kept)
+grown-stays (Some history) added number v kept = history-stays history added number v kept
+
+version-stays : (t : Tables) (key other : Key) (added version : Version) (number : ℕ) → version_at t other number ≡ Some version → version_at (with_version key added t) other number ≡ Some version
+version-stays t key other added version number kept =
+    elim (trade-put t key added other) as (λ _. version_at (with_version key added t) other number ≡ Some version) [
+      | inl there ↦ ap (option_and_then (λ history. version_in history number)) there.1
+          ∙ grown-stays _ added number version (subst (λ k. version_at t k number ≡ Some version) there.0 kept)
+      | inr elsewhere ↦ ap (option_and_then (λ history. version_in history number)) elsewhere.1 ∙ kept
+    ]
+
+-- ---- runs
+keeps-with : (P : Pricing) (t : Tables) (c : Command) (reply : Reply) (entry : Option Entry) → IsReasoned P t c reply entry → Keeps t (after entry t)
+keeps-with P t c reply None why = record { issues = λ cusip issue kept. kept; versions = λ key number version kept. kept }
+keeps-with P t c reply (Some (NewIssue added)) why = record {
+  issues = λ cusip issue kept. issue-stays t.issues added.cusip cusip added issue why.0.is_new kept;
+  versions = λ key number version kept. kept;
+}
+keeps-with P t c reply (Some (NewVersion key added)) why = record {
+  issues = λ cusip issue kept. kept;
+  versions = λ other number version kept. version-stays t key other added version number kept;
+}
+
+pub step-keeps : (P : Pricing) (t : Tables) (c : Command) (reply : Reply) (entry : Option Entry) → IsStepOver P t c (record { reply = reply; entry = entry }) → Keeps t (after entry t)
+step-keeps P t c reply entry step = keeps-with P t c reply entry (step-reason P t c reply entry step)
+
+keeps-both : (old mid new : Tables) → Keeps old mid → Keeps mid new → Keeps old new
+keeps-both old mid new first later = record {
+  issues = λ cusip issue kept. later.issues cusip issue (first.issues cusip issue kept);
+  versions = λ key number version kept. later.versions key number version (first.versions key number version kept);
+}
+
+keeps-itself : (t : Tables) → Keeps t t
+keeps-itself t = record { issues = λ cusip issue kept. kept; versions = λ key number version kept. kept }
+
+pub runs-keep : (P : Pricing) → RunsKeep P
+runs-keep P old new [] [] run = subst (Keeps old) (sym run) (keeps-itself old)
+runs-keep P old new [] (reply ∷ replies) run = absurd run
+runs-keep P old new (c ∷ commands) [] run = absurd run
+runs-keep P old new (c ∷ commands) (reply ∷ replies) run =
+    keeps-both old (after run.0 old) new (step-keeps P old c reply run.0 run.1) (runs-keep P (after run.0 old) new commands replies run.2)

@@ -1,0 +1,61 @@
+-- The laws of the book.
+use Rattle.std.proofs.Common.{◌≡◌, sym, ap, ◌∙◌, arith, ℕ, Some, None, List}
+use Rattle.std.specs.Option.{unwrap_or}
+use Rattle.std.specs.FinMap.{empty, get, get-empty, len-empty}
+use Rattle.muni_msg.specs.declared.command.Key.{Key}
+use Rattle.muni_msg.specs.declared.version.Version.{Version}
+use Rattle.muni_keep.specs.History.{History}
+use Rattle.muni_keep.specs.Tables.{no_tables, trade_at}
+use Rattle.muni_keep.specs.Trades.{by_bytes, own}
+use Rattle.muni_book.proofs.RightLemmas.{answered-right}
+use Rattle.muni_book.proofs.UniqueLemmas.{answers-unique}
+use Rattle.muni_book.specs.Answers.{IsRightAnswer}
+use Rattle.muni_book.specs.RightFigures.{AreRightFigures}
+use Rattle.muni_book.specs.SoundTables.{AreSoundTables}
+use Rattle.muni_book_step.proofs.OutcomeLemmas.{step-reason}
+use Rattle.muni_book.specs.RunLaws.{TablesAreSound, AcceptedCommandsActOnce, NothingKeptIsLost, EachDeskIsIsolated, RepliesAreUnique, EachEntryHasItsReason, EachRefusalHasItsCause}
+use Rattle.muni_book.proofs.CauseLemmas.{refusals-caused}
+use Rattle.muni_book.proofs.IsolationLemmas.{desks-isolated}
+use Rattle.muni_book.proofs.KeepLemmas.{runs-keep}
+use Rattle.muni_book.proofs.OnceLemmas.{act-once}
+use Rattle.muni_book.proofs.SoundLemmas.{runs-stay-sound}
+use Rattle.muni_book.proofs.ReplyLemmas.{steps-unique, runs-unique}
+
+no-own : (desk : List ℕ) → own {V = Version} desk no_tables.desks ≡ empty
+no-own desk = ap (λ trades. unwrap_or trades empty) (get-empty by_bytes desk)
+
+no-trade : (key : Key) → trade_at no_tables key ≡ None
+no-trade key = ap (λ trades. get trades key.reference) (no-own key.desk) ∙ get-empty by_bytes key.reference
+
+empty-sound : AreSoundTables no_tables
+empty-sound = record {
+  trades = λ key history kept. absurd (let never : None ≡ Some history = sym (no-trade key) ∙ kept in cc);
+  few = λ desk. rw (no-own desk, len-empty by_bytes (History Version)) (omega arith);
+}
+
+pub sound : TablesAreSound
+sound = record {
+  first = empty-sound;
+  later = λ ends. runs-stay-sound (IsRightAnswer ends) AreRightFigures (λ row asked figures is. answered-right ends row asked figures is);
+}
+
+pub once : AcceptedCommandsActOnce
+once ends = act-once (IsRightAnswer ends)
+
+pub kept : NothingKeptIsLost
+kept ends = runs-keep (IsRightAnswer ends)
+
+pub isolated : EachDeskIsIsolated
+isolated ends = desks-isolated (IsRightAnswer ends)
+
+pub unique : RepliesAreUnique
+unique = record {
+  steps = λ ends. steps-unique (IsRightAnswer ends) (λ row asked answer other is also. answers-unique ends row asked answer other is also);
+  runs = λ ends. runs-unique (IsRightAnswer ends) (λ row asked answer other is also. answers-unique ends row asked answer other is also);
+}
+
+pub caused : EachRefusalHasItsCause
+caused ends = refusals-caused (IsRightAnswer ends)
+
+pub reasoned : EachEntryHasItsReason
+reasoned ends t c reply entry step = step-reason (IsRightAnswer ends) t c reply entry step

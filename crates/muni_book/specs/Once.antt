@@ -1,0 +1,36 @@
+-- What is kept stays, and a command that was accepted acts once.
+use Rattle.std.specs.Prelude.{◌≡◌, ℕ, List, Option, Some, None}
+use Rattle.muni_terms.specs.declared.row.IssueRow.{IssueRow}
+use Rattle.muni_msg.specs.declared.command.Command.{Command}
+use Rattle.muni_msg.specs.declared.command.Key.{Key}
+use Rattle.muni_msg.specs.declared.command.Reply.{Reply}
+use Rattle.muni_msg.specs.declared.version.Version.{Version}
+use Rattle.muni_keep.specs.Tables.{Tables, issue_at, version_at}
+use Rattle.muni_book_step.specs.Accepted.{AsksToKeep, IsAccepted}
+use Rattle.muni_book_step.specs.Runs.{Runs}
+use Rattle.muni_book_step.specs.Step.{Pricing, Entry, IsStepOver, after}
+
+-- each issue and each version that is kept before is kept after
+pub record Keeps (old new : Tables) : Type 0 where
+  pub issues : (cusip : List ℕ) (issue : IssueRow) → issue_at old cusip ≡ Some issue
+      → issue_at new cusip ≡ Some issue
+  pub versions : (key : Key) (number : ℕ) (version : Version)
+      → version_at old key number ≡ Some version → version_at new key number ≡ Some version
+
+-- a run changes and removes nothing
+abbrev pub RunsKeep : Pricing → Type 0
+RunsKeep Prices =
+    (old new : Tables) (commands : List Command) (replies : List Reply)
+    → Runs Prices old commands replies new → Keeps old new
+
+-- A command that asks to keep something and was accepted is sent again after any run: it is answered
+-- by an equal reply, and adds nothing.
+abbrev pub CommandsActOnce : Pricing → Type 0
+CommandsActOnce Prices =
+    (old new : Tables) (command : Command) (first again : Reply) (entry other : Option Entry)
+    (commands : List Command) (replies : List Reply)
+    → AsksToKeep command → IsAccepted first
+    → IsStepOver Prices old command (record { reply = first; entry = entry })
+    → Runs Prices (after entry old) commands replies new
+    → IsStepOver Prices new command (record { reply = again; entry = other })
+    → (again ≡ first) × (other ≡ None)

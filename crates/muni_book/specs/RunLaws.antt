@@ -1,0 +1,56 @@
+-- Laws of the book, for the answers that any ends lead to.
+use Rattle.std.specs.Prelude.{ℤ, Option}
+use Rattle.muni_rule.specs.Payments.{PaymentSeries}
+use Rattle.muni_rule.specs.WorthEnds.{WorthEnds}
+use Rattle.muni_book.specs.Answers.{IsRightAnswer}
+use Rattle.muni_book.specs.RightFigures.{AreRightFigures}
+use Rattle.muni_book.specs.SoundTables.{AreSoundTables}
+use Rattle.muni_msg.specs.declared.command.Command.{Command}
+use Rattle.muni_msg.specs.declared.command.Reply.{Reply}
+use Rattle.muni_keep.specs.Tables.{Tables, no_tables}
+use Rattle.muni_book_step.specs.Reasons.{IsReasoned}
+use Rattle.muni_book_step.specs.Step.{Entry, IsStepOver}
+use Rattle.muni_book.specs.Causes.{RefusalsHaveCauses}
+use Rattle.muni_book.specs.Isolation.{DesksAreIsolated}
+use Rattle.muni_book.specs.Once.{RunsKeep, CommandsActOnce}
+use Rattle.muni_book.specs.StaysSound.{RunsStaySound}
+use Rattle.muni_book.specs.Unique.{StepsAreUnique, RunsAreUnique}
+
+-- the ends that an encloser gives to payments and a yield
+abbrev pub Ends : Type 0
+Ends = PaymentSeries → ℤ → WorthEnds
+
+-- Tables without an issue or a trade are sound, and a run leaves sound tables sound: every kept figure
+-- is right by the exact formulas.
+pub record TablesAreSound : Type 0 where
+  pub first : AreSoundTables no_tables
+  pub later : (ends : Ends) → RunsStaySound (IsRightAnswer ends) AreRightFigures
+
+-- a command that was accepted acts once
+abbrev pub AcceptedCommandsActOnce : Type 0
+AcceptedCommandsActOnce = (ends : Ends) → CommandsActOnce (IsRightAnswer ends)
+
+-- nothing that is kept is ever changed or removed
+abbrev pub NothingKeptIsLost : Type 0
+NothingKeptIsLost = (ends : Ends) → RunsKeep (IsRightAnswer ends)
+
+-- what a desk is told does not depend on what others keep
+abbrev pub EachDeskIsIsolated : Type 0
+EachDeskIsIsolated = (ends : Ends) → DesksAreIsolated (IsRightAnswer ends)
+
+-- Equal issues and equal trades of the desk give a command one reply and one entry, and so a run over
+-- given tables has one list of replies and one end.
+pub record RepliesAreUnique : Type 0 where
+  pub steps : (ends : Ends) → StepsAreUnique (IsRightAnswer ends)
+  pub runs : (ends : Ends) → RunsAreUnique (IsRightAnswer ends)
+
+-- each refusal has its cause
+abbrev pub EachRefusalHasItsCause : Type 0
+EachRefusalHasItsCause = (ends : Ends) → RefusalsHaveCauses (IsRightAnswer ends)
+
+-- each entry has its reason
+abbrev pub EachEntryHasItsReason : Type 0
+EachEntryHasItsReason =
+    (ends : Ends) (tables : Tables) (asked : Command) (reply : Reply) (entry : Option Entry)
+    → IsStepOver (IsRightAnswer ends) tables asked (record { reply = reply; entry = entry })
+    → IsReasoned (IsRightAnswer ends) tables asked reply entry

@@ -1,8 +1,0 @@
-pub mod PutLemmas
-pub mod CauseLemmas
-pub mod IsolationLemmas
-pub mod KeepLemmas
-pub mod OnceLemmas
-pub mod UniqueLemmas
-pub mod SoundLemmas
-pub mod LawLemmas

@@ -1,0 +1,62 @@
+-- Why an outcome is what it is.
+use Rattle.std.proofs.Common.{◌≡◌, ◌⊎◌, inl, inr, ℕ, refl, sym, ap, subst, Option, None, Result, Ok, Err}
+use Rattle.muni_terms.specs.declared.row.IssueRow.{IssueRow}
+use Rattle.muni_msg.specs.declared.asked.Asked.{Asked}
+use Rattle.muni_msg.specs.declared.asked.Terms.{Terms}
+use Rattle.muni_msg.specs.declared.command.Command.{Command}
+use Rattle.muni_msg.specs.declared.command.Key.{Key}
+use Rattle.muni_msg.specs.declared.command.Reply.{Reply}
+use Rattle.muni_msg.specs.declared.figures.Figures.{Figures}
+use Rattle.muni_msg.specs.declared.refusal.Refusal.{Refusal}
+use Rattle.muni_msg.specs.declared.version.Act.{Act}
+use Rattle.muni_keep.specs.Tables.{Tables}
+use Rattle.muni_book_step.specs.declared.plan.Plan.{Plan}
+use Rattle.muni_book_step.specs.declared.plan.Plan.TheVariants.{Answer, Quote, KeepIssue, KeepVersion, KeepPriced}
+use Rattle.muni_book_step.specs.Accepted.{AsksToKeep}
+use Rattle.muni_book_step.specs.Reasons.{IsNewTrade, IsCorrection, IsReasoned}
+use Rattle.muni_book_step.specs.Runs.{IsRefusal}
+use Rattle.muni_book_step.specs.Step.{Pricing, Entry, Outcome, quoted, priced, IsOutcome, IsStepOver}
+use Rattle.muni_book_step.proofs.PlanLemmas.{HasReason, reason-of}
+
+abbrev HasOutcome : Pricing → Tables → Command → Outcome → Type 0
+HasOutcome P t c outcome = IsReasoned P t c outcome.reply outcome.entry
+
+none-for-quotes : (P : Pricing) (t : Tables) (c : Command) (asked : Asked) (answer : Result Figures Refusal) → (AsksToKeep c → ⊥) → HasOutcome P t c (quoted asked answer)
+none-for-quotes P t c asked (Ok figures) none = λ asks accepted. absurd (none asks)
+none-for-quotes P t c asked (Err why) none = λ asks accepted. absurd (none asks)
+
+of-priced : (P : Pricing) (t : Tables) (c : Command) (issue : IssueRow) (key : Key) (number : ℕ) (act : Act) (terms : Terms) (answer : Result Figures Refusal)
+    → (IsNewTrade t c issue key number act terms ⊎ IsCorrection t c issue key number act terms) → P issue terms.asked answer → HasOutcome P t c (priced issue key number act terms answer)
+of-priced P t c issue key number act terms (Ok figures) why prices = (issue, number, refl, inr (why, prices))
+of-priced P t c issue key number act terms (Err refused) why prices = λ asks accepted. absurd accepted
+
+of-plan : (P : Pricing) (t : Tables) (c : Command) (plan : Plan) (outcome : Outcome) → HasReason t c plan → IsOutcome P plan outcome → HasOutcome P t c outcome
+of-plan P t c (Answer reply) outcome why is = subst (HasOutcome P t c) (sym is) why
+of-plan P t c (Quote issue asked) outcome why is = subst (HasOutcome P t c) (sym is.2) (none-for-quotes P t c asked is.0 (λ asks. subst AsksToKeep why asks))
+of-plan P t c (KeepIssue issue) outcome why is = subst (HasOutcome P t c) (sym is) (why, refl)
+of-plan P t c (KeepVersion issue key number version) outcome why is = subst (HasOutcome P t c) (sym is) (issue, number, refl, inl why)
+of-plan P t c (KeepPriced issue key number act terms) outcome why is =
+    subst (HasOutcome P t c) (sym is.2) (of-priced P t c issue key number act terms is.0 why is.1)
+
+pub step-reason : (P : Pricing) (t : Tables) (c : Command) (reply : Reply) (entry : Option Entry) → IsStepOver P t c (record { reply = reply; entry = entry }) → IsReasoned P t c reply entry
+step-reason P t c reply entry step = of-plan P t c _ (record { reply = reply; entry = entry }) (reason-of t c) step
+
+-- a refused command adds nothing
+refused-priced : (issue : IssueRow) (key : Key) (number : ℕ) (act : Act) (terms : Terms) (answer : Result Figures Refusal) → IsRefusal (priced issue key number act terms answer).reply → (priced issue key number act terms answer).entry ≡ None
+refused-priced issue key number act terms (Ok figures) refusal = absurd refusal
+refused-priced issue key number act terms (Err why) refusal = refl
+
+none-quoted : (asked : Asked) (answer : Result Figures Refusal) → (quoted asked answer).entry ≡ None
+none-quoted asked (Ok figures) = refl
+none-quoted asked (Err why) = refl
+
+pub refused-by : (P : Pricing) (plan : Plan) (outcome : Outcome) → IsOutcome P plan outcome → IsRefusal outcome.reply → outcome.entry ≡ None
+refused-by P (Answer reply) outcome is refusal = ap (λ o. o.entry) is
+refused-by P (Quote issue asked) outcome is refusal = rw is.2 (none-quoted asked is.0)
+refused-by P (KeepIssue issue) outcome is refusal = absurd (subst (λ o. IsRefusal o.reply) is refusal)
+refused-by P (KeepVersion issue key number version) outcome is refusal = absurd (subst (λ o. IsRefusal o.reply) is refusal)
+refused-by P (KeepPriced issue key number act terms) outcome is refusal =
+    rw is.2 (refused-priced issue key number act terms is.0 (subst (λ o. IsRefusal o.reply) is.2 refusal))
+
+pub refused-adds-none : (P : Pricing) (t : Tables) (c : Command) (reply : Reply) (entry : Option Entry) → IsStepOver P t c (record { reply = reply; entry = entry }) → IsRefusal reply → entry ≡ None
+refused-adds-none P t c reply entry step refusal = refused-by P _ (record { reply = reply; entry = entry }) step refusal

@@ -1,0 +1,47 @@
+-- What is to be kept can be kept.
+use Rattle.std.proofs.Common.{◌≡◌, inl, inr, ℕ, ◌+◌, refl, sym, ap, ◌∙◌, subst, Option, Some, None, List, [], ◌∷◌, ◌++◌}
+use Rattle.std.specs.Prelude.{slice_get, IfSome}
+use Rattle.std.specs.Option.{option_map, option_and_then, option_map_or}
+use Rattle.muni_msg.specs.declared.command.Command.{Command}
+use Rattle.muni_keep.specs.History.{History, count, version_in, next_number}
+use Rattle.muni_msg.specs.declared.command.Key.{Key}
+use Rattle.muni_msg.specs.declared.version.Version.{Version}
+use Rattle.muni_keep.specs.Tables.{Tables, trade_at, version_at}
+use Rattle.muni_book_step.specs.declared.plan.Plan.{Plan}
+use Rattle.muni_book_step.specs.declared.plan.Plan.TheVariants.{Answer, Quote, KeepIssue, KeepVersion, KeepPriced}
+use Rattle.muni_book_step.specs.Plan.{plan_of}
+use Rattle.muni_book_step.specs.Reasons.{IsLive}
+use Rattle.muni_book_step.specs.Step.{CanKeep, desk_of, own_of}
+use Rattle.muni_book_step.proofs.PlanLemmas.{HasReason, reason-of}
+
+-- every trade has a first version
+has-first : {A : Type 0} (earlier : List A) (last : A) → slice_get (earlier ++ last ∷ []) 0 ≡ None → ⊥
+has-first [] last none = absurd (let never : Some last ≡ None = none in cc)
+has-first (first ∷ earlier) last none = absurd (let never : Some first ≡ None = none in cc)
+
+pub none-kept : {V : Type 0} (trade : Option (History V)) → option_and_then (λ history. version_in history 1) trade ≡ None → trade ≡ None
+none-kept None none = refl
+none-kept (Some history) none = absurd (has-first history.earlier history.last none)
+
+-- the number behind the last one is the next one
+pub last-next : {V : Type 0} (trade : Option (History V)) (last : ℕ × V) → option_map (λ history. (count history, history.last)) trade ≡ Some last → last.0 + 1 ≡ next_number trade
+last-next {V} None last none = absurd (let never : None ≡ Some last = none in cc)
+last-next {V} (Some history) last is = sym (ap (λ found. option_map_or (λ (pair : ℕ × V). pair.0 + 1) found 0) is)
+
+pub live-next : (t : Tables) (key : Key) (number : ℕ) (last : ℕ × Version) → IsLive t key number last → number ≡ next_number (trade_at t key)
+live-next t key number last live = live.number_is ∙ last-next _ last live.last_is
+
+pub new-next : (t : Tables) (key : Key) (number : ℕ) → number ≡ 1 → version_at t key 1 ≡ None → number ≡ next_number (trade_at t key)
+new-next t key number one new = one ∙ sym (ap next_number (none-kept _ new))
+
+can-keep : (t : Tables) (c : Command) (plan : Plan) → HasReason t c plan → CanKeep t plan
+can-keep t c (Answer reply) why = tt
+can-keep t c (Quote issue asked) why = tt
+can-keep t c (KeepIssue issue) why = why.is_new
+can-keep t c (KeepVersion issue key number version) why = live-next t key number why.last why.is_live
+can-keep t c (KeepPriced issue key number act terms) (inl why) = new-next t key number why.number_is why.is_new
+can-keep t c (KeepPriced issue key number act terms) (inr why) = live-next t key number why.last why.is_live
+
+pub ready : (told : Option Tables) (c : Command) (plan : Plan) → IfSome told (λ t. plan ≡ plan_of t.issues (own_of (desk_of c) t) c) → IfSome told (λ t. CanKeep t plan)
+ready None c plan planned = tt
+ready (Some t) c plan planned = subst (CanKeep t) (sym planned) (can-keep t c _ (reason-of t c))

@@ -1,0 +1,196 @@
+-- What is to be done for a command, by the issues and by the trades of the desk that sent it.
+use Rattle.std.specs.Prelude.{ℕ, ◌+◌, ◌-◌, ◌^◌, ◌==◌, min, nat_le, Bool, true, false, if◌then◌else◌, List, map, take, Option, Some, None, Result, Ok, Err}
+use Rattle.std.specs.Option.{option_map, option_and_then, option_map_or}
+use Rattle.std.specs.FinMap.{FinMap, get, len}
+use Rattle.muni_terms.specs.Check.{checked}
+use Rattle.muni_terms.specs.Row.{row_eq}
+use Rattle.muni_terms.specs.declared.row.IssueRow.{IssueRow}
+use Rattle.muni_terms.specs.declared.row.TermsFault.{TermsFault}
+use Rattle.muni_msg.specs.Asked.{terms_eq}
+use Rattle.muni_msg.specs.declared.asked.Asked.{Asked}
+use Rattle.muni_msg.specs.declared.asked.Terms.{Terms}
+use Rattle.muni_msg.specs.declared.command.Command.{Command}
+use Rattle.muni_msg.specs.declared.command.Command.TheVariants.{AddIssue, Enter, Correct, Cancel, Confirm, Quote, List as ListTrades}
+use Rattle.muni_msg.specs.declared.command.Key.{Key}
+use Rattle.muni_msg.specs.declared.command.Reply.TheVariants.{Added, Listed, Confirmed, Refused}
+use Rattle.muni_msg.specs.declared.refusal.Refusal.{Refusal}
+use Rattle.muni_msg.specs.declared.refusal.Refusal.TheVariants as refusal
+use Rattle.muni_msg.specs.declared.version.Act.{Act}
+use Rattle.muni_msg.specs.declared.version.Act.TheVariants.{Entered, Corrected, Canceled}
+use Rattle.muni_msg.specs.declared.version.Kept.TheVariants as kept
+use Rattle.muni_msg.specs.declared.version.Version.{Version}
+use Rattle.muni_keep.specs.History.{count, version_in}
+use Rattle.muni_keep.specs.Tables.{line}
+use Rattle.muni_keep.specs.Trades.{by_bytes, Trades, trades_past}
+use Rattle.muni_book_step.specs.declared.plan.Plan.{Plan}
+use Rattle.muni_book_step.specs.declared.plan.Plan.TheVariants as plan
+
+-- the issues by CUSIP
+abbrev pub Issues : Type 0
+Issues = FinMap by_bytes IssueRow
+
+-- the issue that terms name, if it is kept
+abbrev pub issue_of : Issues → Terms → Option IssueRow
+issue_of issues terms = get issues terms.asked.cusip
+
+-- the version of a trade with this number, if it is kept
+abbrev pub version_of : Trades Version → Key → ℕ → Option Version
+version_of own key number =
+    option_and_then (λ history. version_in history number) (get own key.reference)
+
+-- the last version of a trade, with its number, if any is kept
+abbrev pub last_of : Trades Version → Key → Option (ℕ × Version)
+last_of own key = option_map (λ history. (count history, history.last)) (get own key.reference)
+
+-- ---- what is answered at once
+abbrev pub refused : Refusal → Plan
+refused why = plan.Answer (Refused why)
+
+-- other contents are kept under that number
+abbrev pub conflict : ℕ → Version → Plan
+conflict number version = refused (refusal.Conflict (kept.Version number version))
+
+-- for an issue, which has to be kept
+abbrev pub for_issue : (IssueRow → Plan) → Option IssueRow → Plan
+for_issue planned None = refused refusal.UnknownIssue
+for_issue planned (Some issue) = planned issue
+
+-- for a trade with this last version, which has to be kept
+abbrev pub for_trade : (ℕ × Version → Plan) → Option (ℕ × Version) → Plan
+for_trade planned None = refused refusal.UnknownTrade
+for_trade planned (Some last) = planned last
+
+-- unless it is refused
+abbrev pub unless : Option Refusal → Plan → Plan
+unless None planned = planned
+unless (Some why) planned = refused why
+
+-- a kept version is confirmed with its issue
+abbrev pub confirmed : Issues → Key → ℕ → Version → Plan
+confirmed issues key number version =
+    for_issue (λ issue. plan.Answer (Confirmed issue key number version))
+    (issue_of issues version.terms)
+
+-- terms for which this version is kept: equal ones are confirmed as they were
+abbrev pub sent_again : Issues → Key → ℕ → Terms → Version → Plan
+sent_again issues key number terms version =
+    if terms_eq version.terms terms then confirmed issues key number version
+    else conflict number version
+
+-- ---- An issue is kept once: sent again it is answered as it was, and other contents conflict.
+abbrev pub kept_issue_plan : IssueRow → IssueRow → Plan
+kept_issue_plan issue other =
+    if row_eq other issue then plan.Answer (Added issue.cusip)
+    else refused (refusal.Conflict (kept.Issue other))
+
+abbrev pub checked_issue_plan : Issues → IssueRow → Plan
+checked_issue_plan issues issue =
+    option_map_or (kept_issue_plan issue) (get issues issue.cusip) (plan.KeepIssue issue)
+
+abbrev pub issue_plan : Issues → Result IssueRow TermsFault → Plan
+issue_plan issues (Ok issue) = checked_issue_plan issues issue
+issue_plan issues (Err fault) = refused (refusal.BadTerms fault)
+
+-- ---- A trade is entered once, as version 1, where its desk has room.
+abbrev pub is_full : Trades Version → Bool
+is_full own = nat_le 100_000 (len own)
+
+abbrev pub first_entry_plan : Issues → Trades Version → Key → Terms → Plan
+first_entry_plan issues own key terms =
+    for_issue (λ issue. if is_full own then refused refusal.DeskFull
+    else plan.KeepPriced issue key 1 Entered terms)
+    (issue_of issues terms)
+
+abbrev pub entry_plan : Issues → Trades Version → Key → Terms → Plan
+entry_plan issues own key terms =
+    option_map_or (sent_again issues key 1 terms) (version_of own key 1)
+    (first_entry_plan issues own key terms)
+
+-- ---- A trade is live until it is canceled, and its next version has the next number.
+abbrev pub is_corrected : Act → Bool
+is_corrected Entered = false
+is_corrected Corrected = true
+is_corrected Canceled = false
+
+abbrev pub is_canceled : Act → Bool
+is_canceled Entered = false
+is_canceled Corrected = false
+is_canceled Canceled = true
+
+-- a number that is not the next one; the next one is told as far as 32 bits count
+abbrev pub number_refusal : ℕ → ℕ → Option Refusal
+number_refusal count number =
+    if number == count + 1 then None
+    else Some (refusal.WrongNumber (min (count + 1) (2 ^ 32 - 1)))
+
+-- why a trade with this last version takes no correction with this number, if it takes none
+abbrev pub correction_refusal : ℕ × Version → ℕ → Option Refusal
+correction_refusal last number =
+    if is_canceled last.1.act then Some refusal.Canceled
+    else (if nat_le 99 last.0 then Some refusal.VersionsFull else number_refusal last.0 number)
+
+-- why it takes no cancel
+abbrev pub cancel_refusal : ℕ × Version → ℕ → Option Refusal
+cancel_refusal last number =
+    if is_canceled last.1.act then Some refusal.Canceled else number_refusal last.0 number
+
+-- ---- A live trade is corrected by new terms. A correction that is sent again is confirmed.
+abbrev pub next_correction_plan : Issues → Key → ℕ → Terms → ℕ × Version → Plan
+next_correction_plan issues key number terms last =
+    unless (correction_refusal last number)
+    (for_issue (λ issue. plan.KeepPriced issue key number Corrected terms) (issue_of issues terms))
+
+abbrev pub kept_correction_plan : Issues → Key → ℕ → Terms → Version → Plan
+kept_correction_plan issues key number terms version =
+    if is_corrected version.act then sent_again issues key number terms version
+    else conflict number version
+
+abbrev pub correction_plan : Issues → Trades Version → Key → ℕ → Terms → Plan
+correction_plan issues own key number terms =
+    for_trade (λ last. option_map_or (kept_correction_plan issues key number terms)
+    (version_of own key number) (next_correction_plan issues key number terms last))
+    (last_of own key)
+
+-- ---- A live trade is canceled with the terms and figures that it has. A cancel that is sent again is
+-- confirmed.
+abbrev pub cancel_of : Version → Version
+cancel_of version = record version { act = Canceled }
+
+abbrev pub next_cancel_plan : Issues → Key → ℕ → ℕ × Version → Plan
+next_cancel_plan issues key number last =
+    unless (cancel_refusal last number)
+    (for_issue (λ issue. plan.KeepVersion issue key number (cancel_of last.1))
+    (issue_of issues last.1.terms))
+
+abbrev pub kept_cancel_plan : Issues → Key → ℕ → Version → Plan
+kept_cancel_plan issues key number version =
+    if is_canceled version.act then confirmed issues key number version
+    else conflict number version
+
+abbrev pub cancel_plan : Issues → Trades Version → Key → ℕ → Plan
+cancel_plan issues own key number =
+    for_trade (λ last. option_map_or (kept_cancel_plan issues key number)
+    (version_of own key number) (next_cancel_plan issues key number last))
+    (last_of own key)
+
+-- ---- Nothing is kept for the others.
+abbrev pub confirmation_plan : Issues → Trades Version → Key → Plan
+confirmation_plan issues own key =
+    for_trade (λ last. confirmed issues key last.0 last.1) (last_of own key)
+
+abbrev pub quote_plan : Issues → Asked → Plan
+quote_plan issues asked = for_issue (λ issue. plan.Quote issue asked) (get issues asked.cusip)
+
+abbrev pub list_plan : Trades Version → Option (List ℕ) → Plan
+list_plan own after =
+    plan.Answer (Listed (record { items = map line (take 50 (trades_past after own)) }))
+
+-- what is to be done for a command
+abbrev pub plan_of : Issues → Trades Version → Command → Plan
+plan_of issues own (AddIssue row) = issue_plan issues (checked row)
+plan_of issues own (Enter key terms) = entry_plan issues own key terms
+plan_of issues own (Correct key number terms) = correction_plan issues own key number terms
+plan_of issues own (Cancel key number) = cancel_plan issues own key number
+plan_of issues own (Confirm key) = confirmation_plan issues own key
+plan_of issues own (Quote asked) = quote_plan issues asked
+plan_of issues own (ListTrades desk after) = list_plan own after

@@ -1,0 +1,82 @@
+-- Why something is kept: the rules of the book in the words of the trade.
+use Rattle.std.specs.Prelude.{◌≡◌, ◌⊎◌, ℕ, ◌+◌, nat_le, false, Option, Some, None, Ok}
+use Rattle.muni_terms.specs.Check.{checked}
+use Rattle.muni_terms.specs.declared.row.IssueRow.{IssueRow}
+use Rattle.muni_msg.specs.declared.asked.Terms.{Terms}
+use Rattle.muni_msg.specs.declared.command.Command.{Command}
+use Rattle.muni_msg.specs.declared.command.Command.TheVariants as command
+use Rattle.muni_msg.specs.declared.command.Key.{Key}
+use Rattle.muni_msg.specs.declared.command.Reply.{Reply}
+use Rattle.muni_msg.specs.declared.command.Reply.TheVariants.{Added, Confirmed}
+use Rattle.muni_msg.specs.declared.version.Act.{Act}
+use Rattle.muni_msg.specs.declared.version.Act.TheVariants.{Entered, Corrected}
+use Rattle.muni_msg.specs.declared.version.Version.{Version}
+use Rattle.muni_keep.specs.Tables.{Tables, issue_at, version_at, last_at}
+use Rattle.muni_keep.specs.Trades.{own}
+use Rattle.muni_book_step.specs.Accepted.{AsksToKeep, IsAccepted, IsKept}
+use Rattle.muni_book_step.specs.Plan.{is_full, is_canceled, cancel_of}
+use Rattle.muni_book_step.specs.Step.{Pricing, Entry, NewIssue, NewVersion}
+
+-- an issue that passes its checks, and is new
+pub record IsNewIssue (tables : Tables) (asked : Command) (issue : IssueRow) : Type 0 where
+  pub row : IssueRow
+  pub command : asked ≡ command.AddIssue row
+  pub passed : checked row ≡ Ok issue
+  pub is_new : issue_at tables issue.cusip ≡ None
+
+-- the first version of a trade that is new, of a desk that has room
+pub record IsNewTrade
+    (tables : Tables) (asked : Command) (issue : IssueRow) (key : Key) (number : ℕ) (act : Act)
+    (terms : Terms) : Type 0 where
+  pub command : asked ≡ command.Enter key terms
+  pub number_is : number ≡ 1
+  pub act_is : act ≡ Entered
+  pub issue_is : issue_at tables terms.asked.cusip ≡ Some issue
+  pub is_new : version_at tables key 1 ≡ None
+  pub room : is_full (own key.desk tables.desks) ≡ false
+
+-- a live trade, with the number of its next version
+pub record IsLive (tables : Tables) (key : Key) (number : ℕ) (last : ℕ × Version) : Type 0 where
+  pub last_is : last_at tables key ≡ Some last
+  pub live : is_canceled last.1.act ≡ false
+  pub number_is : number ≡ last.0 + 1
+
+-- a correction of a live trade that has fewer than 99 versions
+pub record IsCorrection
+    (tables : Tables) (asked : Command) (issue : IssueRow) (key : Key) (number : ℕ) (act : Act)
+    (terms : Terms) : Type 0 where
+  pub command : asked ≡ command.Correct key number terms
+  pub act_is : act ≡ Corrected
+  pub issue_is : issue_at tables terms.asked.cusip ≡ Some issue
+  pub last : ℕ × Version
+  pub is_live : IsLive tables key number last
+  pub room : nat_le 99 last.0 ≡ false
+
+-- the cancel of a live trade, with the terms and figures of its last version
+pub record IsCancel
+    (tables : Tables) (asked : Command) (issue : IssueRow) (key : Key) (number : ℕ)
+    (version : Version) : Type 0 where
+  pub command : asked ≡ command.Cancel key number
+  pub last : ℕ × Version
+  pub is_live : IsLive tables key number last
+  pub issue_is : issue_at tables last.1.terms.asked.cusip ≡ Some issue
+  pub version_is : version ≡ cancel_of last.1
+
+-- A version is kept for a cancel, or with the figures of its terms for an entry or a correction.
+abbrev pub IsReasonFor : Pricing → Tables → Command → IssueRow → Key → ℕ → Version → Type 0
+IsReasonFor Prices tables asked issue key number version =
+    IsCancel tables asked issue key number version
+    ⊎ ((IsNewTrade tables asked issue key number version.act version.terms
+    ⊎ IsCorrection tables asked issue key number version.act version.terms)
+    × Prices issue version.terms.asked (Ok version.figures))
+
+-- An entry has its reason, and the reply tells it. Where there is none, a command that is accepted has
+-- been kept before.
+abbrev pub IsReasoned : Pricing → Tables → Command → Reply → Option Entry → Type 0
+IsReasoned Prices tables asked reply None =
+    AsksToKeep asked → IsAccepted reply → IsKept tables asked reply
+IsReasoned Prices tables asked reply (Some (NewIssue issue)) =
+    IsNewIssue tables asked issue × (reply ≡ Added issue.cusip)
+IsReasoned Prices tables asked reply (Some (NewVersion key version)) =
+    (issue : IssueRow) × (number : ℕ) × (reply ≡ Confirmed issue key number version)
+    × IsReasonFor Prices tables asked issue key number version

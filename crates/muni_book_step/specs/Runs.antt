@@ -1,0 +1,40 @@
+-- Runs of commands.
+use Rattle.std.specs.Prelude.{◌≡◌, ℕ, ⊤, List, [], ◌∷◌, take, Option, Some}
+use Rattle.muni_msg.specs.declared.command.Command.{Command}
+use Rattle.muni_msg.specs.declared.command.Reply.{Reply}
+use Rattle.muni_msg.specs.declared.command.Reply.TheVariants.{Added, Quoted, Listed, Confirmed, Refused}
+use Rattle.muni_keep.specs.Tables.{Tables}
+use Rattle.muni_book_step.specs.Step.{Pricing, Entry, IsStepOver, after}
+
+-- a step from tables to those that are told after it
+abbrev pub StepsTo : Pricing → Tables → Command → Reply → Option Tables → Type 0
+StepsTo Prices old command reply told =
+    (entry : Option Entry) × IsStepOver Prices old command (record { reply = reply; entry = entry })
+    × (told ≡ Some (after entry old))
+
+-- commands one after another, each with its reply, from tables to tables
+abbrev pub Runs : Pricing → Tables → List Command → List Reply → Tables → Type 0
+Runs Prices old [] [] new = new ≡ old
+Runs Prices old (command ∷ commands) (reply ∷ replies) new =
+    (entry : Option Entry) × IsStepOver Prices old command (record { reply = reply; entry = entry })
+    × Runs Prices (after entry old) commands replies new
+Runs Prices old [] (reply ∷ replies) new = ⊥
+Runs Prices old (command ∷ commands) [] new = ⊥
+
+-- a run to the tables that are told after it
+abbrev pub RunsTo : Pricing → Tables → List Command → List Reply → Option Tables → Type 0
+RunsTo Prices old commands replies told =
+    (new : Tables) × (told ≡ Some new) × Runs Prices old commands replies new
+
+-- a run of the first commands, however many these are
+abbrev pub RunsFirst : Pricing → Tables → List Command → Option Tables → Type 0
+RunsFirst Prices old commands told =
+    (count : ℕ) × (replies : List Reply) × RunsTo Prices old (take count commands) replies told
+
+-- a reply that refuses the command
+abbrev pub IsRefusal : Reply → Type 0
+IsRefusal (Added cusip) = ⊥
+IsRefusal (Quoted asked figures) = ⊥
+IsRefusal (Listed lines) = ⊥
+IsRefusal (Confirmed issue key number version) = ⊥
+IsRefusal (Refused why) = ⊤

@@ -1,0 +1,50 @@
+-- Sound tables.
+use Rattle.std.specs.Prelude.{◌≡◌, ◌⊎◌, ℕ, ◌≤◌, ⊤, false, List, [], ◌∷◌, All, Some}
+use Rattle.std.specs.FinMap.{len}
+use Rattle.muni_terms.specs.declared.row.IssueRow.{IssueRow}
+use Rattle.muni_msg.specs.declared.asked.Asked.{Asked}
+use Rattle.muni_msg.specs.declared.command.Key.{Key}
+use Rattle.muni_msg.specs.declared.figures.Figures.{Figures}
+use Rattle.muni_msg.specs.declared.version.Act.TheVariants.{Entered, Corrected, Canceled}
+use Rattle.muni_msg.specs.declared.version.Version.{Version}
+use Rattle.muni_keep.specs.History.{History, versions, count}
+use Rattle.muni_keep.specs.Tables.{Tables, trade_at}
+use Rattle.muni_keep.specs.Trades.{own}
+use Rattle.muni_book_step.specs.Plan.{Issues, issue_of, is_canceled, cancel_of}
+
+-- which figures are right for what is asked of an issue
+abbrev pub Rightness : Type 1
+Rightness = IssueRow → Asked → Figures → Type 0
+
+-- the issue of a version is kept, and its figures are right
+pub record IsRightVersion (AreRight : Rightness) (issues : Issues) (version : Version) : Type 0 where
+  pub issue : IssueRow
+  pub kept : issue_of issues version.terms ≡ Some issue
+  pub right : AreRight issue version.terms.asked version.figures
+
+-- A version behind another corrects it, or cancels it with the same terms and figures.
+abbrev pub Follows : Version → Version → Type 0
+Follows before version = (version.act ≡ Corrected) ⊎ (version ≡ cancel_of before)
+
+-- Versions behind another. Nothing stands behind a cancel.
+abbrev pub AreFollowing : Version → List Version → Type 0
+AreFollowing before [] = ⊤
+AreFollowing before (version ∷ rest) =
+    (is_canceled before.act ≡ false) × Follows before version × AreFollowing version rest
+
+-- The first version enters the trade.
+abbrev pub AreVersions : List Version → Type 0
+AreVersions [] = ⊥
+AreVersions (first ∷ rest) = (first.act ≡ Entered) × AreFollowing first rest
+
+-- A trade has at most 99 versions, and one cancel more.
+pub record IsSoundTrade (AreRight : Rightness) (issues : Issues) (history : History Version) : Type 0 where
+  pub few : (count history ≤ 99) ⊎ ((count history ≤ 100) × (history.last.act ≡ Canceled))
+  pub acts : AreVersions (versions history)
+  pub right : All (IsRightVersion AreRight issues) (versions history)
+
+-- A desk has at most 100,000 trades.
+pub record IsSound (AreRight : Rightness) (tables : Tables) : Type 0 where
+  pub trades : (key : Key) (history : History Version) → trade_at tables key ≡ Some history
+      → IsSoundTrade AreRight tables.issues history
+  pub few : (desk : List ℕ) → len (own desk tables.desks) ≤ 100_000

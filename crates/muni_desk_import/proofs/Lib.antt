@@ -1,0 +1,5 @@
+pub mod FaultLemmas
+pub mod ImportLemmas
+pub mod StoreLemmas
+pub mod TakenLemmas
+mod RunLemmas

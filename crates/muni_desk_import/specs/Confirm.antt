@@ -1,0 +1,33 @@
+-- What is said to whom asks for the confirmation of a trade.
+use Rattle.std.specs.Prelude.{ℕ, List, Option, Some, None}
+use Rattle.muni_keep.specs.Tables.{Tables, issue_at, last_at}
+use Rattle.muni_terms.specs.declared.row.IssueRow.{IssueRow}
+use Rattle.muni_msg.specs.declared.command.Key.{Key}
+use Rattle.muni_msg.specs.declared.refusal.Refusal.TheVariants.{UnknownIssue, UnknownTrade}
+use Rattle.muni_msg.specs.declared.version.Version.{Version}
+use Rattle.muni_confirm.specs.Confirmation.{confirmation_text}
+use Rattle.muni_confirm.specs.Refusal.{refusal_text}
+use Rattle.muni_desk_import.specs.declared.confirmations.Answered.{Answered}
+use Rattle.muni_desk_import.specs.declared.confirmations.Answered.TheVariants.{Confirmed, Refused}
+
+-- what is written, and its text
+pub record Answer : Type 0 where
+  pub answered : Answered
+  pub text : List ℕ
+
+-- of a version that is kept, by whether its issue is
+abbrev pub of_version : Key → ℕ → Version → Option IssueRow → Answer
+of_version key number version None =
+    record { answered = Refused; text = refusal_text UnknownIssue }
+of_version key number version (Some issue) =
+    record { answered = Confirmed; text = confirmation_text issue key number version }
+
+-- of the last version that is kept, if any is
+abbrev pub of_last : Tables → Key → Option (ℕ × Version) → Answer
+of_last tables key None = record { answered = Refused; text = refusal_text UnknownTrade }
+of_last tables key (Some last) =
+    of_version key last.0 last.1 (issue_at tables last.1.terms.asked.cusip)
+
+-- the confirmation of the last version of a trade, or why there is none
+unfoldable pub confirmed : Tables → Key → Answer
+confirmed tables key = of_last tables key (last_at tables key)

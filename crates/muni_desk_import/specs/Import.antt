@@ -1,0 +1,66 @@
+-- What the rows of an import do, one after another.
+use Rattle.std.specs.Prelude.{◌≡◌, ℕ, ◌+◌, List, [], ◌∷◌, ◌++◌, take, length, Option, Some, Ok, Err, IfSome}
+use Rattle.muni_edge.specs.Sink.{HasWritten}
+use Rattle.muni_keep.specs.Tables.{Tables}
+use Rattle.muni_book_step.specs.Runs.{StepsTo}
+use Rattle.muni_book_step.specs.Step.{Pricing}
+use Rattle.muni_import.specs.Report.{Said, row_line}
+use Rattle.muni_import.specs.Row.{Row}
+use Rattle.muni_import.specs.Rows.{rows_of}
+
+-- What comes of a row: one step of the book gives the reply to its command and the tables after it. A
+-- row that is no command changes nothing.
+abbrev pub Came : Pricing → Tables → Row → Said → Option Tables → Type 0
+Came Prices old (Ok command) (Ok reply) now = StepsTo Prices old command reply now
+Came Prices old (Err fault) (Err told) now = (told ≡ fault) × (now ≡ Some old)
+Came Prices old (Ok command) (Err fault) now = ⊥
+Came Prices old (Err fault) (Ok reply) now = ⊥
+
+-- rows done one after another, what came of each, and the tables after them
+abbrev pub Imports : Pricing → Tables → List Row → List Said → Tables → Type 0
+Imports Prices old [] [] new = new ≡ old
+Imports Prices old (row ∷ rows) (said ∷ more) new =
+    (next : Tables) × Came Prices old row said (Some next) × Imports Prices next rows more new
+Imports Prices old [] (said ∷ more) new = ⊥
+Imports Prices old (row ∷ rows) [] new = ⊥
+
+-- the lines of a report on what came of rows, whose places are counted on from one
+abbrev pub report : ℕ → List Said → List ℕ
+report place [] = []
+report place (said ∷ more) = row_line place said ++ report (place + 1) more
+
+-- these rows were done, and the report on them was written
+pub record Did (Prices : Pricing) (rows : List Row) (old : Tables) (now : Option Tables) (had has : Option (List ℕ)) : Type 0 where
+  pub said : List Said
+  pub new : Tables
+  pub imports : Imports Prices old rows said new
+  pub told : now ≡ Some new
+  pub written : HasWritten had has (report 1 said)
+
+-- of the report on some rows and of a line more, all but an end of that line was written
+pub record WroteTo (said : List Said) (last : Said) (had has : Option (List ℕ)) : Type 0 where
+  pub part : IfSome had (λ text. (count : ℕ) × (has ≡ Some ((text ++ report 1 said) ++ take count (row_line (1 + length said) last))))
+
+-- these rows were done and one more, of whose line a part was written
+pub record DidNext (Prices : Pricing) (rows : List Row) (row : Row) (old : Tables) (now : Option Tables) (had has : Option (List ℕ)) : Type 0 where
+  pub said : List Said
+  pub last : Said
+  pub new : Tables
+  pub imports : Imports Prices old (rows ++ row ∷ []) (said ++ last ∷ []) new
+  pub told : now ≡ Some new
+  pub written : WroteTo said last had has
+
+-- the first rows of a text were done, and no more
+pub record DidFirst (Prices : Pricing) (text : List ℕ) (old : Tables) (now : Option Tables) (had has : Option (List ℕ)) : Type 0 where
+  pub rows : List Row
+  pub left : List Row
+  pub all : rows ++ left ≡ rows_of text
+  pub did : Did Prices rows old now had has
+
+-- the first rows of a text were done and the one behind them, of whose line a part was written
+pub record DidPart (Prices : Pricing) (text : List ℕ) (old : Tables) (now : Option Tables) (had has : Option (List ℕ)) : Type 0 where
+  pub rows : List Row
+  pub row : Row
+  pub left : List Row
+  pub all : rows ++ row ∷ left ≡ rows_of text
+  pub did : DidNext Prices rows row old now had has

@@ -1,0 +1,20 @@
+-- What is read from an input, and why there is none.
+use Rattle.std.specs.Prelude.{◌≡◌, ◌<◌, ◌≤◌, ⊤, ℕ, List, [], length, Some, Result, IfOk, IfSome, IsErrOf}
+use Rattle.muni_edge.specs.Faults.{Rose}
+use Rattle.muni_edge.specs.declared.source.Source.{Ghosts}
+use Rattle.muni_desk_import.specs.declared.input.InputFault.{InputFault}
+use Rattle.muni_desk_import.specs.declared.input.InputFault.TheVariants.{Failed, TooLarge, NoMemory}
+
+-- for another reason than that it is too large
+abbrev pub IsNotTooLarge : InputFault → Type 0
+IsNotTooLarge Failed = ⊤
+IsNotTooLarge TooLarge = ⊥
+IsNotTooLarge NoMemory = ⊤
+
+-- Everything that was left in a source is read, if it has no more bytes than the limit.
+pub record ReadsAll {I V : Type 0} (source : Ghosts I) (limit : ℕ) (result : Result V InputFault) (items : V → List ℕ) (old new : I) : Type 0 where
+  pub whole : IfOk result (λ bytes. IfSome (source.left old) (λ all. (all ≡ items bytes) × (source.left new ≡ Some [])))
+  pub few : IfOk result (λ bytes. length (items bytes) ≤ limit)
+  pub too_large : IsErrOf result TooLarge → IfSome (source.left old) (λ all. limit < length all)
+  pub later : source.faults old ≤ source.faults new
+  pub failed : IsErrOf result Failed → Rose (source.faults old) (source.faults new)

@@ -1,0 +1,75 @@
+//! The faults of a command over a store.
+
+use crate::input::InputFault;
+use muni_book::BookFault;
+use muni_edge::NoMemory;
+use muni_keep::KeepFault;
+
+/// Why a command over a store stopped.
+#[derive(Clone, Copy, Debug, PartialEq, Eq)]
+pub enum Fault {
+    /// The input failed.
+    Read,
+    /// The output failed.
+    Write,
+    /// The store failed.
+    Store,
+    /// No memory was left.
+    NoMemory,
+    /// The input is too long.
+    TooLarge,
+}
+
+impl From<InputFault> for Fault {
+    ghost use Rattle.std.specs.Prelude.{◌≡◌};
+    ghost use Rattle.muni_desk_import.specs.Fault.{of_input};
+
+    ghost from_gives = { λ fault given. given ≡ of_input fault };
+
+    fn from(fault: InputFault) -> Fault {
+        match fault {
+            InputFault::Failed => Fault::Read,
+            InputFault::TooLarge => Fault::TooLarge,
+            InputFault::NoMemory => Fault::NoMemory,
+        }
+    }
+}
+
+impl From<KeepFault> for Fault {
+    ghost use Rattle.std.specs.Prelude.{◌≡◌};
+    ghost use Rattle.muni_desk_import.specs.Fault.{of_keeper};
+
+    ghost from_gives = { λ fault given. given ≡ of_keeper fault };
+
+    fn from(fault: KeepFault) -> Fault {
+        match fault {
+            KeepFault::Failed => Fault::Store,
+            KeepFault::NoMemory => Fault::NoMemory,
+        }
+    }
+}
+
+impl From<BookFault> for Fault {
+    ghost use Rattle.std.specs.Prelude.{◌≡◌};
+    ghost use Rattle.muni_desk_import.specs.Fault.{of_book};
+
+    ghost from_gives = { λ fault given. given ≡ of_book fault };
+
+    fn from(fault: BookFault) -> Fault {
+        match fault {
+            BookFault::Failed => Fault::Store,
+            BookFault::NoMemory => Fault::NoMemory,
+        }
+    }
+}
+
+impl From<NoMemory> for Fault {
+    ghost use Rattle.std.specs.Prelude.{◌≡◌};
+    ghost use Rattle.muni_desk_import.specs.declared.fault.Fault.{Fault};
+
+    ghost from_gives = { λ _ fault. fault ≡ Fault.NoMemory };
+
+    fn from(_: NoMemory) -> Fault {
+        Fault::NoMemory
+    }
+}

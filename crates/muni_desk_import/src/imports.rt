@@ -1,0 +1,65 @@
+//! The import of a CSV text into a store.
+
+ghost use Rattle.std.specs.Prelude.{◌≡◌, ◌≤◌, None};
+ghost use Rattle.muni_book.specs.Answers.{IsRightAnswer};
+ghost use Rattle.muni_keep.specs.Cabinet.{LeavesOthers};
+ghost use Rattle.muni_desk_import.specs.Imported.{Imported};
+ghost use Rattle.muni_desk_import.specs.Lent.{lent};
+
+use crate::fault::Fault;
+use crate::input::read_input;
+use crate::rows::import_rows;
+use muni_edge::{Gate, Sink, Source};
+use muni_keep::Cabinet;
+use muni_multi::Encloser;
+use std::alloc::Global;
+use std::thread::Threads;
+
+/// The greatest number of bytes of an import.
+pub const LIMIT: usize = 4_194_304;
+
+/// Applies each row of a CSV text to the tables of a store, and writes a line of report on each.
+///
+/// The input is read whole before the store is fetched. Where the store fails at a row, or no memory
+/// is left, the rows before it stay applied and their lines written. Where the output fails, its row
+/// stays applied too.
+// Up to `workers` threads look for each yield, and the gate is told when they begin (tested).
+pub fn import<
+    R: Threads + Sync,
+    I: Source,
+    O: Sink,
+    C: Cabinet,
+    E: Encloser + Sync,
+    G: Gate + Sync,
+>(
+    rt: &R,
+    alloc: Global,
+    store: &[u8],
+    workers: u32,
+    input: &mut I,
+    output: &mut O,
+    cabinet: &mut C,
+    encloser: &E,
+    gate: &G,
+) -> Result<(), Fault>
+    requires workers { (1 ≤ workers) × (workers ≤ 16) }
+    requires none_out { C.out cabinet.old ≡ None }
+    ensures imported { Imported I.Source O.Sink C.Cabinet (IsRightAnswer (E.ends encloser.now)) store.now result
+        (lent input.old output.old cabinet.old) (lent input.new output.new cabinet.new) }
+    ensures leaves { LeavesOthers C.Cabinet store.now cabinet.old cabinet.new }
+{
+    let text = read_input(alloc, input, LIMIT)?;
+    let mut keeper = cabinet.fetch(store)?;
+    let done = import_rows(
+        rt,
+        alloc,
+        &text,
+        &mut keeper,
+        output,
+        workers,
+        encloser,
+        gate,
+    );
+    cabinet.give_back(keeper);
+    done
+}

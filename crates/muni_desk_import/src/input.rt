@@ -1,0 +1,71 @@
+//! A whole input.
+
+ghost use Rattle.std.specs.Prelude.{◌≡◌, ◌≤◌, ◌<◌, ◌+◌, ◌^◌, ◌++◌, ℕ, List, Err, vec_len, IfOk, IfErr};
+ghost use Rattle.std.specs.Io.KnownBytes.{Consumes, IsAtEnd};
+ghost use Rattle.muni_edge.specs.Faults.{Rose};
+ghost use Rattle.muni_desk_import.specs.Input.{IsNotTooLarge, ReadsAll};
+
+use muni_edge::{Failed, Source};
+use std::alloc::Global;
+
+/// Why there is no input.
+#[derive(Clone, Copy, Debug, PartialEq, Eq)]
+pub enum InputFault {
+    /// The source failed.
+    Failed,
+    /// It has more bytes than it may have.
+    TooLarge,
+    /// No memory was left.
+    NoMemory,
+}
+
+/// All bytes of a source, up to its end, where there are at most `limit`.
+pub fn read_input<I: Source>(
+    alloc: Global,
+    source: &mut I,
+    limit: usize,
+) -> Result<Vec<u8>, InputFault>
+    requires { limit < 2 ^ 32 }
+    ensures { ReadsAll I.Source limit result (λ bytes. bytes.items) source.old source.new }
+{
+    let mut bytes = Vec::new(alloc);
+    for turn in 0..limit + 2 {
+        let _turn = turn;
+        if bytes.len() > limit {
+            return Err(InputFault::TooLarge);
+        }
+        if take_more(source, &mut bytes, limit)? == 0 {
+            return Ok(bytes);
+        }
+    }
+    unreachable!()
+}
+
+// The next bytes go behind those that are there, up to the first byte past the limit.
+fn take_more<I: Source>(
+    source: &mut I,
+    bytes: &mut Vec<u8>,
+    limit: usize,
+) -> Result<usize, InputFault>
+    requires limit { limit < 2 ^ 32 }
+    requires room { vec_len bytes.old ≤ limit }
+    ensures bound { IfOk result (λ count. vec_len bytes.new ≡ vec_len bytes.old + count) }
+    ensures limit { IfOk result (λ count. vec_len bytes.new ≤ limit + 1) }
+    ensures taken { IfOk result (λ count. (piece : List ℕ)
+        × Consumes (I.left source.old) (I.left source.new) piece
+        × (bytes.new.items ≡ bytes.old.items ++ piece)) }
+    ensures end { IfOk result (λ count. count ≡ 0 → IsAtEnd (I.left source.new)) }
+    ensures later { I.faults source.old ≤ I.faults source.new }
+    ensures failed { result ≡ Err InputFault.Failed → Rose (I.faults source.old) (I.faults source.new) }
+    ensures others { IfErr result (λ fault. IsNotTooLarge fault) }
+{
+    let mut room = [0u8; 4096];
+    let size = (limit + 1 - bytes.len()).min(4096);
+    match source.take(&mut room[..size]) {
+        Ok(count) => match bytes.extend_from_slice(&room[..count]) {
+            Ok(()) => Ok(count),
+            Err(_) => Err(InputFault::NoMemory),
+        },
+        Err(Failed) => Err(InputFault::Failed),
+    }
+}

@@ -1,0 +1,87 @@
+//! The rows of a text, done one after another.
+
+ghost use Rattle.std.specs.Prelude.{◌≡◌, ◌≤◌, length, IfOk, IfSome, OnErr};
+ghost use Rattle.muni_book.specs.Answers.{IsRightAnswer};
+ghost use Rattle.muni_import.specs.Report.{row_line};
+ghost use Rattle.muni_keep.specs.Keeper.{SameKeeper};
+ghost use Rattle.muni_desk_import.specs.Import.{Came};
+ghost use Rattle.muni_desk_import.specs.Imported.{Applied};
+ghost use Rattle.muni_desk_import.specs.Output.{Writes};
+
+use crate::fault::Fault;
+use crate::output::write;
+use arrayvec::ArrayVec;
+use muni_book::{BookFault, apply};
+use muni_edge::{Gate, Sink};
+use muni_import::{RowFault, RowReader, report_row};
+use muni_keep::Keeper;
+use muni_msg::{Command, Reply};
+use muni_multi::Encloser;
+use std::alloc::Global;
+use std::thread::Threads;
+
+/// Applies the rows of a text one after another, and writes the line of each once it is applied.
+pub fn import_rows<R: Threads + Sync, K: Keeper, O: Sink, E: Encloser + Sync, G: Gate + Sync>(
+    rt: &R,
+    alloc: Global,
+    text: &[u8],
+    keeper: &mut K,
+    output: &mut O,
+    workers: u32,
+    encloser: &E,
+    gate: &G,
+) -> Result<(), Fault>
+    requires text { length text.now ≤ 4_194_304 }
+    requires workers { (1 ≤ workers) × (workers ≤ 16) }
+    ensures applied { Applied K.Keeper O.Sink (IsRightAnswer (E.ends encloser.now)) text.now result
+        keeper.old keeper.new output.old output.new }
+    ensures same { SameKeeper K.Keeper Fault.Store result keeper.old keeper.new }
+    ensures puts_later { O.faults output.old ≤ O.faults output.new }
+{
+    let mut rows = RowReader::new(alloc, text);
+    for count in 0..4_194_305u32 {
+        let row = match rows.next_row()? {
+            Some(row) => row,
+            None => return Ok(()),
+        };
+        let said = said_of(rt, keeper, row, workers, encloser, gate)?;
+        write_line(count + 1, &said, output)?;
+    }
+    unreachable!()
+}
+
+// What comes of a row: the reply to its command, or its fault.
+fn said_of<R: Threads + Sync, K: Keeper, E: Encloser + Sync, G: Gate + Sync>(
+    rt: &R,
+    keeper: &mut K,
+    row: Result<Command, RowFault>,
+    workers: u32,
+    encloser: &E,
+    gate: &G,
+) -> Result<Result<Reply, RowFault>, BookFault>
+    requires { (1 ≤ workers) × (workers ≤ 16) }
+    ensures came { IfOk result (λ said. IfSome (K.tables keeper.old) (λ t.
+        Came (IsRightAnswer (E.ends encloser.now)) t row said (K.tables keeper.new))) }
+    ensures unchanged { OnErr result (K.tables keeper.new ≡ K.tables keeper.old) }
+    ensures same { SameKeeper K.Keeper BookFault.Failed result keeper.old keeper.new }
+{
+    match row {
+        Ok(command) => match apply(rt, keeper, &command, workers, encloser, gate) {
+            Ok(reply) => Ok(Ok(reply)),
+            Err(fault) => Err(fault),
+        },
+        Err(fault) => Ok(Err(fault)),
+    }
+}
+
+fn write_line<O: Sink>(
+    place: u32,
+    said: &Result<Reply, RowFault>,
+    output: &mut O,
+) -> Result<(), Fault>
+    ensures { Writes O.Sink Fault.Write result (row_line place said.now) output.old output.new }
+{
+    let mut line = ArrayVec::new();
+    report_row(place, said, &mut line);
+    write(line.as_slice(), output)
+}

@@ -1,0 +1,77 @@
+-- One connection.
+use Rattle.std.proofs.Common.{◌≡◌, ◌≤◌, ℕ, Option, IfSome, inl, inr, refl, arith}
+use Rattle.muni_edge.specs.Faults.{Rose}
+use Rattle.muni_keep.specs.Tables.{Tables}
+use Rattle.muni_msg.specs.declared.command.Command.{Command}
+use Rattle.muni_msg.specs.declared.command.Reply.{Reply}
+use Rattle.muni_book_step.specs.Runs.{StepsTo}
+use Rattle.muni_book_step.specs.Step.{Pricing}
+use Rattle.muni_wire.specs.Reading.{Whole, Faulty, Short}
+use Rattle.muni_wire.specs.declared.fault.Bad.{Bad}
+use Rattle.muni_desk_serve.specs.Answer.{Answer, reply_answer, bad_answer, unavailable_answer, IsWritten}
+use Rattle.muni_desk_serve.specs.Serves.{Traffic, Asks, IsDue, Serves, WasServed}
+use Rattle.muni_desk_serve.specs.declared.served.Served.{Served}
+use Rattle.muni_desk_serve.specs.declared.served.Served.TheVariants as served
+
+-- an answer that is due was written, or a part of it
+due-written : (Prices : Pricing) (old new : Option Tables) (link mid after : Traffic) (answer : Answer) (came : Served) (faults : ℕ)
+    → IsWritten answer came mid.written after.written mid.put_faults after.put_faults → mid.written ≡ link.written → mid.put_faults ≡ link.put_faults
+    → IsDue Prices old link answer new faults → Serves Prices old link came new after faults
+due-written Prices old new link mid after answer (served.Answered status) faults written same puts due =
+    (answer, due, written.0, rw (← same) written.1)
+due-written Prices old new link mid after answer served.Gone faults written same puts due = absurd written
+due-written Prices old new link mid after answer served.LinkFault faults written same puts due =
+    inr (rw (← puts) written.0, answer, due, rw (← same) written.1)
+due-written Prices old new link mid after answer served.NoMemory faults written same puts due = absurd written
+
+pub replied : (Prices : Pricing) (old new : Option Tables) (before now : ℕ) (link mid after : Traffic) (command : Command) (reply : Reply) (came : Served)
+    → before ≤ now → Asks link (Whole command) → IfSome old (λ t. StepsTo Prices t command reply new)
+    → IsWritten (reply_answer reply) came mid.written after.written mid.put_faults after.put_faults → mid.written ≡ link.written → mid.put_faults ≡ link.put_faults
+    → WasServed Prices old before link came new now after
+replied Prices old new before now link mid after command reply came later asks step written same puts =
+    let due : IsDue Prices old link (reply_answer reply) new 0 = inl (record { command = command; reply = reply; asks = asks; step = step; is = refl; none = refl }) in
+    record {
+      faults = 0;
+      serves = due-written Prices old new link mid after (reply_answer reply) came 0 written same puts due;
+      rose = omega (arith, later);
+    }
+
+pub unavailable : (Prices : Pricing) (old new : Option Tables) (before now : ℕ) (link mid after : Traffic) (command : Command) (came : Served)
+    → Rose before now → Asks link (Whole command) → new ≡ old
+    → IsWritten unavailable_answer came mid.written after.written mid.put_faults after.put_faults → mid.written ≡ link.written → mid.put_faults ≡ link.put_faults
+    → WasServed Prices old before link came new now after
+unavailable Prices old new before now link mid after command came rose asks tables written same puts =
+    let due : IsDue Prices old link unavailable_answer new 1 = inr (inr (record { command = command; asks = asks; is = refl; tables = tables; one = refl })) in
+    record {
+      faults = 1;
+      serves = due-written Prices old new link mid after unavailable_answer came 1 written same puts due;
+      rose = rose;
+    }
+
+pub bad : (Prices : Pricing) (old : Option Tables) (before : ℕ) (link mid after : Traffic) (kind : Bad) (came : Served)
+    → Asks link (Faulty kind)
+    → IsWritten (bad_answer kind) came mid.written after.written mid.put_faults after.put_faults → mid.written ≡ link.written → mid.put_faults ≡ link.put_faults
+    → WasServed Prices old before link came old before after
+bad Prices old before link mid after kind came asks written same puts =
+    let due : IsDue Prices old link (bad_answer kind) old 0 = inr (inl (record { kind = kind; asks = asks; is = refl; tables = refl; none = refl })) in
+    record {
+      faults = 0;
+      serves = due-written Prices old old link mid after (bad_answer kind) came 0 written same puts due;
+      rose = omega arith;
+    }
+
+-- there was no answer
+pub gone : (Prices : Pricing) (old : Option Tables) (before : ℕ) (link after : Traffic) → Asks link Short → after.written ≡ link.written
+    → WasServed Prices old before link served.Gone old before after
+gone Prices old before link after asks same =
+    record { faults = 0; serves = (asks, record { written = same; tables = refl; none = refl }); rose = omega arith }
+
+pub cut-off : (Prices : Pricing) (old : Option Tables) (before : ℕ) (link after : Traffic) → Rose link.take_faults after.take_faults → after.written ≡ link.written
+    → WasServed Prices old before link served.LinkFault old before after
+cut-off Prices old before link after rose same =
+    record { faults = 0; serves = inl (rose, record { written = same; tables = refl; none = refl }); rose = omega arith }
+
+pub wanting : (Prices : Pricing) (old new : Option Tables) (before now : ℕ) (link after : Traffic) → before ≤ now → new ≡ old → after.written ≡ link.written
+    → WasServed Prices old before link served.NoMemory new now after
+wanting Prices old new before now link after later tables same =
+    record { faults = 0; serves = record { written = same; tables = tables; none = refl }; rose = omega (arith, later) }

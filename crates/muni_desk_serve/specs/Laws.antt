@@ -1,0 +1,77 @@
+-- What is answered to what has come, and what connections make of the tables.
+use Rattle.std.specs.Prelude.{◌≡◌, ◌⊎◌, ℕ, ℤ, List, Option, Some, IfSome}
+use Rattle.muni_book.specs.Answers.{IsRightAnswer}
+use Rattle.muni_edge.specs.Faults.{Rose}
+use Rattle.muni_edge.specs.Sink.{HasWritten}
+use Rattle.muni_keep.specs.Tables.{Tables}
+use Rattle.muni_msg.specs.declared.command.Command.{Command}
+use Rattle.muni_msg.specs.declared.command.Reply.{Reply}
+use Rattle.muni_rule.specs.Payments.{PaymentSeries}
+use Rattle.muni_rule.specs.WorthEnds.{WorthEnds}
+use Rattle.muni_book_step.specs.Runs.{StepsTo, RunsTo}
+use Rattle.muni_book_step.specs.Step.{Pricing}
+use Rattle.muni_wire.specs.Laws.{IsAmbiguous}
+use Rattle.muni_wire.specs.Reading.{Reading, Whole, Faulty, Short, HeadAsks, Reads}
+use Rattle.muni_desk_serve.specs.Answer.{Answer, reply_answer, bad_answer}
+use Rattle.muni_desk_serve.specs.Connections.{Exchange, AreServed}
+use Rattle.muni_desk_serve.specs.Serves.{Traffic, WasServed}
+use Rattle.muni_desk_serve.specs.declared.served.Served.{Served}
+use Rattle.muni_desk_serve.specs.declared.served.Served.TheVariants as served
+
+-- no count of faults rose: neither the keeper's, nor that of takes, nor that of puts
+pub record NoneRose (before : ℕ) (link : Traffic) (now : ℕ) (after : Traffic) : Type 0 where
+  pub keeper : ¬ (Rose before now)
+  pub takes : ¬ (Rose link.take_faults after.take_faults)
+  pub puts : ¬ (Rose link.put_faults after.put_faults)
+
+-- an answer was written whole
+pub record IsAnswered (answer : Answer) (link : Traffic) (came : Served) (after : Traffic) : Type 0 where
+  pub status : came ≡ served.Answered answer.status
+  pub written : HasWritten link.written after.written answer.bytes
+
+-- what is answered to a reading of the bytes, and the tables after it
+abbrev pub IsAnswerTo : Pricing → Reading → Option Tables → Traffic → Served → Option Tables → Traffic → Type 0
+IsAnswerTo Prices (Whole command) old link came new after =
+    (reply : Reply) × IfSome old (λ t. StepsTo Prices t command reply new)
+    × IsAnswered (reply_answer reply) link came after
+IsAnswerTo Prices (Faulty kind) old link came new after =
+    IsAnswered (bad_answer kind) link came after × (new ≡ old)
+IsAnswerTo Prices Short old link came new after =
+    (came ≡ served.Gone) × (after.written ≡ link.written) × (new ≡ old)
+
+-- Where no count rises, bytes that begin with a head within the limits get the answer to what they ask
+-- for, or memory was wanting.
+abbrev pub RequestsAreAnswered : Pricing → Type 0
+RequestsAreAnswered Prices =
+    (old new : Option Tables) (before now : ℕ) (link after : Traffic) (came : Served) (bytes : List ℕ) (reading : Reading)
+    → WasServed Prices old before link came new now after → NoneRose before link now after
+    → link.left ≡ Some bytes → HeadAsks bytes reading
+    → (came ≡ served.NoMemory) ⊎ IsAnswerTo Prices reading old link came new after
+
+-- So do all bytes that have one reading.
+abbrev pub BytesAreAnswered : Pricing → Type 0
+BytesAreAnswered Prices =
+    (old new : Option Tables) (before now : ℕ) (link after : Traffic) (came : Served) (bytes : List ℕ) (reading : Reading)
+    → WasServed Prices old before link came new now after → NoneRose before link now after
+    → link.left ≡ Some bytes → Reads bytes reading
+    → IsAmbiguous bytes ⊎ (came ≡ served.NoMemory) ⊎ IsAnswerTo Prices reading old link came new after
+
+-- connections that are served run commands of the book, at most one each, from their first tables to
+-- their last
+abbrev pub ConnectionsRunTheBook : Pricing → Type 0
+ConnectionsRunTheBook Prices =
+    (old : Tables) (exchanges : List Exchange) (new : Option Tables) (faults : ℕ)
+    → AreServed Prices (Some old) exchanges new faults
+    → (commands : List Command) × (replies : List Reply) × RunsTo Prices old commands replies new
+
+-- the ends that an encloser gives to payments and a yield
+abbrev pub Ends : Type 0
+Ends = PaymentSeries → ℤ → WorthEnds
+
+-- whatever computes the figures
+pub record WhatHasComeIsAnswered : Type 0 where
+  pub requests : (ends : Ends) → RequestsAreAnswered (IsRightAnswer ends)
+  pub others : (ends : Ends) → BytesAreAnswered (IsRightAnswer ends)
+
+abbrev pub ServingRunsTheBook : Type 0
+ServingRunsTheBook = (ends : Ends) → ConnectionsRunTheBook (IsRightAnswer ends)

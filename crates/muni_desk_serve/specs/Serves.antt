@@ -1,0 +1,117 @@
+-- What is done with one connection.
+use Rattle.std.specs.Prelude.{◌≡◌, ◌⊎◌, ◌≤◌, ◌+◌, ◌-◌, ◌^◌, min, ℕ, List, Option, IfSome, is_some}
+use Rattle.muni_edge.specs.Faults.{Rose}
+use Rattle.muni_edge.specs.Sink.{HasWritten, HasWrittenPart}
+use Rattle.muni_edge.specs.declared.sink.Sink as sink
+use Rattle.muni_edge.specs.declared.source.Source as source
+use Rattle.muni_keep.specs.Tables.{Tables}
+use Rattle.muni_keep.specs.declared.keeper.Keeper as keeper
+use Rattle.muni_msg.specs.declared.command.Command.{Command}
+use Rattle.muni_msg.specs.declared.command.Reply.{Reply}
+use Rattle.muni_book_step.specs.Runs.{StepsTo}
+use Rattle.muni_book_step.specs.Step.{Pricing}
+use Rattle.muni_wire.specs.Reading.{Reading, Whole, Faulty, Short, Reads}
+use Rattle.muni_wire.specs.declared.fault.Bad.{Bad}
+use Rattle.muni_desk_serve.specs.Answer.{Answer, reply_answer, bad_answer, unavailable_answer}
+use Rattle.muni_desk_serve.specs.declared.served.Served.{Served}
+use Rattle.muni_desk_serve.specs.declared.served.Served.TheVariants as served
+
+-- what a connection tells of itself: the bytes to be taken, those that are written, and how often takes
+-- and puts have failed
+pub record Traffic : Type 0 where
+  pub left : Option (List ℕ)
+  pub written : Option (List ℕ)
+  pub take_faults : ℕ
+  pub put_faults : ℕ
+
+-- the same, by what is told of connections of a type
+abbrev pub traffic : {L : Type 0} → (L → Option (List ℕ)) → (L → Option (List ℕ)) → (L → ℕ) → (L → ℕ) → L → Traffic
+traffic left written take_faults put_faults link =
+    record {
+      left = left link;
+      written = written link;
+      take_faults = take_faults link;
+      put_faults = put_faults link;
+    }
+
+-- where the bytes to be taken are told, they are read so
+abbrev pub Asks : Traffic → Reading → Type 0
+Asks link reading = IfSome link.left (λ bytes. Reads bytes reading)
+
+-- the bytes are a command, to which one step of the book gives the reply and the tables after it
+pub record IsReply (Prices : Pricing) (old : Option Tables) (link : Traffic) (answer : Answer) (new : Option Tables) (faults : ℕ) : Type 0 where
+  pub command : Command
+  pub reply : Reply
+  pub asks : Asks link (Whole command)
+  pub step : IfSome old (λ t. StepsTo Prices t command reply new)
+  pub is : answer ≡ reply_answer reply
+  pub none : faults ≡ 0
+
+-- they are no command, and the tables stay as they are
+pub record IsBad (old : Option Tables) (link : Traffic) (answer : Answer) (new : Option Tables) (faults : ℕ) : Type 0 where
+  pub kind : Bad
+  pub asks : Asks link (Faulty kind)
+  pub is : answer ≡ bad_answer kind
+  pub tables : new ≡ old
+  pub none : faults ≡ 0
+
+-- they are a command at which the keeper failed, and the tables stay as they are
+pub record IsUnavailable (old : Option Tables) (link : Traffic) (answer : Answer) (new : Option Tables) (faults : ℕ) : Type 0 where
+  pub command : Command
+  pub asks : Asks link (Whole command)
+  pub is : answer ≡ unavailable_answer
+  pub tables : new ≡ old
+  pub one : faults ≡ 1
+
+-- an answer that is due, with the tables after it; and how many faults of the keeper it tells of
+abbrev pub IsDue : Pricing → Option Tables → Traffic → Answer → Option Tables → ℕ → Type 0
+IsDue Prices old link answer new faults =
+    IsReply Prices old link answer new faults
+    ⊎ IsBad old link answer new faults
+    ⊎ IsUnavailable old link answer new faults
+
+-- nothing is written, no tables change, and no fault of the keeper is told
+pub record IsUnanswered (old : Option Tables) (link : Traffic) (new : Option Tables) (after : Traffic) (faults : ℕ) : Type 0 where
+  pub written : after.written ≡ link.written
+  pub tables : new ≡ old
+  pub none : faults ≡ 0
+
+-- a take failed before there was an answer, or a put of an answer that is due
+abbrev pub IsCutOff : Pricing → Option Tables → Traffic → Option Tables → Traffic → ℕ → Type 0
+IsCutOff Prices old link new after faults =
+    (Rose link.take_faults after.take_faults × IsUnanswered old link new after faults)
+    ⊎ (Rose link.put_faults after.put_faults × (answer : Answer) × IsDue Prices old link answer new faults
+    × HasWrittenPart link.written after.written answer.bytes)
+
+-- One connection: the tables and the connection before it, what came of it, and both after it. The
+-- number tells how many faults of the keeper its answer tells of, one or none.
+abbrev pub Serves : Pricing → Option Tables → Traffic → Served → Option Tables → Traffic → ℕ → Type 0
+Serves Prices old link (served.Answered status) new after faults =
+    (answer : Answer) × IsDue Prices old link answer new faults × (status ≡ answer.status)
+    × HasWritten link.written after.written answer.bytes
+Serves Prices old link served.Gone new after faults =
+    Asks link Short × IsUnanswered old link new after faults
+Serves Prices old link served.LinkFault new after faults = IsCutOff Prices old link new after faults
+Serves Prices old link served.NoMemory new after faults = IsUnanswered old link new after faults
+
+-- a count rose by so much, or stands at the last value of its type
+abbrev pub RoseBy : ℕ → ℕ → ℕ → Type 0
+RoseBy rise before now = min (before + rise) (2 ^ 64 - 1) ≤ now
+
+-- a connection was served, and the keeper counted the faults that its answer tells of
+pub record WasServed (Prices : Pricing) (old : Option Tables) (before : ℕ) (link : Traffic) (answer : Served) (new : Option Tables) (now : ℕ) (after : Traffic) : Type 0 where
+  pub faults : ℕ
+  pub serves : Serves Prices old link answer new after faults
+  pub rose : RoseBy faults before now
+
+-- What an answer leaves of a keeper and of a connection, whatever they expose: a fault that it tells of is
+-- counted, and what got no answer has not come to the keeper.
+pub record LeavesCounted {K L : Type 0} (keeps : keeper.Ghosts K) (takes : source.Ghosts L) (puts : sink.Ghosts L) (came : Served) (old new : K) (before after : L) : Type 0 where
+  pub unavailable : came ≡ served.Answered 503 → Rose (keeps.faults old) (keeps.faults new)
+  pub link_fault : came ≡ served.LinkFault → Rose (takes.faults before) (takes.faults after) ⊎ Rose (puts.faults before) (puts.faults after)
+  pub unanswered : came ≡ served.Gone → new ≡ old
+  pub tells : is_some (keeps.tables new) ≡ is_some (keeps.tables old)
+  pub later : keeps.faults old ≤ keeps.faults new
+  pub lent_as : keeps.lent_as new ≡ keeps.lent_as old
+  pub takes_later : takes.faults before ≤ takes.faults after
+  pub puts_later : puts.faults before ≤ puts.faults after

@@ -1,0 +1,102 @@
+//! One connection.
+
+ghost use Rattle.std.specs.Prelude.{◌≡◌, ◌≤◌};
+ghost use Rattle.muni_book.specs.Answers.{IsRightAnswer};
+ghost use Rattle.muni_desk_serve.specs.Answer.{reply_answer, bad_answer, unavailable_answer, IsWritten};
+ghost use Rattle.muni_desk_serve.specs.Serves.{LeavesCounted, WasServed, traffic};
+
+use crate::served::Served;
+use muni_book::{BookFault, apply};
+use muni_edge::{Failed, Gate, Link};
+use muni_keep::Keeper;
+use muni_msg::Reply;
+use muni_multi::Encloser;
+use muni_wire::{
+    Bad, HttpStatus, WireFault, read_request, write_bad, write_reply, write_unavailable,
+};
+use std::alloc::Global;
+use std::thread::Threads;
+
+/// Reads one request of a connection, applies it to the tables of a keeper, and writes the answer.
+///
+/// What is no command is answered too, and so is a command at which the keeper fails: by 503. A
+/// request that ends too early gets no answer, nor does one for which no memory is left; then the
+/// tables stay as they are.
+// Up to `workers` threads look for each yield, and the gate is told when they begin (tested).
+pub fn answer_one<R: Threads + Sync, L: Link, K: Keeper, E: Encloser + Sync, G: Gate + Sync>(
+    rt: &R,
+    alloc: Global,
+    link: &mut L,
+    keeper: &mut K,
+    workers: u32,
+    encloser: &E,
+    gate: &G,
+) -> Served
+    requires { (1 ≤ workers) × (workers ≤ 16) }
+
+    // What was answered, if the connection exposes its bytes and the keeper its tables.
+    ensures served { WasServed (IsRightAnswer (E.ends encloser.now))
+        (K.tables keeper.old) (K.faults keeper.old)
+        (traffic L.left L.bytes L.Source.faults L.Sink.faults link.old) result
+        (K.tables keeper.new) (K.faults keeper.new)
+        (traffic L.left L.bytes L.Source.faults L.Sink.faults link.new) }
+    ensures leaves { LeavesCounted K.Keeper L.Source L.Sink result keeper.old keeper.new link.old link.new }
+{
+    let command = match read_request(alloc, link) {
+        Ok(command) => command,
+        Err(WireFault::Bad(bad)) => return answer_bad(link, bad),
+        Err(WireFault::Gone) => return Served::Gone,
+        Err(WireFault::LinkFault) => return Served::LinkFault,
+        Err(WireFault::NoMemory) => return Served::NoMemory,
+    };
+    match apply(rt, keeper, &command, workers, encloser, gate) {
+        Ok(reply) => answer_reply(link, &reply),
+        Err(BookFault::Failed) => answer_unavailable(link),
+        Err(BookFault::NoMemory) => Served::NoMemory,
+    }
+}
+
+// Writes the answer to a command.
+fn answer_reply<L: Link>(link: &mut L, reply: &Reply) -> Served
+    ensures written { IsWritten (reply_answer reply.now) result
+        (L.bytes link.old) (L.bytes link.new) (L.Sink.faults link.old) (L.Sink.faults link.new) }
+    ensures later { L.Sink.faults link.old ≤ L.Sink.faults link.new }
+    ensures keeps_takes { L.Source.faults link.new ≡ L.Source.faults link.old }
+{
+    match write_reply(link, reply) {
+        Ok(()) => Served::Answered {
+            status: HttpStatus::of_reply(reply).code(),
+        },
+        Err(Failed) => Served::LinkFault,
+    }
+}
+
+// Writes the answer to what is no command.
+fn answer_bad<L: Link>(link: &mut L, bad: Bad) -> Served
+    ensures written { IsWritten (bad_answer bad) result
+        (L.bytes link.old) (L.bytes link.new) (L.Sink.faults link.old) (L.Sink.faults link.new) }
+    ensures later { L.Sink.faults link.old ≤ L.Sink.faults link.new }
+    ensures keeps_takes { L.Source.faults link.new ≡ L.Source.faults link.old }
+{
+    match write_bad(link, bad) {
+        Ok(()) => Served::Answered {
+            status: HttpStatus::of_bad(bad).code(),
+        },
+        Err(Failed) => Served::LinkFault,
+    }
+}
+
+// Writes that the store has failed.
+fn answer_unavailable<L: Link>(link: &mut L) -> Served
+    ensures written { IsWritten unavailable_answer result
+        (L.bytes link.old) (L.bytes link.new) (L.Sink.faults link.old) (L.Sink.faults link.new) }
+    ensures later { L.Sink.faults link.old ≤ L.Sink.faults link.new }
+    ensures keeps_takes { L.Source.faults link.new ≡ L.Source.faults link.old }
+{
+    match write_unavailable(link) {
+        Ok(()) => Served::Answered {
+            status: HttpStatus::Unavailable.code(),
+        },
+        Err(Failed) => Served::LinkFault,
+    }
+}

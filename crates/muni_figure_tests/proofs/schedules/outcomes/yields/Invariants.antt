@@ -1,7 +1,0 @@
-use Rattle.std.proofs.Common.{All}
-use Rattle.muni_sched.specs.FigureKind.{Yield}
-use Rattle.muni_sched.specs.Figures.{IsOf}
-use Rattle.muni_figure_tests.proofs.schedules.outcomes.yields.Given as goal
-
-abbrev pub invariant-loop-word : goal.invariant-loop-word
-invariant-loop-word l = All (IsOf Yield) l.yields.items

@@ -1,0 +1,22 @@
+use Rattle.muni_journal_disk.proofs.Truth.{truth, sure_read}
+use Rattle.std.proofs.Common.{rules}
+use Rattle.muni_journal_disk.proofs.Elapsed.{elapses}
+use Rattle.muni_journal_disk.proofs.mem_disk.MemDiskDisk.read.Goals as goal
+
+pub returns-then-listed-clause-time : goal.returns-then-listed-clause-time
+returns-then-listed-clause-time c = elapses c.args.self.now.first.items c.args.self.now.past.items _ _ c.in_ok-push_front.ensures.items
+
+pub returns-clause-time : goal.returns-clause-time
+returns-clause-time c = elapses c.args.self.now.first.items c.args.self.now.past.items _ _ c.in_ok-push_front.ensures.items
+
+pub invariant_of-self-then-listed-clause-truth : goal.invariant_of-self-then-listed-clause-truth
+invariant_of-self-then-listed-clause-truth c = truth c.args.self.now.first.items c.args.self.now.bytes.items c.args.self.now.past.items _ _ c.in_ok-push_front.ensures.items (search rules) c.args.self.now.sure c.args.self.now.truth
+
+pub invariant_of-self-else-listed-clause-truth : goal.invariant_of-self-else-listed-clause-truth
+invariant_of-self-else-listed-clause-truth c = truth c.args.self.now.first.items c.args.self.now.bytes.items c.args.self.now.past.items _ _ c.in_ok-push_front.ensures.items (search rules) c.args.self.now.sure c.args.self.now.truth
+
+pub invariant_of-self-then-listed-clause-sure : goal.invariant_of-self-then-listed-clause-sure
+invariant_of-self-then-listed-clause-sure c = sure_read c.args.self.now.first.items c.args.self.now.bytes.items c.args.self.now.past.items _ _ c.in_ok-push_front.ensures.items c.args.self.now.sure
+
+pub invariant_of-self-else-listed-clause-sure : goal.invariant_of-self-else-listed-clause-sure
+invariant_of-self-else-listed-clause-sure c = sure_read c.args.self.now.first.items c.args.self.now.bytes.items c.args.self.now.past.items _ _ c.in_ok-push_front.ensures.items c.args.self.now.sure

@@ -1,0 +1,182 @@
+//! A disk in memory.
+
+ghost use Rattle.std.specs.Prelude.{◌≡◌, ◌≤◌, ◌+◌, ◌<◌, ℕ, Some, Err, [], drop, slice_get, IfSome, false, length, IfOk, OnErr};
+ghost use Rattle.muni_journal_disk.specs.Bytes.{byte_at};
+ghost use Rattle.muni_journal_disk.specs.declared.past.MadeCall.{MadeCall};
+ghost use Rattle.muni_journal_disk.specs.Past.{is_unsure, synced_bytes, IsImage, call_of, IsStopped};
+ghost use Rattle.muni_journal_disk.specs.Moments.{WasImage, at_present, is_present};
+
+use crate::bytes::{fill, overlaid};
+use crate::disk::Disk;
+use crate::fault::DiskFault;
+use crate::past::{MadeCall, Piece, Step};
+use muni_edge::Faults;
+use std::alloc::{AllocError, Global};
+use std::collections::VecDeque;
+
+/// A disk in memory. The calls of the listed numbers fail, counted from 0.
+///
+/// It remembers its calls, and what it read as before each. A call that finds no memory for that
+/// changes nothing, and is not counted.
+#[derive(Drop)]
+pub struct MemDisk {
+    alloc: Global,
+    first: Vec<u8>,
+    bytes: Vec<u8>,
+    past: VecDeque<MadeCall>,
+    failing: Vec<u64>,
+    faults: Faults,
+    // What it read as before a call was an image then.
+    ghost truth: { (k : ℕ) (call : MadeCall) → slice_get past.items k ≡ Some call → IsImage first.items (drop (k + 1) past.items) call.before.items },
+    ghost sure: { (i : ℕ) → is_unsure past.items i ≡ false → byte_at bytes.items i ≡ byte_at (synced_bytes first.items past.items) i },
+}
+
+/// The bytes that a stop within a call leaves, where so many bytes of its piece were written.
+fn stopped(alloc: Global, call: &MadeCall, kept: usize) -> Result<Vec<u8>, AllocError>
+    ensures { IfOk result
+        (λ bytes. IsStopped call.now.before.items kept bytes.items call.now.step) }
+{
+    match &call.step {
+        Step::Write(piece) => {
+            let kept = kept.min(piece.bytes.len());
+            let part = &piece.bytes[..kept];
+            overlaid(alloc, &call.before, piece.place as usize, part)
+        }
+        Step::Read | Step::Synced | Step::Unsynced => call.before.to_vec(alloc),
+    }
+}
+
+impl MemDisk {
+    /// An empty disk.
+    pub fn new(alloc: Global, failing: &[u64]) -> Result<MemDisk, DiskFault>
+        ensures empty { IfOk result (λ disk. disk.bytes.items ≡ []) }
+        ensures fresh { IfOk result (λ disk. disk.past.items ≡ []) }
+        ensures failing { IfOk result (λ disk. disk.failing.items ≡ failing.now) }
+        ensures uncounted { IfOk result (λ disk. disk.faults ≡ 0) }
+        ensures memory { OnErr result (result ≡ Err DiskFault.NoMemory) }
+    {
+        Ok(MemDisk {
+            alloc,
+            first: Vec::new(alloc),
+            bytes: Vec::new(alloc),
+            past: VecDeque::new(alloc),
+            failing: failing.to_vec(alloc)?,
+            faults: Faults::none(),
+        })
+    }
+
+    /// How many calls were made.
+    pub fn calls(&self) -> usize
+        ensures { result ≡ length self.now.past.items }
+    {
+        self.past.len()
+    }
+
+    /// The disk that a stop within the call of a number leaves, where so many bytes of what that
+    /// call was to write were written, or all where it had fewer. Where no call has that number it
+    /// is the disk as it is now. No call of it fails.
+    pub fn after_stop(&self, number: usize, kept: usize) -> Result<MemDisk, DiskFault>
+        ensures stopped { IfOk result (λ disk. number < length self.now.past.items
+            → IfSome (call_of self.now.past.items number)
+            (λ call. IsStopped call.before.items kept disk.bytes.items call.step)) }
+        ensures present { IfOk result (λ disk. length self.now.past.items ≤ number
+            → disk.bytes.items ≡ self.now.bytes.items) }
+        ensures fresh { IfOk result (λ disk.
+            (disk.past.items ≡ []) × (disk.failing.items ≡ []) × (disk.faults ≡ 0)) }
+        ensures memory { OnErr result (result ≡ Err DiskFault.NoMemory) }
+
+        // It is an image that a stop since that call may have left.
+        ensures image { IfOk result (λ disk. number ≤ length self.now.past.items
+            → WasImage self.now.first.items self.now.past.items number disk.bytes.items) }
+    {
+        let bytes = self.stopped_at(number, kept)?;
+        Ok(MemDisk {
+            alloc: self.alloc,
+            first: bytes.as_slice().to_vec(self.alloc)?,
+            bytes,
+            past: VecDeque::new(self.alloc),
+            failing: Vec::new(self.alloc),
+            faults: Faults::none(),
+        })
+    }
+
+    fn stopped_at(&self, number: usize, kept: usize) -> Result<Vec<u8>, AllocError>
+        ensures stopped { IfOk result (λ bytes. number < length self.now.past.items
+            → IfSome (call_of self.now.past.items number)
+            (λ call. IsStopped call.before.items kept bytes.items call.step)) }
+        ensures present { IfOk result (λ bytes. length self.now.past.items ≤ number
+            → bytes.items ≡ self.now.bytes.items) }
+        ensures image { IfOk result (λ bytes. number ≤ length self.now.past.items
+            → WasImage self.now.first.items self.now.past.items number bytes.items) }
+    {
+        let calls = self.past.len();
+        if number >= calls {
+            return Ok(self.bytes.to_vec(self.alloc)?);
+        }
+        let Some(call) = self.past.get(calls - 1 - number) else {
+            unreachable!()
+        };
+        Ok(stopped(self.alloc, call, kept)?)
+    }
+
+    fn is_listed(&self) -> bool {
+        self.failing.contains(&(self.past.len() as u64))
+    }
+}
+
+impl Disk for MemDisk {
+    ghost bytes = { λ disk. Some disk.bytes.items };
+
+    ghost image = { λ disk. IsImage disk.first.items disk.past.items };
+
+    ghost clock = { λ disk. length disk.past.items };
+
+    ghost since = { λ disk. WasImage disk.first.items disk.past.items };
+
+    ghost faults = { λ disk. disk.faults };
+
+    ghost is_image = { λ disk c reads. is_present disk.first.items disk.bytes.items disk.past.items disk.sure c reads };
+
+    ghost now = { λ disk c. at_present disk.first.items disk.past.items c };
+
+    fn read(&mut self, place: u64, room: &mut [u8]) -> Result<(), DiskFault> {
+        let listed = self.is_listed();
+        let before = self.bytes.to_vec(self.alloc)?;
+        let step = Step::Read;
+        self.past.push_front(MadeCall { before, step })?;
+        if listed {
+            return Err(DiskFault::from(self.faults.fail()));
+        }
+        fill(&self.bytes, place as usize, room);
+        Ok(())
+    }
+
+    fn write(&mut self, place: u64, piece: &[u8]) -> Result<(), DiskFault> {
+        let listed = self.is_listed();
+        let before = self.bytes.to_vec(self.alloc)?;
+        let next = overlaid(self.alloc, &self.bytes, place as usize, piece)?;
+        let bytes = piece.to_vec(self.alloc)?;
+        let step = Step::Write(Piece { place, bytes });
+        self.past.push_front(MadeCall { before, step })?;
+        if listed {
+            return Err(DiskFault::from(self.faults.fail()));
+        }
+        self.bytes = next;
+        Ok(())
+    }
+
+    fn sync(&mut self) -> Result<(), DiskFault> {
+        let listed = self.is_listed();
+        let before = self.bytes.to_vec(self.alloc)?;
+        if listed {
+            let step = Step::Unsynced;
+            self.past.push_front(MadeCall { before, step })?;
+            return Err(DiskFault::from(self.faults.fail()));
+        }
+        let step = Step::Synced;
+        match self.past.push_front(MadeCall { before, step }) {
+            Ok(()) => Ok(()),
+            Err(_) => Err(DiskFault::NoMemory),
+        }
+    }
+}

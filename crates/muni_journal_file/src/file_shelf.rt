@@ -1,0 +1,101 @@
+//! A shelf over files.
+
+ghost use Rattle.std.specs.Prelude.{◌≡◌, None};
+ghost use Rattle.std.specs.Option.{option_map};
+
+use crate::file_disk::FileDisk;
+use muni_edge::Faults;
+use muni_journal_disk::{DiskFault, Shelf};
+use std::fs::{File, OpenOptions};
+use std::io::{self, ErrorKind};
+
+/// A shelf over files: the journal of a name is the file of that name with `.journal` added.
+///
+/// A file is locked while its disk is out, and one that another process has is refused at once.
+#[derive(Drop)]
+pub struct FileShelf<'a> {
+    rt: &'a HostRuntime,
+    out: Option<Vec<u8>>,
+    faults: Faults,
+}
+
+/// The folder of a path.
+fn folder(path: &str) -> &str {
+    match path.rsplit_once('/') {
+        Some(("", _)) => "/",
+        Some((folder, _)) => folder,
+        None => ".",
+    }
+}
+
+/// Opens a file for reading and writing. Where it is made, its folder is synced.
+fn open(rt: &HostRuntime, path: &str) -> io::Result<File> {
+    match OpenOptions::new().read(true).write(true).open(rt, path) {
+        Err(error) if error.kind() == ErrorKind::NotFound => {}
+        opened => return opened,
+    }
+    let file = OpenOptions::new()
+        .read(true)
+        .write(true)
+        .create_new(true)
+        .open(rt, path)?;
+    File::open(rt, folder(path))?.sync_all()?;
+    Ok(file)
+}
+
+impl<'a> FileShelf<'a> {
+    /// A shelf of which no disk is out.
+    pub fn new(rt: &'a HostRuntime) -> FileShelf<'a>
+        ensures none_out { result.out ≡ None }
+        ensures uncounted { result.faults ≡ 0 }
+    {
+        FileShelf {
+            rt,
+            out: None,
+            faults: Faults::none(),
+        }
+    }
+
+    fn open(&self, name: &[u8]) -> io::Result<File> {
+        let Ok(name) = str::from_utf8(name) else {
+            return Err(io::Error::from(ErrorKind::InvalidInput));
+        };
+        let path = format!(in self.rt.alloc(); "{name}.journal")?;
+        let file = open(self.rt, &path)?;
+        if file.try_lock().is_err() {
+            return Err(io::Error::from(ErrorKind::WouldBlock));
+        }
+        Ok(file)
+    }
+}
+
+impl<'a> Shelf for FileShelf<'a> {
+    ghost use Rattle.std.specs.Prelude.{None};
+    ghost use Rattle.std.specs.Option.{option_map};
+
+    type D = FileDisk;
+
+    ghost told = { λ _ _. None };
+
+    ghost disk_faults = { λ _ _. 0 };
+
+    ghost out = { λ shelf. option_map (λ name. name.items) shelf.out };
+
+    ghost faults = { λ shelf. shelf.faults };
+
+    fn take(&mut self, name: &[u8]) -> Result<FileDisk, DiskFault> {
+        let out = name.to_vec(self.rt.alloc())?;
+        match self.open(name) {
+            Ok(file) => {
+                self.out = Some(out);
+                Ok(FileDisk::new(file))
+            }
+            Err(error) if error.kind() == ErrorKind::OutOfMemory => Err(DiskFault::NoMemory),
+            Err(_) => Err(DiskFault::from(self.faults.fail())),
+        }
+    }
+
+    fn put_back(&mut self, _name: &[u8], _disk: FileDisk) {
+        self.out = None;
+    }
+}

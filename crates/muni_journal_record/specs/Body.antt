@@ -1,0 +1,33 @@
+-- The body of a record, both ways.
+use Rattle.std.specs.Prelude.{ℕ, ◌==◌, nat_eq, List, [], ◌∷◌, Option, Some, None, if◌then◌else◌}
+use Rattle.std.specs.Option.{option_map, option_and_then}
+use Rattle.std.specs.Cmp.Lexicographic.{pointwise}
+use Rattle.muni_journal_record.specs.IssueBody.{row_bytes, issue_of, IssueFits}
+use Rattle.muni_journal_record.specs.VersionBody.{version_bytes, version_of, VersionFits}
+use Rattle.muni_journal_record.specs.declared.put.Put.{Put}
+use Rattle.muni_journal_record.specs.declared.put.Put.TheVariants.{Issue, Version}
+
+-- the body of a put: the byte 1 and an issue, or the byte 2 and a version
+unfoldable pub body_of : Put → List ℕ
+body_of (Issue row) = 1 ∷ row_bytes row
+body_of (Version key number version) = 2 ∷ version_bytes key number version
+
+-- what bytes are read as, whatever stands behind it
+abbrev pub begun_of : List ℕ → Option Put
+begun_of [] = None
+begun_of (kind ∷ rest) =
+    if kind == 1 then option_map Issue (issue_of rest)
+    else (if kind == 2 then version_of rest else None)
+
+-- a put, if the bytes are its body
+abbrev pub if_body : List ℕ → Put → Option Put
+if_body bytes put = if pointwise nat_eq (body_of put) bytes then Some put else None
+
+-- the put that has these bytes as its body, if one has
+unfoldable pub put_of : List ℕ → Option Put
+put_of bytes = option_and_then (if_body bytes) (begun_of bytes)
+
+-- a put that is written: each value is in the range of its type
+abbrev pub PutFits : Put → Type 0
+PutFits (Issue row) = IssueFits row
+PutFits (Version key number version) = VersionFits key number version

@@ -1,0 +1,10 @@
+//! Laws of puts and their bodies.
+
+ghost use Rattle.muni_journal_record.specs.Laws.{WhatIsWrittenIsRead, OnePutHasOneBody};
+
+/// What was written is read, and what is read was written so: one put has one body, and bytes that
+/// go on behind a body are none.
+pub fn bodies_are_puts()
+    ensures read { WhatIsWrittenIsRead }
+    ensures one { OnePutHasOneBody }
+{}

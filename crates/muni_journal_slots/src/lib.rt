@@ -1,0 +1,6 @@
+//! Slots on a disk: each is a gate byte and what stands behind it, and counts where its gate is open.
+#![tactic(auto)]
+
+mod slots;
+
+pub use slots::{SlotFault, put_slot, take_back};

@@ -1,4 +1,0 @@
-pub mod FaultLemmas
-pub mod ImportLemmas
-pub mod StoreLemmas
-pub mod TakenLemmas

@@ -1,9 +1,0 @@
-use Rattle.muni_book.specs.Answers.{IsRightAnswer}
-use Rattle.muni_server.proofs.AnswerLemmas.{requests-answered, bytes-answered}
-use Rattle.muni_server.proofs.laws.what_has_come_is_answered.Goals as goal
-
-pub returns : goal.returns
-returns c = record {
-  requests = λ ends. requests-answered (IsRightAnswer ends);
-  others = λ ends. bytes-answered (IsRightAnswer ends);
-}

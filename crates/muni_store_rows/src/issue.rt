@@ -1,0 +1,180 @@
+//! The columns of issues.
+
+ghost use Rattle.std.specs.Prelude.{◌≡◌, ◌≤◌, pos, drop, IfSome};
+ghost use Rattle.arrayvec.specs.ArrayVec.{array_vec_len};
+ghost use Rattle.muni_days.specs.Day.{civil, day_text};
+ghost use Rattle.muni_store_rows.specs.Issue as spec;
+
+use crate::calls::{CallsText, print_calls, print_day, without_first, written_calls};
+use crate::codes::{natural, read_code, read_coupon, units};
+use arrayvec::ArrayVec;
+use muni_days::Day;
+use muni_msg::{basis_code, basis_of_code, kind_code, read_cusip, read_issue_name};
+use muni_terms::{Issue, IssueRow, Kind, check};
+use std::marker::Model;
+
+/// The columns in which an issue is kept.
+#[derive(Debug, Drop)]
+pub struct IssueColumns {
+    pub cusip: [u8; 9],
+    pub name: ArrayVec<u8, 60>,
+    /// 0 to 3: periodic, zero, interest at redemption, discount.
+    pub kind: i64,
+    pub dated: ArrayVec<u8, 32>,
+    /// The first interest date, or nothing where there is none.
+    pub first: ArrayVec<u8, 32>,
+    pub maturity: ArrayVec<u8, 32>,
+    pub coupon: i64,
+    /// The calls, with a blank before each.
+    calls: CallsText,
+    /// 0 for 30/360, and 1 for actual/365.
+    pub basis: i64,
+}
+
+impl Model for IssueColumns {
+    ghost use Rattle.std.specs.Prelude.{drop};
+    ghost use Rattle.muni_store_rows.specs.Issue as spec;
+
+    ghost Value = { spec.Columns };
+
+    ghost view = { λ columns. record {
+      cusip = columns.cusip;
+      name = columns.name.items;
+      kind = columns.kind;
+      dated = columns.dated.items;
+      first = columns.first.items;
+      maturity = columns.maturity.items;
+      coupon = columns.coupon;
+      calls = drop 1 columns.calls.items;
+      basis = columns.basis;
+    } };
+}
+
+impl IssueColumns {
+    /// The calls, each as its date, a colon and its price with six decimals, with a blank between.
+    pub fn calls(&self) -> &[u8]
+        ensures { result.now ≡ self.now.calls }
+    {
+        without_first(&self.calls)
+    }
+}
+
+/// The columns of an issue.
+#[tactic(auto, unfolding(crate::specs::Issue::columns_of))]
+pub fn issue_columns(issue: &Issue) -> IssueColumns
+    ensures { result ≡ spec.columns_of issue.now }
+{
+    let row = issue.row();
+    IssueColumns {
+        cusip: row.cusip,
+        name: copy_name(&row.name),
+        kind: i64::from(kind_code(row.kind)),
+        dated: print_day(row.dated),
+        first: print_first(row.kind),
+        maturity: print_day(row.maturity),
+        coupon: units(&row.coupon),
+        calls: print_calls(row.calls.as_slice()),
+        basis: i64::from(basis_code(row.basis)),
+    }
+}
+
+fn copy_name(name: &ArrayVec<u8, 60>) -> ArrayVec<u8, 60>
+    ensures { result ≡ name.now }
+{
+    let mut copy = ArrayVec::new();
+    let _ = copy.try_extend_from_slice(name);
+    copy
+}
+
+fn print_first(kind: Kind) -> ArrayVec<u8, 32>
+    ensures { result.items ≡ spec.first_of kind }
+{
+    match kind {
+        Kind::Periodic { first } => print_day(first),
+        Kind::Zero | Kind::AtRedemption | Kind::Discount => ArrayVec::new(),
+    }
+}
+
+/// The issue with these columns, if there is one. There was no column for the basis where days were
+/// counted by 30/360 alone.
+pub fn issue_1(
+    cusip: &str,
+    name: &str,
+    kind: i64,
+    dated: &str,
+    first: &str,
+    maturity: &str,
+    coupon: i64,
+    calls: &str,
+) -> Option<Issue>
+    ensures read { result ≡ spec.issue_of (record {
+      cusip = cusip.now;
+      name = name.now;
+      kind = kind;
+      dated = dated.now;
+      first = first.now;
+      maturity = maturity.now;
+      coupon = coupon;
+      calls = calls.now;
+      basis = pos 0;
+    }) }
+{
+    issue_2(cusip, name, kind, dated, first, maturity, coupon, calls, 0)
+}
+
+/// The issue with these columns, if there is one.
+#[tactic(auto, unfolding(crate::specs::Issue::issue_of))]
+pub fn issue_2(
+    cusip: &str,
+    name: &str,
+    kind: i64,
+    dated: &str,
+    first: &str,
+    maturity: &str,
+    coupon: i64,
+    calls: &str,
+    basis: i64,
+) -> Option<Issue>
+    ensures read { result ≡ spec.issue_of (record {
+      cusip = cusip.now;
+      name = name.now;
+      kind = kind;
+      dated = dated.now;
+      first = first.now;
+      maturity = maturity.now;
+      coupon = coupon;
+      calls = calls.now;
+      basis = basis;
+    }) }
+{
+    let row = IssueRow {
+        cusip: read_cusip(cusip.as_bytes())?,
+        name: read_issue_name(name.as_bytes())?,
+        kind: read_kind(kind, first.as_bytes())?,
+        basis: basis_of_code(read_code(basis)?)?,
+        dated: Day::read(dated.as_bytes()).ok()?,
+        maturity: Day::read(maturity.as_bytes()).ok()?,
+        coupon: read_coupon(coupon)?,
+        calls: written_calls(calls.as_bytes())?,
+    };
+    check(row).ok()
+}
+
+fn read_kind(kind: i64, first: &[u8]) -> Option<Kind>
+    ensures { result ≡ spec.kind_of kind first.now }
+{
+    let kind = natural(kind)?;
+    if kind == 0 {
+        let first = Day::read(first).ok()?;
+        return Some(Kind::Periodic { first });
+    }
+    if !first.is_empty() {
+        return None;
+    }
+    match kind {
+        1 => Some(Kind::Zero),
+        2 => Some(Kind::AtRedemption),
+        3 => Some(Kind::Discount),
+        _ => None,
+    }
+}
