@@ -5,7 +5,7 @@ mod answers;
 mod command;
 mod drill;
 mod help;
-mod laws;
+pub mod laws;
 mod output;
 mod quote_one;
 mod quote_options;
@@ -16,7 +16,6 @@ mod words;
 
 pub use command::{CommandLine, DeskCommand, read};
 pub use drill::DrillRequest;
-pub use laws::{the_answer_is_unique, the_workers_do_not_show, words_are_read_by_the_rule};
 pub use output::desk;
 pub use quote_one::QuoteOneRequest;
 pub use request::QuoteRequest;

@@ -5,11 +5,10 @@
 mod body;
 mod fields;
 mod issue_body;
-mod laws;
+pub mod laws;
 mod put;
 mod version_body;
 
 pub use body::{body_of, put_of};
 pub use fields::Body;
-pub use laws::bodies_are_puts;
 pub use put::Put;

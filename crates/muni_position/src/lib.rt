@@ -5,7 +5,7 @@ mod change;
 mod following;
 mod holding;
 mod holdings;
-mod laws;
+pub mod laws;
 mod line;
 mod pages;
 mod position;
@@ -13,7 +13,6 @@ mod positioned;
 mod put_fault;
 
 pub use following::{Following, follow};
-pub use laws::positions_are_those_held;
 pub use line::position_line;
 pub use position::Position;
 pub use positioned::{Positioned, over};

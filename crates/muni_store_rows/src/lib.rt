@@ -4,11 +4,10 @@
 mod calls;
 mod codes;
 mod issue;
-mod laws;
+pub mod laws;
 mod version;
 mod written_version;
 
 pub use issue::{IssueColumns, issue_1, issue_2, issue_columns};
-pub use laws::{issues_are_read_again, versions_are_read_again};
 pub use version::{AskedRow, FigureRow, TradeRow, version_1, version_2};
 pub use written_version::WrittenVersion;

@@ -6,7 +6,7 @@ mod body;
 mod calls;
 mod fault;
 mod head;
-pub mod law;
+pub mod laws;
 mod length;
 mod list;
 mod request;
