@@ -1,3 +1,4 @@
+pub mod ConfirmLemmas
 pub mod FaultLemmas
 pub mod ImportLemmas
 pub mod StoreLemmas
