@@ -13,8 +13,10 @@ use Rattle.muni_book.specs.Answers.{IsRightAnswer}
 use Rattle.muni_book.specs.RightFigures.{AreRightFigures}
 use Rattle.muni_book.specs.SoundTables.{AreSoundTables}
 use Rattle.muni_book_step.proofs.OutcomeLemmas.{step-reason}
-use Rattle.muni_book.specs.RunLaws.{TablesAreSound, AcceptedCommandsActOnce, NothingKeptIsLost, EachDeskIsIsolated, RepliesAreUnique, EachEntryHasItsReason, EachRefusalHasItsCause}
-use Rattle.muni_book.proofs.CauseLemmas.{refusals-caused}
+use Rattle.muni_book.specs.RunLaws.{TablesAreSound, ConfirmedFiguresAreRight, AcceptedCommandsActOnce, WhatIsKeptIsAnsweredAgain, NothingKeptIsLost, EachDeskIsIsolated, RepliesAreUnique, EachEntryHasItsReason, EachRefusalHasItsCause, ConfirmationsAreOfLastVersions, ListsArePages, QuotesAreRightAnswers}
+use Rattle.muni_book.proofs.StepLemmas.{refusals-caused, causes-refused, accepted-or-refused, issues-kept, versions-kept, kept-again}
+use Rattle.muni_book.proofs.LookUpLemmas.{lasts-confirmed, pages-listed, figures-quoted}
+use Rattle.muni_book.proofs.RightReplyLemmas.{lasts-right, pages-right, steps-right, runs-right}
 use Rattle.muni_book.proofs.IsolationLemmas.{desks-isolated}
 use Rattle.muni_book.proofs.KeepLemmas.{runs-keep}
 use Rattle.muni_book.proofs.OnceLemmas.{act-once}
@@ -29,6 +31,7 @@ no-trade key = ap (λ trades. get trades key.reference) (no-own key.desk) ∙ ge
 
 empty-sound : AreSoundTables no_tables
 empty-sound = record {
+  issues = λ cusip issue kept. absurd (let never : None ≡ Some issue = sym (get-empty by_bytes cusip) ∙ kept in cc);
   trades = λ key history kept. absurd (let never : None ≡ Some history = sym (no-trade key) ∙ kept in cc);
   few = λ desk. rw (no-own desk, len-empty by_bytes (History Version)) (omega arith);
 }
@@ -54,8 +57,36 @@ unique = record {
   runs = λ ends. runs-unique (IsRightAnswer ends) (λ row asked answer other is also. answers-unique ends row asked answer other is also);
 }
 
+pub confirmed : ConfirmedFiguresAreRight
+confirmed = record {
+  steps = λ ends. steps-right (IsRightAnswer ends) AreRightFigures (λ row asked figures is. answered-right ends row asked figures is);
+  runs = λ ends. runs-right (IsRightAnswer ends) AreRightFigures (λ row asked figures is. answered-right ends row asked figures is);
+  lasts = lasts-right AreRightFigures;
+  lists = pages-right AreRightFigures;
+}
+
+pub again : WhatIsKeptIsAnsweredAgain
+again ends = kept-again (IsRightAnswer ends)
+
 pub caused : EachRefusalHasItsCause
-caused ends = refusals-caused (IsRightAnswer ends)
+caused = record {
+  only = λ ends. refusals-caused (IsRightAnswer ends);
+  always = λ ends. causes-refused (IsRightAnswer ends) (λ row asked answer other is also. answers-unique ends row asked answer other is also);
+}
 
 pub reasoned : EachEntryHasItsReason
-reasoned ends t c reply entry step = step-reason (IsRightAnswer ends) t c reply entry step
+reasoned = record {
+  only = λ ends t c reply entry step. step-reason (IsRightAnswer ends) t c reply entry step;
+  answered = λ ends. accepted-or-refused (IsRightAnswer ends);
+  issues = λ ends. issues-kept (IsRightAnswer ends);
+  versions = λ ends. versions-kept (IsRightAnswer ends) (λ row asked answer other is also. answers-unique ends row asked answer other is also);
+}
+
+pub lasts : ConfirmationsAreOfLastVersions
+lasts ends = lasts-confirmed (IsRightAnswer ends)
+
+pub pages : ListsArePages
+pages ends = pages-listed (IsRightAnswer ends)
+
+pub quotes : QuotesAreRightAnswers
+quotes ends = figures-quoted (IsRightAnswer ends)

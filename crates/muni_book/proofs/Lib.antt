@@ -1,10 +1,14 @@
 pub mod CandidateLemmas
 pub mod FoundLemmas
 pub mod UniqueLemmas
-pub mod RunLemmas
 pub mod RightLemmas
 pub mod PutLemmas
 pub mod CauseLemmas
+pub mod RefusedLemmas
+pub mod ReasonedLemmas
+pub mod StepLemmas
+pub mod LookUpLemmas
+pub mod RightReplyLemmas
 pub mod IsolationLemmas
 pub mod KeepLemmas
 pub mod OnceLemmas

@@ -90,12 +90,12 @@ again-sent : (t : Tables) (key : Key) (number : ℕ) (terms : Terms) (reply : Re
 again-sent t key number terms reply c equal = rw ((terms_decides c.version.terms terms).1 equal) (again-confirmed t key number reply c)
 
 -- where a version is kept, there is a last one
-has-last : {V : Type 0} (trade : Option (History V)) (number : ℕ) (v : V) → option_and_then (λ history. version_in history number) trade ≡ Some v
+pub has-last : {V : Type 0} (trade : Option (History V)) (number : ℕ) (v : V) → option_and_then (λ history. version_in history number) trade ≡ Some v
     → (last : ℕ × V) × (option_map (λ history. (count history, history.last)) trade ≡ Some last)
 has-last None number v kept = absurd (let never : None ≡ Some v = kept in cc)
 has-last (Some history) number v kept = ((count history, history.last), refl)
 
-answered-again : (t : Tables) (c : Command) (reply : Reply) → IsKept t c reply → plan_of t.issues (own_of (desk_of c) t) c ≡ Answer reply
+pub answered-again : (t : Tables) (c : Command) (reply : Reply) → IsKept t c reply → plan_of t.issues (own_of (desk_of c) t) c ≡ Answer reply
 answered-again t (command.AddIssue row) reply kept =
     rw (kept.1, kept.2, (row_decides kept.0 kept.0).1 refl) (ap (λ r. Answer r) (sym kept.3))
 answered-again t (command.Enter key terms) reply kept =

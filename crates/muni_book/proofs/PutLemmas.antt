@@ -1,18 +1,19 @@
 -- The trades of desks after a version was put.
 use Rattle.std.proofs.Common.{◌≡◌, ◌≢◌, ◌⊎◌, inl, inr, ℕ, ◌+◌, ◌-◌, ◌==◌, Bool, true, false, cond, refl, sym, ap, ◌∙◌, arith, Option, Some, None, List, [], ◌∷◌, ◌++◌, length}
 use Rattle.std.specs.Prelude.{if◌then◌else◌, slice_get}
-use Rattle.std.specs.Option.{unwrap_or, option_and_then}
+use Rattle.std.specs.Option.{unwrap_or, option_map, option_and_then}
 use Rattle.std.specs.Ordering.{eq_by_cmp}
 use Rattle.std.specs.Cmp.{eq_by_cmp_equiv}
 use Rattle.std.specs.Cmp.Lexicographic.{nat_list_cmp_total}
 use Rattle.std.specs.FinMap.{get, empty, get-insert}
 use Rattle.std.proofs.lemmas.Bool.{eqb-true}
+use Rattle.std.proofs.lemmas.Option.{same_Some, slice_get_past}
 use Rattle.std.proofs.lemmas.Map.Lookups.{exact_bytes}
 use Rattle.std.proofs.lemmas.Map.Views.{tells_apart}
 use Rattle.muni_msg.specs.declared.command.Key.{Key}
 use Rattle.muni_msg.specs.declared.version.Version.{Version}
 use Rattle.muni_keep.specs.History.{History, versions, count, version_in, next_number, grown}
-use Rattle.muni_keep.specs.Tables.{Tables, trade_at, version_at, with_version}
+use Rattle.muni_keep.specs.Tables.{Tables, trade_at, version_at, last_at, with_version}
 use Rattle.muni_keep.specs.Trades.{by_bytes, Desks, own, put, put_own}
 
 -- names are equal where their order says so
@@ -90,6 +91,33 @@ read-last xs x n is =
 grown-next : {V : Type 0} (trade : Option (History V)) (v : V) → version_in (grown trade v) (next_number trade) ≡ Some v
 grown-next None v = refl
 grown-next (Some history) v = read-last (versions history) v (count history + 1) (ap (λ n. n + 1) (sym (length-behind history.earlier history.last)))
+
+-- ---- the last version is found under its number, and none under the next
+read-past : {A : Type 0} (xs : List A) (x : A) (n : ℕ) → n ≡ length xs + 2 → (if n == 0 then None else slice_get (xs ++ x ∷ []) (n - 1)) ≡ None
+read-past xs x n is =
+    elim (n == 0) as (λ b. (if b then None else slice_get (xs ++ x ∷ []) (n - 1)) ≡ None) [
+      | true ↦ refl
+      | false ↦ let many = length-behind xs x in slice_get_past (xs ++ x ∷ []) (n - 1) (omega arith)
+    ]
+
+last-in : {V : Type 0} (trade : Option (History V)) (last : ℕ × V) → option_map (λ history. (count history, history.last)) trade ≡ Some last → option_and_then (λ history. version_in history last.0) trade ≡ Some last.1
+last-in None last is = absurd (let never : None ≡ Some last = is in cc)
+last-in {V} (Some history) last is =
+    let same = same_Some (count history, history.last) last is in
+    read-last history.earlier history.last last.0 (ap (λ (pair : ℕ × V). pair.0) (sym same)) ∙ ap (λ (pair : ℕ × V). Some pair.1) same
+
+none-next : {V : Type 0} (trade : Option (History V)) (last : ℕ × V) → option_map (λ history. (count history, history.last)) trade ≡ Some last → option_and_then (λ history. version_in history (last.0 + 1)) trade ≡ None
+none-next None last is = refl
+none-next {V} (Some history) last is =
+    let same = same_Some (count history, history.last) last is in
+    let counted : last.0 ≡ length history.earlier + 1 = ap (λ (pair : ℕ × V). pair.0) (sym same) in
+    read-past history.earlier history.last (last.0 + 1) (omega (arith, counted))
+
+pub last-kept : (t : Tables) (key : Key) (last : ℕ × Version) → last_at t key ≡ Some last → version_at t key last.0 ≡ Some last.1
+last-kept t key last is = last-in (trade_at t key) last is
+
+pub next-free : (t : Tables) (key : Key) (number : ℕ) (last : ℕ × Version) → last_at t key ≡ Some last → number ≡ last.0 + 1 → version_at t key number ≡ None
+next-free t key number last is next = ap (version_at t key) next ∙ none-next (trade_at t key) last is
 
 pub version-put : (t : Tables) (key : Key) (number : ℕ) (version : Version) → number ≡ next_number (trade_at t key) → version_at (with_version key version t) key number ≡ Some version
 version-put t key number version next =

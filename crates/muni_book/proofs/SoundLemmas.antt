@@ -4,7 +4,7 @@ use Rattle.std.specs.Prelude.{nat_le}
 use Rattle.std.specs.Option.{option_map, is_some}
 use Rattle.std.specs.Ordering.{eq_by_cmp}
 use Rattle.std.specs.Cmp.Lexicographic.{nat_list_cmp_total}
-use Rattle.std.specs.FinMap.{get, len, contains_key, len-insert}
+use Rattle.std.specs.FinMap.{get, len, insert, contains_key, get-insert, len-insert}
 use Rattle.std.proofs.lemmas.Bool.Decides.{nat_tests}
 use Rattle.std.proofs.lemmas.List.Elements.{All-head, All-tail, All-cons, All-nil}
 use Rattle.std.proofs.lemmas.Option.{same_Some}
@@ -26,10 +26,10 @@ use Rattle.muni_book_step.proofs.ReadyLemmas.{none-kept}
 use Rattle.muni_book.specs.StaysSound.{PricesRight, RunsStaySound}
 use Rattle.muni_book.specs.Once.{Keeps}
 use Rattle.muni_book.proofs.KeepLemmas.{step-keeps}
-use Rattle.muni_book.proofs.PutLemmas.{own-put, trade-put, length-behind}
+use Rattle.muni_book.proofs.PutLemmas.{same-name, own-put, trade-put, length-behind}
 
 -- ---- lists
-all-still : {A : Type 0} (P Q : A → Type 0) (xs : List A) → ((x : A) → P x → Q x) → All P xs → All Q xs
+pub all-still : {A : Type 0} (P Q : A → Type 0) (xs : List A) → ((x : A) → P x → Q x) → All P xs → All Q xs
 all-still P Q [] f all = All-nil Q
 all-still P Q (x ∷ xs) f all = All-cons Q x xs (f x (All-head P x xs all)) (all-still P Q xs f (All-tail P x xs all))
 
@@ -126,6 +126,7 @@ few-trades R t key version sound (inr next) =
 
 put-sound : (R : Rightness) (t : Tables) (key : Key) (version : Version) → IsSound R t → MayBePut R t key version → IsSound R (with_version key version t)
 put-sound R t key version sound may = record {
+  issues = sound.issues;
   trades = λ other history kept. put-trades R t key other version history sound may kept;
   few = λ desk. rw (own-put desk key.desk key.reference version t.desks)
       (elim (eq_by_cmp by_bytes desk key.desk) as (λ b. len (cond b (put_own key.reference version (own key.desk t.desks)) (own desk t.desks)) ≤ 100_000) [
@@ -176,6 +177,13 @@ may-be-put P R priced t c issue key number version sound (inr (inr corrected, pr
     })
 
 -- ---- steps and runs
+own-issue : (issues : Issues) (added : IssueRow) (cusip : List ℕ) (issue : IssueRow) → ((q : List ℕ) (kept : IssueRow) → get issues q ≡ Some kept → kept.cusip ≡ q) → get (insert issues added.cusip added) cusip ≡ Some issue → issue.cusip ≡ cusip
+own-issue issues added cusip issue before found =
+    elim (eq_by_cmp by_bytes cusip added.cusip) as (λ b. eq_by_cmp by_bytes cusip added.cusip ≡ b → cond b (Some added) (get issues cusip) ≡ Some issue → issue.cusip ≡ cusip) [
+      | true ↦ λ same is. ap (λ (row : IssueRow). row.cusip) (sym (same_Some added issue is)) ∙ sym (same-name cusip added.cusip same)
+      | false ↦ λ other is. before cusip issue is
+    ] refl (sym (get-insert nat_list_cmp_total issues added.cusip added cusip) ∙ found)
+
 still-sound : (R : Rightness) (issues more : Issues) (history : History Version) → ((cusip : List ℕ) (issue : IssueRow) → get issues cusip ≡ Some issue → get more cusip ≡ Some issue) → IsSoundTrade R issues history → IsSoundTrade R more history
 still-sound R issues more history keeps sound = record {
   few = sound.few;
@@ -183,10 +191,11 @@ still-sound R issues more history keeps sound = record {
   right = all-still (IsRightVersion R issues) (IsRightVersion R more) (versions history) (λ version right. record { issue = right.issue; kept = keeps version.terms.asked.cusip right.issue right.kept; right = right.right }) sound.right;
 }
 
-sound-after : (P : Pricing) (R : Rightness) → PricesRight P R → (t : Tables) (c : Command) (reply : Reply) (entry : Option Entry) → IsSound R t → Keeps t (after entry t)
+pub sound-after : (P : Pricing) (R : Rightness) → PricesRight P R → (t : Tables) (c : Command) (reply : Reply) (entry : Option Entry) → IsSound R t → Keeps t (after entry t)
     → IsReasoned P t c reply entry → IsSound R (after entry t)
 sound-after P R priced t c reply None sound keeps why = sound
 sound-after P R priced t c reply (Some (NewIssue issue)) sound keeps why = record {
+  issues = λ cusip other kept. own-issue t.issues issue cusip other sound.issues kept;
   trades = λ key history kept. still-sound R t.issues _ history keeps.issues (sound.trades key history kept);
   few = sound.few;
 }

@@ -1,5 +1,8 @@
--- Why a command is refused.
-use Rattle.std.specs.Prelude.{◌≡◌, ◌≢◌, ◌⊎◌, ℕ, ◌+◌, ◌-◌, ◌^◌, ◌≤◌, min, List, Option, Some, None, Ok, Err}
+-- Why a command is refused. A cause says what stands against a command, and that nothing before it in this order
+-- does: the terms of an issue; a trade that is not kept; other contents under the same CUSIP or number; a canceled
+-- trade; its 99 versions; a number that is not the next one; an issue that is not kept; a full desk; and at last
+-- the figures.
+use Rattle.std.specs.Prelude.{◌≡◌, ◌≢◌, ◌⊎◌, ℕ, ◌+◌, ◌-◌, ◌^◌, ◌≤◌, ◌<◌, ⊤, min, List, Option, Some, None, Ok, Err}
 use Rattle.std.specs.FinMap.{len}
 use Rattle.muni_terms.specs.Check.{checked}
 use Rattle.muni_terms.specs.declared.row.IssueRow.{IssueRow}
@@ -11,93 +14,117 @@ use Rattle.muni_msg.specs.declared.command.Key.{Key}
 use Rattle.muni_msg.specs.declared.command.Reply.TheVariants.{Refused}
 use Rattle.muni_msg.specs.declared.refusal.Refusal.{Refusal}
 use Rattle.muni_msg.specs.declared.refusal.Refusal.TheVariants.{UnknownIssue, UnknownTrade, Conflict, BadTerms, SettleOutside, GivenOutOfRange, YieldBelow, YieldAbove, NoTime, Undecided, Canceled, WrongNumber, VersionsFull, DeskFull, WrongBasis}
+use Rattle.muni_msg.specs.declared.version.Act.{Act}
 use Rattle.muni_msg.specs.declared.version.Act.TheVariants as act
 use Rattle.muni_msg.specs.declared.version.Kept.TheVariants as kept
 use Rattle.muni_msg.specs.declared.version.Version.{Version}
 use Rattle.muni_keep.specs.Tables.{Tables, issue_at, version_at, last_at}
 use Rattle.muni_keep.specs.Trades.{own}
-use Rattle.muni_book_step.specs.Step.{Pricing, Entry, IsStepOver}
+use Rattle.muni_book_step.specs.Reasons.{IsNewTrade, IsLive, IsCorrection}
+use Rattle.muni_book_step.specs.Step.{Pricing, Entry, Outcome, answered, IsStepOver}
 
--- the trade that a command asks for, which has to be kept
-abbrev pub trade_of : Command → Option Key
-trade_of (command.AddIssue row) = None
-trade_of (command.Enter key terms) = None
-trade_of (command.Correct key number terms) = Some key
-trade_of (command.Cancel key number) = Some key
-trade_of (command.Confirm key) = Some key
-trade_of (command.Quote asked) = None
-trade_of (command.List desk after) = None
+-- ---- what a command asks for
+-- a correction or a cancel of a trade, under a number
+abbrev pub AsksToChange : Command → Key → ℕ → Type 0
+AsksToChange asked key number =
+    ((terms : Terms) × (asked ≡ command.Correct key number terms)) ⊎ (asked ≡ command.Cancel key number)
 
--- what figures it asks for
-abbrev pub asked_of : Command → Option Asked
-asked_of (command.AddIssue row) = None
-asked_of (command.Enter key terms) = Some terms.asked
-asked_of (command.Correct key number terms) = Some terms.asked
-asked_of (command.Cancel key number) = None
-asked_of (command.Confirm key) = None
-asked_of (command.Quote asked) = Some asked
-asked_of (command.List desk after) = None
+-- a command that needs a trade which is kept
+abbrev pub AsksForTrade : Command → Key → Type 0
+AsksForTrade asked key =
+    ((number : ℕ) × AsksToChange asked key number) ⊎ (asked ≡ command.Confirm key)
 
--- the trade and the number of the version that it asks to keep
-abbrev pub place_of : Command → Option (Key × ℕ)
-place_of (command.AddIssue row) = None
-place_of (command.Enter key terms) = Some (key, 1)
-place_of (command.Correct key number terms) = Some (key, number)
-place_of (command.Cancel key number) = Some (key, number)
-place_of (command.Confirm key) = None
-place_of (command.Quote asked) = None
-place_of (command.List desk after) = None
+-- a command that asks to keep a version under a number
+abbrev pub AsksForVersion : Command → Key → ℕ → Type 0
+AsksForVersion asked key number =
+    ((terms : Terms) × (asked ≡ command.Enter key terms) × (number ≡ 1)) ⊎ AsksToChange asked key number
 
--- a version is not the one that it asks to keep
-abbrev pub Differs : Command → Version → Type 0
-Differs (command.AddIssue row) version = ⊥
-Differs (command.Enter key terms) version = version.terms ≢ terms
-Differs (command.Correct key number terms) version =
-    (version.act ≢ act.Corrected) ⊎ (version.terms ≢ terms)
-Differs (command.Cancel key number) version = version.act ≢ act.Canceled
-Differs (command.Confirm key) version = ⊥
-Differs (command.Quote asked) version = ⊥
-Differs (command.List desk after) version = ⊥
+-- a version is what it asks to keep
+abbrev pub IsAsked : Command → Version → Type 0
+IsAsked (command.AddIssue row) version = ⊥
+IsAsked (command.Enter key terms) version = version.terms ≡ terms
+IsAsked (command.Correct key number terms) version =
+    (version.act ≡ act.Corrected) × (version.terms ≡ terms)
+IsAsked (command.Cancel key number) version = version.act ≡ act.Canceled
+IsAsked (command.Confirm key) version = ⊥
+IsAsked (command.Quote asked) version = ⊥
+IsAsked (command.List desk after) version = ⊥
 
--- The CUSIP of the figures that it asks for, or of a version of the trade that it asks for.
+-- a version that is kept is what it asks to keep
+pub record IsSentAgain (tables : Tables) (asked : Command) (version : Version) : Type 0 where
+  pub key : Key
+  pub number : ℕ
+  pub asks : AsksForVersion asked key number
+  pub version_kept : version_at tables key number ≡ Some version
+  pub is_asked : IsAsked asked version
+
+-- a change of a trade with this last version, which has none under the number
+pub record IsNewChange (tables : Tables) (asked : Command) (key : Key) (number : ℕ) (last : ℕ × Version) : Type 0 where
+  pub asks : AsksToChange asked key number
+  pub last_is : last_at tables key ≡ Some last
+  pub is_new : version_at tables key number ≡ None
+
+-- A correction has room in a trade of less than 99 versions, and a cancel always.
+abbrev pub HasRoom : Command → ℕ → Type 0
+HasRoom (command.AddIssue row) count = ⊤
+HasRoom (command.Enter key terms) count = ⊤
+HasRoom (command.Correct key number terms) count = count < 99
+HasRoom (command.Cancel key number) count = ⊤
+HasRoom (command.Confirm key) count = ⊤
+HasRoom (command.Quote asked) count = ⊤
+HasRoom (command.List desk after) count = ⊤
+
+-- The CUSIP of the issue that a command needs, if nothing stands against it before: that of its terms if they
+-- are new, and that of the last version for a cancel and a confirmation.
 abbrev pub NeedsIssue : Tables → Command → List ℕ → Type 0
-NeedsIssue tables asked cusip =
-    ((what : Asked) × (asked_of asked ≡ Some what) × (cusip ≡ what.cusip))
-    ⊎ ((key : Key) × (number : ℕ) × (version : Version) × (trade_of asked ≡ Some key)
-    × ((version_at tables key number ≡ Some version) ⊎ (last_at tables key ≡ Some (number, version)))
-    × (cusip ≡ version.terms.asked.cusip))
+NeedsIssue tables (command.AddIssue row) cusip = ⊥
+NeedsIssue tables (command.Enter key terms) cusip =
+    (version_at tables key 1 ≡ None) × (cusip ≡ terms.asked.cusip)
+NeedsIssue tables (command.Correct key number terms) cusip =
+    (last : ℕ × Version) × IsLive tables key number last × (last.0 < 99) × (cusip ≡ terms.asked.cusip)
+NeedsIssue tables (command.Cancel key number) cusip =
+    (last : ℕ × Version) × IsLive tables key number last × (cusip ≡ last.1.terms.asked.cusip)
+NeedsIssue tables (command.Confirm key) cusip =
+    (last : ℕ × Version) × (last_at tables key ≡ Some last) × (cusip ≡ last.1.terms.asked.cusip)
+NeedsIssue tables (command.Quote asked) cusip = cusip ≡ asked.cusip
+NeedsIssue tables (command.List desk after) cusip = ⊥
 
--- the trade that it asks for has this last version, with its number
-abbrev pub HasLast : Tables → Command → ℕ → Version → Type 0
-HasLast tables asked number version =
-    (key : Key) × (trade_of asked ≡ Some key) × (last_at tables key ≡ Some (number, version))
+-- that CUSIP, or the one of the version that is sent again
+abbrev pub IsOfIssue : Tables → Command → List ℕ → Type 0
+IsOfIssue tables asked cusip =
+    ((version : Version) × IsSentAgain tables asked version × (cusip ≡ version.terms.asked.cusip))
+    ⊎ NeedsIssue tables asked cusip
 
+-- ---- the causes
 -- the cause of each refusal that is not one of figures
 abbrev pub HasCause : Tables → Command → Refusal → Type 0
-HasCause tables asked UnknownIssue =
-    (cusip : List ℕ) × NeedsIssue tables asked cusip × (issue_at tables cusip ≡ None)
+HasCause tables asked (BadTerms fault) =
+    (row : IssueRow) × (asked ≡ command.AddIssue row) × (checked row ≡ Err fault)
 HasCause tables asked UnknownTrade =
-    (key : Key) × (trade_of asked ≡ Some key) × (last_at tables key ≡ None)
+    (key : Key) × AsksForTrade asked key × (last_at tables key ≡ None)
 HasCause tables asked (Conflict (kept.Issue other)) =
     (row : IssueRow) × (issue : IssueRow) × (asked ≡ command.AddIssue row) × (checked row ≡ Ok issue)
     × (issue_at tables issue.cusip ≡ Some other) × (other ≢ issue)
 HasCause tables asked (Conflict (kept.Version number version)) =
-    (key : Key) × (place_of asked ≡ Some (key, number))
-    × (version_at tables key number ≡ Some version) × Differs asked version
-HasCause tables asked (BadTerms fault) =
-    (row : IssueRow) × (asked ≡ command.AddIssue row) × (checked row ≡ Err fault)
+    (key : Key) × AsksForVersion asked key number
+    × (version_at tables key number ≡ Some version) × (IsAsked asked version → ⊥)
 HasCause tables asked Canceled =
-    (number : ℕ) × (version : Version) × HasLast tables asked number version
-    × (version.act ≡ act.Canceled)
-HasCause tables asked (WrongNumber next) =
-    (last : ℕ) × (version : Version) × (key : Key) × (number : ℕ) × HasLast tables asked last version
-    × (place_of asked ≡ Some (key, number)) × (version_at tables key number ≡ None)
-    × (number ≢ last + 1) × (next ≡ min (last + 1) (2 ^ 32 - 1))
+    (key : Key) × (number : ℕ) × (last : ℕ × Version) × IsNewChange tables asked key number last
+    × (last.1.act ≡ act.Canceled)
 HasCause tables asked VersionsFull =
-    (number : ℕ) × (version : Version) × HasLast tables asked number version × (99 ≤ number)
+    (key : Key) × (number : ℕ) × (terms : Terms) × (last : ℕ × Version)
+    × (asked ≡ command.Correct key number terms) × IsNewChange tables asked key number last
+    × (last.1.act ≢ act.Canceled) × (99 ≤ last.0)
+HasCause tables asked (WrongNumber next) =
+    (key : Key) × (number : ℕ) × (last : ℕ × Version) × IsNewChange tables asked key number last
+    × (last.1.act ≢ act.Canceled) × HasRoom asked last.0
+    × (number ≢ last.0 + 1) × (next ≡ min (last.0 + 1) (2 ^ 32 - 1))
+HasCause tables asked UnknownIssue =
+    (cusip : List ℕ) × IsOfIssue tables asked cusip × (issue_at tables cusip ≡ None)
 HasCause tables asked DeskFull =
-    (key : Key) × (terms : Terms) × (asked ≡ command.Enter key terms)
-    × (version_at tables key 1 ≡ None) × (100_000 ≤ len (own key.desk tables.desks))
+    (key : Key) × (terms : Terms) × (issue : IssueRow) × (asked ≡ command.Enter key terms)
+    × (version_at tables key 1 ≡ None) × (issue_at tables terms.asked.cusip ≡ Some issue)
+    × (100_000 ≤ len (own key.desk tables.desks))
 HasCause tables asked SettleOutside = ⊥
 HasCause tables asked (GivenOutOfRange range) = ⊥
 HasCause tables asked (YieldBelow date) = ⊥
@@ -106,15 +133,31 @@ HasCause tables asked (NoTime date) = ⊥
 HasCause tables asked (Undecided date boundary) = ⊥
 HasCause tables asked WrongBasis = ⊥
 
--- the refusal is the answer to the figures that it asks for
+-- a quote of an issue that is kept
+pub record IsQuote (tables : Tables) (asked : Command) (issue : IssueRow) (what : Asked) : Type 0 where
+  pub command : asked ≡ command.Quote what
+  pub issue_is : issue_at tables what.cusip ≡ Some issue
+
+-- The figures that it asks for are refused, and nothing else stands against it: a quote, a new trade, or a
+-- correction.
 abbrev pub HasNoFigures : Pricing → Tables → Command → Refusal → Type 0
 HasNoFigures Prices tables asked why =
-    (what : Asked) × (issue : IssueRow) × (asked_of asked ≡ Some what)
-    × (issue_at tables what.cusip ≡ Some issue) × Prices issue what (Err why)
+    ((issue : IssueRow) × (what : Asked) × IsQuote tables asked issue what × Prices issue what (Err why))
+    ⊎ ((issue : IssueRow) × (key : Key) × (number : ℕ) × (act : Act) × (terms : Terms)
+    × (IsNewTrade tables asked issue key number act terms ⊎ IsCorrection tables asked issue key number act terms)
+    × Prices issue terms.asked (Err why))
 
--- a refusal comes where it has its cause, or where figures are refused so
+-- ---- the laws
+-- a refusal comes only if it has its cause, or if figures are refused so
 abbrev pub RefusalsHaveCauses : Pricing → Type 0
 RefusalsHaveCauses Prices =
     (tables : Tables) (asked : Command) (why : Refusal) (entry : Option Entry)
     → IsStepOver Prices tables asked (record { reply = Refused why; entry = entry })
     → HasCause tables asked why ⊎ HasNoFigures Prices tables asked why
+
+-- and always then
+abbrev pub CausesAreRefused : Pricing → Type 0
+CausesAreRefused Prices =
+    (tables : Tables) (asked : Command) (why : Refusal) (outcome : Outcome)
+    → HasCause tables asked why ⊎ HasNoFigures Prices tables asked why
+    → IsStepOver Prices tables asked outcome → outcome ≡ answered (Refused why)

@@ -6,6 +6,9 @@ pub mod Fault
 pub mod RightFigures
 pub mod SoundTables
 pub mod Causes
+pub mod Kept
+pub mod LookUps
+pub mod RightReplies
 pub mod Isolation
 pub mod Once
 pub mod Unique

@@ -1,7 +1,6 @@
 //! Why a command is not answered.
 
 use muni_keep::KeepFault;
-use std::alloc::AllocError;
 use thiserror::Error;
 
 /// Why a command is not answered. Nothing was kept for it.
@@ -26,16 +25,5 @@ impl From<KeepFault> for BookFault {
             KeepFault::Failed => BookFault::Failed,
             KeepFault::NoMemory => BookFault::NoMemory,
         }
-    }
-}
-
-impl From<AllocError> for BookFault {
-    ghost use Rattle.std.specs.Prelude.{◌≡◌};
-    ghost use Rattle.muni_book.specs.declared.fault.BookFault.{BookFault};
-
-    ghost from_gives = { λ _ fault. fault ≡ BookFault.NoMemory };
-
-    fn from(_: AllocError) -> BookFault {
-        BookFault::NoMemory
     }
 }

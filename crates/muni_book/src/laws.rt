@@ -1,7 +1,7 @@
 //! Laws of the answers, and of runs over every list of commands.
 
 ghost use Rattle.muni_book.specs.AnswerLaws.{AnswersAreUnique, AnsweredFiguresAreRight};
-ghost use Rattle.muni_book.specs.RunLaws.{TablesAreSound, AcceptedCommandsActOnce, NothingKeptIsLost, EachDeskIsIsolated, RepliesAreUnique, EachEntryHasItsReason, EachRefusalHasItsCause};
+ghost use Rattle.muni_book.specs.RunLaws.{TablesAreSound, ConfirmedFiguresAreRight, AcceptedCommandsActOnce, WhatIsKeptIsAnsweredAgain, NothingKeptIsLost, EachDeskIsIsolated, RepliesAreUnique, EachEntryHasItsReason, EachRefusalHasItsCause, ConfirmationsAreOfLastVersions, ListsArePages, QuotesAreRightAnswers};
 
 /// A law of the definitions: of one issue and one request they allow one answer, and so figures or a
 /// refusal but never both. So it does not depend on how many workers compute.
@@ -21,10 +21,23 @@ pub fn tables_are_sound()
     ensures { TablesAreSound }
 {}
 
+/// A law of the definitions: over sound tables what is confirmed has figures that are right by the
+/// rule's exact formulas, of a version and an issue that are kept. So it is with each reply of a run,
+/// with the last version of every trade, and with each line of a list. Quoted figures are right too.
+pub fn confirmed_figures_are_right()
+    ensures { ConfirmedFiguresAreRight }
+{}
+
 /// A law of the definitions: a command that was accepted acts once. Sent again at any later time it
 /// adds nothing, and is answered by an equal reply.
 pub fn accepted_commands_act_once()
     ensures { AcceptedCommandsActOnce }
+{}
+
+/// A law of the definitions: a command for what is kept already is answered by it and adds nothing,
+/// whatever led to the tables.
+pub fn what_is_kept_is_answered_again()
+    ensures { WhatIsKeptIsAnsweredAgain }
 {}
 
 /// A law of the definitions: a run changes and removes nothing that is kept.
@@ -44,17 +57,34 @@ pub fn replies_are_unique()
     ensures { RepliesAreUnique }
 {}
 
-/// A law of the definitions: each entry has its reason. An issue is kept where it is new and passes
-/// its checks. A trade is kept where it is new and its desk has room, with the figures of its terms.
-/// A live trade takes a correction or a cancel with the next number. Where nothing is kept for a
-/// command that is accepted, it was kept before.
+/// A law of the definitions: an entry is made exactly if it has its reason. An issue is kept if it is
+/// new and passes its checks. A trade is kept if it is new and its desk has room, with the figures of
+/// its terms. A live trade takes a correction or a cancel with the next number. If nothing is kept for
+/// a command that is accepted, it was kept before.
 pub fn each_entry_has_its_reason()
     ensures { EachEntryHasItsReason }
 {}
 
-/// A law of the definitions: a refusal comes where it has its cause, or where the figures that are
-/// asked for are refused so. A conflict tells the issue or the version that is kept, which is not
-/// what was sent.
+/// A law of the definitions: a refusal comes exactly if it has its cause and none that comes before
+/// it, or if nothing stands against the command but that the figures which it asks for are refused so.
+/// A conflict has the issue or the version that is kept, which is not what was sent.
 pub fn each_refusal_has_its_cause()
     ensures { EachRefusalHasItsCause }
+{}
+
+/// A law of the definitions: a confirmation that is asked for is of the last version of the trade. It
+/// is refused only if the trade or its issue is not kept.
+pub fn confirmations_are_of_last_versions()
+    ensures { ConfirmationsAreOfLastVersions }
+{}
+
+/// A law of the definitions: a list has the first 50 trades of the desk, or those after a reference,
+/// with their last versions.
+pub fn lists_are_pages()
+    ensures { ListsArePages }
+{}
+
+/// A law of the definitions: a quote has the right answer to what is asked of an issue that is kept.
+pub fn quotes_are_right_answers()
+    ensures { QuotesAreRightAnswers }
 {}

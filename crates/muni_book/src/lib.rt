@@ -2,13 +2,15 @@
 #![tactic(auto)]
 
 mod answers;
+mod calculator;
 mod fault;
 pub mod laws;
-mod runs;
 mod steps;
 mod trade;
+mod workers;
 
 pub use answers::figures;
+pub use calculator::Calculator;
 pub use fault::BookFault;
-pub use runs::run;
 pub use steps::apply;
+pub use workers::Workers;

@@ -20,8 +20,9 @@ use std::thread::Threads;
 
 /// Applies one command: answers it, and keeps at most one issue or one version more for it.
 ///
-/// Nothing is kept for a command that is refused, nor where the keeper fails or has no memory. Where
-/// a keeper gives a version and not its issue, the issue is unknown.
+/// Nothing is kept for a command that is refused, nor where the keeper fails or has no memory. What is
+/// answered is said of a keeper that exposes its tables; of any other the code alone shows it, also that
+/// the issue of a version is unknown where the keeper does not give it.
 // Up to `workers` threads, from 1 to 16, look for the yields (tested).
 pub fn apply<R: Threads + Sync, K: Keeper, E: Encloser + Sync, G: Gate + Sync>(
     rt: &R,

@@ -90,7 +90,7 @@ of-row t row (Ok issue) passed =
 of-row t row (Err fault) passed = λ asks accepted. absurd accepted
 
 -- ---- trades
-is-corrected : (act : Act) → is_corrected act ≡ true → act ≡ Corrected
+pub is-corrected : (act : Act) → is_corrected act ≡ true → act ≡ Corrected
 is-corrected Entered e = absurd (cc)
 is-corrected Corrected e = refl
 is-corrected Canceled e = absurd (cc)
@@ -104,10 +104,10 @@ none-if : {A : Type 0} (b : Bool) (x : A) → (if b then None else Some x) ≡ N
 none-if true x none = refl
 none-if false x none = absurd (let never : Some x ≡ None = none in cc)
 
-is-next : (last number : ℕ) → number_refusal last number ≡ None → number ≡ last + 1
+pub is-next : (last number : ℕ) → number_refusal last number ≡ None → number ≡ last + 1
 is-next last number none = eqb-true number (last + 1) (none-if (number == last + 1) _ none)
 
-none-of : {A : Type 0} (b : Bool) (x : A) (o : Option A) → (if b then Some x else o) ≡ None → (b ≡ false) × (o ≡ None)
+pub none-of : {A : Type 0} (b : Bool) (x : A) (o : Option A) → (if b then Some x else o) ≡ None → (b ≡ false) × (o ≡ None)
 none-of true x o none = absurd (let never : Some x ≡ None = none in cc)
 none-of false x o none = (refl, none)
 

@@ -1,5 +1,5 @@
 -- Runs of commands.
-use Rattle.std.specs.Prelude.{◌≡◌, ℕ, ⊤, List, [], ◌∷◌, take, Option, Some}
+use Rattle.std.specs.Prelude.{◌≡◌, ⊤, List, [], ◌∷◌, Option, Some}
 use Rattle.muni_msg.specs.declared.command.Command.{Command}
 use Rattle.muni_msg.specs.declared.command.Reply.{Reply}
 use Rattle.muni_msg.specs.declared.command.Reply.TheVariants.{Added, Quoted, Listed, Confirmed, Refused}
@@ -25,11 +25,6 @@ Runs Prices old (command ∷ commands) [] new = ⊥
 abbrev pub RunsTo : Pricing → Tables → List Command → List Reply → Option Tables → Type 0
 RunsTo Prices old commands replies told =
     (new : Tables) × (told ≡ Some new) × Runs Prices old commands replies new
-
--- a run of the first commands, however many these are
-abbrev pub RunsFirst : Pricing → Tables → List Command → Option Tables → Type 0
-RunsFirst Prices old commands told =
-    (count : ℕ) × (replies : List Reply) × RunsTo Prices old (take count commands) replies told
 
 -- a reply that refuses the command
 abbrev pub IsRefusal : Reply → Type 0

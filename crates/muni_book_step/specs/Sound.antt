@@ -8,7 +8,7 @@ use Rattle.muni_msg.specs.declared.figures.Figures.{Figures}
 use Rattle.muni_msg.specs.declared.version.Act.TheVariants.{Entered, Corrected, Canceled}
 use Rattle.muni_msg.specs.declared.version.Version.{Version}
 use Rattle.muni_keep.specs.History.{History, versions, count}
-use Rattle.muni_keep.specs.Tables.{Tables, trade_at}
+use Rattle.muni_keep.specs.Tables.{Tables, issue_at, trade_at}
 use Rattle.muni_keep.specs.Trades.{own}
 use Rattle.muni_book_step.specs.Plan.{Issues, issue_of, is_canceled, cancel_of}
 
@@ -43,8 +43,10 @@ pub record IsSoundTrade (AreRight : Rightness) (issues : Issues) (history : Hist
   pub acts : AreVersions (versions history)
   pub right : All (IsRightVersion AreRight issues) (versions history)
 
--- A desk has at most 100,000 trades.
+-- Each issue is kept under its own CUSIP, and a desk has at most 100,000 trades.
 pub record IsSound (AreRight : Rightness) (tables : Tables) : Type 0 where
+  pub issues : (cusip : List ℕ) (issue : IssueRow) → issue_at tables cusip ≡ Some issue
+      → issue.cusip ≡ cusip
   pub trades : (key : Key) (history : History Version) → trade_at tables key ≡ Some history
       → IsSoundTrade AreRight tables.issues history
   pub few : (desk : List ℕ) → len (own desk tables.desks) ≤ 100_000

@@ -2,7 +2,7 @@
 use Rattle.std.specs.Prelude.{ℕ, nat_le, nat_lt, ◌&&◌, if◌then◌else◌, List, Option, Some, None, is_none, Result, Ok, Err, ℤ, pos, negsuc}
 use Rattle.std.specs.Option.{ok_or}
 use Rattle.muni_rule.specs.Ranges.{side_of, one_period_prints}
-use Rattle.muni_dec.specs.Decimal.{reading, signed_reading, digits_reading}
+use Rattle.muni_dec.specs.Decimal.{reading, signed_reading, digits_reading, decimal_text, signed_text}
 use Rattle.muni_dec.specs.declared.fault.DecFault.{DecFault}
 use Rattle.muni_dec.specs.declared.fault.DecFault.TheVariants.{OutOfRange}
 
@@ -42,9 +42,15 @@ if_price units = if_amount 0 999_999_999 units
 unfoldable pub price_reading : List ℕ → Result ℕ DecFault
 price_reading text = amount_reading 6 0 999_999_999 text
 
--- a printed price: from 0 to the greatest number of the widths of the desk
+abbrev pub price_text : ℕ → List ℕ
+price_text units = decimal_text 6 units
+
+-- a printed price: three decimals, from 0 to the greatest number of the widths of the desk
 abbrev pub if_printed_price : ℕ → Option ℕ
 if_printed_price units = if_amount 0 9_223_372_036_854_775_807 units
+
+abbrev pub printed_price_text : ℕ → List ℕ
+printed_price_text units = decimal_text 3 units
 
 -- a coupon: seven decimals, from 0 to 30 dollars per 100 of par and year
 abbrev pub if_coupon : ℕ → Option ℕ
@@ -53,6 +59,9 @@ if_coupon units = if_amount 0 300_000_000 units
 unfoldable pub coupon_reading : List ℕ → Result ℕ DecFault
 coupon_reading text = amount_reading 7 0 300_000_000 text
 
+abbrev pub coupon_text : ℕ → List ℕ
+coupon_text units = decimal_text 7 units
+
 -- a commission: three decimals, from 0 to 10 dollars per 100 of par
 abbrev pub if_fee : ℕ → Option ℕ
 if_fee units = if_amount 0 10_000 units
@@ -60,9 +69,15 @@ if_fee units = if_amount 0 10_000 units
 unfoldable pub fee_reading : List ℕ → Result ℕ DecFault
 fee_reading text = amount_reading 3 0 10_000 text
 
--- money: from 0 to the greatest number of the widths of the desk
+abbrev pub fee_text : ℕ → List ℕ
+fee_text units = decimal_text 3 units
+
+-- money: cents, two decimals of a dollar, from 0 to the greatest number of the widths of the desk
 abbrev pub if_money : ℕ → Option ℕ
 if_money units = if_amount 0 9_223_372_036_854_775_807 units
+
+abbrev pub money_text : ℕ → List ℕ
+money_text units = decimal_text 2 units
 
 -- a given yield or a discount rate: four decimals, from -99.9999 to 999.9999 percent
 abbrev pub if_yield : ℤ → Option ℤ
@@ -71,9 +86,15 @@ if_yield units = if_percent 999_999 9_999_999 units
 unfoldable pub yield_reading : List ℕ → Result ℤ DecFault
 yield_reading text = percent_reading 4 999_999 9_999_999 text
 
--- a printed yield, of any security: the widest range is that of one period
+abbrev pub yield_text : ℤ → List ℕ
+yield_text units = signed_text 4 units
+
+-- a printed yield, of any security: three decimals, and the widest range is that of one period
 abbrev pub if_printed_yield : ℤ → Option ℤ
 if_printed_yield units = if is_none (side_of one_period_prints units) then Some units else None
+
+abbrev pub printed_yield_text : ℤ → List ℕ
+printed_yield_text units = signed_text 3 units
 
 -- a par: whole dollars from 1 to 1,000,000,000, where a point is a byte that does not belong
 abbrev pub if_par : ℕ → Option ℕ

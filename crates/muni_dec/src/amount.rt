@@ -4,7 +4,7 @@ ghost use Rattle.std.specs.Prelude.{◌≡◌, ◌+◌, ◌-◌, ◌≤◌};
 ghost use Rattle.arrayvec.specs.ArrayVec.{array_vec_len};
 ghost use Rattle.muni_dec.specs.Decimal.{decimal_text};
 ghost use Rattle.muni_dec.specs.Ranges.{IsAmount};
-ghost use Rattle.muni_dec.specs.Values.{amount_reading, if_amount, price_reading, if_price, coupon_reading, if_coupon, fee_reading, if_fee, if_printed_price, if_money};
+ghost use Rattle.muni_dec.specs.Values.{amount_reading, if_amount, price_reading, if_price, price_text, if_printed_price, printed_price_text, coupon_reading, if_coupon, coupon_text, fee_reading, if_fee, fee_text, if_money, money_text};
 
 use crate::DecFault;
 use crate::decimal::{push_decimal, read_decimal};
@@ -74,8 +74,8 @@ impl<const PLACES: usize, const LEAST: u64, const GREATEST: u64> Amount<PLACES, 
         self.units
     }
 
-    /// Replaces the text by the decimal with all its places.
-    pub fn print_into(&self, text: &mut ArrayVec<u8, 32>)
+    // Replaces the text by the decimal with all its places.
+    fn print_places(&self, text: &mut ArrayVec<u8, 32>)
         requires { (1 ≤ PLACES) × (PLACES ≤ 7) }
         ensures items { text.new.items ≡ decimal_text PLACES self.now }
         ensures len { array_vec_len text.new ≤ 29 }
@@ -112,6 +112,14 @@ impl Price {
     {
         Price::in_range(units)
     }
+
+    /// Replaces the text by the price with all its six decimals.
+    pub fn print_into(&self, text: &mut ArrayVec<u8, 32>)
+        ensures items { text.new.items ≡ price_text self.now }
+        ensures len { array_vec_len text.new ≤ 29 }
+    {
+        self.print_places(text);
+    }
 }
 
 impl Price3 {
@@ -120,6 +128,14 @@ impl Price3 {
         ensures { result ≡ if_printed_price units }
     {
         Price3::in_range(units)
+    }
+
+    /// Replaces the text by the price with all its three decimals.
+    pub fn print_into(&self, text: &mut ArrayVec<u8, 32>)
+        ensures items { text.new.items ≡ printed_price_text self.now }
+        ensures len { array_vec_len text.new ≤ 29 }
+    {
+        self.print_places(text);
     }
 }
 
@@ -137,6 +153,14 @@ impl Coupon {
         ensures { result ≡ if_coupon units }
     {
         Coupon::in_range(units)
+    }
+
+    /// Replaces the text by the coupon with all its seven decimals.
+    pub fn print_into(&self, text: &mut ArrayVec<u8, 32>)
+        ensures items { text.new.items ≡ coupon_text self.now }
+        ensures len { array_vec_len text.new ≤ 29 }
+    {
+        self.print_places(text);
     }
 }
 
@@ -158,6 +182,14 @@ impl Fee {
     {
         Fee::in_range(units)
     }
+
+    /// Replaces the text by the commission with all its three decimals.
+    pub fn print_into(&self, text: &mut ArrayVec<u8, 32>)
+        ensures items { text.new.items ≡ fee_text self.now }
+        ensures len { array_vec_len text.new ≤ 29 }
+    {
+        self.print_places(text);
+    }
 }
 
 impl Cents {
@@ -169,6 +201,14 @@ impl Cents {
         ensures { result ≡ if_money units }
     {
         Cents::in_range(units)
+    }
+
+    /// Replaces the text by the amount in dollars with both its decimals.
+    pub fn print_into(&self, text: &mut ArrayVec<u8, 32>)
+        ensures items { text.new.items ≡ money_text self.now }
+        ensures len { array_vec_len text.new ≤ 29 }
+    {
+        self.print_places(text);
     }
 
     /// Two amounts together.

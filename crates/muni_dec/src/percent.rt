@@ -4,7 +4,7 @@ ghost use Rattle.std.specs.Prelude.{◌≡◌, ◌≤◌};
 ghost use Rattle.arrayvec.specs.ArrayVec.{array_vec_len};
 ghost use Rattle.muni_dec.specs.Decimal.{signed_text};
 ghost use Rattle.muni_dec.specs.Ranges.{IsPercent};
-ghost use Rattle.muni_dec.specs.Values.{percent_reading, if_percent, yield_reading, if_yield, if_printed_yield};
+ghost use Rattle.muni_dec.specs.Values.{percent_reading, if_percent, yield_reading, if_yield, yield_text, if_printed_yield, printed_yield_text};
 
 use crate::DecFault;
 use crate::decimal::{push_signed, read_signed};
@@ -59,8 +59,8 @@ impl<const PLACES: usize, const BELOW: u32, const GREATEST: u32> Percent<PLACES,
         self.units
     }
 
-    /// Replaces the text by the percentage with all its places.
-    pub fn print_into(&self, text: &mut ArrayVec<u8, 32>)
+    // Replaces the text by the percentage with all its places.
+    fn print_places(&self, text: &mut ArrayVec<u8, 32>)
         requires { (1 ≤ PLACES) × (PLACES ≤ 7) }
         ensures items { text.new.items ≡ signed_text PLACES self.now }
         ensures len { array_vec_len text.new ≤ 29 }
@@ -103,6 +103,14 @@ impl Yield {
     {
         Yield::in_range(units)
     }
+
+    /// Replaces the text by the yield with all its four decimals.
+    pub fn print_into(&self, text: &mut ArrayVec<u8, 32>)
+        ensures items { text.new.items ≡ yield_text self.now }
+        ensures len { array_vec_len text.new ≤ 29 }
+    {
+        self.print_places(text);
+    }
 }
 
 impl Yield3 {
@@ -111,5 +119,13 @@ impl Yield3 {
         ensures { result ≡ if_printed_yield units }
     {
         Yield3::in_range(units)
+    }
+
+    /// Replaces the text by the yield with all its three decimals.
+    pub fn print_into(&self, text: &mut ArrayVec<u8, 32>)
+        ensures items { text.new.items ≡ printed_yield_text self.now }
+        ensures len { array_vec_len text.new ≤ 29 }
+    {
+        self.print_places(text);
     }
 }

@@ -29,7 +29,8 @@ use Rattle.muni_desk.specs.QuoteOptions.{date_of, bond_day_count, note_day_count
 use Rattle.muni_desk.specs.QuoteOptions as quote
 use Rattle.muni_desk.specs.DrillOptions as drill
 use Rattle.muni_desk.specs.DrillOptions.{drill_of}
-use Rattle.muni_desk.specs.QuoteOne.{is_next, values_reading, quote_one_of}
+use Rattle.muni_desk.specs.NextInterestDate.{is_next, if_next}
+use Rattle.muni_desk.specs.QuoteOne.{values_reading, quote_one_of}
 use Rattle.muni_desk.specs.declared.command.DeskCommand.TheVariants.{QuoteOne, Quote, Drill}
 use Rattle.muni_desk.specs.declared.command.CommandLine.{CommandLine}
 use Rattle.muni_desk.specs.declared.drill.options.DrillRequest.{DrillRequest}
@@ -217,7 +218,7 @@ read-calls (text ∷ texts) calls read =
     let rest = bind-some (λ calls. Some (one.0 ∷ calls)) (calls_reading texts) calls one.2 in
     subst (AllZip IsCall (text ∷ texts)) (same_Some (one.0 ∷ rest.0) calls rest.2) (read-call text one.0 one.1, read-calls texts rest.0 rest.1)
 
-calls-read : (texts : List (List ℕ)) (calls : List Call) → AllZip IsCall texts calls → calls_reading texts ≡ Some calls
+pub calls-read : (texts : List (List ℕ)) (calls : List Call) → AllZip IsCall texts calls → calls_reading texts ≡ Some calls
 calls-read [] [] read = refl
 calls-read [] (call ∷ calls) read = absurd read
 calls-read (text ∷ texts) [] read = absurd read
@@ -430,17 +431,18 @@ read-values words name line named five is =
     let settlement = bind-some _ (result_ok (day_reading (word words 2))) line next.2 in
     let redemption = bind-some _ (result_ok (price_reading (word words 3))) line settlement.2 in
     let yld = bind-some _ (result_ok (yield_reading (word words 4))) line redemption.2 in
-    let request = request_from coupon.0 next.0 settlement.0 redemption.0 yld.0 in
-    let last = if-some (is_next (civil next.0)) (Some (record { command = QuoteOne request; workers = 1 })) line yld.2 in
-    let dates = both (nat_le next.0.day 28) (nat_le 1902 next.0.year) last.0 in
-    let day : nat_le next.0.day 28 ≡ true = dates.0 in
-    let year : nat_le 1902 next.0.year ≡ true = dates.1 in
-    subst (IsCommandLine (name ∷ words)) (same_Some (record { command = QuoteOne request; workers = 1 }) line last.1) (
+    let date = bind-some _ (if_next next.0) line yld.2 in
+    let can_be = if-some (is_next (civil next.0)) (Some next.0) date.0 date.1 in
+    let request = request_from coupon.0 date.0 settlement.0 redemption.0 yld.0 in
+    let dates = both (nat_le date.0.day 28) (nat_le 1902 date.0.year) (subst (λ d. is_next (civil d) ≡ true) (same_Some next.0 date.0 can_be.1) can_be.0) in
+    let day : nat_le date.0.day 28 ≡ true = dates.0 in
+    let year : nat_le 1902 date.0.year ≡ true = dates.1 in
+    subst (IsCommandLine (name ∷ words)) (same_Some (record { command = QuoteOne request; workers = 1 }) line date.2) (
       named,
       record {
         five = five;
         coupon = ok-some (coupon_reading (word words 0)) coupon.0 coupon.1;
-        next = ok-some (day_reading (word words 1)) next.0 next.1;
+        next = ok-some (day_reading (word words 1)) date.0 (next.1 ∙ can_be.1);
         settlement = ok-some (day_reading (word words 2)) settlement.0 settlement.1;
         redemption = ok-some (price_reading (word words 3)) redemption.0 redemption.1;
         yld = ok-some (yield_reading (word words 4)) yld.0 yld.1;
@@ -467,4 +469,5 @@ quote_one-read words request said =
     (some-bind _ (result_ok (day_reading (word words 2))) request.settlement line (ap result_ok said.settlement)
     (some-bind _ (result_ok (price_reading (word words 3))) request.redemption line (ap result_ok said.redemption)
     (some-bind _ (result_ok (yield_reading (word words 4))) request.yld line (ap result_ok said.yld)
-    (when-true (is_next (civil request.next)) (Some line) line next refl))))))
+    (some-bind _ (if_next request.next) request.next line (when-true (is_next (civil request.next)) (Some request.next) request.next next refl)
+    refl))))))

@@ -8,7 +8,8 @@ use Rattle.muni_days.specs.Day.{civil}
 use Rattle.muni_days.specs.declared.day.Day.{Day}
 use Rattle.muni_days.proofs.CivilLemmas.{is_civil, is_of_desk}
 use Rattle.muni_days.proofs.EarlyLemmas.{IsEarly}
-use Rattle.muni_desk.specs.QuoteOne.{is_next, period_start, settles, accrued_days}
+use Rattle.muni_desk.specs.NextInterestDate.{is_next}
+use Rattle.muni_desk.specs.QuoteOne.{period_start, settles, accrued_days}
 use Rattle.muni_desk.specs.declared.quote_one.QuoteOneRequest.{QuoteOneRequest}
 
 -- the six months before a day that every month has

@@ -16,9 +16,8 @@ use Rattle.muni_confirm.specs.Refusal.{refusal_text}
 use Rattle.muni_book.specs.Answers.{IsRightAnswer}
 use Rattle.muni_book.proofs.UniqueLemmas.{answers-unique}
 use Rattle.muni_desk.specs.Answers.{price_line, IsQuoteOneText, IsQuoteText, IsDrillText, IsHelpText, IsAnswer}
-use Rattle.muni_desk.specs.Command.{IsAnswerable}
 use Rattle.muni_desk.specs.Drill.{IsDrilled, IsBook}
-use Rattle.muni_desk.specs.QuoteOne.{is_next}
+use Rattle.muni_desk.specs.NextInterestDate.{is_next}
 use Rattle.muni_desk.specs.Request.{IsAnswered}
 use Rattle.muni_desk.specs.Sums.{Answered, summary_text}
 use Rattle.muni_desk.specs.declared.command.DeskCommand.{DeskCommand}
@@ -30,6 +29,7 @@ use Rattle.muni_desk.specs.declared.status.Answer.{Answer}
 use Rattle.muni_desk.specs.declared.status.Status.{Status}
 use Rattle.muni_desk.specs.declared.status.Status.TheVariants.{Done, Refused}
 use Rattle.muni_desk.proofs.GeneratorLemmas.{generated-unique}
+use Rattle.muni_desk.proofs.NextDateLemmas.{HasNextDate}
 use Rattle.muni_desk.proofs.QuoteOneLemmas.{priced-unique}
 
 -- ---- a request for figures
@@ -108,7 +108,7 @@ help-same status other text also is so = absurd is
 answer-by : (answer other : Answer) → IsSame answer.status other.status answer.text.items other.text.items → answer ≡ other
 answer-by answer other same = λ i. record { status = same.ends i; text = record { items = same.writes i } }
 
-pub answer-unique : (ends : PaymentSeries → ℤ → WorthEnds) (command : DeskCommand) (answer other : Answer) → IsAnswerable command → IsAnswer ends command answer → IsAnswer ends command other → answer ≡ other
+pub answer-unique : (ends : PaymentSeries → ℤ → WorthEnds) (command : DeskCommand) (answer other : Answer) → HasNextDate command → IsAnswer ends command answer → IsAnswer ends command other → answer ≡ other
 answer-unique ends (QuoteOne request) answer other next is also = answer-by answer other (quote_one-same request answer.status other.status answer.text.items other.text.items next is also)
 answer-unique ends (Quote request) answer other fine is also = answer-by answer other (quote-same ends request answer.status other.status answer.text.items other.text.items is also)
 answer-unique ends (Drill request) answer other few is also = answer-by answer other (drill-same ends request answer.status other.status answer.text.items other.text.items is also)

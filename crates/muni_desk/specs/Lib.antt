@@ -2,6 +2,7 @@ pub mod Words
 pub mod Status
 pub mod Command
 pub mod QuoteOptions
+pub mod NextInterestDate
 pub mod QuoteOne
 pub mod DrillOptions
 pub mod StoreOptions
@@ -16,3 +17,5 @@ pub mod Store
 pub mod Does
 pub mod AnswerLaws
 pub mod WordLaws
+pub mod CompletenessLaws
+pub mod FieldLaws

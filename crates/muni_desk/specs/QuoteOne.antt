@@ -1,5 +1,5 @@
 -- The command `quote-one`: what its words ask for, and the price that answers them.
-use Rattle.std.specs.Prelude.{◌≡◌, ℕ, ◌+◌, ◌==◌, ◌&&◌, Bool, nat_le, if◌then◌else◌, MatchOption, List, length, Option, Some, None, option_map, Result, Ok, Err, ℤ, pos, negsuc, ◌-ℤ◌}
+use Rattle.std.specs.Prelude.{◌≡◌, ℕ, ◌+◌, ◌==◌, ◌&&◌, Bool, if◌then◌else◌, MatchOption, List, length, Option, Some, None, option_map, Result, Ok, Err, ℤ, pos, negsuc, ◌-ℤ◌}
 use Rattle.std.specs.Result.{result_ok}
 use Rattle.muni_rule.specs.Civil.{Civil, is_before, is_not_after, months_on}
 use Rattle.muni_rule.specs.DayCount.{days360}
@@ -15,20 +15,11 @@ use Rattle.muni_msg.specs.Refusal.{range_of}
 use Rattle.muni_msg.specs.declared.refusal.Range.TheVariants.{PriceBelowZero}
 use Rattle.muni_msg.specs.declared.refusal.Refusal.{Refusal}
 use Rattle.muni_msg.specs.declared.refusal.Refusal.TheVariants.{SettleOutside, GivenOutOfRange}
+use Rattle.muni_desk.specs.NextInterestDate.{if_next}
 use Rattle.muni_desk.specs.Words.{◌>>=◌, word}
 use Rattle.muni_desk.specs.declared.command.DeskCommand.TheVariants.{QuoteOne}
 use Rattle.muni_desk.specs.declared.command.CommandLine.{CommandLine}
 use Rattle.muni_desk.specs.declared.quote_one.QuoteOneRequest.{QuoteOneRequest}
-
--- the next interest date has a day that every month has, and is not before 1902-01-01
-abbrev pub is_next : Civil → Bool
-is_next date = nat_le date.day 28 && nat_le 1902 date.year
-
--- the command, if the next interest date is one
-abbrev pub if_next : QuoteOneRequest → Option CommandLine
-if_next request =
-    if is_next (civil request.next)
-    then Some (record { command = QuoteOne request; workers = 1 }) else None
 
 -- the five values that texts say, if each of them reads
 abbrev pub values_reading : (coupon next settlement redemption yld : List ℕ) → Option CommandLine
@@ -38,7 +29,11 @@ values_reading coupon next settlement redemption yld = do
   s ← result_ok (day_reading settlement)
   r ← result_ok (price_reading redemption)
   y ← result_ok (yield_reading yld)
-  if_next (record { coupon = c; next = n; settlement = s; redemption = r; yld = y })
+  date ← if_next n
+  Some (record {
+    command = QuoteOne (record { coupon = c; next = date; settlement = s; redemption = r; yld = y });
+    workers = 1;
+  })
 
 -- what words ask for behind the name of the command: they are the five values, in order
 abbrev pub quote_one_of : List (List ℕ) → Option CommandLine

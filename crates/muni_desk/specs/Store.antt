@@ -1,5 +1,5 @@
 -- What each command over a store does, by its status.
-use Rattle.std.specs.Prelude.{◌≡◌, ℕ, List}
+use Rattle.std.specs.Prelude.{◌≡◌, ℕ, List, IfSome}
 use Rattle.muni_edge.specs.Faults.{Rose}
 use Rattle.muni_edge.specs.declared.door.Door as Door
 use Rattle.muni_edge.specs.declared.sink.Sink as Sink
@@ -10,10 +10,13 @@ use Rattle.muni_book_step.specs.Step.{Pricing}
 use Rattle.muni_msg.specs.declared.command.Key.{Key}
 use Rattle.muni_desk_import.specs.Confirmed.{Confirmed}
 use Rattle.muni_desk_import.specs.Imported.{Imported}
+use Rattle.muni_desk_import.specs.Input.{TakesUpTo}
 use Rattle.muni_desk_import.specs.Lent.{Lent}
+use Rattle.muni_desk_import.specs.Reported.{Reported}
+use Rattle.muni_desk_import.specs.Reports.{ReportsReads, ReportsWrites}
 use Rattle.muni_desk_positions.specs.Imported.{ImportedWith, DoesNoneOfTooMany}
 use Rattle.muni_desk_positions.specs.Listed.{Listed}
-use Rattle.muni_marks.specs.Marked.{Marked}
+use Rattle.muni_marks.specs.Marked.{Marked, MarksReported}
 use Rattle.muni_desk_serve.specs.Serves.{Traffic}
 use Rattle.muni_desk_serve.specs.Serving.{ServedStore}
 use Rattle.muni_desk.specs.Status.{of_answered, of_done, of_served}
@@ -26,20 +29,24 @@ EndsAs {R} status_of status Holds = (result : R) × (status ≡ status_of result
 -- an import into a store, which leaves the other stores alone
 abbrev pub Imports : {I O C K : Type 0} → Source.Ghosts I → Sink.Ghosts O → Cabinet.Ghosts C K → Pricing → List ℕ → Status → (old new : Lent I O C) → Type 0
 Imports source sink cabinet Prices store status old new =
-    EndsAs of_done status (λ result. Imported source sink cabinet Prices store result old new)
-    × LeavesOthers cabinet store old.cabinet new.cabinet
+    EndsAs of_done status (λ result. Imported source sink cabinet Prices store result old new
+    × IfSome (source.left old.input) (λ text. Reported text result (sink.bytes old.output) (sink.bytes new.output))
+    × ReportsReads source result old.input new.input × ReportsWrites sink result old.output new.output)
+    × TakesUpTo source 4_194_305 old.input new.input × LeavesOthers cabinet store old.cabinet new.cabinet
 
 -- one with the positions of a desk after its report
 abbrev pub ImportsWith : {I O C K : Type 0} → Source.Ghosts I → Sink.Ghosts O → Cabinet.Ghosts C K → Pricing → (store desk : List ℕ) → Status → (old new : Lent I O C) → Type 0
 ImportsWith source sink cabinet Prices store desk status old new =
-    EndsAs of_done status (λ result. ImportedWith source sink cabinet Prices store desk result old new)
+    EndsAs of_done status (λ result. ImportedWith source sink cabinet Prices store desk result old new
+    × ReportsReads source result old.input new.input × ReportsWrites sink result old.output new.output)
     × DoesNoneOfTooMany cabinet store desk old new
-    × LeavesOthers cabinet store old.cabinet new.cabinet
+    × TakesUpTo source 4_194_305 old.input new.input × LeavesOthers cabinet store old.cabinet new.cabinet
 
 -- a confirmation
 abbrev pub Confirms : {I O C K : Type 0} → Sink.Ghosts O → Cabinet.Ghosts C K → List ℕ → Key → Status → (old new : Lent I O C) → Type 0
 Confirms sink cabinet store key status old new =
-    EndsAs of_answered status (λ result. Confirmed sink cabinet store key result old.output new.output old.cabinet new.cabinet)
+    EndsAs of_answered status (λ result. Confirmed sink cabinet store key result old.output new.output old.cabinet new.cabinet
+    × ReportsWrites sink result old.output new.output)
     × LeavesAll cabinet old.cabinet new.cabinet
 
 -- connections served over a store
@@ -51,11 +58,14 @@ Serves cabinet door Prices told store port most status old new before after =
 -- a listing of positions
 abbrev pub Lists : {I O C K : Type 0} → Sink.Ghosts O → Cabinet.Ghosts C K → (store desk : List ℕ) → Status → (old new : Lent I O C) → Type 0
 Lists sink cabinet store desk status old new =
-    EndsAs of_done status (λ result. Listed sink desk (cabinet.told old.cabinet store) (Rose (cabinet.faults old.cabinet) (cabinet.faults new.cabinet)) result old.output new.output)
+    EndsAs of_done status (λ result. Listed sink desk (cabinet.told old.cabinet store) (Rose (cabinet.faults old.cabinet) (cabinet.faults new.cabinet)) result old.output new.output
+    × ReportsWrites sink result old.output new.output)
     × LeavesAll cabinet old.cabinet new.cabinet
 
 -- the marks of a portfolio
 abbrev pub Marks : {I O C K : Type 0} → Source.Ghosts I → Sink.Ghosts O → Cabinet.Ghosts C K → Pricing → List ℕ → Status → (old new : Lent I O C) → Type 0
 Marks source sink cabinet Prices store status old new =
-    EndsAs of_done status (λ result. Marked source sink cabinet Prices store result old new)
-    × LeavesAll cabinet old.cabinet new.cabinet
+    EndsAs of_done status (λ result. Marked source sink cabinet Prices store result old new
+    × IfSome (source.left old.input) (λ text. MarksReported text result (sink.bytes old.output) (sink.bytes new.output))
+    × ReportsReads source result old.input new.input × ReportsWrites sink result old.output new.output)
+    × TakesUpTo source 1_048_577 old.input new.input × LeavesAll cabinet old.cabinet new.cabinet

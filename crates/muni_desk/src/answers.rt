@@ -1,11 +1,9 @@
 //! What the desk says to a command that is answered by a text.
 
-ghost use Rattle.std.specs.Prelude.{◌≡◌, ◌≤◌, true, ◌++◌, ◌∷◌, []};
+ghost use Rattle.std.specs.Prelude.{◌≡◌, ◌++◌, ◌∷◌, []};
 ghost use Rattle.muni_confirm.specs.Figures.{figure_text};
 ghost use Rattle.muni_confirm.specs.Refusal.{refusal_text};
-ghost use Rattle.muni_days.specs.Day.{civil};
 ghost use Rattle.muni_desk.specs.Answers as spec;
-ghost use Rattle.muni_desk.specs.QuoteOne.{is_next};
 
 use crate::drill::{DrillRequest, summary_of};
 use crate::help::help_text;
@@ -13,6 +11,7 @@ use crate::quote_one::last_period_price;
 use crate::request::answer_of;
 use crate::{Answer, QuoteOneRequest, QuoteRequest, Status};
 use arrayvec::ArrayVec;
+use muni_book::Calculator;
 use muni_confirm::{figure_lines, refusal_line};
 use muni_dec::Price3;
 use muni_dec::text::push;
@@ -23,7 +22,6 @@ use std::thread::Threads;
 
 /// The price, or the refusal that applies first.
 pub fn quote_one_answer(request: &QuoteOneRequest) -> Answer
-    requires { is_next (civil request.now.next) ≡ true }
     ensures { spec.IsQuoteOneText request.now result.status result.text.items }
 {
     match last_period_price(request) {
@@ -33,38 +31,28 @@ pub fn quote_one_answer(request: &QuoteOneRequest) -> Answer
 }
 
 /// The figures, or the refusal that applies first.
-// Yields are looked for by up to `workers` threads, and the gate is told when they begin (tested).
 pub fn quote_answer<R: Threads + Sync, E: Encloser + Sync, G: Gate + Sync>(
-    rt: &R,
+    calculator: &Calculator<'_, R, E, G>,
     request: QuoteRequest,
-    workers: u32,
-    encloser: &E,
-    gate: &G,
 ) -> Answer
-    requires { (1 ≤ workers) × (workers ≤ 16) }
-    ensures { spec.IsQuoteText (E.ends encloser.now) request result.status result.text.items }
+    ensures { spec.IsQuoteText (E.ends calculator.now.encloser.now) request result.status result.text.items }
 {
     let QuoteRequest { row, asked } = request;
-    match answer_of(rt, row, &asked, workers, encloser, gate) {
+    match answer_of(calculator, row, &asked) {
         Ok(figures) => done(figures_text(&figures, &asked)),
         Err(refusal) => refused(&refusal),
     }
 }
 
 /// The sums over a generated book.
-// Its trades are shared out to up to `workers` threads (tested).
+// Its trades are dealt out to the workers (tested).
 pub fn drill_answer<R: Threads + Sync, E: Encloser + Sync, G: Gate + Sync>(
-    rt: &R,
+    calculator: &Calculator<'_, R, E, G>,
     request: DrillRequest,
-    workers: u32,
-    encloser: &E,
-    gate: &G,
 ) -> Answer
-    requires count { request.count ≤ 1_000 }
-    requires workers { (1 ≤ workers) × (workers ≤ 16) }
-    ensures { spec.IsDrillText (E.ends encloser.now) request result.status result.text.items }
+    ensures { spec.IsDrillText (E.ends calculator.now.encloser.now) request result.status result.text.items }
 {
-    done(summary_of(rt, request, workers, encloser, gate))
+    done(summary_of(calculator, request))
 }
 
 /// What the program can be asked for.

@@ -1,8 +1,7 @@
 //! The commands, and the words that name them.
 
-ghost use Rattle.std.specs.Prelude.{◌≡◌, ◌≤◌, map, IfSome, string_bytes};
+ghost use Rattle.std.specs.Prelude.{◌≡◌, map, string_bytes};
 ghost use Rattle.muni_desk.specs.Command as spec;
-ghost use Rattle.muni_desk.specs.Command.{IsAnswerable};
 
 use crate::drill::{DrillRequest, read_drill};
 use crate::help::read_help;
@@ -11,6 +10,7 @@ use crate::quote_options::read_quote;
 use crate::request::QuoteRequest;
 use crate::store_options::{read_confirm, read_import, read_mark, read_positions, read_serve};
 use arrayvec::ArrayVec;
+use muni_book::Workers;
 use muni_msg::{DeskName, Key};
 
 /// What the desk can be asked for.
@@ -57,15 +57,12 @@ pub enum DeskCommand {
 #[derive(Drop)]
 pub struct CommandLine {
     pub command: DeskCommand,
-    /// How many workers may compute at once, from 1 to 16. What is answered does not depend on it.
-    pub workers: u32,
+    pub workers: Workers,
 }
 
 /// The command that words name: its name, and behind it what it is asked for.
 pub fn read(words: &[String]) -> Option<CommandLine>
-    ensures command { result ≡ spec.command_of (map string_bytes words.now) }
-    ensures answerable { IfSome result (λ line. IsAnswerable line.command) }
-    ensures workers { IfSome result (λ line. (1 ≤ line.workers) × (line.workers ≤ 16)) }
+    ensures { result ≡ spec.command_of (map string_bytes words.now) }
 {
     let (name, options) = words.split_first()?;
     match name.as_str() {
@@ -78,9 +75,7 @@ pub fn read(words: &[String]) -> Option<CommandLine>
 }
 
 fn read_over_store(name: &str, options: &[String]) -> Option<CommandLine>
-    ensures command { result ≡ spec.over_store_of name.now (map string_bytes options.now) }
-    ensures answerable { IfSome result (λ line. IsAnswerable line.command) }
-    ensures workers { IfSome result (λ line. (1 ≤ line.workers) × (line.workers ≤ 16)) }
+    ensures { result ≡ spec.over_store_of name.now (map string_bytes options.now) }
 {
     match name {
         "import" => read_import(options),

@@ -1,11 +1,11 @@
 //! The command `help`: a line for each command of the finished program.
 
-ghost use Rattle.std.specs.Prelude.{◌≡◌, map, IfSome, string_bytes};
+ghost use Rattle.std.specs.Prelude.{◌≡◌, map, string_bytes};
 ghost use Rattle.muni_desk.specs.Help as spec;
-ghost use Rattle.muni_desk.specs.Command.{IsAnswerable};
 
 use crate::command::{CommandLine, DeskCommand};
 use arrayvec::ArrayVec;
+use muni_book::Workers;
 use muni_dec::text::push;
 
 const TEXT: &[u8] = b"quote-one COUPON NEXT SETTLE REDEMPTION YIELD\n\
@@ -20,16 +20,14 @@ help\n";
 
 /// What words ask for, where there are none.
 pub fn read_help(words: &[String]) -> Option<CommandLine>
-    ensures command { result ≡ spec.help_of (map string_bytes words.now) }
-    ensures answerable { IfSome result (λ line. IsAnswerable line.command) }
-    ensures workers { IfSome result (λ line. line.workers ≡ 1) }
+    ensures { result ≡ spec.help_of (map string_bytes words.now) }
 {
     if !words.is_empty() {
         return None;
     }
     Some(CommandLine {
         command: DeskCommand::Help,
-        workers: 1,
+        workers: Workers::ONE,
     })
 }
 

@@ -6,6 +6,7 @@ mod command;
 mod drill;
 mod help;
 pub mod laws;
+mod next_interest_date;
 mod output;
 mod quote_one;
 mod quote_options;
@@ -15,7 +16,8 @@ mod store_options;
 mod words;
 
 pub use command::{CommandLine, DeskCommand, read};
-pub use drill::DrillRequest;
+pub use drill::{DrillCount, DrillRequest};
+pub use next_interest_date::NextInterestDate;
 pub use output::desk;
 pub use quote_one::QuoteOneRequest;
 pub use request::QuoteRequest;

@@ -1,8 +1,8 @@
 //! The top call: one command, from its words to its status.
 
-ghost use Rattle.std.specs.Prelude.{◌≡◌, ◌≢◌, ◌↔◌, ◌≤◌, ◌⊎◌, is_some, map, None, IfSome, string_bytes};
+ghost use Rattle.std.specs.Prelude.{◌≡◌, ◌≢◌, ◌↔◌, ◌⊎◌, is_some, map, None, IfSome, string_bytes};
 ghost use Rattle.muni_edge.specs.Sink.{HasWritten, HasWrittenPart};
-ghost use Rattle.muni_desk.specs.Command.{command_of, IsAnswerable};
+ghost use Rattle.muni_desk.specs.Command.{command_of};
 ghost use Rattle.muni_desk.specs.Does.{Does, Spares};
 ghost use Rattle.muni_desk_import.specs.Lent.{lent};
 ghost use Rattle.muni_desk_serve.specs.Serves.{traffic};
@@ -11,6 +11,7 @@ ghost use Rattle.muni_desk.specs.Written.{TellsFaults};
 use crate::answers::{drill_answer, help_answer, quote_answer, quote_one_answer};
 use crate::command::read;
 use crate::{Answer, CommandLine, DeskCommand, Status};
+use muni_book::Calculator;
 use muni_desk_import::{confirm, import};
 use muni_desk_positions::{import_with_positions, positions};
 use muni_desk_serve::serve;
@@ -72,9 +73,15 @@ pub fn desk<
     ensures none_out { C.out cabinet.new ≡ None }
 {
     match read(words) {
-        Some(line) => carry_out(
-            rt, alloc, line, input, output, cabinet, door, encloser, gate,
-        ),
+        Some(CommandLine { command, workers }) => {
+            let calculator = Calculator {
+                rt,
+                workers,
+                encloser,
+                gate,
+            };
+            carry_out(&calculator, alloc, command, input, output, cabinet, door)
+        }
         None => Status::Usage,
     }
 }
@@ -88,39 +95,30 @@ fn carry_out<
     E: Encloser + Sync,
     G: Gate + Sync,
 >(
-    rt: &R,
+    calculator: &Calculator<'_, R, E, G>,
     alloc: Global,
-    line: CommandLine,
+    command: DeskCommand,
     input: &mut I,
     output: &mut O,
     cabinet: &mut C,
     door: &mut D,
-    encloser: &E,
-    gate: &G,
 ) -> Status
-    requires answerable { IsAnswerable line.command }
-    requires workers { (1 ≤ line.workers) × (line.workers ≤ 16) }
     requires none_out { C.out cabinet.old ≡ None }
-    ensures does { Does I.Source O.Sink C.Cabinet D.Door (E.ends encloser.now)
-        (traffic D.L.left D.L.bytes D.L.Source.faults D.L.Sink.faults) line.command result
+    ensures does { Does I.Source O.Sink C.Cabinet D.Door (E.ends calculator.now.encloser.now)
+        (traffic D.L.left D.L.bytes D.L.Source.faults D.L.Sink.faults) command result
         (lent input.old output.old cabinet.old) (lent input.new output.new cabinet.new)
         door.old door.new }
-    ensures spares { Spares line.command result (input.new ≡ input.old) (output.new ≡ output.old) (cabinet.new ≡ cabinet.old) (door.new ≡ door.old) }
+    ensures spares { Spares command result (input.new ≡ input.old) (output.new ≡ output.old) (cabinet.new ≡ cabinet.old) (door.new ≡ door.old) }
     ensures none_out { C.out cabinet.new ≡ None }
 {
-    let CommandLine { command, workers } = line;
     match command {
         DeskCommand::QuoteOne(request) => say(&quote_one_answer(&request), output),
-        DeskCommand::Quote(request) => {
-            say(&quote_answer(rt, request, workers, encloser, gate), output)
-        }
+        DeskCommand::Quote(request) => { say(&quote_answer(calculator, request), output) }
         DeskCommand::Import { store, listed } => match listed {
             Some(desk) => Status::of_done(import_with_positions(
-                rt, alloc, &store, &desk, workers, input, output, cabinet, encloser, gate,
+                calculator, alloc, &store, &desk, input, output, cabinet,
             )),
-            None => Status::of_done(import(
-                rt, alloc, &store, workers, input, output, cabinet, encloser, gate,
-            )),
+            None => Status::of_done(import(calculator, alloc, &store, input, output, cabinet)),
         },
         DeskCommand::Confirm { store, key } => Status::of_answered(confirm(
             &store, &key, output, cabinet,
@@ -129,27 +127,15 @@ fn carry_out<
             store,
             port,
             connections,
-        } => Status::of_served(serve(
-            rt,
-            alloc,
-            &store,
-            port,
-            connections,
-            workers,
-            cabinet,
-            door,
-            encloser,
-            gate,
-        )),
+        } => Status::of_served(serve(calculator, alloc, &store, port, connections, cabinet, door)),
         DeskCommand::Positions { store, desk } => {
             Status::of_done(positions(alloc, &store, &desk, output, cabinet))
         }
         DeskCommand::Mark { store } => {
+            let &Calculator { rt, encloser, .. } = calculator;
             Status::of_done(mark(rt, alloc, &store, input, output, cabinet, encloser))
         }
-        DeskCommand::Drill(request) => {
-            say(&drill_answer(rt, request, workers, encloser, gate), output)
-        }
+        DeskCommand::Drill(request) => { say(&drill_answer(calculator, request), output) }
         DeskCommand::Help => say(&help_answer(), output),
     }
 }

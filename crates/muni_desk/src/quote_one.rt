@@ -1,16 +1,18 @@
 //! The command `quote-one`: the price of a security in its last interest period.
 
-ghost use Rattle.std.specs.Prelude.{◌≡◌, ◌+◌, ◌*◌, ◌<◌, ◌≤◌, ◌≤ℤ◌, ◌++◌, ◌∷◌, [], pos, negsuc, true, map, length, None, IfSome, IsNone, string_bytes};
+ghost use Rattle.std.specs.Prelude.{◌≡◌, ◌+◌, ◌*◌, ◌<◌, ◌≤◌, ◌≤ℤ◌, ◌++◌, ◌∷◌, [], pos, negsuc, true, map, length, None, IsNone, string_bytes};
 ghost use Rattle.muni_rule.specs.Civil.{months_on};
 ghost use Rattle.muni_days.specs.Day.{civil};
 ghost use Rattle.muni_simple.specs.Single.{IsSingle, IsGivenYield};
 ghost use Rattle.muni_simple.specs.declared.single.Shape1.TheVariants.{OnePeriod};
-ghost use Rattle.muni_desk.specs.Command.{IsAnswerable};
+ghost use Rattle.muni_desk.specs.NextInterestDate.{is_next};
 ghost use Rattle.muni_desk.specs.QuoteOne as spec;
 ghost use Rattle.muni_desk.specs.QuoteOne.{IsPriced};
 
 use crate::command::{CommandLine, DeskCommand};
+use crate::next_interest_date::NextInterestDate;
 use crate::words::word_at;
+use muni_book::Workers;
 use muni_days::{Basis, Day, days360, months_on};
 use muni_dec::{Coupon, Price, Price3, Yield};
 use muni_msg::{Range, Refusal};
@@ -22,9 +24,7 @@ use muni_terms::{half_year_interest, interest};
 #[derive(Clone, Copy)]
 pub struct QuoteOneRequest {
     pub coupon: Coupon,
-    /// The next interest date, which is the redemption date: a day from 1 to 28, and not before
-    /// 1902-01-01.
-    pub next: Day,
+    pub next: NextInterestDate,
     pub settlement: Day,
     /// The redemption price.
     pub redemption: Price,
@@ -33,9 +33,7 @@ pub struct QuoteOneRequest {
 
 /// What words ask for, where they are COUPON, NEXT, SETTLE, REDEMPTION and YIELD.
 pub fn read_quote_one(words: &[String]) -> Option<CommandLine>
-    ensures command { result ≡ spec.quote_one_of (map string_bytes words.now) }
-    ensures answerable { IfSome result (λ line. IsAnswerable line.command) }
-    ensures workers { IfSome result (λ line. line.workers ≡ 1) }
+    ensures { result ≡ spec.quote_one_of (map string_bytes words.now) }
 {
     if words.len() != 5 {
         return None;
@@ -56,19 +54,15 @@ fn read_values(
     redemption: &[u8],
     yld: &[u8],
 ) -> Option<CommandLine>
-    ensures command { result ≡ spec.values_reading coupon.now next.now settlement.now
+    ensures { result ≡ spec.values_reading coupon.now next.now settlement.now
         redemption.now yld.now }
-    ensures answerable { IfSome result (λ line. IsAnswerable line.command) }
-    ensures workers { IfSome result (λ line. line.workers ≡ 1) }
 {
     let coupon = Coupon::read(coupon).ok()?;
     let next = Day::read(next).ok()?;
     let settlement = Day::read(settlement).ok()?;
     let redemption = Price::read(redemption).ok()?;
     let yld = Yield::read(yld).ok()?;
-    if !is_next(next) {
-        return None;
-    }
+    let next = NextInterestDate::of(next)?;
     Some(CommandLine {
         command: DeskCommand::QuoteOne(QuoteOneRequest {
             coupon,
@@ -77,23 +71,16 @@ fn read_values(
             redemption,
             yld,
         }),
-        workers: 1,
+        workers: Workers::ONE,
     })
-}
-
-fn is_next(day: Day) -> bool
-    ensures { result ≡ spec.is_next (civil day) }
-{
-    day.day() <= 28 && day.year() >= 1902
 }
 
 /// The dollar price at a yield with six months or less to redemption (MSRB Rule G-33(b)(i)(B)), or a
 /// refusal.
 pub fn last_period_price(request: &QuoteOneRequest) -> Result<Price3, Refusal>
-    requires { spec.is_next (civil request.now.next) ≡ true }
     ensures { IsPriced request.now result }
 {
-    let start = period_start(request.next);
+    let start = period_start(request.next.date());
     if let Some(refusal) = early_refusal(request, start) {
         return Err(refusal);
     }
@@ -105,7 +92,7 @@ pub fn last_period_price(request: &QuoteOneRequest) -> Result<Price3, Refusal>
 }
 
 fn period_start(next: Day) -> Day
-    requires { spec.is_next (civil next) ≡ true }
+    requires { is_next (civil next) ≡ true }
     ensures { civil result ≡ months_on (civil next) (negsuc 5) }
 {
     let _in_range = next.year();
@@ -132,12 +119,12 @@ fn settles(request: &QuoteOneRequest, start: Day) -> bool
     requires { civil start ≡ spec.period_start request.now }
     ensures { result ≡ spec.settles request.now }
 {
-    start <= request.settlement && request.settlement < request.next
+    start <= request.settlement && request.settlement < request.next.date()
 }
 
 fn payment_of(request: &QuoteOneRequest, start: Day) -> Single
     requires start { civil start ≡ spec.period_start request.now }
-    requires next { spec.is_next (civil request.now.next) ≡ true }
+    requires next { is_next (civil request.now.next) ≡ true }
     requires settles { spec.settles request.now ≡ true }
     ensures ranges { IsSingle OnePeriod result }
     ensures due { result.due ≡ (spec.payment_of request.now).due }
@@ -157,7 +144,7 @@ fn payment_of(request: &QuoteOneRequest, start: Day) -> Single
 
 fn accrued_days(request: &QuoteOneRequest, start: Day) -> i32
     requires start { civil start ≡ spec.period_start request.now }
-    requires next { spec.is_next (civil request.now.next) ≡ true }
+    requires next { is_next (civil request.now.next) ≡ true }
     requires settles { spec.settles request.now ≡ true }
     ensures value { result ≡ spec.accrued_days request.now }
     ensures range { (pos 0 ≤ℤ result) × (result ≤ℤ pos 180) }

@@ -1,9 +1,8 @@
 //! The options of `quote`.
 
-ghost use Rattle.std.specs.Prelude.{◌≡◌, ◌≤◌, map, codes, IfSome, string_bytes};
+ghost use Rattle.std.specs.Prelude.{◌≡◌, map, codes, string_bytes};
 ghost use Rattle.std.specs.Option.{option_map};
 ghost use Rattle.muni_terms.specs.Check as terms;
-ghost use Rattle.muni_desk.specs.Command.{IsAnswerable};
 ghost use Rattle.muni_desk.specs.QuoteOptions as spec;
 ghost use Rattle.muni_desk.specs.Words.{count_of, values_of};
 
@@ -11,6 +10,7 @@ use crate::command::{CommandLine, DeskCommand};
 use crate::request::{NO_CUSIP, QuoteRequest, issue_name};
 use crate::words::{are_options, count_of, value_in, value_of};
 use arrayvec::ArrayVec;
+use muni_book::Workers;
 use muni_days::{Basis, Day};
 use muni_dec::digits::read_number;
 use muni_dec::{Coupon, Fee, Par};
@@ -50,9 +50,7 @@ const NAMES: [&[u8]; 13] = [
 
 /// What words ask for, where they are options of `quote`, in any order.
 pub fn read_quote(words: &[String]) -> Option<CommandLine>
-    ensures command { result ≡ spec.quote_of (map string_bytes words.now) }
-    ensures answerable { IfSome result (λ line. IsAnswerable line.command) }
-    ensures workers { IfSome result (λ line. (1 ≤ line.workers) × (line.workers ≤ 16)) }
+    ensures { result ≡ spec.quote_of (map string_bytes words.now) }
 {
     if !are_options(words, &NAMES, &NAMES[1..]) {
         return None;
@@ -183,13 +181,12 @@ fn read_one_given(words: &[String]) -> Option<Given>
     }
 }
 
-/// How many workers may compute, which is 1 where no number is given.
-pub fn read_workers(words: &[String]) -> Option<u32>
-    ensures value { result ≡ spec.workers_of (map string_bytes words.now) }
-    ensures range { IfSome result (λ workers. (1 ≤ workers) × (workers ≤ 16)) }
+/// How many workers may compute: one if no number is given.
+pub fn read_workers(words: &[String]) -> Option<Workers>
+    ensures { result ≡ spec.workers_of (map string_bytes words.now) }
 {
     match value_of(words, WORKERS) {
-        Some(text) => Some(read_number(text, 20, 1, 16)? as u32),
-        None => Some(1),
+        Some(text) => Some(Workers::new(read_number(text, 20, 1, 16)? as u32)),
+        None => Some(Workers::ONE),
     }
 }

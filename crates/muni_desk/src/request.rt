@@ -4,7 +4,7 @@ ghost use Rattle.std.specs.Prelude.{◌≡◌, ◌≤◌, length, IfOk};
 ghost use Rattle.muni_desk.specs.Request.{IsAnswered};
 
 use arrayvec::ArrayVec;
-use muni_book::figures;
+use muni_book::{Calculator, figures};
 use muni_edge::Gate;
 use muni_msg::{Asked, Figures, Refusal};
 use muni_multi::Encloser;
@@ -34,19 +34,21 @@ pub fn issue_name(text: &[u8]) -> ArrayVec<u8, 60>
 /// The figures, or the refusal that applies first: the first fault of the terms, or that of
 /// `muni_book`.
 pub fn answer_of<R: Threads + Sync, E: Encloser + Sync, G: Gate + Sync>(
-    rt: &R,
+    calculator: &Calculator<'_, R, E, G>,
     row: IssueRow,
     asked: &Asked,
-    workers: u32,
-    encloser: &E,
-    gate: &G,
 ) -> Result<Figures, Refusal>
-    requires { (1 ≤ workers) × (workers ≤ 16) }
-    ensures right { IsAnswered (E.ends encloser.now) row asked.now result }
+    ensures right { IsAnswered (E.ends calculator.now.encloser.now) row asked.now result }
     ensures accrued { IfOk result (λ figures. figures.accrued ≤ 60_000_000_000) }
 {
+    let &Calculator {
+        rt,
+        workers,
+        encloser,
+        gate,
+    } = calculator;
     match check(row) {
-        Ok(issue) => figures(rt, &issue, asked, workers, encloser, gate),
+        Ok(issue) => figures(rt, &issue, asked, workers.count(), encloser, gate),
         Err(fault) => Err(Refusal::BadTerms(fault)),
     }
 }

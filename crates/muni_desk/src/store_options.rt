@@ -1,15 +1,15 @@
 //! The options of the commands over a store.
 
-ghost use Rattle.std.specs.Prelude.{◌≡◌, ◌≤◌, map, IfSome, string_bytes};
+ghost use Rattle.std.specs.Prelude.{◌≡◌, map, string_bytes};
 ghost use Rattle.std.specs.Char.{is_ascii_graphic};
 ghost use Rattle.std.specs.List.{list_all};
-ghost use Rattle.muni_desk.specs.Command.{IsAnswerable};
 ghost use Rattle.muni_desk.specs.StoreOptions as spec;
 
 use crate::command::{CommandLine, DeskCommand};
 use crate::quote_options::read_workers;
 use crate::words::{are_options, value_of};
 use arrayvec::ArrayVec;
+use muni_book::Workers;
 use muni_dec::digits::read_number;
 use muni_msg::{DeskName, Key, Reference};
 
@@ -39,9 +39,7 @@ const SERVE: [&[u8]; 4] = [STORE, PORT, CONNECTIONS, WORKERS];
 
 /// What words ask for, where they are options of `import`, in any order.
 pub fn read_import(words: &[String]) -> Option<CommandLine>
-    ensures command { result ≡ spec.import_of (map string_bytes words.now) }
-    ensures answerable { IfSome result (λ line. IsAnswerable line.command) }
-    ensures workers { IfSome result (λ line. (1 ≤ line.workers) × (line.workers ≤ 16)) }
+    ensures { result ≡ spec.import_of (map string_bytes words.now) }
 {
     if !are_options(words, &IMPORT, &IMPORT) {
         return None;
@@ -67,9 +65,7 @@ fn read_listed(words: &[String]) -> Option<Option<DeskName>>
 
 /// What words ask for, where they are options of `confirm`, in any order.
 pub fn read_confirm(words: &[String]) -> Option<CommandLine>
-    ensures command { result ≡ spec.confirm_of (map string_bytes words.now) }
-    ensures answerable { IfSome result (λ line. IsAnswerable line.command) }
-    ensures workers { IfSome result (λ line. line.workers ≡ 1) }
+    ensures { result ≡ spec.confirm_of (map string_bytes words.now) }
 {
     if !are_options(words, &CONFIRM, &CONFIRM) {
         return None;
@@ -82,15 +78,13 @@ pub fn read_confirm(words: &[String]) -> Option<CommandLine>
             store,
             key: Key { desk, reference },
         },
-        workers: 1,
+        workers: Workers::ONE,
     })
 }
 
 /// What words ask for, where they are options of `serve`, in any order.
 pub fn read_serve(words: &[String]) -> Option<CommandLine>
-    ensures command { result ≡ spec.serve_of (map string_bytes words.now) }
-    ensures answerable { IfSome result (λ line. IsAnswerable line.command) }
-    ensures workers { IfSome result (λ line. (1 ≤ line.workers) × (line.workers ≤ 16)) }
+    ensures { result ≡ spec.serve_of (map string_bytes words.now) }
 {
     if !are_options(words, &SERVE, &SERVE) {
         return None;
@@ -111,9 +105,7 @@ pub fn read_serve(words: &[String]) -> Option<CommandLine>
 
 /// What words ask for, where they are options of `positions`, in any order.
 pub fn read_positions(words: &[String]) -> Option<CommandLine>
-    ensures command { result ≡ spec.positions_of (map string_bytes words.now) }
-    ensures answerable { IfSome result (λ line. IsAnswerable line.command) }
-    ensures workers { IfSome result (λ line. line.workers ≡ 1) }
+    ensures { result ≡ spec.positions_of (map string_bytes words.now) }
 {
     if !are_options(words, &POSITIONS, &POSITIONS) {
         return None;
@@ -122,15 +114,13 @@ pub fn read_positions(words: &[String]) -> Option<CommandLine>
     let desk = read_desk(words)?;
     Some(CommandLine {
         command: DeskCommand::Positions { store, desk },
-        workers: 1,
+        workers: Workers::ONE,
     })
 }
 
 /// What words ask for, where they are options of `mark`.
 pub fn read_mark(words: &[String]) -> Option<CommandLine>
-    ensures command { result ≡ spec.mark_of (map string_bytes words.now) }
-    ensures answerable { IfSome result (λ line. IsAnswerable line.command) }
-    ensures workers { IfSome result (λ line. line.workers ≡ 1) }
+    ensures { result ≡ spec.mark_of (map string_bytes words.now) }
 {
     if !are_options(words, &MARK, &MARK) {
         return None;
@@ -138,7 +128,7 @@ pub fn read_mark(words: &[String]) -> Option<CommandLine>
     let store = read_store(words)?;
     Some(CommandLine {
         command: DeskCommand::Mark { store },
-        workers: 1,
+        workers: Workers::ONE,
     })
 }
 

@@ -1,5 +1,5 @@
 -- Imports that end with a fault.
-use Rattle.std.proofs.Common.{◌≡◌, ◌<◌, ◌≤◌, ℕ, List, [], Option, Some, None, Result, Err, IfSome, length, refl, sym, ap, subst}
+use Rattle.std.proofs.Common.{◌≡◌, ◌<◌, ◌≤◌, ℕ, List, [], Option, Some, None, Result, Err, IfSome, length, inr, refl, sym, ap, subst}
 use Rattle.muni_edge.specs.Faults.{Rose}
 use Rattle.muni_edge.specs.declared.sink.Sink as Sink
 use Rattle.muni_edge.specs.declared.source.Source as Source
@@ -13,21 +13,27 @@ use Rattle.muni_book.specs.declared.fault.BookFault.TheVariants as book
 use Rattle.muni_book_step.specs.Step.{Pricing}
 use Rattle.muni_import.specs.Rows.{rows_of}
 use Rattle.muni_desk_import.specs.Fault.{of_input, of_keeper, of_book}
-use Rattle.muni_desk_import.specs.Import.{DidFirst}
+use Rattle.muni_desk_import.specs.Import.{DidBefore, DidBeforeOrNone, DidFirst}
 use Rattle.muni_desk_import.specs.Imported.{Applied, Imported}
 use Rattle.muni_desk_import.specs.Lent.{Lent, ChangesOnlyInput}
 use Rattle.muni_desk_import.specs.declared.fault.Fault.{Fault}
 use Rattle.muni_desk_import.specs.declared.input.InputFault.{InputFault}
 use Rattle.muni_desk_import.specs.declared.input.InputFault.TheVariants as input
-use Rattle.muni_desk_import.proofs.ImportLemmas.{did-none}
+use Rattle.muni_desk_import.proofs.ImportLemmas.{before-first, did-none}
 
 -- no row is applied before the store is fetched
-none-stored : (Prices : Pricing) (source : Option (List ℕ)) (old new : Option Tables) (had has : Option (List ℕ)) → new ≡ old → has ≡ had
+pub none-stored : (Prices : Pricing) (source : Option (List ℕ)) (old new : Option Tables) (had has : Option (List ℕ)) → new ≡ old → has ≡ had
     → IfSome source (λ text. IfSome old (λ t. DidFirst Prices text t new had has))
 none-stored Prices None old new had has same unwritten = tt
 none-stored Prices (Some text) None new had has same unwritten = tt
 none-stored Prices (Some text) (Some t) new had has same unwritten =
     rw (same, unwritten) record { rows = []; left = rows_of text; all = refl; did = did-none Prices t had }
+
+none-begun : (Prices : Pricing) (source : Option (List ℕ)) (old new : Option Tables) (had has : Option (List ℕ)) → new ≡ old → has ≡ had
+    → IfSome source (λ text. IfSome old (λ t. DidBeforeOrNone Prices text t new had has))
+none-begun Prices None old new had has same unwritten = tt
+none-begun Prices (Some text) None new had has same unwritten = tt
+none-begun Prices (Some text) (Some t) new had has same unwritten = inr (same, unwritten)
 
 -- the input is not read whole
 pub unread : {I O C K A T : Type 0} (source : Source.Ghosts I) (sink : Sink.Ghosts O) (cabinet : Cabinet.Ghosts C K) (Prices : Pricing) (store : List ℕ) (r : Result A InputFault) (fault : InputFault) (out : Result T Fault) (old new : Lent I O C)
@@ -47,7 +53,7 @@ pub unfetched : {I O C K A T : Type 0} (source : Source.Ghosts I) (sink : Sink.G
     → IfSome (source.left old.input) (λ text. length text ≤ 4_194_304)
     → Imported source sink cabinet Prices store out old new
 unfetched source sink cabinet Prices store r keep.Failed out old new is ends same kept failed few =
-    rw ends (none-stored Prices (source.left old.input) (cabinet.told old.cabinet store) (cabinet.told new.cabinet store) (sink.bytes old.output) (sink.bytes new.output) kept (ap sink.bytes same), few, failed is)
+    rw ends (none-begun Prices (source.left old.input) (cabinet.told old.cabinet store) (cabinet.told new.cabinet store) (sink.bytes old.output) (sink.bytes new.output) kept (ap sink.bytes same), few, failed is)
 unfetched source sink cabinet Prices store r keep.NoMemory out old new is ends same kept failed few =
     rw ends (none-stored Prices (source.left old.input) (cabinet.told old.cabinet store) (cabinet.told new.cabinet store) (sink.bytes old.output) (sink.bytes new.output) kept (ap sink.bytes same))
 
@@ -58,7 +64,8 @@ few-read (Some all) items rest n after whole few = subst (λ l. length l ≤ n) 
 
 -- the book has no answer to a row
 pub unanswered : {K O T : Type 0} (keeper : Keeper.Ghosts K) (sink : Sink.Ghosts O) (Prices : Pricing) (text : List ℕ) (fault : BookFault) (out : Result T Fault) (old new : K) (before after : O)
-    → out ≡ Err (of_book fault) → IfSome (keeper.tables old) (λ t. DidFirst Prices text t (keeper.tables new) (sink.bytes before) (sink.bytes after))
+    → out ≡ Err (of_book fault) → IfSome (keeper.tables old) (λ t. DidBefore Prices text t (keeper.tables new) (sink.bytes before) (sink.bytes after))
     → Applied keeper sink Prices text out old new before after
-unanswered keeper sink Prices text book.Failed out old new before after ends first = rw ends first
-unanswered keeper sink Prices text book.NoMemory out old new before after ends first = rw ends first
+unanswered keeper sink Prices text book.Failed out old new before after ends did = rw ends did
+unanswered keeper sink Prices text book.NoMemory out old new before after ends did =
+    rw ends (before-first Prices text (keeper.tables old) (keeper.tables new) (sink.bytes before) (sink.bytes after) did)

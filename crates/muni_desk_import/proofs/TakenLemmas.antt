@@ -1,7 +1,12 @@
 -- What pieces that are taken one after another say of all bytes.
-use Rattle.std.proofs.Common.{◌≡◌, ◌<◌, ◌∙◌, ℕ, List, [], ◌++◌, Option, Some, None, length, sym, ap, IfSome, arith}
+use Rattle.std.proofs.Common.{◌≡◌, ◌<◌, ◌≤◌, ◌+◌, ◌⊎◌, inl, inr, ◌∙◌, ℕ, List, [], ◌++◌, Option, Some, None, Result, Err, length, refl, sym, ap, IfErr, IfSome, arith}
 use Rattle.std.proofs.lemmas.List.{append-nil, append_assoc, length-append}
 use Rattle.std.specs.Io.KnownBytes.{Consumes, IsAtEnd}
+use Rattle.muni_edge.specs.Faults.{Rose}
+use Rattle.muni_edge.specs.declared.source.Source.{Ghosts}
+use Rattle.muni_desk_import.specs.Input.{IsNotTooLarge, ReadsAll}
+use Rattle.muni_desk_import.specs.declared.input.InputFault.{InputFault}
+use Rattle.muni_desk_import.specs.declared.input.InputFault.TheVariants.{Failed, TooLarge, NoMemory}
 
 -- one piece behind another
 pub taken-then : (a b c : Option (List ℕ)) (xs ys zs : List ℕ) → Consumes a b xs → Consumes b c ys → zs ≡ xs ++ ys → Consumes a c zs
@@ -22,3 +27,33 @@ pub taken-more : (n : ℕ) (old new : Option (List ℕ)) (bytes : List ℕ) → 
 taken-more n None new bytes taken many = tt
 taken-more n (Some all) None bytes taken many = absurd taken
 taken-more n (Some all) (Some rest) bytes taken many = omega (arith, many, ap length taken, length-append bytes rest)
+
+-- nothing is read where one take more is refused
+pub none-read : {I V : Type 0} (source : Ghosts I) (limit : ℕ) (items : V → List ℕ) (r : Result ℕ InputFault) (fault : InputFault) (out : Result V InputFault) (first mid last : I) (bytes piece : List ℕ)
+    → r ≡ Err fault → out ≡ Err fault → IfErr r IsNotTooLarge → Consumes (source.left first) (source.left mid) bytes → source.faults mid ≡ source.faults first
+    → Consumes (source.left mid) (source.left last) piece → length bytes + length piece ≤ limit + 1
+    → source.faults mid ≤ source.faults last → (r ≡ Err Failed → Rose (source.faults mid) (source.faults last)) → (source.faults last ≡ source.faults mid) ⊎ (r ≡ Err Failed)
+    → ReadsAll source limit out items first last
+none-read source limit items r Failed out first mid last bytes piece is ends other taken none more few later failed counted =
+    let failed_too = failed is in
+    rw ends record {
+      whole = tt;
+      few = tt;
+      too_large = λ never. absurd (cc never);
+      limited = (bytes ++ piece, taken-then (source.left first) (source.left mid) (source.left last) bytes piece (bytes ++ piece) taken more refl, omega (arith, few, length-append bytes piece));
+      later = omega (arith, none, later);
+      failed = λ _. omega (arith, none, failed_too);
+      uncounted = inr refl;
+    }
+none-read source limit items r NoMemory out first mid last bytes piece is ends other taken none more few later failed (inl same) =
+    rw ends record {
+      whole = tt;
+      few = tt;
+      too_large = λ never. absurd (cc never);
+      limited = (bytes ++ piece, taken-then (source.left first) (source.left mid) (source.left last) bytes piece (bytes ++ piece) taken more refl, omega (arith, few, length-append bytes piece));
+      later = omega (arith, none, later);
+      failed = λ never. absurd (cc never);
+      uncounted = inl (same ∙ none);
+    }
+none-read source limit items r NoMemory out first mid last bytes piece is ends other taken none more few later failed (inr never) = absurd (cc (is, never))
+none-read source limit items r TooLarge out first mid last bytes piece is ends other taken none more few later failed counted = absurd (rw is at other)

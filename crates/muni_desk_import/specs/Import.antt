@@ -1,5 +1,5 @@
 -- What the rows of an import do, one after another.
-use Rattle.std.specs.Prelude.{◌≡◌, ℕ, ◌+◌, List, [], ◌∷◌, ◌++◌, take, length, Option, Some, Ok, Err, IfSome}
+use Rattle.std.specs.Prelude.{◌≡◌, ◌⊎◌, ℕ, ◌+◌, List, [], ◌∷◌, ◌++◌, take, length, Option, Some, Ok, Err, IfSome}
 use Rattle.muni_edge.specs.Sink.{HasWritten}
 use Rattle.muni_keep.specs.Tables.{Tables}
 use Rattle.muni_book_step.specs.Runs.{StepsTo}
@@ -57,7 +57,20 @@ pub record DidFirst (Prices : Pricing) (text : List ℕ) (old : Tables) (now : O
   pub all : rows ++ left ≡ rows_of text
   pub did : Did Prices rows old now had has
 
--- the first rows of a text were done and the one behind them, of whose line a part was written
+-- the first rows of a text were done, up to one at hand
+pub record DidBefore (Prices : Pricing) (text : List ℕ) (old : Tables) (now : Option Tables) (had has : Option (List ℕ)) : Type 0 where
+  pub rows : List Row
+  pub row : Row
+  pub left : List Row
+  pub all : rows ++ row ∷ left ≡ rows_of text
+  pub did : Did Prices rows old now had has
+
+-- they were, or nothing was done
+abbrev pub DidBeforeOrNone : Pricing → List ℕ → Tables → Option Tables → (had has : Option (List ℕ)) → Type 0
+DidBeforeOrNone Prices text old now had has =
+    DidBefore Prices text old now had has ⊎ ((now ≡ Some old) × (has ≡ had))
+
+-- the first rows of a text were done and the one after them, of whose line a part was written
 pub record DidPart (Prices : Pricing) (text : List ℕ) (old : Tables) (now : Option Tables) (had has : Option (List ℕ)) : Type 0 where
   pub rows : List Row
   pub row : Row

@@ -1,5 +1,6 @@
 -- What is read from an input, and why there is none.
-use Rattle.std.specs.Prelude.{◌≡◌, ◌<◌, ◌≤◌, ⊤, ℕ, List, [], length, Some, Result, IfOk, IfSome, IsErrOf}
+use Rattle.std.specs.Prelude.{◌≡◌, ◌<◌, ◌≤◌, ◌+◌, ◌⊎◌, ⊤, ℕ, List, [], length, Some, Result, IfOk, IfSome, IsErrOf}
+use Rattle.std.specs.Io.KnownBytes.{Consumes}
 use Rattle.muni_edge.specs.Faults.{Rose}
 use Rattle.muni_edge.specs.declared.source.Source.{Ghosts}
 use Rattle.muni_desk_import.specs.declared.input.InputFault.{InputFault}
@@ -11,10 +12,18 @@ IsNotTooLarge Failed = ⊤
 IsNotTooLarge TooLarge = ⊥
 IsNotTooLarge NoMemory = ⊤
 
--- Everything that was left in a source is read, if it has no more bytes than the limit.
+-- at most so many bytes are taken
+abbrev pub TakesUpTo : {I : Type 0} → Ghosts I → ℕ → I → I → Type 0
+TakesUpTo source most old new =
+    (piece : List ℕ) × Consumes (source.left old) (source.left new) piece × (length piece ≤ most)
+
+-- Everything that was left in a source is read, if it has no more bytes than the limit. Of a longer one no byte
+-- is taken after the first beyond the limit.
 pub record ReadsAll {I V : Type 0} (source : Ghosts I) (limit : ℕ) (result : Result V InputFault) (items : V → List ℕ) (old new : I) : Type 0 where
   pub whole : IfOk result (λ bytes. IfSome (source.left old) (λ all. (all ≡ items bytes) × (source.left new ≡ Some [])))
   pub few : IfOk result (λ bytes. length (items bytes) ≤ limit)
   pub too_large : IsErrOf result TooLarge → IfSome (source.left old) (λ all. limit < length all)
+  pub limited : TakesUpTo source (limit + 1) old new
   pub later : source.faults old ≤ source.faults new
   pub failed : IsErrOf result Failed → Rose (source.faults old) (source.faults new)
+  pub uncounted : (source.faults new ≡ source.faults old) ⊎ IsErrOf result Failed

@@ -1,14 +1,27 @@
 -- Laws of imports, for the answers that any ends lead to.
-use Rattle.std.specs.Prelude.{◌≡◌, ℤ, List, [], ◌∷◌, Ok, Err}
+use Rattle.std.specs.Prelude.{◌≡◌, ℕ, ℤ, List, [], ◌∷◌, Option, Some, None, Ok, Err}
 use Rattle.muni_rule.specs.Payments.{PaymentSeries}
 use Rattle.muni_rule.specs.WorthEnds.{WorthEnds}
+use Rattle.muni_terms.specs.declared.row.IssueRow.{IssueRow}
 use Rattle.muni_msg.specs.declared.command.Command.{Command}
+use Rattle.muni_msg.specs.declared.command.Command.TheVariants.{Confirm}
+use Rattle.muni_msg.specs.declared.command.Key.{Key}
 use Rattle.muni_msg.specs.declared.command.Reply.{Reply}
-use Rattle.muni_keep.specs.Tables.{Tables}
+use Rattle.muni_msg.specs.declared.command.Reply.TheVariants as reply
+use Rattle.muni_msg.specs.declared.version.Version.{Version}
+use Rattle.muni_confirm.specs.Confirmation.{confirmation_text}
+use Rattle.muni_confirm.specs.Refusal.{refusal_text}
+use Rattle.muni_keep.specs.Tables.{Tables, last_at}
 use Rattle.muni_book_step.specs.Runs.{Runs}
+use Rattle.muni_book_step.specs.Step.{Entry, IsStepOver}
 use Rattle.muni_import.specs.Report.{Said}
 use Rattle.muni_import.specs.Row.{Row}
 use Rattle.muni_book.specs.Answers.{IsRightAnswer}
+use Rattle.muni_book.specs.RightFigures.{AreRightFigures}
+use Rattle.muni_book.specs.RightReplies.{IsKeptRight}
+use Rattle.muni_book.specs.SoundTables.{AreSoundTables}
+use Rattle.muni_desk_import.specs.Confirm.{Answer, confirmed}
+use Rattle.muni_desk_import.specs.declared.confirmations.Answered.TheVariants.{Confirmed, Refused}
 use Rattle.muni_desk_import.specs.Import.{Imports, report}
 
 -- the commands among rows: those that are read
@@ -42,3 +55,35 @@ ReportsAreUnique =
     → Imports (IsRightAnswer ends) old rows said new
     → Imports (IsRightAnswer ends) old rows others other
     → AreAlike said others new other
+
+-- how a reply of the book is written to whom asked for a confirmation
+abbrev pub answer_of : Reply → Option Answer
+answer_of (reply.Added cusip) = None
+answer_of (reply.Quoted asked figures) = None
+answer_of (reply.Listed lines) = None
+answer_of (reply.Confirmed issue key number version) =
+    Some (record { answered = Confirmed; text = confirmation_text issue key number version })
+answer_of (reply.Refused why) = Some (record { answered = Refused; text = refusal_text why })
+
+-- What is printed for a confirmation, and how it ends, is what a step of the book replies to it. The step adds nothing.
+pub record IsStepOfConfirm (tables : Tables) (key : Key) (told : Reply) (entry : Option Entry) : Type 0 where
+  pub printed : answer_of told ≡ Some (confirmed tables key)
+  pub none_added : entry ≡ None
+
+abbrev pub ConfirmationsAreSteps : Type 0
+ConfirmationsAreSteps =
+    (ends : PaymentSeries → ℤ → WorthEnds) (tables : Tables) (key : Key) (told : Reply) (entry : Option Entry)
+    → IsStepOver (IsRightAnswer ends) tables (Confirm key) (record { reply = told; entry = entry })
+    → IsStepOfConfirm tables key told entry
+
+-- over sound tables each trade that is kept is confirmed, and what is printed are figures that are right
+pub record IsPrintedRight (tables : Tables) (key : Key) (number : ℕ) (version : Version) : Type 0 where
+  pub issue : IssueRow
+  pub right : IsKeptRight AreRightFigures tables issue key number version
+  pub printed : confirmed tables key
+      ≡ record { answered = Confirmed; text = confirmation_text issue key number version }
+
+abbrev pub ConfirmationsAreRight : Type 0
+ConfirmationsAreRight =
+    (tables : Tables) (key : Key) (number : ℕ) (version : Version) → AreSoundTables tables
+    → last_at tables key ≡ Some (number, version) → IsPrintedRight tables key number version

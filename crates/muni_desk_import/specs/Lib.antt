@@ -6,4 +6,6 @@ pub mod Imported
 pub mod Input
 pub mod Lent
 pub mod Output
+pub mod Reported
+pub mod Reports
 pub mod Laws

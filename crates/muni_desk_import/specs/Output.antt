@@ -1,5 +1,5 @@
 -- What is written to an output.
-use Rattle.std.specs.Prelude.{◌≤◌, ℕ, List, Result, OnOk, OnErr, IsOkUnless}
+use Rattle.std.specs.Prelude.{◌≡◌, ◌≤◌, ℕ, List, Result, OnOk, OnErr, IsOkUnless}
 use Rattle.muni_edge.specs.Faults.{Rose}
 use Rattle.muni_edge.specs.Sink.{HasWritten, HasWrittenPart}
 use Rattle.muni_edge.specs.declared.sink.Sink.{Ghosts}
@@ -11,4 +11,5 @@ pub record Writes {O T E : Type 0} (sink : Ghosts O) (fault : E) (result : Resul
   pub part : OnErr result (HasWrittenPart (sink.bytes old) (sink.bytes new) text)
   pub later : sink.faults old ≤ sink.faults new
   pub failed : OnErr result (Rose (sink.faults old) (sink.faults new))
+  pub uncounted : OnOk result (sink.faults new ≡ sink.faults old)
   pub only : IsOkUnless result fault

@@ -7,6 +7,7 @@ ghost use Rattle.muni_keep.specs.Cabinet.{LeavesAll};
 ghost use Rattle.muni_keep.specs.Keeper.{OnlyReads};
 ghost use Rattle.muni_desk_import.specs.Confirm.{confirmed};
 ghost use Rattle.muni_desk_import.specs.Confirmed.{Confirmed};
+ghost use Rattle.muni_desk_import.specs.Reports.{ReportsWrites};
 
 use crate::fault::Fault;
 use crate::output::write;
@@ -38,6 +39,7 @@ pub fn confirm<O: Sink, C: Cabinet>(
     ensures confirmed { Confirmed O.Sink C.Cabinet store.now key.now result
         output.old output.new cabinet.old cabinet.new }
     ensures leaves { LeavesAll C.Cabinet cabinet.old cabinet.new }
+    ensures writes { ReportsWrites O.Sink result output.old output.new }
     ensures puts_later { O.faults output.old ≤ O.faults output.new }
 {
     let mut text = ArrayVec::new();

@@ -4,19 +4,25 @@ use crate::input::InputFault;
 use muni_book::BookFault;
 use muni_edge::NoMemory;
 use muni_keep::KeepFault;
+use thiserror::Error;
 
 /// Why a command over a store stopped.
-#[derive(Clone, Copy, Debug, PartialEq, Eq)]
+#[derive(Clone, Copy, Debug, PartialEq, Eq, Error)]
 pub enum Fault {
     /// The input failed.
+    #[error("the input could not be read")]
     Read,
     /// The output failed.
+    #[error("the output could not be written")]
     Write,
     /// The store failed.
+    #[error("the store failed")]
     Store,
     /// No memory was left.
+    #[error("out of memory")]
     NoMemory,
     /// The input is too long.
+    #[error("the input is too long")]
     TooLarge,
 }
 

@@ -1,14 +1,18 @@
 //! The import of a CSV text into a store.
 
-ghost use Rattle.std.specs.Prelude.{◌≡◌, ◌≤◌, None};
+ghost use Rattle.std.specs.Prelude.{◌≡◌, None, IfSome};
 ghost use Rattle.muni_book.specs.Answers.{IsRightAnswer};
 ghost use Rattle.muni_keep.specs.Cabinet.{LeavesOthers};
 ghost use Rattle.muni_desk_import.specs.Imported.{Imported};
+ghost use Rattle.muni_desk_import.specs.Input.{TakesUpTo};
 ghost use Rattle.muni_desk_import.specs.Lent.{lent};
+ghost use Rattle.muni_desk_import.specs.Reported.{Reported};
+ghost use Rattle.muni_desk_import.specs.Reports.{ReportsReads, ReportsWrites};
 
 use crate::fault::Fault;
 use crate::input::read_input;
 use crate::rows::import_rows;
+use muni_book::Calculator;
 use muni_edge::{Gate, Sink, Source};
 use muni_keep::Cabinet;
 use muni_multi::Encloser;
@@ -23,7 +27,6 @@ pub const LIMIT: usize = 4_194_304;
 /// The input is read whole before the store is fetched. Where the store fails at a row, or no memory
 /// is left, the rows before it stay applied and their lines written. Where the output fails, its row
 /// stays applied too.
-// Up to `workers` threads look for each yield, and the gate is told when they begin (tested).
 pub fn import<
     R: Threads + Sync,
     I: Source,
@@ -32,34 +35,25 @@ pub fn import<
     E: Encloser + Sync,
     G: Gate + Sync,
 >(
-    rt: &R,
+    calculator: &Calculator<'_, R, E, G>,
     alloc: Global,
     store: &[u8],
-    workers: u32,
     input: &mut I,
     output: &mut O,
     cabinet: &mut C,
-    encloser: &E,
-    gate: &G,
 ) -> Result<(), Fault>
-    requires workers { (1 ≤ workers) × (workers ≤ 16) }
     requires none_out { C.out cabinet.old ≡ None }
-    ensures imported { Imported I.Source O.Sink C.Cabinet (IsRightAnswer (E.ends encloser.now)) store.now result
+    ensures imported { Imported I.Source O.Sink C.Cabinet (IsRightAnswer (E.ends calculator.now.encloser.now)) store.now result
         (lent input.old output.old cabinet.old) (lent input.new output.new cabinet.new) }
+    ensures reported { IfSome (I.left input.old) (λ text. Reported text result (O.bytes output.old) (O.bytes output.new)) }
+    ensures takes { TakesUpTo I.Source 4_194_305 input.old input.new }
+    ensures reads { ReportsReads I.Source result input.old input.new }
+    ensures writes { ReportsWrites O.Sink result output.old output.new }
     ensures leaves { LeavesOthers C.Cabinet store.now cabinet.old cabinet.new }
 {
     let text = read_input(alloc, input, LIMIT)?;
     let mut keeper = cabinet.fetch(store)?;
-    let done = import_rows(
-        rt,
-        alloc,
-        &text,
-        &mut keeper,
-        output,
-        workers,
-        encloser,
-        gate,
-    );
+    let done = import_rows(calculator, alloc, &text, &mut keeper, output);
     cabinet.give_back(keeper);
     done
 }

@@ -1,21 +1,25 @@
 //! A whole input.
 
-ghost use Rattle.std.specs.Prelude.{◌≡◌, ◌≤◌, ◌<◌, ◌+◌, ◌^◌, ◌++◌, ℕ, List, Err, vec_len, IfOk, IfErr};
+ghost use Rattle.std.specs.Prelude.{◌≡◌, ◌≤◌, ◌<◌, ◌+◌, ◌^◌, ◌++◌, ◌⊎◌, ℕ, List, Err, length, vec_len, IfOk, IfErr};
 ghost use Rattle.std.specs.Io.KnownBytes.{Consumes, IsAtEnd};
 ghost use Rattle.muni_edge.specs.Faults.{Rose};
 ghost use Rattle.muni_desk_import.specs.Input.{IsNotTooLarge, ReadsAll};
 
 use muni_edge::{Failed, Source};
 use std::alloc::Global;
+use thiserror::Error;
 
 /// Why there is no input.
-#[derive(Clone, Copy, Debug, PartialEq, Eq)]
+#[derive(Clone, Copy, Debug, PartialEq, Eq, Error)]
 pub enum InputFault {
     /// The source failed.
+    #[error("the input could not be read")]
     Failed,
     /// It has more bytes than it may have.
+    #[error("the input is too long")]
     TooLarge,
     /// No memory was left.
+    #[error("out of memory")]
     NoMemory,
 }
 
@@ -41,7 +45,7 @@ pub fn read_input<I: Source>(
     unreachable!()
 }
 
-// The next bytes go behind those that are there, up to the first byte past the limit.
+// Adds the next bytes, up to the first byte past the limit.
 fn take_more<I: Source>(
     source: &mut I,
     bytes: &mut Vec<u8>,
@@ -51,12 +55,15 @@ fn take_more<I: Source>(
     requires room { vec_len bytes.old ≤ limit }
     ensures bound { IfOk result (λ count. vec_len bytes.new ≡ vec_len bytes.old + count) }
     ensures limit { IfOk result (λ count. vec_len bytes.new ≤ limit + 1) }
+    ensures limited { (piece : List ℕ) × Consumes (I.left source.old) (I.left source.new) piece
+        × (vec_len bytes.old + length piece ≤ limit + 1) }
     ensures taken { IfOk result (λ count. (piece : List ℕ)
         × Consumes (I.left source.old) (I.left source.new) piece
         × (bytes.new.items ≡ bytes.old.items ++ piece)) }
     ensures end { IfOk result (λ count. count ≡ 0 → IsAtEnd (I.left source.new)) }
     ensures later { I.faults source.old ≤ I.faults source.new }
     ensures failed { result ≡ Err InputFault.Failed → Rose (I.faults source.old) (I.faults source.new) }
+    ensures uncounted { (I.faults source.new ≡ I.faults source.old) ⊎ (result ≡ Err InputFault.Failed) }
     ensures others { IfErr result (λ fault. IsNotTooLarge fault) }
 {
     let mut room = [0u8; 4096];

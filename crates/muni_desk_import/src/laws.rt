@@ -1,8 +1,10 @@
-//! Laws of imports, over every list of rows.
+//! Laws of imports, over every list of rows, and of confirmations.
 
-ghost use Rattle.muni_desk_import.specs.Laws.{ImportsAreRuns, ReportsAreUnique};
+ghost use Rattle.muni_desk_import.specs.Laws.{ImportsAreRuns, ReportsAreUnique, ConfirmationsAreSteps, ConfirmationsAreRight};
 
-use muni_book::laws::replies_are_unique;
+use muni_book::laws::{
+    confirmations_are_of_last_versions, confirmed_figures_are_right, replies_are_unique,
+};
 
 /// A law of the definitions: an import is a run of the commands among its rows, in their order. So
 /// what holds of runs holds of imports: sound tables stay sound, a command that was accepted acts
@@ -17,4 +19,20 @@ pub fn reports_are_unique()
     ensures { ReportsAreUnique }
 {
     replies_are_unique();
+}
+
+/// A law of the definitions: a step of the book on a request for a confirmation and what `confirm`
+/// prints are one, text and end. So the laws of replies hold of `confirm`.
+pub fn confirmations_are_steps()
+    ensures { ConfirmationsAreSteps }
+{
+    confirmations_are_of_last_versions();
+}
+
+/// A law of the definitions: over sound tables each trade that is kept is confirmed, by figures that
+/// are right by the rule's exact formulas, of a version and an issue that are kept.
+pub fn confirmations_are_right()
+    ensures { ConfirmationsAreRight }
+{
+    confirmed_figures_are_right();
 }

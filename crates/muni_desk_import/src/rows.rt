@@ -7,11 +7,13 @@ ghost use Rattle.muni_keep.specs.Keeper.{SameKeeper};
 ghost use Rattle.muni_desk_import.specs.Import.{Came};
 ghost use Rattle.muni_desk_import.specs.Imported.{Applied};
 ghost use Rattle.muni_desk_import.specs.Output.{Writes};
+ghost use Rattle.muni_desk_import.specs.Reported.{IsSaidOf, Reported};
+ghost use Rattle.muni_desk_import.specs.Reports.{ReportsWrites};
 
 use crate::fault::Fault;
 use crate::output::write;
 use arrayvec::ArrayVec;
-use muni_book::{BookFault, apply};
+use muni_book::{BookFault, Calculator, apply};
 use muni_edge::{Gate, Sink};
 use muni_import::{RowFault, RowReader, report_row};
 use muni_keep::Keeper;
@@ -22,20 +24,18 @@ use std::thread::Threads;
 
 /// Applies the rows of a text one after another, and writes the line of each once it is applied.
 pub fn import_rows<R: Threads + Sync, K: Keeper, O: Sink, E: Encloser + Sync, G: Gate + Sync>(
-    rt: &R,
+    calculator: &Calculator<'_, R, E, G>,
     alloc: Global,
     text: &[u8],
     keeper: &mut K,
     output: &mut O,
-    workers: u32,
-    encloser: &E,
-    gate: &G,
 ) -> Result<(), Fault>
-    requires text { length text.now ≤ 4_194_304 }
-    requires workers { (1 ≤ workers) × (workers ≤ 16) }
-    ensures applied { Applied K.Keeper O.Sink (IsRightAnswer (E.ends encloser.now)) text.now result
+    requires { length text.now ≤ 4_194_304 }
+    ensures applied { Applied K.Keeper O.Sink (IsRightAnswer (E.ends calculator.now.encloser.now)) text.now result
         keeper.old keeper.new output.old output.new }
     ensures same { SameKeeper K.Keeper Fault.Store result keeper.old keeper.new }
+    ensures reported { Reported text.now result (O.bytes output.old) (O.bytes output.new) }
+    ensures writes { ReportsWrites O.Sink result output.old output.new }
     ensures puts_later { O.faults output.old ≤ O.faults output.new }
 {
     let mut rows = RowReader::new(alloc, text);
@@ -44,7 +44,7 @@ pub fn import_rows<R: Threads + Sync, K: Keeper, O: Sink, E: Encloser + Sync, G:
             Some(row) => row,
             None => return Ok(()),
         };
-        let said = said_of(rt, keeper, row, workers, encloser, gate)?;
+        let said = said_of(calculator, keeper, row)?;
         write_line(count + 1, &said, output)?;
     }
     unreachable!()
@@ -52,24 +52,27 @@ pub fn import_rows<R: Threads + Sync, K: Keeper, O: Sink, E: Encloser + Sync, G:
 
 // What comes of a row: the reply to its command, or its fault.
 fn said_of<R: Threads + Sync, K: Keeper, E: Encloser + Sync, G: Gate + Sync>(
-    rt: &R,
+    calculator: &Calculator<'_, R, E, G>,
     keeper: &mut K,
     row: Result<Command, RowFault>,
-    workers: u32,
-    encloser: &E,
-    gate: &G,
 ) -> Result<Result<Reply, RowFault>, BookFault>
-    requires { (1 ≤ workers) × (workers ≤ 16) }
     ensures came { IfOk result (λ said. IfSome (K.tables keeper.old) (λ t.
-        Came (IsRightAnswer (E.ends encloser.now)) t row said (K.tables keeper.new))) }
+        Came (IsRightAnswer (E.ends calculator.now.encloser.now)) t row said (K.tables keeper.new))) }
+    ensures said { IfOk result (λ said. IsSaidOf row said) }
     ensures unchanged { OnErr result (K.tables keeper.new ≡ K.tables keeper.old) }
     ensures same { SameKeeper K.Keeper BookFault.Failed result keeper.old keeper.new }
 {
     match row {
-        Ok(command) => match apply(rt, keeper, &command, workers, encloser, gate) {
-            Ok(reply) => Ok(Ok(reply)),
-            Err(fault) => Err(fault),
-        },
+        Ok(command) => {
+            let &Calculator {
+                rt,
+                workers,
+                encloser,
+                gate,
+            } = calculator;
+            let reply = apply(rt, keeper, &command, workers.count(), encloser, gate)?;
+            Ok(Ok(reply))
+        }
         Err(fault) => Ok(Err(fault)),
     }
 }

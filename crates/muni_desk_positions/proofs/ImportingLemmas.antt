@@ -20,7 +20,7 @@ use Rattle.muni_desk_import.specs.declared.fault.Fault.{Fault}
 use Rattle.muni_desk_import.specs.declared.fault.Fault.TheVariants.{Read, Write, Store, NoMemory, TooLarge}
 use Rattle.muni_desk_import.specs.declared.input.InputFault.{InputFault}
 use Rattle.muni_desk_import.specs.declared.input.InputFault.TheVariants as input
-use Rattle.muni_desk_import.proofs.FaultLemmas.{unread, unfetched}
+use Rattle.muni_desk_import.proofs.FaultLemmas.{none-stored, unread, unfetched}
 use Rattle.muni_desk_import.proofs.ImportLemmas.{did-none}
 use Rattle.muni_desk_positions.specs.Imported.{AppliedWith, ImportedWith}
 use Rattle.muni_desk_positions.specs.Importing.{Writing, DidListing, DidSome}
@@ -112,7 +112,6 @@ pub unfetched-with : {I O C K A T : Type 0} (source : Source.Ghosts I) (sink : S
     → IfSome (source.left old.input) (λ text. length text ≤ 4_194_304)
     → ImportedWith source sink cabinet Prices store desk out old new
 unfetched-with {T = T} source sink cabinet Prices store desk r keep.Failed out old new is ends same kept failed few =
-    let all = unfetched {T = T} source sink cabinet Prices store r keep.Failed (Err Store) old new is refl same kept failed few in
-    rw ends (all.0, all.1, inl all.2)
+    rw ends (none-stored Prices (source.left old.input) (cabinet.told old.cabinet store) (cabinet.told new.cabinet store) (sink.bytes old.output) (sink.bytes new.output) kept (ap sink.bytes same), few, inl (failed is))
 unfetched-with {T = T} source sink cabinet Prices store desk r keep.NoMemory out old new is ends same kept failed few =
     rw ends (unfetched {T = T} source sink cabinet Prices store r keep.NoMemory (Err NoMemory) old new is refl same kept failed few)

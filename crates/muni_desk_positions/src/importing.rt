@@ -4,12 +4,15 @@ ghost use Rattle.std.specs.Prelude.{◌≡◌, ◌≤◌, None, length, IfSome};
 ghost use Rattle.muni_book.specs.Answers.{IsRightAnswer};
 ghost use Rattle.muni_edge.specs.Faults.{Rose};
 ghost use Rattle.muni_keep.specs.Cabinet.{LeavesOthers};
+ghost use Rattle.muni_desk_import.specs.Input.{TakesUpTo};
 ghost use Rattle.muni_desk_import.specs.Lent.{lent};
+ghost use Rattle.muni_desk_import.specs.Reports.{ReportsReads, ReportsWrites};
 ghost use Rattle.muni_position.specs.Holdings.{HasTooMany};
 ghost use Rattle.muni_desk_positions.specs.Imported.{AppliedWith, DoesNoneOfTooMany, ImportedWith};
 ghost use Rattle.muni_desk_positions.specs.Listed.{Listed};
 
 use crate::listing::lines_of;
+use muni_book::Calculator;
 use muni_desk_import::{Fault, LIMIT, import_rows, read_input, write};
 use muni_edge::{Gate, Sink, Source};
 use muni_keep::{Cabinet, Keeper};
@@ -31,30 +34,27 @@ pub fn import_with_positions<
     E: Encloser + Sync,
     G: Gate + Sync,
 >(
-    rt: &R,
+    calculator: &Calculator<'_, R, E, G>,
     alloc: Global,
     store: &[u8],
     desk: &DeskName,
-    workers: u32,
     input: &mut I,
     output: &mut O,
     cabinet: &mut C,
-    encloser: &E,
-    gate: &G,
 ) -> Result<(), Fault>
-    requires workers { (1 ≤ workers) × (workers ≤ 16) }
     requires none_out { C.out cabinet.old ≡ None }
-    ensures imported { ImportedWith I.Source O.Sink C.Cabinet (IsRightAnswer (E.ends encloser.now)) store.now desk.now result
+    ensures imported { ImportedWith I.Source O.Sink C.Cabinet (IsRightAnswer (E.ends calculator.now.encloser.now)) store.now desk.now result
         (lent input.old output.old cabinet.old) (lent input.new output.new cabinet.new) }
     ensures too_many { DoesNoneOfTooMany C.Cabinet store.now desk.now
         (lent input.old output.old cabinet.old) (lent input.new output.new cabinet.new) }
+    ensures takes { TakesUpTo I.Source 4_194_305 input.old input.new }
+    ensures reads { ReportsReads I.Source result input.old input.new }
+    ensures writes { ReportsWrites O.Sink result output.old output.new }
     ensures leaves { LeavesOthers C.Cabinet store.now cabinet.old cabinet.new }
 {
     let text = read_input(alloc, input, LIMIT)?;
     let keeper = cabinet.fetch(store)?;
-    let (done, keeper) = import_and_list(
-        rt, alloc, &text, desk, keeper, output, workers, encloser, gate,
-    );
+    let (done, keeper) = import_and_list(calculator, alloc, &text, desk, keeper, output);
     cabinet.give_back(keeper);
     done
 }
@@ -62,23 +62,20 @@ pub fn import_with_positions<
 // The rows of a text over a keeper whose desk is watched before the first, and its positions behind the
 // report on the last.
 fn import_and_list<R: Threads + Sync, K: Keeper, O: Sink, E: Encloser + Sync, G: Gate + Sync>(
-    rt: &R,
+    calculator: &Calculator<'_, R, E, G>,
     alloc: Global,
     text: &[u8],
     desk: &DeskName,
     keeper: K,
     output: &mut O,
-    workers: u32,
-    encloser: &E,
-    gate: &G,
 ) -> (Result<(), Fault>, K)
     requires text { length text.now ≤ 4_194_304 }
-    requires workers { (1 ≤ workers) × (workers ≤ 16) }
     requires faults { K.faults keeper ≡ 0 }
-    ensures applied { AppliedWith K.Keeper O.Sink (IsRightAnswer (E.ends encloser.now)) desk.now text.now result.0
+    ensures applied { AppliedWith K.Keeper O.Sink (IsRightAnswer (E.ends calculator.now.encloser.now)) desk.now text.now result.0
         keeper result.1 output.old output.new }
     ensures too_many { IfSome (K.tables keeper) (λ t. HasTooMany desk.now t
         → (K.tables result.1 ≡ K.tables keeper) × (output.new ≡ output.old)) }
+    ensures writes { ReportsWrites O.Sink result.0 output.old output.new }
     ensures lent_as { K.lent_as result.1 ≡ K.lent_as keeper }
 {
     let mut positioned = over(alloc, keeper);
@@ -86,16 +83,7 @@ fn import_and_list<R: Threads + Sync, K: Keeper, O: Sink, E: Encloser + Sync, G:
         return (Err(Fault::from(fault)), positioned.back());
     }
     let mut following = follow(positioned);
-    let done = import_rows(
-        rt,
-        alloc,
-        text,
-        &mut following,
-        output,
-        workers,
-        encloser,
-        gate,
-    );
+    let done = import_rows(calculator, alloc, text, &mut following, output);
     let mut positioned = following.back();
     match done {
         Ok(()) => {
@@ -116,6 +104,7 @@ fn list<K: Keeper, O: Sink>(
     requires { keeper.old.faults ≡ 0 }
     ensures listed { Listed O.Sink desk.now (K.tables keeper.old.inner)
         (Rose (K.faults keeper.old.inner) (K.faults keeper.new.inner)) result output.old output.new }
+    ensures writes { ReportsWrites O.Sink result output.old output.new }
     ensures unchanged { K.tables keeper.new.inner ≡ K.tables keeper.old.inner }
     ensures lent_as { K.lent_as keeper.new.inner ≡ K.lent_as keeper.old.inner }
 {

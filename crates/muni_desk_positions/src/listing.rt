@@ -3,6 +3,7 @@
 ghost use Rattle.std.specs.Prelude.{◌≡◌, ◌⊎◌, ◌≤◌, None, IfOk, IfSome, IsErrOf};
 ghost use Rattle.muni_edge.specs.Faults.{Rose};
 ghost use Rattle.muni_keep.specs.Cabinet.{LeavesAll};
+ghost use Rattle.muni_desk_import.specs.Reports.{ReportsWrites};
 ghost use Rattle.muni_desk_positions.specs.Listed.{Listed};
 ghost use Rattle.muni_desk_positions.specs.Listing.{MayNotSum, positions_text};
 
@@ -27,6 +28,7 @@ pub fn positions<O: Sink, C: Cabinet>(
     ensures listed { Listed O.Sink desk.now (C.told cabinet.old store.now)
         (Rose (C.faults cabinet.old) (C.faults cabinet.new)) result output.old output.new }
     ensures leaves { LeavesAll C.Cabinet cabinet.old cabinet.new }
+    ensures writes { ReportsWrites O.Sink result output.old output.new }
     ensures puts_later { O.faults output.old ≤ O.faults output.new }
 {
     let lines = fetch_lines(alloc, store, desk, cabinet)?;

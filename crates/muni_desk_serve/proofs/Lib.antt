@@ -3,3 +3,4 @@ pub mod ConnectionLemmas
 pub mod StoreLemmas
 pub mod AnswerLemmas
 pub mod RunLemmas
+pub mod ResentLemmas

@@ -1,49 +1,83 @@
 -- Connections run commands of the book.
 use Rattle.std.proofs.Common.{◌≡◌, ◌⊎◌, ℕ, List, [], ◌∷◌, Option, Some, inl, inr, refl, subst}
+use Rattle.muni_edge.specs.Sink.{HasWritten}
 use Rattle.muni_keep.specs.Tables.{Tables}
 use Rattle.muni_msg.specs.declared.command.Command.{Command}
 use Rattle.muni_msg.specs.declared.command.Reply.{Reply}
 use Rattle.muni_book_step.specs.Runs.{StepsTo, RunsTo}
 use Rattle.muni_book_step.specs.Step.{Pricing, after}
-use Rattle.muni_desk_serve.specs.Answer.{Answer}
+use Rattle.muni_desk_serve.specs.Answer.{Answer, reply_answer, bad_answer, unavailable_answer}
 use Rattle.muni_desk_serve.specs.Connections.{Exchange, AreServed}
+use Rattle.muni_desk_serve.specs.Follow.{HasReply, HasNoReply, Follow, nothing, unreplied, replied}
 use Rattle.muni_desk_serve.specs.Serves.{Traffic, IsDue, Serves}
 use Rattle.muni_desk_serve.specs.declared.served.Served.{Served}
 use Rattle.muni_desk_serve.specs.declared.served.Served.TheVariants as served
+use Rattle.muni_desk_serve.proofs.AnswerLemmas.{written-whole}
 
 -- one connection takes one step of the book, or none
-StepsOnce : Pricing → Tables → Option Tables → Type 0
-StepsOnce Prices old new = (new ≡ Some old) ⊎ ((command : Command) × (reply : Reply) × StepsTo Prices old command reply new)
+record TakesStep (Prices : Pricing) (old : Tables) (exchange : Exchange) (new : Option Tables) : Type 0 where
+  command : Command
+  reply : Reply
+  step : StepsTo Prices old command reply new
+  has : HasReply exchange command reply
 
-due-steps : (Prices : Pricing) (old : Tables) (link : Traffic) (answer : Answer) (new : Option Tables) (faults : ℕ) → IsDue Prices (Some old) link answer new faults → StepsOnce Prices old new
+StepsOnce : Pricing → Tables → Exchange → Option Tables → Type 0
+StepsOnce Prices old exchange new = ((new ≡ Some old) × HasNoReply exchange) ⊎ TakesStep Prices old exchange new
+
+due-steps : (Prices : Pricing) (old : Tables) (link then : Traffic) (answer : Answer) (new : Option Tables) (status faults : ℕ) → IsDue Prices (Some old) link answer new faults
+    → status ≡ answer.status → HasWritten link.written then.written answer.bytes
+    → StepsOnce Prices old (record { before = link; after = then; came = served.Answered status }) new
 unfolding StepsOnce
-due-steps Prices old link answer new faults (inl due) = inr (due.command, due.reply, due.step)
-due-steps Prices old link answer new faults (inr (inl due)) = inl due.tables
-due-steps Prices old link answer new faults (inr (inr due)) = inl due.tables
+due-steps Prices old link then answer new status faults (inl due) is written =
+    inr (record {
+      command = due.command;
+      reply = due.reply;
+      step = due.step;
+      has = record { asks = due.asks; answer = λ asked came. written-whole answer (reply_answer due.reply) link then status due.is is written };
+    })
+due-steps Prices old link then answer new status faults (inr (inl due)) is written =
+    inl (due.tables, λ asked came. inl (record { kind = due.kind; asks = due.asks; answer = written-whole answer (bad_answer due.kind) link then status due.is is written }))
+due-steps Prices old link then answer new status faults (inr (inr due)) is written =
+    inl (due.tables, λ asked came. inr (written-whole answer unavailable_answer link then status due.is is written))
+
+-- a put of an answer that is due failed
+cut-steps : (Prices : Pricing) (old : Tables) (link then : Traffic) (answer : Answer) (new : Option Tables) (faults : ℕ) → IsDue Prices (Some old) link answer new faults
+    → StepsOnce Prices old (record { before = link; after = then; came = served.LinkFault }) new
+unfolding StepsOnce
+cut-steps Prices old link then answer new faults (inl due) =
+    inr (record { command = due.command; reply = due.reply; step = due.step; has = record { asks = due.asks; answer = λ asked came. cc came } })
+cut-steps Prices old link then answer new faults (inr (inl due)) = inl (due.tables, λ asked came. cc came)
+cut-steps Prices old link then answer new faults (inr (inr due)) = inl (due.tables, λ asked came. cc came)
 
 serves-steps : (Prices : Pricing) (old : Tables) (link : Traffic) (came : Served) (new : Option Tables) (then : Traffic) (faults : ℕ) → Serves Prices (Some old) link came new then faults
-    → StepsOnce Prices old new
+    → StepsOnce Prices old (record { before = link; after = then; came = came }) new
 unfolding StepsOnce
-serves-steps Prices old link (served.Answered status) new then faults (answer, due, is, written) = due-steps Prices old link answer new faults due
-serves-steps Prices old link served.Gone new then faults serves = inl serves.1.tables
-serves-steps Prices old link served.LinkFault new then faults (inl cut) = inl cut.1.tables
-serves-steps Prices old link served.LinkFault new then faults (inr (rose, answer, due, part)) = due-steps Prices old link answer new faults due
-serves-steps Prices old link served.NoMemory new then faults serves = inl serves.tables
+serves-steps Prices old link (served.Answered status) new then faults (answer, due, is, written) = due-steps Prices old link then answer new status faults due is written
+serves-steps Prices old link served.Gone new then faults serves = inl (serves.1.tables, λ asked came. cc came)
+serves-steps Prices old link served.LinkFault new then faults (inl cut) = inl (cut.1.tables, λ asked came. cc came)
+serves-steps Prices old link served.LinkFault new then faults (inr (rose, answer, due, part)) = cut-steps Prices old link then answer new faults due
+serves-steps Prices old link served.NoMemory new then faults serves = inl (serves.tables, λ asked came. cc came)
 
-Run : Pricing → Tables → Option Tables → Type 0
-Run Prices old new = (commands : List Command) × (replies : List Reply) × RunsTo Prices old commands replies new
+-- ---- one after another
 
-run-then : (Prices : Pricing) (old : Tables) (mid new : Option Tables) → StepsOnce Prices old mid → ((next : Tables) → mid ≡ Some next → Run Prices next new) → Run Prices old new
+Run : Pricing → Tables → List Exchange → Option Tables → Type 0
+Run Prices old exchanges new = (commands : List Command) × (replies : List Reply) × RunsTo Prices old commands replies new × Follow exchanges commands replies
+
+run-then : (Prices : Pricing) (old : Tables) (first : Exchange) (others : List Exchange) (mid new : Option Tables) → StepsOnce Prices old first mid
+    → ((next : Tables) → mid ≡ Some next → Run Prices next others new) → Run Prices old (first ∷ others) new
 unfolding StepsOnce Run
-run-then Prices old mid new (inl same) rest = rest old same
-run-then Prices old mid new (inr (command, reply, (entry, step, told))) rest =
-    let later = rest (after entry old) told in
-    (command ∷ later.0, reply ∷ later.1, (later.2.0, later.2.1, (entry, step, later.2.2)))
+run-then Prices old first others mid new (inl (same, none)) rest =
+    let later = rest old same in
+    (later.0, later.1, later.2, unreplied first others later.0 later.1 none later.3)
+run-then Prices old first others mid new (inr taken) rest =
+    let entry = taken.step.0 in
+    let later = rest (after entry old) taken.step.2 in
+    (taken.command ∷ later.0, taken.reply ∷ later.1, (later.2.0, later.2.1, (entry, taken.step.1, later.2.2)), replied first taken.command taken.reply others later.0 later.1 taken.has later.3)
 
 pub connections-run : (Prices : Pricing) (old : Tables) (exchanges : List Exchange) (new : Option Tables) (faults : ℕ) → AreServed Prices (Some old) exchanges new faults
-    → (commands : List Command) × (replies : List Reply) × RunsTo Prices old commands replies new
+    → (commands : List Command) × (replies : List Reply) × RunsTo Prices old commands replies new × Follow exchanges commands replies
 unfolding AreServed Run
-connections-run Prices old [] new faults served = ([], [], (old, served.0, refl))
+connections-run Prices old [] new faults served = ([], [], (old, served.0, refl), nothing)
 connections-run Prices old (first ∷ others) new faults (mid, one, more, is, serves, rest) =
-    run-then Prices old mid new (serves-steps Prices old first.before first.came mid first.after one serves)
+    run-then Prices old first others mid new (serves-steps Prices old first.before first.came mid first.after one serves)
     (λ next told. connections-run Prices next others new more (subst (λ t. AreServed Prices t others new more) told rest))

@@ -1,19 +1,19 @@
 -- What is answered to what has come, and what connections make of the tables.
-use Rattle.std.specs.Prelude.{◌≡◌, ◌⊎◌, ℕ, ℤ, List, Option, Some, IfSome}
+use Rattle.std.specs.Prelude.{◌≡◌, ◌≢◌, ◌⊎◌, ℕ, ℤ, List, ◌∷◌, ◌++◌, Option, Some, IfSome}
 use Rattle.muni_book.specs.Answers.{IsRightAnswer}
 use Rattle.muni_edge.specs.Faults.{Rose}
-use Rattle.muni_edge.specs.Sink.{HasWritten}
 use Rattle.muni_keep.specs.Tables.{Tables}
 use Rattle.muni_msg.specs.declared.command.Command.{Command}
 use Rattle.muni_msg.specs.declared.command.Reply.{Reply}
 use Rattle.muni_rule.specs.Payments.{PaymentSeries}
 use Rattle.muni_rule.specs.WorthEnds.{WorthEnds}
+use Rattle.muni_book_step.specs.Accepted.{AsksToKeep, IsAccepted}
 use Rattle.muni_book_step.specs.Runs.{StepsTo, RunsTo}
 use Rattle.muni_book_step.specs.Step.{Pricing}
-use Rattle.muni_wire.specs.Laws.{IsAmbiguous}
 use Rattle.muni_wire.specs.Reading.{Reading, Whole, Faulty, Short, HeadAsks, Reads}
-use Rattle.muni_desk_serve.specs.Answer.{Answer, reply_answer, bad_answer}
+use Rattle.muni_desk_serve.specs.Answer.{reply_answer, bad_answer}
 use Rattle.muni_desk_serve.specs.Connections.{Exchange, AreServed}
+use Rattle.muni_desk_serve.specs.Follow.{Follow, IsAnswered, HasAnswer, WasAnswered, HasCome, RepliesAgain}
 use Rattle.muni_desk_serve.specs.Serves.{Traffic, WasServed}
 use Rattle.muni_desk_serve.specs.declared.served.Served.{Served}
 use Rattle.muni_desk_serve.specs.declared.served.Served.TheVariants as served
@@ -23,11 +23,6 @@ pub record NoneRose (before : ℕ) (link : Traffic) (now : ℕ) (after : Traffic
   pub keeper : ¬ (Rose before now)
   pub takes : ¬ (Rose link.take_faults after.take_faults)
   pub puts : ¬ (Rose link.put_faults after.put_faults)
-
--- an answer was written whole
-pub record IsAnswered (answer : Answer) (link : Traffic) (came : Served) (after : Traffic) : Type 0 where
-  pub status : came ≡ served.Answered answer.status
-  pub written : HasWritten link.written after.written answer.bytes
 
 -- what is answered to a reading of the bytes, and the tables after it
 abbrev pub IsAnswerTo : Pricing → Reading → Option Tables → Traffic → Served → Option Tables → Traffic → Type 0
@@ -48,21 +43,37 @@ RequestsAreAnswered Prices =
     → link.left ≡ Some bytes → HeadAsks bytes reading
     → (came ≡ served.NoMemory) ⊎ IsAnswerTo Prices reading old link came new after
 
--- So do all bytes that have one reading.
+-- So do all bytes get the answer to one of their readings.
 abbrev pub BytesAreAnswered : Pricing → Type 0
 BytesAreAnswered Prices =
-    (old new : Option Tables) (before now : ℕ) (link after : Traffic) (came : Served) (bytes : List ℕ) (reading : Reading)
+    (old new : Option Tables) (before now : ℕ) (link after : Traffic) (came : Served) (bytes : List ℕ)
     → WasServed Prices old before link came new now after → NoneRose before link now after
-    → link.left ≡ Some bytes → Reads bytes reading
-    → IsAmbiguous bytes ⊎ (came ≡ served.NoMemory) ⊎ IsAnswerTo Prices reading old link came new after
+    → link.left ≡ Some bytes
+    → (came ≡ served.NoMemory)
+    ⊎ ((reading : Reading) × Reads bytes reading × IsAnswerTo Prices reading old link came new after)
 
--- connections that are served run commands of the book, at most one each, from their first tables to
--- their last
+-- Connections that are served run commands of the book from their first tables to their last: what they
+-- asked for, at most one each, with the replies by which they were answered.
 abbrev pub ConnectionsRunTheBook : Pricing → Type 0
 ConnectionsRunTheBook Prices =
     (old : Tables) (exchanges : List Exchange) (new : Option Tables) (faults : ℕ)
     → AreServed Prices (Some old) exchanges new faults
     → (commands : List Command) × (replies : List Reply) × RunsTo Prices old commands replies new
+    × Follow exchanges commands replies
+
+-- Of the connections of a run one asked to keep something, and was answered, and not that the store
+-- failed. A later one that asks for the same has the same reply, if this accepts it, and adds nothing.
+abbrev pub ConnectionsActOnce : Pricing → Type 0
+ConnectionsActOnce Prices =
+    (old : Tables) (earlier : List Exchange) (first : Exchange) (between : List Exchange)
+    (again : Exchange) (later : List Exchange) (new : Option Tables) (faults : ℕ)
+    (command : Command) (status : ℕ)
+    → AreServed Prices (Some old) (earlier ++ (first ∷ (between ++ again ∷ later))) new faults
+    → AsksToKeep command → HasCome first command → HasCome again command
+    → WasAnswered first status → status ≢ 503
+    → (reply : Reply) × HasAnswer first (reply_answer reply)
+    × (IsAccepted reply
+    → RepliesAgain Prices (Some old) (earlier ++ first ∷ between) again later new reply)
 
 -- the ends that an encloser gives to payments and a yield
 abbrev pub Ends : Type 0
@@ -71,7 +82,10 @@ Ends = PaymentSeries → ℤ → WorthEnds
 -- whatever computes the figures
 pub record WhatHasComeIsAnswered : Type 0 where
   pub requests : (ends : Ends) → RequestsAreAnswered (IsRightAnswer ends)
-  pub others : (ends : Ends) → BytesAreAnswered (IsRightAnswer ends)
+  pub all : (ends : Ends) → BytesAreAnswered (IsRightAnswer ends)
 
 abbrev pub ServingRunsTheBook : Type 0
 ServingRunsTheBook = (ends : Ends) → ConnectionsRunTheBook (IsRightAnswer ends)
+
+abbrev pub WhatIsSentAgainActsOnce : Type 0
+WhatIsSentAgainActsOnce = (ends : Ends) → ConnectionsActOnce (IsRightAnswer ends)

@@ -3,4 +3,5 @@ pub mod Serves
 pub mod Serving
 pub mod Fault
 pub mod Connections
+pub mod Follow
 pub mod Laws

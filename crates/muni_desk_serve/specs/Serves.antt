@@ -1,5 +1,6 @@
 -- What is done with one connection.
-use Rattle.std.specs.Prelude.{◌≡◌, ◌⊎◌, ◌≤◌, ◌+◌, ◌-◌, ◌^◌, min, ℕ, List, Option, IfSome, is_some}
+use Rattle.std.specs.Prelude.{◌≡◌, ◌⊎◌, ◌≤◌, ◌+◌, ◌-◌, ◌^◌, ◌==◌, min, ℕ, List, [], ◌∷◌, Bool, true, Option, IfSome, is_some}
+use Rattle.std.specs.List.{list_any}
 use Rattle.muni_edge.specs.Faults.{Rose}
 use Rattle.muni_edge.specs.Sink.{HasWritten, HasWrittenPart}
 use Rattle.muni_edge.specs.declared.sink.Sink as sink
@@ -104,12 +105,26 @@ pub record WasServed (Prices : Pricing) (old : Option Tables) (before : ℕ) (li
   pub serves : Serves Prices old link answer new after faults
   pub rose : RoseBy faults before now
 
+-- A take or a put that failed is counted and is a fault of the connection; after any other end none has
+-- failed.
+abbrev pub CountsLink : Served → (takes takes_now puts puts_now : ℕ) → Type 0
+CountsLink (served.Answered status) takes takes_now puts puts_now = (takes_now ≡ takes) × (puts_now ≡ puts)
+CountsLink served.Gone takes takes_now puts puts_now = (takes_now ≡ takes) × (puts_now ≡ puts)
+CountsLink served.LinkFault takes takes_now puts puts_now = Rose takes takes_now ⊎ Rose puts puts_now
+CountsLink served.NoMemory takes takes_now puts puts_now = (takes_now ≡ takes) × (puts_now ≡ puts)
+
+-- a status that is answered to what is no request, and to nothing else
+abbrev pub is_bad_status : ℕ → Bool
+is_bad_status status = list_any (λ bad. bad == status) (400 ∷ 405 ∷ 411 ∷ 413 ∷ 431 ∷ [])
+
 -- What an answer leaves of a keeper and of a connection, whatever they expose: a fault that it tells of is
--- counted, and what got no answer has not come to the keeper.
+-- counted, and what is no command has not come to the keeper.
 pub record LeavesCounted {K L : Type 0} (keeps : keeper.Ghosts K) (takes : source.Ghosts L) (puts : sink.Ghosts L) (came : Served) (old new : K) (before after : L) : Type 0 where
   pub unavailable : came ≡ served.Answered 503 → Rose (keeps.faults old) (keeps.faults new)
-  pub link_fault : came ≡ served.LinkFault → Rose (takes.faults before) (takes.faults after) ⊎ Rose (puts.faults before) (puts.faults after)
+  pub counts : CountsLink came (takes.faults before) (takes.faults after) (puts.faults before) (puts.faults after)
   pub unanswered : came ≡ served.Gone → new ≡ old
+  pub bad : (status : ℕ) → came ≡ served.Answered status → is_bad_status status ≡ true → new ≡ old
+  pub asked : (new ≡ old) ⊎ ((command : Command) × IfSome (takes.left before) (λ bytes. Reads bytes (Whole command)))
   pub tells : is_some (keeps.tables new) ≡ is_some (keeps.tables old)
   pub later : keeps.faults old ≤ keeps.faults new
   pub lent_as : keeps.lent_as new ≡ keeps.lent_as old

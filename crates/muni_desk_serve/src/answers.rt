@@ -1,8 +1,8 @@
 //! One connection.
 
-ghost use Rattle.std.specs.Prelude.{◌≡◌, ◌≤◌};
+ghost use Rattle.std.specs.Prelude.{◌≤◌};
 ghost use Rattle.muni_book.specs.Answers.{IsRightAnswer};
-ghost use Rattle.muni_desk_serve.specs.Answer.{reply_answer, bad_answer, unavailable_answer, IsWritten};
+ghost use Rattle.muni_desk_serve.specs.Answer.{reply_answer, bad_answer, unavailable_answer, WritesAnswer};
 ghost use Rattle.muni_desk_serve.specs.Serves.{LeavesCounted, WasServed, traffic};
 
 use crate::served::Served;
@@ -58,10 +58,7 @@ pub fn answer_one<R: Threads + Sync, L: Link, K: Keeper, E: Encloser + Sync, G: 
 
 // Writes the answer to a command.
 fn answer_reply<L: Link>(link: &mut L, reply: &Reply) -> Served
-    ensures written { IsWritten (reply_answer reply.now) result
-        (L.bytes link.old) (L.bytes link.new) (L.Sink.faults link.old) (L.Sink.faults link.new) }
-    ensures later { L.Sink.faults link.old ≤ L.Sink.faults link.new }
-    ensures keeps_takes { L.Source.faults link.new ≡ L.Source.faults link.old }
+    ensures { WritesAnswer L.Source L.Sink (reply_answer reply.now) result link.old link.new }
 {
     match write_reply(link, reply) {
         Ok(()) => Served::Answered {
@@ -73,10 +70,7 @@ fn answer_reply<L: Link>(link: &mut L, reply: &Reply) -> Served
 
 // Writes the answer to what is no command.
 fn answer_bad<L: Link>(link: &mut L, bad: Bad) -> Served
-    ensures written { IsWritten (bad_answer bad) result
-        (L.bytes link.old) (L.bytes link.new) (L.Sink.faults link.old) (L.Sink.faults link.new) }
-    ensures later { L.Sink.faults link.old ≤ L.Sink.faults link.new }
-    ensures keeps_takes { L.Source.faults link.new ≡ L.Source.faults link.old }
+    ensures { WritesAnswer L.Source L.Sink (bad_answer bad) result link.old link.new }
 {
     match write_bad(link, bad) {
         Ok(()) => Served::Answered {
@@ -88,10 +82,7 @@ fn answer_bad<L: Link>(link: &mut L, bad: Bad) -> Served
 
 // Writes that the store has failed.
 fn answer_unavailable<L: Link>(link: &mut L) -> Served
-    ensures written { IsWritten unavailable_answer result
-        (L.bytes link.old) (L.bytes link.new) (L.Sink.faults link.old) (L.Sink.faults link.new) }
-    ensures later { L.Sink.faults link.old ≤ L.Sink.faults link.new }
-    ensures keeps_takes { L.Source.faults link.new ≡ L.Source.faults link.old }
+    ensures { WritesAnswer L.Source L.Sink unavailable_answer result link.old link.new }
 {
     match write_unavailable(link) {
         Ok(()) => Served::Answered {

@@ -11,6 +11,7 @@ ghost use Rattle.muni_desk_serve.specs.Serving.{ServedStore};
 use crate::answers::answer_one;
 use crate::fault::{ServeFault, after};
 use crate::served::Served;
+use muni_book::Calculator;
 use muni_edge::{Door, Failed, Gate};
 use muni_keep::{Cabinet, Keeper};
 use muni_multi::Encloser;
@@ -22,22 +23,17 @@ use std::thread::Threads;
 ///
 /// The store is fetched first, and given back at the end; then the door is bound to the port. What a
 /// connection does or suffers ends that connection alone.
-// Up to `workers` threads look for each yield, and the gate is told when they begin (tested).
 pub fn serve<R: Threads + Sync, C: Cabinet, D: Door, E: Encloser + Sync, G: Gate + Sync>(
-    rt: &R,
+    calculator: &Calculator<'_, R, E, G>,
     alloc: Global,
     store: &[u8],
     port: u16,
     connections: u32,
-    workers: u32,
     cabinet: &mut C,
     door: &mut D,
-    encloser: &E,
-    gate: &G,
 ) -> Result<(), ServeFault>
-    requires workers { (1 ≤ workers) × (workers ≤ 16) }
     requires none_out { C.out cabinet.old ≡ None }
-    ensures served { ServedStore C.Cabinet D.Door (IsRightAnswer (E.ends encloser.now))
+    ensures served { ServedStore C.Cabinet D.Door (IsRightAnswer (E.ends calculator.now.encloser.now))
         (traffic D.L.left D.L.bytes D.L.Source.faults D.L.Sink.faults) store.now port connections result
         cabinet.old cabinet.new door.old door.new }
     ensures leaves { LeavesOthers C.Cabinet store.now cabinet.old cabinet.new }
@@ -45,36 +41,21 @@ pub fn serve<R: Threads + Sync, C: Cabinet, D: Door, E: Encloser + Sync, G: Gate
     ensures door_later { D.faults door.old ≤ D.faults door.new }
 {
     let mut keeper = cabinet.fetch(store)?;
-    let end = serve_links(
-        rt,
-        alloc,
-        port,
-        connections,
-        workers,
-        &mut keeper,
-        door,
-        encloser,
-        gate,
-    );
+    let end = serve_links(calculator, alloc, port, connections, &mut keeper, door);
     cabinet.give_back(keeper);
     end
 }
 
 // Serves connections over the tables of a keeper.
 fn serve_links<R: Threads + Sync, K: Keeper, D: Door, E: Encloser + Sync, G: Gate + Sync>(
-    rt: &R,
+    calculator: &Calculator<'_, R, E, G>,
     alloc: Global,
     port: u16,
     connections: u32,
-    workers: u32,
     keeper: &mut K,
     door: &mut D,
-    encloser: &E,
-    gate: &G,
 ) -> Result<(), ServeFault>
-    requires workers { (1 ≤ workers) × (workers ≤ 16) }
-
-    ensures run { IfSome (D.state door.old) (λ d. IsRun (IsRightAnswer (E.ends encloser.now))
+    ensures run { IfSome (D.state door.old) (λ d. IsRun (IsRightAnswer (E.ends calculator.now.encloser.now))
         (traffic D.L.left D.L.bytes D.L.Source.faults D.L.Sink.faults) port connections
         d (D.state door.new) (K.tables keeper.old) (K.tables keeper.new)
         (K.faults keeper.old) (K.faults keeper.new) result) }
@@ -89,7 +70,7 @@ fn serve_links<R: Threads + Sync, K: Keeper, D: Door, E: Encloser + Sync, G: Gat
     let mut end = Ok(());
     for count in 0..connections {
         let _count = count;
-        match serve_next(rt, alloc, workers, keeper, door, encloser, gate) {
+        match serve_next(calculator, alloc, keeper, door) {
             Ok(Some(served)) => end = after(end, served),
             Ok(None) => return end,
             Err(Failed) => return Err(ServeFault::Door),
@@ -100,18 +81,14 @@ fn serve_links<R: Threads + Sync, K: Keeper, D: Door, E: Encloser + Sync, G: Gat
 
 // Serves the first connection that waits, if one does, and hands it back.
 fn serve_next<R: Threads + Sync, K: Keeper, D: Door, E: Encloser + Sync, G: Gate + Sync>(
-    rt: &R,
+    calculator: &Calculator<'_, R, E, G>,
     alloc: Global,
-    workers: u32,
     keeper: &mut K,
     door: &mut D,
-    encloser: &E,
-    gate: &G,
 ) -> Result<Option<Served>, Failed>
-    requires workers { (1 ≤ workers) × (workers ≤ 16) }
     requires bound { IfSome (D.state door.old) (λ d. IsSome d.port) }
 
-    ensures next { AsksDoor K.Keeper D.Door (IsRightAnswer (E.ends encloser.now))
+    ensures next { AsksDoor K.Keeper D.Door (IsRightAnswer (E.ends calculator.now.encloser.now))
         (traffic D.L.left D.L.bytes D.L.Source.faults D.L.Sink.faults) result keeper.old keeper.new door.old door.new }
     ensures failed { OnErr result (Rose (D.faults door.old) (D.faults door.new)) }
     ensures port { (port : ℕ) → IfSome (D.state door.old) (λ d. d.port ≡ Some port)
@@ -121,7 +98,21 @@ fn serve_next<R: Threads + Sync, K: Keeper, D: Door, E: Encloser + Sync, G: Gate
     match door.accept() {
         Ok(Some(link)) => {
             let mut link = link;
-            let served = answer_one(rt, alloc, &mut link, keeper, workers, encloser, gate);
+            let &Calculator {
+                rt,
+                workers,
+                encloser,
+                gate,
+            } = calculator;
+            let served = answer_one(
+                rt,
+                alloc,
+                &mut link,
+                keeper,
+                workers.count(),
+                encloser,
+                gate,
+            );
             door.hand_back(link);
             Ok(Some(served))
         }

@@ -5,15 +5,19 @@ ghost use Rattle.muni_desk_serve.specs.Fault as spec;
 
 use crate::served::Served;
 use muni_keep::KeepFault;
+use thiserror::Error;
 
 /// Why a run of connections did not end well.
-#[derive(Clone, Copy, Debug, PartialEq, Eq)]
+#[derive(Clone, Copy, Debug, PartialEq, Eq, Error)]
 pub enum ServeFault {
     /// The store could not be fetched. No connection was accepted.
+    #[error("the store failed")]
     Store,
     /// The door could not be bound, or failed to accept a connection.
+    #[error("the port could not be served")]
     Door,
     /// No memory was left for the store, or for one of the connections at least.
+    #[error("out of memory")]
     NoMemory,
 }
 

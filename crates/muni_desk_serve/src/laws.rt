@@ -1,17 +1,25 @@
 //! What holds of the definitions that the contracts of serving cite.
 
-ghost use Rattle.muni_desk_serve.specs.Laws.{WhatHasComeIsAnswered, ServingRunsTheBook};
+ghost use Rattle.muni_desk_serve.specs.Laws.{WhatHasComeIsAnswered, ServingRunsTheBook, WhatIsSentAgainActsOnce};
 
-/// A law of the definitions: where no count of faults rose, a whole request gets the answer to what it
-/// asks for, with its status, or no memory was left. So does a bad one, and one that ends too early
-/// gets none. Of bytes that are ambiguous (`muni_wire`) it is one of their answers.
+/// A law of the definitions: if no count of faults rose, what has come is answered as one of its
+/// readings says, or no memory was left. A whole request gets the answer to what it asks for, with its
+/// status, a bad one its own, and one that ends too early none. Bytes that begin with a head within the
+/// limits have one reading (`muni_wire`).
 pub fn what_has_come_is_answered()
     ensures { WhatHasComeIsAnswered }
 {}
 
-/// A law of the definitions: connections that are served one after another run commands of the book,
-/// at most one each. So what holds of every run holds of the tables that they leave, and of their
-/// replies.
+/// A law of the definitions: connections that are served one after another run commands of the book:
+/// what they asked for, at most one each, with the replies by which they were answered. So what holds
+/// of every run holds of the tables that they leave, and of their replies.
 pub fn serving_runs_the_book()
     ensures { ServingRunsTheBook }
+{}
+
+/// A law of the definitions: of the connections of a run, what is sent again over a later one acts once.
+/// If it was accepted, it has the same answer again, unless that tells of a store that failed, and adds
+/// nothing.
+pub fn what_is_sent_again_acts_once()
+    ensures { WhatIsSentAgainActsOnce }
 {}

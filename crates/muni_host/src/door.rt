@@ -2,10 +2,11 @@
 
 ghost use Rattle.std.specs.Prelude.{◌≡◌, None};
 
+use crate::closing::finish;
 use crate::link::StreamLink;
 use muni_edge::{Door, Failed, Faults};
 use std::io::{Read, Write};
-use std::net::{IpAddr, Ipv4Addr, Net, OpenListener, SocketAddr, TcpListener};
+use std::net::{IpAddr, Ipv4Addr, Net, OpenListener, OpenStream, SocketAddr, TcpListener};
 
 /// A listener at 127.0.0.1, which other machines cannot reach. It does not tell which links it gives.
 #[derive(Drop)]
@@ -38,7 +39,7 @@ impl<'a, R: Net> LoopbackDoor<'a, R> {
 
 impl<'a, R: Net> Door for LoopbackDoor<'a, R>
 where
-    <R::Listener as OpenListener>::Stream: Read + Write,
+    <R::Listener as OpenListener>::Stream: Read + Write + OpenStream,
 {
     type L = StreamLink<<R::Listener as OpenListener>::Stream>;
 
@@ -67,6 +68,8 @@ where
         Err(self.faults.fail())
     }
 
-    /// The stream is closed.
-    fn hand_back(&mut self, _link: Self::L) {}
+    /// The stream is closed, after what its client still sends was read away.
+    fn hand_back(&mut self, link: Self::L) {
+        finish(&mut link.into_stream());
+    }
 }

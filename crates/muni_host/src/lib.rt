@@ -2,6 +2,7 @@
 //! machine, as what a desk is handed.
 #![tactic(auto)]
 
+mod closing;
 mod command_line;
 mod door;
 mod input;

@@ -29,6 +29,13 @@ impl<S> StreamLink<S> {
             write_faults: Faults::none(),
         }
     }
+
+    /// The stream itself.
+    pub(crate) fn into_stream(self) -> S
+        ensures { result ≡ self.stream }
+    {
+        self.stream
+    }
 }
 
 impl<S: Read> Source for StreamLink<S> {

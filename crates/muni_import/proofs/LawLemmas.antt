@@ -1,9 +1,9 @@
 -- What holds of all rows.
-use Rattle.std.proofs.Common.{◌≡◌, ◌<◌, ◌+◌, ◌∙◌, ℕ, zero, suc, List, [], ◌∷◌, ◌++◌, length, map, Option, Some, None, refl, sym, ap, subst, inl, arith}
+use Rattle.std.proofs.Common.{◌≡◌, ◌≤◌, ◌<◌, ◌+◌, ◌∙◌, ℕ, zero, suc, List, [], ◌∷◌, ◌++◌, length, map, Option, Some, None, refl, sym, ap, subst, inl, arith}
 use Rattle.std.specs.Prelude.{codes, unwrap_or}
-use Rattle.std.proofs.lemmas.List.{length-append}
+use Rattle.std.proofs.lemmas.List.{length-append, length-map}
 use Rattle.csv.specs.Machine.{Read, next_record}
-use Rattle.csv.specs.Reading.{AreRecords, Reached, default_config, records_from, records_next, strip_bom}
+use Rattle.csv.specs.Reading.{AreRecords, Reached, default_config, records, records_from, records_next, strip_bom}
 use Rattle.csv.specs.Records.{field_at}
 use Rattle.csv.specs.declared.parser.State.{State}
 use Rattle.csv.specs.declared.parser.State.TheVariants as st
@@ -11,6 +11,7 @@ use Rattle.muni_import.specs.Row.{Row, row_of, terms_in, issue_in, calendar_in, 
 use Rattle.muni_import.specs.RowLaws.{AreRows}
 use Rattle.muni_import.specs.Rows.{rows_of}
 use Rattle.muni_import.proofs.MachineLemmas.{IsBetween, behind-between}
+use Rattle.muni_import.proofs.RowLemmas.{few-rows}
 
 -- the records that are computed are those that are read one after another
 are-next : (n : ℕ) (s : State) (xs : List ℕ) (next : Option Read) → next_record default_config s [] [] xs ≡ next → IsBetween s → length xs < suc n
@@ -29,15 +30,25 @@ are-records zero s xs between few = absurd (omega (arith, few))
 are-records (suc n) s xs between few = are-next n s xs (next_record default_config s [] [] xs) refl between few (are-records n)
 
 -- and no others are
-same-records : (s : State) (xs : List ℕ) (records others : List (List (List ℕ))) → AreRecords default_config s xs records → AreRecords default_config s xs others → records ≡ others
+same-records : (s : State) (xs : List ℕ) (found others : List (List (List ℕ))) → AreRecords default_config s xs found → AreRecords default_config s xs others → found ≡ others
 unfolding Reached
 same-records s xs [] [] are also = refl
 same-records s xs [] (other ∷ others) are also = grind arith
-same-records s xs (record' ∷ records) [] are also = grind arith
-same-records s xs (record' ∷ records) (other ∷ others) (s2, ys, (next, is, here, more), end) (t2, zs, (next', is', here', more'), end') =
+same-records s xs (record' ∷ found) [] are also = grind arith
+same-records s xs (record' ∷ found) (other ∷ others) (s2, ys, (next, is, here, more), end) (t2, zs, (next', is', here', more'), end') =
     let same : next ≡ next' = grind (arith, is, is') in
-    let rest = same-records next.1 next.2 records others (s2, ys, more, end) (t2, zs, subst (λ (at : Read). Reached default_config at.1 at.2 others t2 zs) (sym same) more', end') in
+    let rest = same-records next.1 next.2 found others (s2, ys, more, end) (t2, zs, subst (λ (at : Read). Reached default_config at.1 at.2 others t2 zs) (sym same) more', end') in
     grind (arith, same, here, here', rest)
+
+pub one-record-list : (text : List ℕ) (found : List (List (List ℕ))) → AreRecords default_config st.StartRecord (strip_bom text) found → found ≡ records default_config (strip_bom text)
+one-record-list text found are =
+    let bytes = strip_bom text in
+    same-records st.StartRecord bytes found (records default_config bytes) are (are-records (length bytes + 1) st.StartRecord bytes (inl refl) (omega arith))
+
+pub few-records : (text : List ℕ) → length (records default_config (strip_bom text)) ≤ length text
+unfolding rows_of
+few-records text =
+    omega (arith, few-rows text, length-map (records default_config (strip_bom text)) row_of)
 
 pub text-has-rows : (text : List ℕ) → AreRows text (rows_of text)
 unfolding rows_of

@@ -3,15 +3,15 @@
 ghost use Rattle.std.specs.Prelude.{◌≡◌, ◌+◌, ◌≤◌, ◌++◌, [], ◌∷◌, length, decimal};
 ghost use Rattle.arrayvec.specs.ArrayVec.{array_vec_len};
 ghost use Rattle.muni_days.specs.Day.{civil, day_text};
-ghost use Rattle.muni_dec.specs.Decimal.{decimal_text};
+ghost use Rattle.muni_dec.specs.Values.{money_text, printed_price_text};
 ghost use Rattle.muni_import.specs.Line as spec;
 
 use crate::RowFault;
 use arrayvec::ArrayVec;
 use itoa::Buffer;
 use muni_days::Day;
-use muni_dec::Amount;
 use muni_dec::text::push;
+use muni_dec::{Cents, Price3};
 use muni_msg::refusal_name;
 
 /// Appends a field.
@@ -44,19 +44,27 @@ pub fn push_digits(text: &mut ArrayVec<u8, 256>, number: u32)
     push(text, buffer.format(number).as_bytes());
 }
 
-/// Appends a field with an amount, with all its decimals.
-pub fn push_amount<const PLACES: usize, const LEAST: u64, const GREATEST: u64>(
-    text: &mut ArrayVec<u8, 256>,
-    amount: &Amount<PLACES, LEAST, GREATEST>,
-)
-    requires places { (1 ≤ PLACES) × (PLACES ≤ 7) }
-    requires room { array_vec_len text.old ≤ 200 }
+/// Appends a field with a printed price, with its three decimals.
+pub fn push_price(text: &mut ArrayVec<u8, 256>, price: &Price3)
+    requires { array_vec_len text.old ≤ 200 }
     ensures items { text.new.items
-        ≡ text.old.items ++ spec.behind_commas (decimal_text PLACES amount.now ∷ []) }
+        ≡ text.old.items ++ spec.behind_commas (printed_price_text price.now ∷ []) }
     ensures len { array_vec_len text.new ≤ array_vec_len text.old + 30 }
 {
     let mut value = ArrayVec::new();
-    amount.print_into(&mut value);
+    price.print_into(&mut value);
+    push_field(text, &value);
+}
+
+/// Appends a field with an amount of money, with both its decimals.
+pub fn push_money(text: &mut ArrayVec<u8, 256>, money: &Cents)
+    requires { array_vec_len text.old ≤ 200 }
+    ensures items { text.new.items
+        ≡ text.old.items ++ spec.behind_commas (money_text money.now ∷ []) }
+    ensures len { array_vec_len text.new ≤ array_vec_len text.old + 30 }
+{
+    let mut value = ArrayVec::new();
+    money.print_into(&mut value);
     push_field(text, &value);
 }
 

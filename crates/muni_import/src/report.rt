@@ -6,7 +6,7 @@ ghost use Rattle.muni_import.specs.Report as spec;
 
 use crate::RowFault;
 use crate::line::{
-    push_amount, push_bad, push_day, push_digits, push_field, push_number, push_refused,
+    push_bad, push_day, push_digits, push_field, push_money, push_number, push_price, push_refused,
 };
 use arrayvec::ArrayVec;
 use muni_msg::{Figures, Key, Reply};
@@ -72,7 +72,7 @@ fn push_prices(text: &mut ArrayVec<u8, 256>, figures: &Figures)
     ensures items { text.new.items ≡ text.old.items ++ spec.price_fields figures.now }
     ensures len { array_vec_len text.new ≤ array_vec_len text.old + 60 }
 {
-    push_amount(text, &figures.price);
+    push_price(text, &figures.price);
     let mut yld = ArrayVec::new();
     figures.yld.print_into(&mut yld);
     push_field(text, &yld);
@@ -85,5 +85,5 @@ fn push_total(text: &mut ArrayVec<u8, 256>, figures: &Figures)
     ensures len { array_vec_len text.new ≤ array_vec_len text.old + 41 }
 {
     push_day(text, figures.redemption);
-    push_amount(text, &figures.total);
+    push_money(text, &figures.total);
 }

@@ -1,19 +1,18 @@
 -- What a call leaves of a keeper over a journal.
-use Rattle.std.specs.Prelude.{◌≡◌, ◌≢◌, ◌<◌, ◌+◌, ◌^◌, ◌⊎◌, length, is_some}
+use Rattle.std.specs.Prelude.{◌≡◌, ◌≢◌, ◌<◌, ◌+◌, ◌^◌, ◌⊎◌, length, Some, is_some, Result}
 use Rattle.muni_edge.specs.Faults.{Rose}
+use Rattle.muni_keep.specs.Keeper.{EditsTables}
+use Rattle.muni_keep.specs.declared.fault.KeepFault.{KeepFault}
+use Rattle.muni_keep.specs.declared.keeper.Keeper as keep
+use Rattle.muni_journal_disk.specs.Disk.{StopsLeave}
 use Rattle.muni_journal_disk.specs.declared.fault.DiskFault.{DiskFault}
 use Rattle.muni_journal_disk.specs.declared.fault.DiskFault.TheVariants.{Failed}
 use Rattle.muni_journal_disk.specs.declared.disk.Disk.{Ghosts}
 use Rattle.muni_journal_record.specs.Body.{body_of}
 use Rattle.muni_journal_record.specs.declared.put.Put.{Put}
+use Rattle.muni_journal.specs.Puts.{after}
+use Rattle.muni_journal.specs.Stops.{StandsFor}
 use Rattle.muni_journal.specs.declared.keeper.JournalKeeper.{JournalKeeper}
-
--- Nothing but the count of faults may change.
-pub record KeepsJournal {D : Type 0} {of : Ghosts D} (old new : JournalKeeper D of) : Type 0 where
-  pub disk : new.disk ≡ old.disk
-  pub gate : new.gate ≡ old.gate
-  pub tables : new.kept ≡ old.kept
-  pub in_doubt : new.in_doubt ≡ old.in_doubt
 
 -- A put in doubt could not be taken back: the tables stay, and a failure of the disk is counted.
 pub record IsUnsettled {D : Type 0} (of : Ghosts D) (fault : DiskFault) (old new : JournalKeeper D of) : Type 0 where
@@ -25,3 +24,11 @@ pub record IsUnsettled {D : Type 0} (of : Ghosts D) (fault : DiskFault) (old new
 abbrev pub CountsForCause : {D : Type 0} → (of : Ghosts D) → Put → JournalKeeper D of → JournalKeeper D of → Type 0
 CountsForCause of put old new =
     new.faults ≢ old.faults → Rose (of.faults old.disk) (of.faults new.disk) ⊎ (2 ^ 40 < old.gate + 5 + length (body_of put))
+
+-- A put edits the tables, or after a refusal not at all. Each image since the call began stands for the tables
+-- before it, or for them after one put more: this one, or the last that failed and was not taken back.
+pub record EditsJournal {D T : Type 0} (of : Ghosts D) (keeper : keep.Ghosts (JournalKeeper D of)) (put : Put) (result : Result T KeepFault) (old new : JournalKeeper D of) : Type 0 where
+  pub edits : EditsTables keeper (λ tables. after tables put) result old new
+  pub stops : StopsLeave of.clock of.since old.disk new.disk (StandsFor old.kept old.in_doubt (Some put))
+  pub tells : is_some (of.bytes new.disk) ≡ is_some (of.bytes old.disk)
+  pub counted : CountsForCause of put old new

@@ -8,9 +8,11 @@ ghost use Rattle.muni_journal.specs.Cabinet.{IsBack, HeldFailed, DiskFailed};
 ghost use Rattle.muni_journal.specs.Keeper.{IsUnsettled};
 ghost use Rattle.muni_journal.specs.Told.{off_shelf};
 
+use crate::faults::counted;
 use crate::fetching::FetchFault;
 use crate::keeper::JournalKeeper;
 use crate::opening::{Unfetched, Unsettled, open};
+use muni_edge::Faults;
 use muni_journal_disk::{Disk, DiskFault, Shelf};
 use muni_keep::{Cabinet, KeepFault, Keeper};
 use std::alloc::Global;
@@ -40,7 +42,7 @@ pub struct JournalCabinet<S: Shelf> {
     shelf: S,
     out: Option<Vec<u8>>,
     held: Option<Held<S::D>>,
-    faults: u64,
+    faults: Faults,
     // The disk of the keeper that is out or held is off the shelf.
     ghost lent: { S.out shelf ≡ option_map (λ off. off.0) (off_shelf (option_map (λ name. name.items) out) (option_map (λ h. (h.name.items, h.keeper.kept)) held)) },
     ghost one: { ForSome out (λ _. held ≡ None) },
@@ -73,21 +75,6 @@ fn release<S: Shelf>(shelf: &mut S, held: Held<S::D>) -> Result<(), Unreleased<S
     }
 }
 
-/// Counts a refusal of a disk or a shelf where it is a failure.
-fn counted(faults: &mut u64, fault: DiskFault) -> KeepFault
-    ensures later { faults.old ≤ faults.new }
-    ensures failed { result ≡ KeepFault.Failed → Rose faults.old faults.new }
-    ensures cause { faults.new ≢ faults.old → fault ≡ DiskFault.Failed }
-{
-    match fault {
-        DiskFault::Failed => {
-            *faults = faults.saturating_add(1);
-            KeepFault::Failed
-        }
-        DiskFault::NoMemory => KeepFault::NoMemory,
-    }
-}
-
 impl<S: Shelf> JournalCabinet<S> {
     /// A cabinet over a shelf of which no disk is out.
     pub fn new(alloc: Global, shelf: S) -> JournalCabinet<S>
@@ -102,7 +89,7 @@ impl<S: Shelf> JournalCabinet<S> {
             shelf,
             out: None,
             held: None,
-            faults: 0,
+            faults: Faults::none(),
         }
     }
 
@@ -191,7 +178,7 @@ impl<S: Shelf> Cabinet for JournalCabinet<S> {
     }
 
     fn give_back(&mut self, keeper: JournalKeeper<S::D>) {
-        self.faults = self.faults.saturating_add(keeper.faults);
+        self.faults.add(&keeper.faults);
         let Some(name) = self.out.take() else {
             return;
         };

@@ -4,7 +4,7 @@ ghost use Rattle.std.specs.Prelude.{◌≡◌, ◌==◌, ◌<◌, ◌≤◌, ◌
 ghost use Rattle.muni_keep.specs.Tables.{no_tables};
 ghost use Rattle.muni_journal_disk.specs.Bytes.{byte_at, bytes_at};
 ghost use Rattle.muni_journal_disk.specs.Calls.{KeepsBytes};
-ghost use Rattle.muni_journal_disk.specs.Disk.{IfRead};
+ghost use Rattle.muni_journal_disk.specs.Disk.{Found, IfRead};
 ghost use Rattle.muni_journal_record.specs.Body.{put_of as spec_put_of};
 ghost use Rattle.muni_journal.specs.Journal as spec;
 
@@ -12,24 +12,26 @@ use crate::kept::put_next;
 use muni_journal_disk::{Disk, DiskFault};
 use muni_journal_record::{Put, put_of};
 use muni_keep::MemTables;
+use thiserror::Error;
 
 /// No slot of a journal ends past this place.
 pub(crate) const LIMIT: u64 = 1 << 40;
 
 /// Why no keeper was fetched.
-#[derive(Clone, Copy, Debug, PartialEq, Eq)]
+#[derive(Clone, Copy, Debug, PartialEq, Eq, Error)]
 pub enum FetchFault {
     /// The disk refused a call, or no memory was left.
+    #[error(transparent)]
     Disk(DiskFault),
     /// An open slot does not read, its put does not meet its condition, or it ends past the limit.
+    #[error("not a journal")]
     NotAJournal,
 }
 
 /// Whether the gate at a place is open.
 fn is_open<D: Disk>(disk: &mut D, place: u64) -> Result<bool, DiskFault>
     requires { place + 1 < 2 ^ 41 }
-    ensures gate { IfOk result (λ opened. IfRead (D.bytes disk.old)
-        (λ c. opened ≡ (byte_at c place == 1))) }
+    ensures gate { Found (D.bytes disk.old) result (λ c. byte_at c place == 1) }
     ensures keeps { KeepsBytes D.Disk DiskFault.Failed result disk.old disk.new }
 {
     let mut room = [0];
@@ -41,8 +43,7 @@ fn is_open<D: Disk>(disk: &mut D, place: u64) -> Result<bool, DiskFault>
 #[tactic(auto, unfolding(crate::specs::Journal::number_at, muni_journal_record::specs::Words::number_of_4))]
 fn number_at<D: Disk>(disk: &mut D, place: u64) -> Result<u32, DiskFault>
     requires { place + 4 < 2 ^ 41 }
-    ensures number { IfOk result (λ n. IfRead (D.bytes disk.old)
-        (λ c. n ≡ spec.number_at c place)) }
+    ensures number { Found (D.bytes disk.old) result (λ c. spec.number_at c place) }
     ensures keeps { KeepsBytes D.Disk DiskFault.Failed result disk.old disk.new }
 {
     let mut room = [0; 4];
@@ -54,8 +55,7 @@ fn number_at<D: Disk>(disk: &mut D, place: u64) -> Result<u32, DiskFault>
 fn body_at<D: Disk>(disk: &mut D, place: u64, count: usize) -> Result<Option<Put>, DiskFault>
     requires room { place + 1_024 < 2 ^ 41 }
     requires length { count ≤ 1_024 }
-    ensures put { IfOk result (λ put. IfRead (D.bytes disk.old)
-        (λ c. put ≡ spec_put_of (bytes_at c place count))) }
+    ensures put { Found (D.bytes disk.old) result (λ c. spec_put_of (bytes_at c place count)) }
     ensures keeps { KeepsBytes D.Disk DiskFault.Failed result disk.old disk.new }
 {
     let mut room = [0; 1024];
@@ -99,8 +99,7 @@ fn next_gate<D: Disk>(disk: &mut D, gate: u64, kept: &mut MemTables) -> Result<u
 
 fn open_at<D: Disk>(disk: &mut D, place: u64) -> Result<bool, FetchFault>
     requires { place + 1 < 2 ^ 41 }
-    ensures gate { IfOk result (λ opened. IfRead (D.bytes disk.old)
-        (λ c. opened ≡ (byte_at c place == 1))) }
+    ensures gate { Found (D.bytes disk.old) result (λ c. byte_at c place == 1) }
     ensures disk { IfErr result (λ fault. fault ≢ FetchFault.NotAJournal) }
     ensures keeps { KeepsBytes D.Disk (FetchFault.Disk DiskFault.Failed) result disk.old disk.new }
 {

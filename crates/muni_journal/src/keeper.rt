@@ -1,12 +1,10 @@
 //! The keeper over a journal.
 
-ghost use Rattle.std.specs.Prelude.{◌≡◌, ◌≢◌, ◌≤◌, ◌+◌, ◌^◌, Some, None, Ok, true, List, ℕ, length, is_some, OnOk, OnErr};
+ghost use Rattle.std.specs.Prelude.{◌≡◌, ◌≤◌, ◌+◌, ◌^◌, Some, None, Ok, true, List, ℕ, length, OnOk, OnErr};
 ghost use Rattle.std.specs.Option.{ForSome, ForNone};
 ghost use Rattle.std.specs.Result.{result_map_both};
-ghost use Rattle.muni_edge.specs.Faults.{Rose};
 ghost use Rattle.muni_keep.specs.History.{next_number};
-ghost use Rattle.muni_keep.specs.Keeper.{EditsTables};
-ghost use Rattle.muni_keep.specs.Tables.{issue_at, trade_at, version_at, last_at, trade_count, page_at, with_issue, with_version};
+ghost use Rattle.muni_keep.specs.Tables.{issue_at, trade_at, version_at, last_at, trade_count, page_at};
 ghost use Rattle.muni_journal_disk.specs.Calls.{SameDisk};
 ghost use Rattle.muni_journal_disk.specs.Disk.{StopsLeave};
 ghost use Rattle.muni_journal_slots.specs.Slots.{AllImages};
@@ -18,10 +16,12 @@ ghost use Rattle.muni_journal.specs.Piece.{IsPieceOf};
 ghost use Rattle.muni_journal.specs.Stops.{IsInDoubt, StandsFor};
 ghost use Rattle.muni_journal.specs.Told.{lent_as_of};
 
+use crate::faults::counted;
 use crate::fetching::LIMIT;
 use crate::kept::put_on;
 use crate::piece::piece_of;
 use arrayvec::ArrayVec;
+use muni_edge::Faults;
 use muni_journal_disk::{Disk, DiskFault};
 use muni_journal_record::Put;
 use muni_journal_slots::{SlotFault, put_slot, take_back};
@@ -36,7 +36,7 @@ pub struct JournalKeeper<D: Disk> {
     pub(crate) gate: u64,
     pub(crate) kept: MemTables,
     pub(crate) in_doubt: Option<Put>,
-    pub(crate) faults: u64,
+    pub(crate) faults: Faults,
     ghost room: { gate ≤ 2 ^ 40 },
     // Between two calls every image of the disk stands for the tables, or for them after a put in doubt.
     ghost at_rest: { ForNone in_doubt (AllImages (D.image disk) (λ c. journal_of c ≡ Some (record { gate = gate; tables = kept }))) },
@@ -44,7 +44,7 @@ pub struct JournalKeeper<D: Disk> {
 }
 
 impl<D: Disk> JournalKeeper<D> {
-    ghost use Rattle.muni_journal.specs.Keeper.{KeepsJournal, CountsForCause};
+    ghost use Rattle.muni_journal.specs.Keeper.{EditsJournal};
 
     /// Takes back a put that is in doubt.
     pub(crate) fn settle(&mut self) -> Result<(), DiskFault>
@@ -98,44 +98,21 @@ impl<D: Disk> JournalKeeper<D> {
         }
     }
 
-    /// Counts a refusal of the disk where it is a failure.
-    fn refused(&mut self, fault: DiskFault) -> KeepFault
-        ensures same { KeepsJournal self.old self.new }
-        ensures later { self.old.faults ≤ self.new.faults }
-        ensures counted { result ≡ KeepFault.Failed → Rose self.old.faults self.new.faults }
-        ensures cause { self.new.faults ≢ self.old.faults → fault ≡ DiskFault.Failed }
-    {
-        match fault {
-            DiskFault::Failed => {
-                self.faults = self.faults.saturating_add(1);
-                KeepFault::Failed
-            }
-            DiskFault::NoMemory => KeepFault::NoMemory,
-        }
-    }
-
-    /// Puts what meets its condition. Each image since the call began stands for the tables before it,
-    /// or for them after one put more: this one, or the last that failed and was not taken back.
+    /// Puts what meets its condition.
     fn put(&mut self, put: &Put) -> Result<(), KeepFault>
         requires { is_next self.old.kept put.now ≡ true }
 
-        ensures edits { EditsTables ⟦<JournalKeeper<D> as Keeper>⟧ (λ t. after t put.now) result
-            self.old self.new }
-        ensures stops { StopsLeave D.clock D.since self.old.disk self.new.disk
-            (StandsFor self.old.kept self.old.in_doubt (Some put.now)) }
-        ensures tells { is_some (D.bytes self.new.disk) ≡ is_some (D.bytes self.old.disk) }
-        ensures counted { CountsForCause D.Disk put.now self.old self.new }
+        ensures edits { EditsJournal D.Disk ⟦<JournalKeeper<D> as Keeper>⟧ put.now result self.old self.new }
     {
         if let Err(fault) = self.settle() {
-            return Err(self.refused(fault));
+            return Err(counted(&mut self.faults, fault));
         }
         let piece = piece_of(put);
         if self.gate + piece.len() as u64 > LIMIT {
-            self.faults = self.faults.saturating_add(1);
-            return Err(KeepFault::Failed);
+            return Err(self.faults.fail().into());
         }
         if let Err(fault) = self.add(put, &piece) {
-            return Err(self.refused(fault));
+            return Err(counted(&mut self.faults, fault));
         }
         Ok(())
     }
@@ -149,7 +126,7 @@ impl<D: Disk> JournalKeeper<D> {
 }
 
 impl<D: Disk> Keeper for JournalKeeper<D> {
-    ghost use Rattle.muni_journal.specs.Keeper.{KeepsJournal, CountsForCause};
+    ghost use Rattle.muni_journal.specs.Keeper.{EditsJournal};
     ghost use Rattle.muni_journal.specs.Told.{lent_as_of};
 
     ghost tables = { λ keeper. Some keeper.kept };
@@ -160,8 +137,7 @@ impl<D: Disk> Keeper for JournalKeeper<D> {
 
     fn issue(&mut self, cusip: &[u8; 9]) -> Result<Option<Issue>, KeepFault>
         ensures found { result ≡ Ok (issue_at self.old.kept cusip.now) }
-        ensures same { KeepsJournal self.old self.new }
-        ensures faults { self.new.faults ≡ self.old.faults }
+        ensures same { self.new ≡ self.old }
     {
         Ok(self.kept.issue(cusip))
     }
@@ -169,12 +145,7 @@ impl<D: Disk> Keeper for JournalKeeper<D> {
     fn put_issue(&mut self, issue: &Issue) -> Result<(), KeepFault>
         requires { issue_at self.old.kept issue.now.cusip ≡ None }
 
-        ensures edits { EditsTables ⟦<JournalKeeper<D> as Keeper>⟧ (with_issue issue.now) result
-            self.old self.new }
-        ensures stops { StopsLeave D.clock D.since self.old.disk self.new.disk
-            (StandsFor self.old.kept self.old.in_doubt (Some (put.Issue issue.now))) }
-        ensures tells { is_some (D.bytes self.new.disk) ≡ is_some (D.bytes self.old.disk) }
-        ensures counted { CountsForCause D.Disk (put.Issue issue.now) self.old self.new }
+        ensures edits { EditsJournal D.Disk ⟦<JournalKeeper<D> as Keeper>⟧ (put.Issue issue.now) result self.old self.new }
     {
         let put = Put::Issue(issue.copy());
         self.put(&put)
@@ -182,16 +153,14 @@ impl<D: Disk> Keeper for JournalKeeper<D> {
 
     fn version(&mut self, key: &Key, number: u32) -> Result<Option<Version>, KeepFault>
         ensures found { result ≡ Ok (version_at self.old.kept key.now number) }
-        ensures same { KeepsJournal self.old self.new }
-        ensures faults { self.new.faults ≡ self.old.faults }
+        ensures same { self.new ≡ self.old }
     {
         Ok(self.kept.version(key, number))
     }
 
     fn last(&mut self, key: &Key) -> Result<Option<(u32, Version)>, KeepFault>
         ensures found { result ≡ Ok (last_at self.old.kept key.now) }
-        ensures same { KeepsJournal self.old self.new }
-        ensures faults { self.new.faults ≡ self.old.faults }
+        ensures same { self.new ≡ self.old }
     {
         Ok(self.kept.last(key))
     }
@@ -199,12 +168,8 @@ impl<D: Disk> Keeper for JournalKeeper<D> {
     fn put_version(&mut self, key: &Key, number: u32, version: &Version) -> Result<(), KeepFault>
         requires { number ≡ next_number (trade_at self.old.kept key.now) }
 
-        ensures edits { EditsTables ⟦<JournalKeeper<D> as Keeper>⟧ (with_version key.now version.now) result
+        ensures edits { EditsJournal D.Disk ⟦<JournalKeeper<D> as Keeper>⟧ (put.Version key.now number version.now) result
             self.old self.new }
-        ensures stops { StopsLeave D.clock D.since self.old.disk self.new.disk
-            (StandsFor self.old.kept self.old.in_doubt (Some (put.Version key.now number version.now))) }
-        ensures tells { is_some (D.bytes self.new.disk) ≡ is_some (D.bytes self.old.disk) }
-        ensures counted { CountsForCause D.Disk (put.Version key.now number version.now) self.old self.new }
     {
         let put = Put::Version {
             key: key.copy(),
@@ -216,8 +181,7 @@ impl<D: Disk> Keeper for JournalKeeper<D> {
 
     fn trades(&mut self, desk: &DeskName) -> Result<u32, KeepFault>
         ensures found { result ≡ Ok (trade_count self.old.kept desk.now) }
-        ensures same { KeepsJournal self.old self.new }
-        ensures faults { self.new.faults ≡ self.old.faults }
+        ensures same { self.new ≡ self.old }
     {
         Ok(self.kept.trades(desk))
     }
@@ -229,8 +193,7 @@ impl<D: Disk> Keeper for JournalKeeper<D> {
     ) -> Result<ArrayVec<Line, 50>, KeepFault>
         ensures found { result_map_both (λ lines. lines.items) (λ fault. fault) result
             ≡ Ok (page_at self.old.kept desk.now after.now) }
-        ensures same { KeepsJournal self.old self.new }
-        ensures faults { self.new.faults ≡ self.old.faults }
+        ensures same { self.new ≡ self.old }
     {
         Ok(self.kept.page(desk, after))
     }

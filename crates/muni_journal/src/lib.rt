@@ -3,6 +3,7 @@
 #![tactic(auto)]
 
 mod cabinet;
+mod faults;
 mod fetching;
 mod keeper;
 mod kept;

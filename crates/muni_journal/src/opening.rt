@@ -9,6 +9,7 @@ ghost use Rattle.muni_journal.specs.Opened.{left};
 
 use crate::fetching::{FetchFault, read_slots};
 use crate::keeper::JournalKeeper;
+use muni_edge::Faults;
 use muni_journal_disk::{Disk, DiskFault};
 use muni_keep::MemTables;
 use std::alloc::Global;
@@ -57,7 +58,7 @@ pub fn open<D: Disk + Drop>(alloc: Global, disk: D) -> Result<JournalKeeper<D>, 
             gate,
             kept,
             in_doubt: None,
-            faults: 0,
+            faults: Faults::none(),
         }),
         Err(fault) => Err(Unfetched { fault, disk }),
     }
@@ -95,7 +96,7 @@ impl<D: Disk> JournalKeeper<D> {
         ensures count { result.faults ≡ 0 }
     {
         let mut keeper = self;
-        keeper.faults = 0;
+        keeper.faults = Faults::none();
         keeper
     }
 }

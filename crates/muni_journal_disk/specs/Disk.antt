@@ -1,5 +1,5 @@
 -- The bytes of a disk: as it reads, and as a stop leaves them.
-use Rattle.std.specs.Prelude.{◌≡◌, ◌⊎◌, ◌↔◌, ℕ, ◌≤◌, List, Option, Some, None, Result, IsErrOf}
+use Rattle.std.specs.Prelude.{◌≡◌, ◌⊎◌, ◌↔◌, ℕ, ◌≤◌, List, Option, Some, None, Result, IfOk, IsErrOf}
 use Rattle.muni_edge.specs.Faults.{Rose}
 use Rattle.muni_journal_disk.specs.Bytes.{byte_at, IsSameOutside}
 use Rattle.muni_journal_disk.specs.declared.fault.DiskFault.{DiskFault}
@@ -14,6 +14,10 @@ ReadsAs (Some bytes) image = (i : ℕ) → byte_at image i ≡ byte_at bytes i
 -- this holds of the bytes that a disk reads as, if it exposes them
 abbrev pub IfRead : Option (List ℕ) → (List ℕ → Type 0) → Type 0
 IfRead bytes Holds = (c : List ℕ) → ReadsAs bytes c → Holds c
+
+-- An answer is this value of what the disk reads as, if it exposes that.
+abbrev pub Found : {T E : Type 0} → Option (List ℕ) → Result T E → (List ℕ → T) → Type 0
+Found bytes result value = IfOk result (λ found. IfRead bytes (λ c. found ≡ value c))
 
 -- the image comes so from one that there was
 abbrev pub ComesFrom : (List ℕ → List ℕ → Type 0) → (List ℕ → Type 0) → List ℕ → Type 0

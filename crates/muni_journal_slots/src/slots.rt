@@ -10,6 +10,7 @@ ghost use Rattle.muni_journal_slots.specs.Slots.{IsStep, IsTakenBack, AllImages}
 ghost use Rattle.muni_journal_slots.specs.Outcome.{Leaves};
 
 use muni_journal_disk::{Disk, DiskFault};
+use thiserror::Error;
 
 /// The byte of a gate that is open. Any other byte is a closed gate.
 const OPEN: u8 = 1;
@@ -18,11 +19,13 @@ const OPEN: u8 = 1;
 const CLOSED: u8 = 0;
 
 /// Why a slot was not put.
-#[derive(Clone, Copy, Debug, PartialEq, Eq)]
+#[derive(Clone, Copy, Debug, PartialEq, Eq, Error)]
 pub enum SlotFault {
     /// Its gate was not touched, and is closed.
+    #[error("the slot was not put: {0}")]
     Unopened(DiskFault),
     /// Its gate may be open or not.
+    #[error("the slot is in doubt: {0}")]
     InDoubt(DiskFault),
 }
 

@@ -1,11 +1,10 @@
 //! A keeper in memory.
 
-ghost use Rattle.std.specs.Prelude.{◌≡◌, ◌≤◌, ◌↔◌, true, Some, None, IfOk, OnOk, OnErr, IsErrOf};
+ghost use Rattle.std.specs.Prelude.{◌≡◌, Some, None, IfOk};
 ghost use Rattle.std.specs.Result.{result_map_both};
-ghost use Rattle.muni_edge.specs.Calls.{is_listed, after_call};
 ghost use Rattle.muni_keep.specs.History.{next_number};
 ghost use Rattle.muni_keep.specs.Tables.{issue_at, trade_at, version_at, last_at, trade_count, page_at, with_issue, with_version};
-ghost use Rattle.muni_keep.specs.MemKeeper.{new_keeper, after_reading, unless_listed};
+ghost use Rattle.muni_keep.specs.MemKeeper.{new_keeper, LooksUp, Puts};
 
 use crate::fault::KeepFault;
 use crate::keeper::Keeper;
@@ -78,9 +77,7 @@ impl Keeper for MemKeeper {
     ghost lent_as = { λ _. 0 };
 
     fn issue(&mut self, cusip: &[u8; 9]) -> Result<Option<Issue>, KeepFault>
-        ensures found { result ≡ unless_listed self.old (issue_at self.old.tables cusip.now) }
-        ensures after { self.new ≡ after_reading self.old }
-        ensures later { self.old.calls.faults ≤ self.new.calls.faults }
+        ensures { LooksUp result (issue_at self.old.tables cusip.now) self.old self.new }
     {
         self.calls.make()?;
         Ok(self.tables.issue(cusip))
@@ -89,11 +86,7 @@ impl Keeper for MemKeeper {
     fn put_issue(&mut self, issue: &Issue) -> Result<(), KeepFault>
         requires { issue_at self.old.tables issue.now.cusip ≡ None }
 
-        ensures kept { OnOk result (self.new.tables ≡ with_issue issue.now self.old.tables) }
-        ensures unchanged { OnErr result (self.new.tables ≡ self.old.tables) }
-        ensures failed { IsErrOf result KeepFault.Failed ↔ (is_listed self.old.calls ≡ true) }
-        ensures calls { self.new.calls ≡ after_call self.old.calls }
-        ensures later { self.old.calls.faults ≤ self.new.calls.faults }
+        ensures { Puts (with_issue issue.now) result self.old self.new }
     {
         self.calls.make()?;
         self.tables.put_issue(issue)?;
@@ -101,18 +94,14 @@ impl Keeper for MemKeeper {
     }
 
     fn version(&mut self, key: &Key, number: u32) -> Result<Option<Version>, KeepFault>
-        ensures found { result ≡ unless_listed self.old (version_at self.old.tables key.now number) }
-        ensures after { self.new ≡ after_reading self.old }
-        ensures later { self.old.calls.faults ≤ self.new.calls.faults }
+        ensures { LooksUp result (version_at self.old.tables key.now number) self.old self.new }
     {
         self.calls.make()?;
         Ok(self.tables.version(key, number))
     }
 
     fn last(&mut self, key: &Key) -> Result<Option<(u32, Version)>, KeepFault>
-        ensures found { result ≡ unless_listed self.old (last_at self.old.tables key.now) }
-        ensures after { self.new ≡ after_reading self.old }
-        ensures later { self.old.calls.faults ≤ self.new.calls.faults }
+        ensures { LooksUp result (last_at self.old.tables key.now) self.old self.new }
     {
         self.calls.make()?;
         Ok(self.tables.last(key))
@@ -121,12 +110,7 @@ impl Keeper for MemKeeper {
     fn put_version(&mut self, key: &Key, number: u32, version: &Version) -> Result<(), KeepFault>
         requires { number ≡ next_number (trade_at self.old.tables key.now) }
 
-        ensures kept { OnOk result
-            (self.new.tables ≡ with_version key.now version.now self.old.tables) }
-        ensures unchanged { OnErr result (self.new.tables ≡ self.old.tables) }
-        ensures failed { IsErrOf result KeepFault.Failed ↔ (is_listed self.old.calls ≡ true) }
-        ensures calls { self.new.calls ≡ after_call self.old.calls }
-        ensures later { self.old.calls.faults ≤ self.new.calls.faults }
+        ensures { Puts (with_version key.now version.now) result self.old self.new }
     {
         self.calls.make()?;
         self.tables.put_version(key, number, version)?;
@@ -134,9 +118,7 @@ impl Keeper for MemKeeper {
     }
 
     fn trades(&mut self, desk: &DeskName) -> Result<u32, KeepFault>
-        ensures found { result ≡ unless_listed self.old (trade_count self.old.tables desk.now) }
-        ensures after { self.new ≡ after_reading self.old }
-        ensures later { self.old.calls.faults ≤ self.new.calls.faults }
+        ensures { LooksUp result (trade_count self.old.tables desk.now) self.old self.new }
     {
         self.calls.make()?;
         Ok(self.tables.trades(desk))
@@ -147,10 +129,8 @@ impl Keeper for MemKeeper {
         desk: &DeskName,
         after: &Option<Reference>,
     ) -> Result<ArrayVec<Line, 50>, KeepFault>
-        ensures found { result_map_both (λ lines. lines.items) (λ fault. fault) result
-            ≡ unless_listed self.old (page_at self.old.tables desk.now after.now) }
-        ensures after { self.new ≡ after_reading self.old }
-        ensures later { self.old.calls.faults ≤ self.new.calls.faults }
+        ensures { LooksUp (result_map_both (λ lines. lines.items) (λ fault. fault) result)
+            (page_at self.old.tables desk.now after.now) self.old self.new }
     {
         self.calls.make()?;
         Ok(self.tables.page(desk, after))

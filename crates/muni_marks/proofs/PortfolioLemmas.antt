@@ -8,6 +8,7 @@ use Rattle.std.proofs.lemmas.Map.Lookups.{exact_bytes}
 use Rattle.std.proofs.lemmas.Map.Views.{tells_apart}
 use Rattle.std.specs.Cmp.{eq_by_cmp_equiv}
 use Rattle.std.specs.Cmp.Lexicographic.{nat_list_cmp_total}
+use Rattle.csv.specs.Reading.{default_config, records, strip_bom}
 use Rattle.muni_terms.specs.declared.row.IssueRow.{IssueRow}
 use Rattle.muni_msg.specs.Refusal.{number_of}
 use Rattle.muni_msg.specs.declared.asked.Asked.{Asked}
@@ -17,20 +18,18 @@ use Rattle.muni_msg.specs.declared.refusal.Refusal.TheVariants.{UnknownIssue, Un
 use Rattle.muni_keep.specs.Tables.{Tables, issue_at}
 use Rattle.muni_keep.specs.Trades.{by_bytes}
 use Rattle.muni_import.specs.declared.row.RowFault.{RowFault}
-use Rattle.muni_import.specs.Row as import_row
-use Rattle.muni_import.proofs.LawLemmas.{text-has-no-others}
-use Rattle.muni_import.proofs.RowLemmas.{few-rows}
-use Rattle.muni_marks.specs.Rows.{AreRows, row_of}
+use Rattle.muni_import.proofs.LawLemmas.{few-records}
+use Rattle.muni_marks.specs.Rows.{row_of, rows_of}
 use Rattle.muni_marks.specs.Line.{HasName, marks_text}
-use Rattle.muni_marks.specs.Marks.{Pricing, IsMark, IsMarkBy, said_of}
-use Rattle.muni_marks.specs.Portfolio.{IsKnown, AreKnown, IsKnownNext, IsFetched, AreFetched, IsPortfolioText}
+use Rattle.muni_marks.specs.Marks.{Pricing, IsMark, IsMarkBy, IsMarkOf, said_of}
+use Rattle.muni_marks.specs.Portfolio.{IsKnown, AreKnown, HasLineOnEach, IsKnownNext, IsFetched, AreFetched, IsPortfolioText}
 use Rattle.muni_marks.specs.declared.pricing.MarkSaid.{MarkSaid}
 
 -- there are no more rows than bytes
-pub few : (text : List ℕ) (rows : List (Result Asked RowFault)) → AreRows text rows → length rows ≤ length text
+pub few : (text : List ℕ) (rows : List (Result Asked RowFault)) → rows ≡ rows_of text → length rows ≤ length text
+unfolding rows_of
 few text rows are =
-    let same = text-has-no-others text (map import_row.row_of are.records) (record { records = are.records; all = are.all; read = refl }) in
-    omega (arith, ap length are.read, length-map are.records row_of, length-map are.records import_row.row_of, ap length same, few-rows text)
+    omega (arith, ap length are, length-map (records default_config (strip_bom text)) row_of, few-records text)
 
 numbered : (refusal : Refusal) → (1 ≤ number_of refusal) × (number_of refusal ≤ 15)
 numbered UnknownIssue = (omega arith, omega arith)
@@ -192,13 +191,39 @@ pub told_none : (told : Option Tables) (old : List ℕ → Option IssueRow) (is_
 told_none None old is_missing now_missing key known none is updates = tt
 told_none (Some t) old is_missing now_missing key known none is updates = asked_none t old is_missing now_missing key known none is updates
 
-pub told_text : (Prices : Pricing) (told : Option Tables) (text : List ℕ) (rows : List (Result Asked RowFault)) (said : List MarkSaid) (lines : List ℕ) (issue : List ℕ → Option IssueRow) → AreRows text rows
+pub told_text : (Prices : Pricing) (told : Option Tables) (text : List ℕ) (rows : List (Result Asked RowFault)) (said : List MarkSaid) (lines : List ℕ) (issue : List ℕ → Option IssueRow) → rows ≡ rows_of text
     → IfSome told (λ t. AreFetched t issue rows) → AllZip (IsMark Prices issue) rows said → lines ≡ marks_text said → IfSome told (λ t. IsPortfolioText Prices t text lines)
 told_text Prices None text rows said lines issue read fetched marks written = tt
 told_text Prices (Some t) text rows said lines issue read fetched marks written = record {
-  rows = rows;
   said = said;
-  read = read;
-  marks = all_kept Prices t issue rows said fetched marks;
+  marks = subst (λ rows. AllZip (IsMark Prices (issue_at t)) rows said) read (all_kept Prices t issue rows said fetched marks);
+  written = written;
+}
+
+-- ---- what hangs on the rows alone
+mark-of-by : (Prices : Pricing) (found : Option IssueRow) (asked : Asked) (said : MarkSaid) → IsMarkBy Prices found asked said → IsMarkOf (Ok asked) said
+mark-of-by Prices None asked said is = subst (IsMarkOf (Ok asked)) (sym is) tt
+mark-of-by Prices (Some issue) asked said (answer, priced, is) = subst (IsMarkOf (Ok asked)) (sym is) (answered answer)
+  where
+    answered : (answer : Result Figures Refusal) → IsMarkOf (Ok asked) (said_of asked answer)
+    answered (Ok figures) = tt
+    answered (Err refusal) = tt
+
+mark-of : (Prices : Pricing) (kept : List ℕ → Option IssueRow) (row : Result Asked RowFault) (said : MarkSaid) → IsMark Prices kept row said → IsMarkOf row said
+unfolding IsMark
+mark-of Prices kept (Err fault) said is = is
+mark-of Prices kept (Ok asked) said is = mark-of-by Prices (kept asked.cusip) asked said is
+
+each-of : (Prices : Pricing) (kept : List ℕ → Option IssueRow) (rows : List (Result Asked RowFault)) (said : List MarkSaid) → AllZip (IsMark Prices kept) rows said → AllZip IsMarkOf rows said
+each-of Prices kept [] [] are = tt
+each-of Prices kept [] (mark ∷ said) are = absurd are
+each-of Prices kept (row ∷ rows) [] are = absurd are
+each-of Prices kept (row ∷ rows) (mark ∷ said) are = (mark-of Prices kept row mark are.0, each-of Prices kept rows said are.1)
+
+pub line-on-each : (Prices : Pricing) (text : List ℕ) (rows : List (Result Asked RowFault)) (said : List MarkSaid) (lines : List ℕ) (issue : List ℕ → Option IssueRow) → rows ≡ rows_of text
+    → AllZip (IsMark Prices issue) rows said → lines ≡ marks_text said → HasLineOnEach text lines
+line-on-each Prices text rows said lines issue read marks written = record {
+  said = said;
+  each = subst (λ rows. AllZip IsMarkOf rows said) read (each-of Prices issue rows said marks);
   written = written;
 }

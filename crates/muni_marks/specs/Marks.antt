@@ -1,5 +1,5 @@
 -- What is said of a row.
-use Rattle.std.specs.Prelude.{◌≡◌, ℕ, List, Option, Some, None, Result, Ok, Err}
+use Rattle.std.specs.Prelude.{◌≡◌, ⊤, ℕ, List, Option, Some, None, Result, Ok, Err}
 use Rattle.std.specs.List.{AllZip}
 use Rattle.muni_terms.specs.declared.row.IssueRow.{IssueRow}
 use Rattle.muni_msg.specs.Refusal.{number_of}
@@ -34,6 +34,12 @@ IsMarkBy Prices (Some issue) asked said = IsPriced Prices issue asked said
 unfoldable pub IsMark : Pricing → (List ℕ → Option IssueRow) → Result Asked RowFault → MarkSaid → Type 0
 IsMark Prices kept (Err fault) said = said ≡ Bad fault
 IsMark Prices kept (Ok asked) said = IsMarkBy Prices (kept asked.cusip) asked said
+
+-- As far as it hangs on the row alone: one that is no row has its own fault, and any other figures or a refusal.
+abbrev pub IsMarkOf : Result Asked RowFault → MarkSaid → Type 0
+IsMarkOf (Err fault) said = said ≡ Bad fault
+IsMarkOf (Ok asked) (Bad fault) = ⊥
+IsMarkOf (Ok asked) said = ⊤
 
 -- what is said of rows, of each by itself
 abbrev pub AreMarks : Pricing → (List ℕ → Option IssueRow) → List (Result Asked RowFault) → List MarkSaid → Type 0

@@ -1,13 +1,13 @@
 -- The marks of a portfolio over the tables of a desk.
 use Rattle.std.specs.Prelude.{◌≡◌, ℕ, Bool, true, List, Option, IsSome, Result, Ok, Err, ⊤}
-use Rattle.std.specs.List.{AllByRecursion}
+use Rattle.std.specs.List.{AllByRecursion, AllZip}
 use Rattle.muni_terms.specs.declared.row.IssueRow.{IssueRow}
 use Rattle.muni_msg.specs.declared.asked.Asked.{Asked}
 use Rattle.muni_keep.specs.Tables.{Tables, issue_at}
 use Rattle.muni_import.specs.declared.row.RowFault.{RowFault}
 use Rattle.muni_marks.specs.Line.{marks_text}
-use Rattle.muni_marks.specs.Marks.{Pricing, AreMarks}
-use Rattle.muni_marks.specs.Rows.{AreRows}
+use Rattle.muni_marks.specs.Marks.{Pricing, AreMarks, IsMarkOf}
+use Rattle.muni_marks.specs.Rows.{rows_of}
 use Rattle.muni_marks.specs.declared.pricing.MarkSaid.{MarkSaid}
 
 -- of a CUSIP it is known what is kept
@@ -33,10 +33,15 @@ IsFetched tables issue (Ok asked) = IsKnown tables issue asked.cusip
 abbrev pub AreFetched : Tables → (List ℕ → Option IssueRow) → List (Result Asked RowFault) → Type 0
 AreFetched tables issue rows = AllByRecursion (IsFetched tables issue) rows
 
--- the lines of a portfolio: its rows are those of the text, and each is marked by itself
+-- the lines of a portfolio: each row of the text is marked by itself
 pub record IsPortfolioText (Prices : Pricing) (tables : Tables) (text : List ℕ) (lines : List ℕ) : Type 0 where
-  pub rows : List (Result Asked RowFault)
   pub said : List MarkSaid
-  pub read : AreRows text rows
-  pub marks : AreMarks Prices (issue_at tables) rows said
+  pub marks : AreMarks Prices (issue_at tables) (rows_of text) said
+  pub written : lines ≡ marks_text said
+
+-- the lines of a portfolio, as far as they hang on its rows alone: one on each, in their order and with their
+-- places, and the total
+pub record HasLineOnEach (text lines : List ℕ) : Type 0 where
+  pub said : List MarkSaid
+  pub each : AllZip IsMarkOf (rows_of text) said
   pub written : lines ≡ marks_text said

@@ -1,8 +1,7 @@
 -- The rows of a portfolio.
-use Rattle.std.specs.Prelude.{◌≡◌, ℕ, ◌==◌, if◌then◌else◌, List, length, map, Result, Ok, Err}
+use Rattle.std.specs.Prelude.{ℕ, ◌==◌, if◌then◌else◌, List, length, map, Result, Ok, Err}
 use Rattle.std.specs.Result.{result_ok}
-use Rattle.csv.specs.Reading.{AreRecords, default_config, strip_bom}
-use Rattle.csv.specs.declared.parser.State.TheVariants as st
+use Rattle.csv.specs.Reading.{default_config, records, strip_bom}
 use Rattle.muni_dec.specs.Values.{par_reading, yield_reading}
 use Rattle.muni_msg.specs.Fields.{day_in}
 use Rattle.muni_msg.specs.IssueFields.{cusip_reading}
@@ -26,9 +25,6 @@ asked_in fields = do
 unfoldable pub row_of : List (List ℕ) → Result Asked RowFault
 row_of fields = if length fields == 4 then asked_in fields else Err FieldCount
 
--- Rows are those of a text where records are read from it one after another, then none is left, and
--- each of these is a row. A mark of its byte order is no part of the text.
-pub record AreRows (text : List ℕ) (rows : List (Result Asked RowFault)) : Type 0 where
-  pub records : List (List (List ℕ))
-  pub all : AreRecords default_config st.StartRecord (strip_bom text) records
-  pub read : rows ≡ map row_of records
+-- the rows of a text: each of its records is one, and a mark of its byte order is no part of it
+unfoldable pub rows_of : List ℕ → List (Result Asked RowFault)
+rows_of text = map row_of (records default_config (strip_bom text))

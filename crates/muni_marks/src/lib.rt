@@ -1,6 +1,7 @@
 //! Marks of a portfolio: what its rows are worth, priced side by side on every processor.
 #![tactic(auto)]
 
+pub mod laws;
 mod line;
 mod portfolio;
 mod pricing;

@@ -12,7 +12,9 @@ use itoa::Buffer;
 use muni_days::Day;
 use muni_dec::text::push;
 use muni_dec::{Cents, Price3};
-use muni_import::line::{push_amount, push_bad, push_day, push_digits, push_field, push_refused};
+use muni_import::line::{
+    push_bad, push_day, push_digits, push_field, push_money, push_price, push_refused,
+};
 
 /// Replaces the text by the line of a mark, with its line end. Places are counted from 1.
 ///
@@ -59,9 +61,9 @@ fn push_worth(text: &mut ArrayVec<u8, 256>, price: &Price3, redemption: &Day, to
         ≡ text.old.items ++ spec.worth_fields price.now redemption.now total.now }
     ensures len { array_vec_len text.new ≤ array_vec_len text.old + 75 }
 {
-    push_amount(text, price);
+    push_price(text, price);
     push_day(text, *redemption);
-    push_amount(text, total);
+    push_money(text, total);
 }
 
 /// How many rows are marked, and the sum of what they are worth, in cents.

@@ -11,9 +11,11 @@ ghost use Rattle.muni_keep.specs.Keeper.{OnlyReads};
 ghost use Rattle.muni_keep.specs.Trades.{by_bytes};
 ghost use Rattle.muni_marks.specs.Line as lines;
 ghost use Rattle.muni_marks.specs.Marks as spec;
-ghost use Rattle.muni_marks.specs.Portfolio.{AreFetched, AreKnown, IsKnownNext, IsPortfolioText};
-ghost use Rattle.muni_marks.specs.Marked.{Marked};
+ghost use Rattle.muni_marks.specs.Portfolio.{AreFetched, AreKnown, HasLineOnEach, IsKnownNext, IsPortfolioText};
+ghost use Rattle.muni_marks.specs.Marked.{Marked, MarksReported};
+ghost use Rattle.muni_desk_import.specs.Input.{TakesUpTo};
 ghost use Rattle.muni_desk_import.specs.Lent.{lent};
+ghost use Rattle.muni_desk_import.specs.Reports.{ReportsReads, ReportsWrites};
 
 use crate::line::{mark_line, total, total_line};
 use crate::pricing::{MarkSaid, marks};
@@ -50,6 +52,10 @@ pub fn mark<R: Threads + Sync, I: Source, O: Sink, C: Cabinet, E: Encloser + Syn
     requires { C.out cabinet.old ≡ None }
     ensures marked { Marked I.Source O.Sink C.Cabinet (IsRightAnswer (E.ends encloser.now)) store.now result
         (lent input.old output.old cabinet.old) (lent input.new output.new cabinet.new) }
+    ensures reported { IfSome (I.left input.old) (λ text. MarksReported text result (O.bytes output.old) (O.bytes output.new)) }
+    ensures takes { TakesUpTo I.Source 1_048_577 input.old input.new }
+    ensures reads { ReportsReads I.Source result input.old input.new }
+    ensures writes { ReportsWrites O.Sink result output.old output.new }
     ensures leaves { LeavesAll C.Cabinet cabinet.old cabinet.new }
 {
     let text = read_input(alloc, input, LIMIT)?;
@@ -70,6 +76,7 @@ fn marked_text<R: Threads + Sync, C: Cabinet, E: Encloser + Sync>(
     requires limit { length text.now ≤ 1_048_576 }
     ensures lines { IfOk result (λ lines. IfSome (C.told cabinet.old store.now)
         (λ t. IsPortfolioText (IsRightAnswer (E.ends encloser.now)) t text.now lines.items)) }
+    ensures each { IfOk result (λ lines. HasLineOnEach text.now lines.items) }
     ensures leaves { LeavesAll C.Cabinet cabinet.old cabinet.new }
     ensures failed { IsErrOf result KeepFault.Failed → Rose (C.faults cabinet.old) (C.faults cabinet.new) }
 {

@@ -70,7 +70,8 @@ pub enum Reply {
         asked: Asked,
         figures: Figures,
     },
-    /// The first 50 trades, in the order of their references.
+    /// The first 50 trades after the reference, or of all if none is given, in the order of their
+    /// references.
     Listed(ArrayVec<Line, 50>),
     /// The version with this number is kept.
     Confirmed {

@@ -50,7 +50,8 @@ pub enum Refusal {
     VersionsFull,
     /// No more trades of the desk can be kept.
     DeskFull,
-    /// A discount rate for an issue that is not sold at a discount, or a yield for one that is.
+    /// A discount rate for an issue that is not sold at a discount, a yield for one that is, or a
+    /// commission beside either.
     WrongBasis,
 }
 

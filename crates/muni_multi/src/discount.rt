@@ -56,7 +56,8 @@ impl Discount {
         }
     }
 
-    /// The same, with nothing computed where what was kept is of that yield and day.
+    /// The same.
+    // What was kept is taken if it is of that yield and day, so that nothing is computed.
     pub fn kept_or_at(kept: Option<&Discount>, y: i32, a: u32) -> Discount
         requires y { IsManyPeriodsBoundary y }
         requires a { a ≤ 180 }

@@ -20,7 +20,7 @@ use crate::pages::sum_desk;
 use crate::position::Position;
 use crate::put_fault::PutFault;
 use arrayvec::ArrayVec;
-use muni_edge::NoMemory;
+use muni_edge::{Faults, NoMemory};
 use muni_keep::{KeepFault, Keeper};
 use muni_msg::{DeskName, Key, Line, Reference, Version};
 use muni_terms::Issue;
@@ -35,7 +35,7 @@ use std::ops::Bound;
 pub struct Positioned<K: Keeper> {
     alloc: Global,
     pub(crate) inner: K,
-    faults: u64,
+    faults: Faults,
     desk: Option<DeskName>,
     holdings: Holdings,
     ghost range: { AreInRange holdings },
@@ -60,7 +60,7 @@ pub fn over<K: Keeper>(alloc: Global, inner: K) -> Positioned<K>
     Positioned {
         alloc,
         inner,
-        faults: 0,
+        faults: Faults::none(),
         desk: None,
         holdings: BTreeMap::new(alloc),
     }
@@ -83,8 +83,7 @@ impl<K: Keeper> Positioned<K> {
     {
         self.unwatch();
         let Some(holdings) = sum_desk(self.alloc, &mut self.inner, desk)? else {
-            self.faults = self.faults.saturating_add(1);
-            return Err(KeepFault::Failed);
+            return Err(self.faults.fail().into());
         };
         self.holdings = holdings;
         self.desk = Some(desk.copy());
@@ -164,7 +163,7 @@ impl<K: Keeper> Positioned<K> {
 }
 
 impl<K: Keeper> Keeper for Positioned<K> {
-    ghost use Rattle.muni_position.specs.Watching.{KeepsWatch};
+    ghost use Rattle.muni_position.specs.Watching.{KeepsWatch, LooksInside};
 
     ghost tables = { λ keeper. K.tables keeper.inner };
 
@@ -174,8 +173,7 @@ impl<K: Keeper> Keeper for Positioned<K> {
 
     fn issue(&mut self, cusip: &[u8; 9]) -> Result<Option<Issue>, KeepFault>
         ensures found { Found (K.tables self.old.inner) result (λ t. issue_at t cusip.now) }
-        ensures reads { OnlyReads K.Keeper result self.old.inner self.new.inner }
-        ensures watch { KeepsWatch self.old self.new }
+        ensures looks { LooksInside K.Keeper result self.old self.new }
     {
         self.inner.issue(cusip)
     }
@@ -191,16 +189,14 @@ impl<K: Keeper> Keeper for Positioned<K> {
 
     fn version(&mut self, key: &Key, number: u32) -> Result<Option<Version>, KeepFault>
         ensures found { Found (K.tables self.old.inner) result (λ t. version_at t key.now number) }
-        ensures reads { OnlyReads K.Keeper result self.old.inner self.new.inner }
-        ensures watch { KeepsWatch self.old self.new }
+        ensures looks { LooksInside K.Keeper result self.old self.new }
     {
         self.inner.version(key, number)
     }
 
     fn last(&mut self, key: &Key) -> Result<Option<(u32, Version)>, KeepFault>
         ensures found { Found (K.tables self.old.inner) result (λ t. last_at t key.now) }
-        ensures reads { OnlyReads K.Keeper result self.old.inner self.new.inner }
-        ensures watch { KeepsWatch self.old self.new }
+        ensures looks { LooksInside K.Keeper result self.old self.new }
     {
         self.inner.last(key)
     }
@@ -222,17 +218,13 @@ impl<K: Keeper> Keeper for Positioned<K> {
         match self.put(key, number, version) {
             Ok(()) => Ok(()),
             Err(PutFault::Refused(fault)) => Err(fault),
-            Err(PutFault::NoRoom) => {
-                self.faults = self.faults.saturating_add(1);
-                Err(KeepFault::Failed)
-            }
+            Err(PutFault::NoRoom) => Err(self.faults.fail().into()),
         }
     }
 
     fn trades(&mut self, desk: &DeskName) -> Result<u32, KeepFault>
         ensures found { Found (K.tables self.old.inner) result (λ t. trade_count t desk.now) }
-        ensures reads { OnlyReads K.Keeper result self.old.inner self.new.inner }
-        ensures watch { KeepsWatch self.old self.new }
+        ensures looks { LooksInside K.Keeper result self.old self.new }
     {
         self.inner.trades(desk)
     }
@@ -244,8 +236,7 @@ impl<K: Keeper> Keeper for Positioned<K> {
     ) -> Result<ArrayVec<Line, 50>, KeepFault>
         ensures found { IfOk result
             (λ lines. IfSome (K.tables self.old.inner) (λ t. lines.items ≡ page_at t desk.now after.now)) }
-        ensures reads { OnlyReads K.Keeper result self.old.inner self.new.inner }
-        ensures watch { KeepsWatch self.old self.new }
+        ensures looks { LooksInside K.Keeper result self.old self.new }
     {
         self.inner.page(desk, after)
     }
@@ -254,6 +245,7 @@ impl<K: Keeper> Keeper for Positioned<K> {
 impl<K: Keeper> Positioned<K> {
     ghost use Rattle.std.specs.Prelude.{Err, IsTrue};
     ghost use Rattle.muni_position.specs.Holdings.{is_watched};
+    ghost use Rattle.muni_position.specs.Watching.{KeepsWatch};
 
     /// Puts the next version of a trade and changes the totals by it, where they have room for it.
     pub(crate) fn put(&mut self, key: &Key, number: u32, version: &Version) -> Result<(), PutFault>
@@ -264,8 +256,7 @@ impl<K: Keeper> Positioned<K> {
         ensures unchanged { OnErr result (K.tables self.new.inner ≡ K.tables self.old.inner) }
         ensures same { SameKeeper K.Keeper (PutFault.Refused KeepFault.Failed) result
             self.old.inner self.new.inner }
-        ensures desk { self.new.desk ≡ self.old.desk }
-        ensures own { self.new.faults ≡ self.old.faults }
+        ensures watch { KeepsWatch self.old self.new }
         ensures totals { OnErr result ((cusip : List ℕ) → kept self.new.holdings cusip ≡ kept self.old.holdings cusip) }
 
         // Where the tables are told, it has no room exactly where the desk that is watched has none.

@@ -2,10 +2,11 @@
 
 ghost use Rattle.std.specs.Prelude.{◌≡◌, None, IfOk, option_map};
 
-use crate::faults::Faults;
+use crate::faults::counted;
 use crate::keeper::SqlKeeper;
 use crate::moving::move_old_rows;
 use crate::schema::{answered, make_tables, text};
+use muni_edge::Faults;
 use muni_keep::{Cabinet, KeepFault};
 use sqlite::{Alter, Connection, Error, File, FileStore};
 use std::alloc::Global;
@@ -45,7 +46,7 @@ impl<'a> Cabinet for SqlCabinet<'a> {
 
     fn fetch(&mut self, name: &[u8]) -> Result<SqlKeeper<FileStore<File>>, KeepFault> {
         let lent = name.to_vec(self.rt.alloc())?;
-        let keeper = self.faults.noted(open(self.rt, name))?;
+        let keeper = counted(&mut self.faults, open(self.rt, name))?;
         self.lent = Some(lent);
         Ok(keeper)
     }

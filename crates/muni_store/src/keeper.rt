@@ -11,13 +11,14 @@ ghost use Rattle.muni_store.specs.Ran.{Ran};
 ghost use Rattle.muni_store.specs.Rows as rows;
 ghost use Rattle.muni_store.specs.Statements as spec;
 
-use crate::faults::Faults;
+use crate::faults::counted;
 use crate::page::read_page;
 use crate::statements::{
     count_trades, find_issue, find_last, find_version, insert_issue, insert_version,
 };
 use crate::trade_counts::TradeCounts;
 use arrayvec::ArrayVec;
+use muni_edge::Faults;
 use muni_keep::{KeepFault, Keeper};
 use muni_msg::{DeskName, Key, Line, Reference, Version};
 use muni_terms::Issue;
@@ -79,7 +80,7 @@ impl<S: Alter + Drop> Keeper for SqlKeeper<S> {
         ensures counted { CountsFailure result self.old.faults self.new.faults }
     {
         let found = find_issue(&mut self.database, cusip);
-        self.faults.noted(found)
+        counted(&mut self.faults, found)
     }
 
     fn put_issue(&mut self, issue: &Issue) -> Result<(), KeepFault>
@@ -89,7 +90,7 @@ impl<S: Alter + Drop> Keeper for SqlKeeper<S> {
         ensures counted { CountsFailure result self.old.faults self.new.faults }
     {
         let put = insert_issue(&mut self.database, issue);
-        self.faults.noted(put)
+        counted(&mut self.faults, put)
     }
 
     fn version(&mut self, key: &Key, number: u32) -> Result<Option<Version>, KeepFault>
@@ -98,10 +99,8 @@ impl<S: Alter + Drop> Keeper for SqlKeeper<S> {
         ensures counts { self.new.trades ≡ self.old.trades }
         ensures counted { CountsFailure result self.old.faults self.new.faults }
     {
-        match find_version(&mut self.database, key, number) {
-            Ok(found) => Ok(found),
-            Err(fault) => Err(self.faults.note(fault)),
-        }
+        let found = find_version(&mut self.database, key, number);
+        counted(&mut self.faults, found)
     }
 
     fn last(&mut self, key: &Key) -> Result<Option<(u32, Version)>, KeepFault>
@@ -110,10 +109,8 @@ impl<S: Alter + Drop> Keeper for SqlKeeper<S> {
         ensures counts { self.new.trades ≡ self.old.trades }
         ensures counted { CountsFailure result self.old.faults self.new.faults }
     {
-        match find_last(&mut self.database, key) {
-            Ok(found) => Ok(found),
-            Err(fault) => Err(self.faults.note(fault)),
-        }
+        let found = find_last(&mut self.database, key);
+        counted(&mut self.faults, found)
     }
 
     fn put_version(&mut self, key: &Key, number: u32, version: &Version) -> Result<(), KeepFault>
@@ -125,7 +122,7 @@ impl<S: Alter + Drop> Keeper for SqlKeeper<S> {
     {
         let put = insert_version(&mut self.database, key, number, version);
         self.trades.note_put(&key.desk, number, put.is_ok());
-        self.faults.noted(put)
+        counted(&mut self.faults, put)
     }
 
     fn trades(&mut self, desk: &DeskName) -> Result<u32, KeepFault>
@@ -145,7 +142,8 @@ impl<S: Alter + Drop> Keeper for SqlKeeper<S> {
         if let Some(count) = self.trades.of(desk) {
             return Ok(count);
         }
-        let count = self.faults.noted(count_trades(&mut self.database, desk))?;
+        let found = count_trades(&mut self.database, desk);
+        let count = counted(&mut self.faults, found)?;
         self.trades.keep(desk, count);
         Ok(count)
     }
@@ -161,6 +159,6 @@ impl<S: Alter + Drop> Keeper for SqlKeeper<S> {
         ensures counted { CountsFailure result self.old.faults self.new.faults }
     {
         let lines = read_page(&mut self.database, desk, after);
-        self.faults.noted(lines)
+        counted(&mut self.faults, lines)
     }
 }

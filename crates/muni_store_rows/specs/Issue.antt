@@ -24,6 +24,25 @@ pub record Columns : Type 0 where
   pub calls : List ℕ
   pub basis : ℤ
 
+-- the columns one by one
+abbrev pub columns_2 : (cusip name : List ℕ) (kind : ℤ) (dated first maturity : List ℕ) (coupon : ℤ) (calls : List ℕ) (basis : ℤ) → Columns
+columns_2 cusip name kind dated first maturity coupon calls basis = record {
+  cusip = cusip;
+  name = name;
+  kind = kind;
+  dated = dated;
+  first = first;
+  maturity = maturity;
+  coupon = coupon;
+  calls = calls;
+  basis = basis;
+}
+
+-- those without a basis, which is 30/360 then
+abbrev pub columns_1 : (cusip name : List ℕ) (kind : ℤ) (dated first maturity : List ℕ) (coupon : ℤ) (calls : List ℕ) → Columns
+columns_1 cusip name kind dated first maturity coupon calls =
+    columns_2 cusip name kind dated first maturity coupon calls (pos 0)
+
 -- the first interest date, or nothing where there is none
 abbrev pub first_of : Kind → List ℕ
 first_of (Periodic first) = day_text (civil first)

@@ -46,6 +46,41 @@ pub record Columns : Type 0 where
   pub asked : AskedColumns
   pub figures : FigureColumns
 
+-- the columns one by one
+abbrev pub columns_2 : (desk reference : List ℕ) (number act : ℤ) (cusip : List ℕ) (side par : ℤ) (settle : List ℕ) (basis value price yld : ℤ) (redemption : List ℕ) (at_price label days principal accrued total fee commission : ℤ) → Columns
+columns_2 desk reference number act cusip side par settle basis value price yld redemption at_price label days principal accrued total fee commission = record {
+  desk = desk;
+  reference = reference;
+  number = number;
+  act = act;
+  asked = record {
+    cusip = cusip;
+    side = side;
+    par = par;
+    settle = settle;
+    basis = basis;
+    value = value;
+    fee = fee;
+  };
+  figures = record {
+    price = price;
+    yld = yld;
+    redemption = redemption;
+    at_price = at_price;
+    label = label;
+    days = days;
+    principal = principal;
+    accrued = accrued;
+    total = total;
+    commission = commission;
+  };
+}
+
+-- those without a fee and a commission, which are 0 then
+abbrev pub columns_1 : (desk reference : List ℕ) (number act : ℤ) (cusip : List ℕ) (side par : ℤ) (settle : List ℕ) (basis value price yld : ℤ) (redemption : List ℕ) (at_price label days principal accrued total : ℤ) → Columns
+columns_1 desk reference number act cusip side par settle basis value price yld redemption at_price label days principal accrued total =
+    columns_2 desk reference number act cusip side par settle basis value price yld redemption at_price label days principal accrued total (pos 0) (pos 0)
+
 -- the columns of a version
 unfoldable pub asked_columns : Asked → AskedColumns
 asked_columns asked = record {

@@ -107,17 +107,8 @@ pub fn issue_1(
     coupon: i64,
     calls: &str,
 ) -> Option<Issue>
-    ensures read { result ≡ spec.issue_of (record {
-      cusip = cusip.now;
-      name = name.now;
-      kind = kind;
-      dated = dated.now;
-      first = first.now;
-      maturity = maturity.now;
-      coupon = coupon;
-      calls = calls.now;
-      basis = pos 0;
-    }) }
+    ensures read { result ≡ spec.issue_of (spec.columns_1 cusip.now name.now kind dated.now first.now
+        maturity.now coupon calls.now) }
 {
     issue_2(cusip, name, kind, dated, first, maturity, coupon, calls, 0)
 }
@@ -135,17 +126,8 @@ pub fn issue_2(
     calls: &str,
     basis: i64,
 ) -> Option<Issue>
-    ensures read { result ≡ spec.issue_of (record {
-      cusip = cusip.now;
-      name = name.now;
-      kind = kind;
-      dated = dated.now;
-      first = first.now;
-      maturity = maturity.now;
-      coupon = coupon;
-      calls = calls.now;
-      basis = basis;
-    }) }
+    ensures read { result ≡ spec.issue_of (spec.columns_2 cusip.now name.now kind dated.now first.now
+        maturity.now coupon calls.now basis) }
 {
     let row = IssueRow {
         cusip: read_cusip(cusip.as_bytes())?,

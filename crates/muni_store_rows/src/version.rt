@@ -196,33 +196,8 @@ pub fn version_1(
     accrued: i64,
     total: i64,
 ) -> Option<(Key, u32, Version)>
-    ensures read { result ≡ spec.trade_of (record {
-      desk = desk.now;
-      reference = reference.now;
-      number = number;
-      act = act;
-      asked = record {
-        cusip = cusip.now;
-        side = side;
-        par = par;
-        settle = settle.now;
-        basis = basis;
-        value = value;
-        fee = pos 0;
-      };
-      figures = record {
-        price = price;
-        yld = yld;
-        redemption = redemption.now;
-        at_price = at_price;
-        label = label;
-        days = days;
-        principal = principal;
-        accrued = accrued;
-        total = total;
-        commission = pos 0;
-      };
-    }) }
+    ensures read { result ≡ spec.trade_of (spec.columns_1 desk.now reference.now number act cusip.now side
+        par settle.now basis value price yld redemption.now at_price label days principal accrued total) }
 {
     version_2(
         desk, reference, number, act, cusip, side, par, settle, basis, value, price, yld,
@@ -254,33 +229,9 @@ pub fn version_2(
     fee: i64,
     commission: i64,
 ) -> Option<(Key, u32, Version)>
-    ensures read { result ≡ spec.trade_of (record {
-      desk = desk.now;
-      reference = reference.now;
-      number = number;
-      act = act;
-      asked = record {
-        cusip = cusip.now;
-        side = side;
-        par = par;
-        settle = settle.now;
-        basis = basis;
-        value = value;
-        fee = fee;
-      };
-      figures = record {
-        price = price;
-        yld = yld;
-        redemption = redemption.now;
-        at_price = at_price;
-        label = label;
-        days = days;
-        principal = principal;
-        accrued = accrued;
-        total = total;
-        commission = commission;
-      };
-    }) }
+    ensures read { result ≡ spec.trade_of (spec.columns_2 desk.now reference.now number act cusip.now side
+        par settle.now basis value price yld redemption.now at_price label days principal accrued total
+        fee commission) }
 {
     let asked = AskedRow {
         cusip: cusip.as_bytes(),

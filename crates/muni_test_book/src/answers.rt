@@ -3,7 +3,7 @@
 ghost use Rattle.std.specs.Prelude.{◌≡◌};
 
 use arrayvec::ArrayVec;
-use muni_book::run;
+use muni_book::apply;
 use muni_confirm::refusal_line;
 use muni_edge::NoGate;
 use muni_import::{read_rows, report_row};
@@ -114,9 +114,9 @@ pub fn said<R: Threads + Sync, K: Keeper>(
     ensures lent_as { K.lent_as keeper.new ≡ K.lent_as keeper.old }
 {
     let commands = commands(alloc, rows)?;
-    let replies = run(rt, alloc, keeper, &commands, 2, &Horner, &NoGate).ok()?;
     let mut text = Vec::new(alloc);
-    for reply in replies {
+    for command in &commands {
+        let reply = apply(rt, keeper, command, 2, &Horner, &NoGate).ok()?;
         push_answer(&mut text, reply)?;
     }
     Some(text)

@@ -29,12 +29,14 @@ fn a_command_that_failed_is_answered_when_it_is_sent_again(rt: HostRuntime) -> R
 const ROWS: &str =
     "issue,123456AA3,RIVERTON WATER 5S 2025,periodic,2020-01-01,2020-07-01,2025-01-01,5,
 trade,ALPHA,T0001,123456AA3,buy,25000,2024-04-01,yield,4
+trade,ALPHA,T0001,000000000,buy,25000,2024-04-01,yield,4
 trade,ALPHA,000777,123456AA3,buy,25000,2024-04-01,yield,4
 trade,BETA,T0001,123456AA3,buy,25000,2024-04-01,yield,4
 ";
 
 const ANSWERS: &str = "added,123456AA3
 REFUSED 14 DeskFull
+REFUSED 1 UnknownIssue
 confirmed,000777,1,100.725,4.000,2025-01-01,25493.75
 confirmed,T0001,1,100.725,4.000,2025-01-01,25493.75
 ";

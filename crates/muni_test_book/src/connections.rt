@@ -6,6 +6,7 @@ ghost use Rattle.std.specs.Prelude.{◌≡◌, None};
 
 use crate::stores::cabinet;
 use exchange_cases::CASES;
+use muni_book::{Calculator, Workers};
 use muni_desk_serve::{ServeFault, Served, answer_one, serve};
 use muni_edge::{MemDoor, MemLink, NoGate};
 use muni_keep::{Cabinet, Keeper, MemKeeper};
@@ -88,18 +89,13 @@ pub fn serve_at<R: Threads + Sync, C: Cabinet>(
     requires { C.out cabinet.old ≡ None }
     ensures none_out { C.out cabinet.new ≡ None }
 {
-    serve(
+    let calculator = Calculator {
         rt,
-        alloc,
-        b"S",
-        8080,
-        connections,
-        2,
-        cabinet,
-        door,
-        &Horner,
-        &NoGate,
-    )
+        workers: Workers::new(2),
+        encloser: &Horner,
+        gate: &NoGate,
+    };
+    serve(&calculator, alloc, b"S", 8080, connections, cabinet, door)
 }
 
 // How many of the links were served, and how many of these have another answer than their case.

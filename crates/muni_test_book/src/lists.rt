@@ -3,6 +3,7 @@
 ghost use Rattle.std.specs.Prelude.{◌≡◌, None};
 
 use crate::stores::{HELD, REPORT, ROWS, cabinet, is_imported};
+use muni_book::{Calculator, Workers};
 use muni_desk_import::Fault;
 use muni_desk_positions::{import_with_positions, positions};
 use muni_edge::{MemSink, MemSource, NoGate};
@@ -83,17 +84,20 @@ fn import_listed<R: Threads + Sync, C: Cabinet>(
     let desk = DeskName::read(b"ALPHA").ok().ok_or("a desk")?;
     let mut input = MemSource::new(alloc, ROWS.as_bytes(), &[])?;
     let mut output = MemSink::new(alloc, 4096, &[])?;
-    let end = import_with_positions(
+    let calculator = Calculator {
         rt,
+        workers: Workers::ONE,
+        encloser: &Horner,
+        gate: &NoGate,
+    };
+    let end = import_with_positions(
+        &calculator,
         alloc,
         b"S",
         &desk,
-        1,
         &mut input,
         &mut output,
         cabinet,
-        &Horner,
-        &NoGate,
     );
     Ok((end, output))
 }

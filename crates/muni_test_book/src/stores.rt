@@ -2,6 +2,7 @@
 
 ghost use Rattle.std.specs.Prelude.{◌≡◌, None, IfOk};
 
+use muni_book::{Calculator, Workers};
 use muni_desk_import::{Fault, import};
 use muni_edge::{MemSink, MemSource, NoGate};
 use muni_keep::{Cabinet, MemCabinet, MemKeeper};
@@ -46,17 +47,13 @@ pub fn imported<R: Threads + Sync, C: Cabinet>(
 {
     let mut input = MemSource::new(alloc, rows.as_bytes(), &[])?;
     let mut output = MemSink::new(alloc, 1024, &[])?;
-    let end = import(
+    let calculator = Calculator {
         rt,
-        alloc,
-        b"S",
-        2,
-        &mut input,
-        &mut output,
-        cabinet,
-        &Horner,
-        &NoGate,
-    );
+        workers: Workers::new(2),
+        encloser: &Horner,
+        gate: &NoGate,
+    };
+    let end = import(&calculator, alloc, b"S", &mut input, &mut output, cabinet);
     Ok((end, output))
 }
 

@@ -1,6 +1,7 @@
 //! A connection whose bytes come in pieces of one size.
 
-ghost use Rattle.std.specs.Prelude.{◌≡◌, None};
+ghost use Rattle.std.specs.Prelude.{◌≡◌, ◌<◌, ◌≤◌, length, max, None, IfOk};
+ghost use Rattle.muni_edge.specs.Faults.{CountsFaults};
 
 use muni_edge::{Failed, Link, MemLink, Sink, Source};
 
@@ -13,7 +14,9 @@ pub struct Pieces {
 
 impl Pieces {
     /// A connection over one in memory, by pieces of at least one byte.
-    pub fn new(link: MemLink, size: usize) -> Pieces {
+    pub fn new(link: MemLink, size: usize) -> Pieces
+        ensures { result.size ≡ size }
+    {
         Pieces { link, size }
     }
 
@@ -30,7 +33,16 @@ impl Source for Pieces {
 
     ghost take_keeps = { λ old new. new.link.sink ≡ old.link.sink };
 
-    fn take(&mut self, room: &mut [u8]) -> Result<usize, Failed> {
+    fn take(&mut self, room: &mut [u8]) -> Result<usize, Failed>
+        requires { 0 < length room.old }
+
+        ensures within { IfOk result (λ count. count ≤ length room.old) }
+        ensures few { IfOk result (λ count. count ≤ max 1 self.old.size) }
+        ensures size { self.new.size ≡ self.old.size }
+        ensures keeps { self.new.link.sink ≡ self.old.link.sink }
+        ensures counts { CountsFaults self.old.link.source.calls.faults
+            self.new.link.source.calls.faults result }
+    {
         let size = self.size.min(room.len()).max(1);
         self.link.take(&mut room[..size])
     }

@@ -1,10 +1,13 @@
 pub mod CutLemmas
 pub mod HeadLemmas
 pub mod TakenLemmas
+pub mod LineLemmas
+pub mod ExtentLemmas
 pub mod BodyLemmas
 pub mod ReadingLemmas
 pub mod FieldCountLemmas
 pub mod UniqueLemmas
+pub mod SomeReadingLemmas
 pub mod StatusLemmas
 pub mod CallLemmas
 pub mod RouteLemmas
@@ -15,3 +18,6 @@ pub mod PathLemmas
 pub mod PostLemmas
 pub mod OnePathLemmas
 pub mod FoundPathLemmas
+pub mod LengthLemmas
+pub mod MemberLemmas
+pub mod CodeLemmas

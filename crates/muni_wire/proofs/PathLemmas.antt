@@ -1,5 +1,5 @@
 -- What a path is that leads to a request.
-use Rattle.std.proofs.Common.{◌≡◌, ◌+◌, ◌==◌, nat_lt, not, ℕ, suc, List, ◌∷◌, ◌++◌, length, take, drop, get_or, codes, bytes_eq, Bool, true, false, cond, Option, Some, None, Result, Err, position, refl, sym, ap, ◌∙◌, arith}
+use Rattle.std.proofs.Common.{◌≡◌, ◌+◌, ◌==◌, nat_lt, not, ℕ, suc, List, ◌∷◌, ◌++◌, length, take, drop, get_or, codes, bytes_eq, Bool, true, false, cond, Option, Some, None, Result, Err, position, refl, sym, ap, subst, ◌∙◌, arith}
 use Rattle.std.specs.Char.{is_ascii_alphanumeric}
 use Rattle.std.specs.Result.{result_ok}
 use Rattle.std.proofs.Math.Seq.{split_at}
@@ -8,13 +8,14 @@ use Rattle.std.proofs.lemmas.List.{take-append-drop}
 use Rattle.std.proofs.lemmas.List.Quantifiers.{position-Some}
 use Rattle.std.proofs.lemmas.Slice.Eq.{bytes_eq-Decides}
 use Rattle.muni_msg.specs.Fields.{◌>>=◌}
-use Rattle.muni_msg.specs.Names.{is_desk_letter}
+use Rattle.muni_msg.specs.Names.{IsName, is_desk_letter}
 use Rattle.muni_msg.specs.NameReading.{name_reading, unless_bad}
 use Rattle.muni_msg.specs.declared.names.NameFault.{NameFault}
 use Rattle.muni_msg.specs.declared.names.NameFault.TheVariants.{Empty, TooLong}
 use Rattle.muni_msg.specs.declared.command.Command.TheVariants.{Confirm, List as ListTrades}
 use Rattle.muni_msg.specs.declared.command.Key.{Key}
 use Rattle.muni_wire.specs.Routes.{target_of, route_of, asked_on, trade_at, list_at, list_after_at, behind, key_of, key_at}
+use Rattle.muni_wire.specs.PathLaws.{IsKey}
 use Rattle.muni_wire.specs.declared.routes.Route.{Route}
 use Rattle.muni_wire.specs.declared.routes.Route.TheVariants as route
 use Rattle.muni_wire.specs.declared.routes.Target.{Target}
@@ -36,6 +37,25 @@ name-read is_letter most text name e =
     let few = cond (nat_lt most (length text)) (Err TooLong) (unless_bad text bad) in
     short-read (length text == 0) Empty few text name (short-read (nat_lt most (length text)) TooLong (unless_bad text bad) text name (unless-read text name bad)) e
 
+-- and is a name
+unless-none : (text name : List ℕ) (bad : Option ℕ) → result_ok (unless_bad text bad) ≡ Some name → bad ≡ None
+unless-none text name None e = refl
+unless-none text name (Some place) e = cc e
+
+passed : (b : Bool) (fault : NameFault) (rest : Result (List ℕ) NameFault) (name : List ℕ) → result_ok (cond b (Err fault) rest) ≡ Some name → (b ≡ false) × (result_ok rest ≡ Some name)
+passed true fault rest name e = cc e
+passed false fault rest name e = (refl, e)
+
+text-is-name : (is_letter : ℕ → Bool) (most : ℕ) (text name : List ℕ) → result_ok (name_reading is_letter most text) ≡ Some name → IsName is_letter most text
+text-is-name is_letter most text name e =
+    let bad = position (λ b. not (is_letter b)) text in
+    let some = passed (length text == 0) Empty (cond (nat_lt most (length text)) (Err TooLong) (unless_bad text bad)) name e in
+    let few = passed (nat_lt most (length text)) TooLong (unless_bad text bad) name some.1 in
+    record { some = grind (arith, nat_tests, some.0); few = grind (arith, nat_tests, few.0); letters = unless-none text name bad few.1 }
+
+is-name : (is_letter : ℕ → Bool) (most : ℕ) (text name : List ℕ) → result_ok (name_reading is_letter most text) ≡ Some name → IsName is_letter most name
+is-name is_letter most text name e = subst (IsName is_letter most) (name-read is_letter most text name e) (text-is-name is_letter most text name e)
+
 -- what stands behind a prefix
 behind-by : (b : Bool) (prefix text rest : List ℕ) → bytes_eq (take (length prefix) text) prefix ≡ b → cond b (Some (drop (length prefix) text)) None ≡ Some rest → text ≡ prefix ++ rest
 behind-by true prefix text rest is e =
@@ -55,7 +75,7 @@ both-read (Some d) None key e = cc e
 both-read (Some d) (Some r) key e = (ap Some (cc (ap (λ o. o >>= λ k. Some k.desk) e)), ap Some (cc (ap (λ o. o >>= λ k. Some k.reference) e)))
 
 key-parts : (text : List ℕ) (slash : Option ℕ) (key : Key) → position (λ b. b == 47) text ≡ slash → (slash >>= λ at. key_at text at) ≡ Some key
-    → text ≡ key.desk ++ 47 ∷ key.reference
+    → IsKey key × (text ≡ key.desk ++ 47 ∷ key.reference)
 key-parts text None key is e = cc e
 key-parts text (Some at) key is e =
     let found = position-Some (λ b. b == 47) text at 0 is in
@@ -65,9 +85,13 @@ key-parts text (Some at) key is e =
     let read = both-read _ _ key e in
     let desk = name-read is_desk_letter 16 (take at text) key.desk read.0 in
     let reference = name-read is_ascii_alphanumeric 20 (drop (at + 1) text) key.reference read.1 in
-    split ∙ ap (λ b. take at text ++ b ∷ drop (at + 1) text) slash ∙ ap (λ l. l ++ 47 ∷ drop (at + 1) text) desk ∙ ap (λ l. key.desk ++ 47 ∷ l) reference
+    let is_key : IsKey key = record {
+      desk = is-name is_desk_letter 16 (take at text) key.desk read.0;
+      reference = is-name is_ascii_alphanumeric 20 (drop (at + 1) text) key.reference read.1;
+    } in
+    (is_key, split ∙ ap (λ b. take at text ++ b ∷ drop (at + 1) text) slash ∙ ap (λ l. l ++ 47 ∷ drop (at + 1) text) desk ∙ ap (λ l. key.desk ++ 47 ∷ l) reference)
 
-is-key : (text : List ℕ) (key : Key) → key_of text ≡ Some key → text ≡ key.desk ++ 47 ∷ key.reference
+is-key : (text : List ℕ) (key : Key) → key_of text ≡ Some key → IsKey key × (text ≡ key.desk ++ 47 ∷ key.reference)
 unfolding key_of
 is-key text key e = key-parts text (position (λ b. b == 47) text) key refl e
 
@@ -76,28 +100,35 @@ both-there : {A B : Type 0} (o : Option A) (f : A → Option B) (b : B) → (o >
 both-there None f b e = cc e
 both-there (Some a) f b e = (a, refl, e)
 
-trade-path : (path : List ℕ) (key : Key) → trade_at path ≡ Some (target.Get (Confirm key)) → path ≡ codes "/trades/" ++ (key.desk ++ 47 ∷ key.reference)
+trade-path : (path : List ℕ) (key : Key) → trade_at path ≡ Some (target.Get (Confirm key)) → IsKey key × (path ≡ codes "/trades/" ++ (key.desk ++ 47 ∷ key.reference))
 trade-path path key e =
     let first = both-there (behind (codes "/trades/") path) (λ text. key_of text >>= λ k. Some (target.Get (Confirm k))) (target.Get (Confirm key)) e in
     let second = both-there (key_of first.0) (λ k. Some (target.Get (Confirm k))) (target.Get (Confirm key)) first.2 in
     let same : second.0 ≡ key = cc second.2 in
-    is-behind (codes "/trades/") path first.0 first.1 ∙ ap (λ l. codes "/trades/" ++ l) (is-key first.0 key (second.1 ∙ ap Some same))
+    let is = is-key first.0 key (second.1 ∙ ap Some same) in
+    (is.0, is-behind (codes "/trades/") path first.0 first.1 ∙ ap (λ l. codes "/trades/" ++ l) is.1)
 
-list-path : (path desk : List ℕ) → list_at path ≡ Some (target.Get (ListTrades desk None)) → path ≡ codes "/lists/" ++ desk
+list-path : (path desk : List ℕ) → list_at path ≡ Some (target.Get (ListTrades desk None)) → IsName is_desk_letter 16 desk × (path ≡ codes "/lists/" ++ desk)
 list-path path desk e =
     let first = both-there (behind (codes "/lists/") path) (λ text. result_ok (name_reading is_desk_letter 16 text) >>= λ d. Some (target.Get (ListTrades d None))) (target.Get (ListTrades desk None)) e in
     let second = both-there (result_ok (name_reading is_desk_letter 16 first.0)) (λ d. Some (target.Get (ListTrades d None))) (target.Get (ListTrades desk None)) first.2 in
     let same : second.0 ≡ desk = cc second.2 in
-    is-behind (codes "/lists/") path first.0 first.1 ∙ ap (λ l. codes "/lists/" ++ l) (name-read is_desk_letter 16 first.0 desk (second.1 ∙ ap Some same))
+    let read = second.1 ∙ ap Some same in
+    (is-name is_desk_letter 16 first.0 desk read, is-behind (codes "/lists/") path first.0 first.1 ∙ ap (λ l. codes "/lists/" ++ l) (name-read is_desk_letter 16 first.0 desk read))
 
-list-after-path : (path desk after : List ℕ) → list_after_at path ≡ Some (target.Get (ListTrades desk (Some after))) → path ≡ codes "/lists/" ++ (desk ++ 47 ∷ after)
+list-after-path : (path desk after : List ℕ) → list_after_at path ≡ Some (target.Get (ListTrades desk (Some after)))
+    → IsName is_desk_letter 16 desk × IsName is_ascii_alphanumeric 20 after × (path ≡ codes "/lists/" ++ (desk ++ 47 ∷ after))
 list-after-path path desk after e =
     let first = both-there (behind (codes "/lists/") path) (λ text. key_of text >>= λ k. Some (target.Get (ListTrades k.desk (Some k.reference)))) (target.Get (ListTrades desk (Some after))) e in
     let second = both-there (key_of first.0) (λ k. Some (target.Get (ListTrades k.desk (Some k.reference)))) (target.Get (ListTrades desk (Some after))) first.2 in
     let same_desk : second.0.desk ≡ desk = cc second.2 in
     let same_after : second.0.reference ≡ after = cc second.2 in
-    is-behind (codes "/lists/") path first.0 first.1
-    ∙ ap (λ l. codes "/lists/" ++ l) (is-key first.0 second.0 second.1 ∙ ap (λ l. l ++ 47 ∷ second.0.reference) same_desk ∙ ap (λ l. desk ++ 47 ∷ l) same_after)
+    let is = is-key first.0 second.0 second.1 in (
+      subst (IsName is_desk_letter 16) same_desk is.0.desk,
+      subst (IsName is_ascii_alphanumeric 20) same_after is.0.reference,
+      is-behind (codes "/lists/") path first.0 first.1
+          ∙ ap (λ l. codes "/lists/" ++ l) (is.1 ∙ ap (λ l. l ++ 47 ∷ second.0.reference) same_desk ∙ ap (λ l. desk ++ 47 ∷ l) same_after),
+    )
 
 -- which command each route may give
 no-trade : (path : List ℕ) (c : Target) → trade_at path ≡ Some c → (key : Key) × (c ≡ target.Get (Confirm key))
@@ -118,37 +149,39 @@ no-list-after path c e =
     let second = both-there (key_of first.0) (λ k. Some (target.Get (ListTrades k.desk (Some k.reference)))) c first.2 in
     (second.0, cc second.2)
 
-confirms-on : (path : List ℕ) (way : Route) (key : Key) → asked_on path way ≡ Some (target.Get (Confirm key)) → path ≡ codes "/trades/" ++ (key.desk ++ 47 ∷ key.reference)
+confirms-on : (path : List ℕ) (way : Route) (key : Key) → asked_on path way ≡ Some (target.Get (Confirm key)) → IsKey key × (path ≡ codes "/trades/" ++ (key.desk ++ 47 ∷ key.reference))
 confirms-on path (route.Post form) key e = cc e
 confirms-on path route.Trade key e = trade-path path key e
 confirms-on path route.List key e = cc (no-list path (target.Get (Confirm key)) e).1
 confirms-on path route.ListAfter key e = cc (no-list-after path (target.Get (Confirm key)) e).1
 
-lists-on : (path desk : List ℕ) (way : Route) → asked_on path way ≡ Some (target.Get (ListTrades desk None)) → path ≡ codes "/lists/" ++ desk
+lists-on : (path desk : List ℕ) (way : Route) → asked_on path way ≡ Some (target.Get (ListTrades desk None)) → IsName is_desk_letter 16 desk × (path ≡ codes "/lists/" ++ desk)
 lists-on path desk (route.Post form) e = cc e
 lists-on path desk route.Trade e = cc (no-trade path (target.Get (ListTrades desk None)) e).1
 lists-on path desk route.List e = list-path path desk e
 lists-on path desk route.ListAfter e = cc (no-list-after path (target.Get (ListTrades desk None)) e).1
 
-goes-on : (path desk after : List ℕ) (way : Route) → asked_on path way ≡ Some (target.Get (ListTrades desk (Some after))) → path ≡ codes "/lists/" ++ (desk ++ 47 ∷ after)
+goes-on : (path desk after : List ℕ) (way : Route) → asked_on path way ≡ Some (target.Get (ListTrades desk (Some after)))
+    → IsName is_desk_letter 16 desk × IsName is_ascii_alphanumeric 20 after × (path ≡ codes "/lists/" ++ (desk ++ 47 ∷ after))
 goes-on path desk after (route.Post form) e = cc e
 goes-on path desk after route.Trade e = cc (no-trade path (target.Get (ListTrades desk (Some after))) e).1
 goes-on path desk after route.List e = cc (no-list path (target.Get (ListTrades desk (Some after))) e).1
 goes-on path desk after route.ListAfter e = list-after-path path desk after e
 
-pub trades-confirmed : (path : List ℕ) (key : Key) → target_of path ≡ Some (target.Get (Confirm key)) → path ≡ codes "/trades/" ++ (key.desk ++ 47 ∷ key.reference)
+pub trades-confirmed : (path : List ℕ) (key : Key) → target_of path ≡ Some (target.Get (Confirm key)) → IsKey key × (path ≡ codes "/trades/" ++ (key.desk ++ 47 ∷ key.reference))
 unfolding target_of
 trades-confirmed path key e =
     let way = both-there (route_of path) (asked_on path) (target.Get (Confirm key)) e in
     confirms-on path way.0 key way.2
 
-pub lists-given : (path desk : List ℕ) → target_of path ≡ Some (target.Get (ListTrades desk None)) → path ≡ codes "/lists/" ++ desk
+pub lists-given : (path desk : List ℕ) → target_of path ≡ Some (target.Get (ListTrades desk None)) → IsName is_desk_letter 16 desk × (path ≡ codes "/lists/" ++ desk)
 unfolding target_of
 lists-given path desk e =
     let way = both-there (route_of path) (asked_on path) (target.Get (ListTrades desk None)) e in
     lists-on path desk way.0 way.2
 
-pub lists-go-on : (path desk after : List ℕ) → target_of path ≡ Some (target.Get (ListTrades desk (Some after))) → path ≡ codes "/lists/" ++ (desk ++ 47 ∷ after)
+pub lists-go-on : (path desk after : List ℕ) → target_of path ≡ Some (target.Get (ListTrades desk (Some after)))
+    → IsName is_desk_letter 16 desk × IsName is_ascii_alphanumeric 20 after × (path ≡ codes "/lists/" ++ (desk ++ 47 ∷ after))
 unfolding target_of
 lists-go-on path desk after e =
     let way = both-there (route_of path) (asked_on path) (target.Get (ListTrades desk (Some after))) e in

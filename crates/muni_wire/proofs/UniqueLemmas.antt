@@ -1,7 +1,7 @@
 -- The bytes of a connection are read in one way.
 use Rattle.std.proofs.Common.{◌≡◌, ◌<◌, ◌-◌, ℕ, List, Option, Some, None, Result, Ok, Err, ◌⊎◌, ◌++◌, length, take, refl, sym, subst, ap, IfSome, arith, ◌∙◌, inl, inr, []}
 use Rattle.std.proofs.lemmas.List.{append-nil, take_all}
-use Rattle.httparse.specs.Grammar.{RequestHead, ReadsRequest, print_request, MayBecomeRequest}
+use Rattle.httparse.specs.Grammar.{RequestHead, ReadsRequest, HasNoRequest, print_request, MayBecomeRequest}
 use Rattle.httparse.specs.Spans.{RequestExceeds}
 use Rattle.httparse.proofs.GrammarLemmas.{request_unique}
 use Rattle.muni_msg.specs.declared.command.Command.{Command}
@@ -41,7 +41,11 @@ not-exceeds bytes h rest has many =
 
 in-target : (bytes : List ℕ) → IsNoHead bytes → MayBecomeRequest (take head_limit bytes) → IsAmbiguous bytes
 in-target bytes never (inl (more, h, reads)) = absurd (never more h [] reads)
-in-target bytes never (inr ends) = inl ends
+in-target bytes never (inr ends) = inl (ends, never)
+
+-- bytes that nothing makes a head hold none
+never-now : (bytes : List ℕ) → IsNoHead bytes → HasNoRequest (take head_limit bytes)
+never-now bytes never = subst HasNoRequest (append-nil (take head_limit bytes)) (never [])
 
 ends-front : (bytes : List ℕ) → EndsInHead bytes → IsUnfinished (take head_limit bytes)
 ends-front bytes ends = subst IsUnfinished (sym (take_all head_limit bytes (omega (arith, ends.0)))) ends.1
@@ -65,15 +69,17 @@ reads-once bytes a b (inl x) y = inr (heads-once bytes a b x y)
 reads-once bytes a b (inr x) (inl y) = inr (sym (heads-once bytes b a y (inr x)))
 reads-once bytes a b (inr (inl x)) (inr (inl y)) = inr (x.1 ∙ sym y.1)
 reads-once bytes a b (inr (inl x)) (inr (inr (inl (inl y, _)))) = inl (in-target bytes x.0 y.1.may)
-reads-once bytes a b (inr (inl x)) (inr (inr (inl (inr y, _)))) = inl (inr y)
+reads-once bytes a b (inr (inl x)) (inr (inr (inl (inr y, _)))) = inl (inr (y, never-now bytes x.0))
 reads-once bytes a b (inr (inl x)) (inr (inr (inr y))) = inl (in-target bytes x.0 (ends-front bytes y.0).may)
-reads-once bytes a b (inr (inr (inl (inr x, _)))) other = inl (inr x)
+reads-once bytes a b (inr (inr (inl (inr x, _)))) (inr (inl y)) = inl (inr (x, never-now bytes y.0))
+reads-once bytes a b (inr (inr (inl (inr x, e)))) (inr (inr (inl (_, f)))) = inr (e ∙ sym f)
+reads-once bytes a b (inr (inr (inl (inr x, _)))) (inr (inr (inr y))) = inl (inr (x, (ends-front bytes y.0).none))
 reads-once bytes a b (inr (inr (inl (inl x, _)))) (inr (inl y)) = inl (in-target bytes y.0 x.1.may)
 reads-once bytes a b (inr (inr (inl (inl x, e)))) (inr (inr (inl (_, f)))) = inr (e ∙ sym f)
 reads-once bytes a b (inr (inr (inl (inl x, _)))) (inr (inr (inr y))) = absurd (omega (arith, x.0, y.0.0))
 reads-once bytes a b (inr (inr (inr x))) (inr (inl y)) = inl (in-target bytes y.0 (ends-front bytes x.0).may)
 reads-once bytes a b (inr (inr (inr x))) (inr (inr (inl (inl y, _)))) = absurd (omega (arith, y.0, x.0.0))
-reads-once bytes a b (inr (inr (inr x))) (inr (inr (inl (inr y, _)))) = inl (inr y)
+reads-once bytes a b (inr (inr (inr x))) (inr (inr (inl (inr y, _)))) = inl (inr (y, (ends-front bytes x.0).none))
 reads-once bytes a b (inr (inr (inr x))) (inr (inr (inr y))) = inr (x.1 ∙ sym y.1)
 
 joined : (bytes : List ℕ) (result : Result Command WireFault) (a b : Reading) → result ≡ answer_to a → IsAmbiguous bytes ⊎ (a ≡ b)

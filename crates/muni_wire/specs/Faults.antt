@@ -1,5 +1,6 @@
 -- Which faults come of which part of a request.
-use Rattle.std.specs.Prelude.{⊤}
+use Rattle.std.specs.Prelude.{◌≡◌, ℕ, Result, Ok, Err, ⊤}
+use Rattle.muni_edge.specs.Faults.{Rose}
 use Rattle.muni_wire.specs.declared.fault.WireFault.{WireFault}
 use Rattle.muni_wire.specs.declared.fault.WireFault.TheVariants as fault
 
@@ -16,3 +17,11 @@ IsOfTake (fault.Bad kind) = ⊥
 IsOfTake fault.Gone = ⊥
 IsOfTake fault.LinkFault = ⊤
 IsOfTake fault.NoMemory = ⊤
+
+-- A take that failed is counted and is this fault; after any other outcome none has failed.
+abbrev pub CountsTakes : {T : Type 0} → Result T WireFault → ℕ → ℕ → Type 0
+CountsTakes (Ok value) before now = now ≡ before
+CountsTakes (Err (fault.Bad kind)) before now = now ≡ before
+CountsTakes (Err fault.Gone) before now = now ≡ before
+CountsTakes (Err fault.LinkFault) before now = Rose before now
+CountsTakes (Err fault.NoMemory) before now = now ≡ before

@@ -1,17 +1,19 @@
 -- That the bytes of a connection are read in one way.
 use Rattle.std.specs.Prelude.{◌≡◌, ◌⊎◌, List, ℕ, take, Result, Ok, Err, ⊤}
-use Rattle.httparse.specs.Grammar.{EndsInTarget}
+use Rattle.httparse.specs.Grammar.{EndsInTarget, HasNoRequest}
 use Rattle.httparse.specs.Spans.{RequestExceeds}
 use Rattle.muni_msg.specs.declared.command.Command.{Command}
-use Rattle.muni_wire.specs.Head.{head_limit, field_limit}
+use Rattle.muni_wire.specs.Head.{IsNoHead, head_limit, field_limit}
 use Rattle.muni_wire.specs.Reading.{Reading, Whole, Faulty, Short, HeadAsks, Reads}
 use Rattle.muni_wire.specs.declared.fault.WireFault.{WireFault}
 use Rattle.muni_wire.specs.declared.fault.WireFault.TheVariants as fault
 
--- the bytes of a head end within a target, or hold too many header fields: two answers may be right
+-- The first bytes, as many as a head has, end within a target that no head continues, or they hold too
+-- many header fields and no whole head. Then two answers may be right.
 abbrev pub IsAmbiguous : List ℕ → Type 0
 IsAmbiguous bytes =
-    EndsInTarget (take head_limit bytes) ⊎ RequestExceeds field_limit (take head_limit bytes)
+    (EndsInTarget (take head_limit bytes) × IsNoHead bytes)
+    ⊎ (RequestExceeds field_limit (take head_limit bytes) × HasNoRequest (take head_limit bytes))
 
 -- two readings of the same bytes are equal, unless these are ambiguous
 abbrev pub AreReadOnce : Type 0
@@ -21,6 +23,10 @@ AreReadOnce =
 -- bytes that begin with a head within the limits have one reading, without exception
 abbrev pub HeadsAreReadOnce : Type 0
 HeadsAreReadOnce = (bytes : List ℕ) (a b : Reading) → HeadAsks bytes a → Reads bytes b → a ≡ b
+
+-- no bytes are without a reading
+abbrev pub AreAllRead : Type 0
+AreAllRead = (bytes : List ℕ) → ¬ ((reading : Reading) → ¬ (Reads bytes reading))
 
 -- the answer that a reading is
 abbrev pub answer_to : Reading → Result Command WireFault

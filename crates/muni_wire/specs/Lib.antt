@@ -8,8 +8,12 @@ pub mod Awaited
 pub mod Faults
 pub mod Reading
 pub mod Taken
+pub mod Extent
 pub mod Laws
 pub mod LeftOut
+pub mod StatusLaws
+pub mod OtherMembers
+pub mod LengthLaw
 pub mod PathLaws
 pub mod List
 pub mod HttpStatus

@@ -17,22 +17,28 @@ pub record BodiesArePosted : Type 0 where
   pub cancels : target_of (codes "/cancels") ≡ Some (target.Post form.Cancellation)
   pub quotes : target_of (codes "/quotes") ≡ Some (target.Post form.Quote)
 
--- a trade is confirmed under its desk and its reference alone
+-- the name of a desk and the reference of a trade
+pub record IsKey (key : Key) : Type 0 where
+  pub desk : IsName is_desk_letter 16 key.desk
+  pub reference : IsName is_ascii_alphanumeric 20 key.reference
+
+-- a trade is confirmed under its desk and its reference alone, which are names
 abbrev pub TradesAreConfirmed : Type 0
 TradesAreConfirmed =
     (path : List ℕ) (key : Key) → target_of path ≡ Some (target.Get (Confirm key))
-    → path ≡ codes "/trades/" ++ (key.desk ++ 47 ∷ key.reference)
+    → IsKey key × (path ≡ codes "/trades/" ++ (key.desk ++ 47 ∷ key.reference))
 
 -- a list is given under its desk alone, or under that and a reference
 abbrev pub ListsAreGiven : Type 0
 ListsAreGiven =
     (path desk : List ℕ) → target_of path ≡ Some (target.Get (ListTrades desk None))
-    → path ≡ codes "/lists/" ++ desk
+    → IsName is_desk_letter 16 desk × (path ≡ codes "/lists/" ++ desk)
 
 abbrev pub ListsGoOn : Type 0
 ListsGoOn =
     (path desk after : List ℕ) → target_of path ≡ Some (target.Get (ListTrades desk (Some after)))
-    → path ≡ codes "/lists/" ++ (desk ++ 47 ∷ after)
+    → IsName is_desk_letter 16 desk × IsName is_ascii_alphanumeric 20 after
+    × (path ≡ codes "/lists/" ++ (desk ++ 47 ∷ after))
 
 -- the path under which a body of a form is posted
 abbrev pub posted_under : Form → List ℕ
@@ -47,11 +53,6 @@ abbrev pub BodiesHaveOnePath : Type 0
 BodiesHaveOnePath =
     (path : List ℕ) (posted : Form) → target_of path ≡ Some (target.Post posted)
     → path ≡ posted_under posted
-
--- the name of a desk and the reference of a trade
-pub record IsKey (key : Key) : Type 0 where
-  pub desk : IsName is_desk_letter 16 key.desk
-  pub reference : IsName is_ascii_alphanumeric 20 key.reference
 
 -- each trade is confirmed under its path
 abbrev pub EachTradeIsConfirmed : Type 0

@@ -1,6 +1,7 @@
 -- What a head says of the bytes that were taken, whatever is left behind them.
-use Rattle.std.specs.Prelude.{◌≡◌, ◌≤◌, ℕ, List, Option, drop, length, ◌++◌, Result, Ok, Err, ⊤}
+use Rattle.std.specs.Prelude.{◌≡◌, ◌≤◌, ◌==◌, ◌||◌, ℕ, List, Option, Bool, not, drop, length, ◌++◌, Result, Ok, Err, ⊤}
 use Rattle.std.specs.Io.KnownBytes.{IsAtEnd}
+use Rattle.std.specs.List.{list_any}
 use Rattle.httparse.specs.Grammar.{RequestHead}
 use Rattle.muni_msg.specs.declared.command.Command.{Command}
 use Rattle.muni_wire.specs.BodyLength.{body_limit}
@@ -14,6 +15,10 @@ use Rattle.muni_wire.specs.declared.head.Awaited.{Awaited}
 use Rattle.muni_wire.specs.declared.head.Awaited.TheVariants as plan
 use Rattle.muni_wire.specs.declared.head.Head.{Head}
 use Rattle.muni_wire.specs.declared.head.Head.TheVariants as head
+
+-- bytes hold more than ends of lines
+abbrev pub has_text : List ℕ → Bool
+has_text bytes = list_any (λ b. not (b == 13 || b == 10)) bytes
 
 -- the bytes begin with a head of this plan, which ends at a place, whatever follows
 abbrev pub IsWholeAt : List ℕ → ℕ → Awaited → Type 0

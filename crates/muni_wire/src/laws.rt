@@ -1,15 +1,20 @@
 //! What holds of the definitions that the contracts of the reader cite.
 
-ghost use Rattle.muni_wire.specs.Laws.{HeadsAreReadOnce, AreReadOnce};
+ghost use Rattle.muni_wire.specs.Laws.{HeadsAreReadOnce, AreReadOnce, AreAllRead};
 ghost use Rattle.muni_wire.specs.LeftOut.{MayBeLeftOut};
+ghost use Rattle.muni_wire.specs.LengthLaw.{LengthsAreGiven};
+ghost use Rattle.muni_wire.specs.OtherMembers.{OtherMembersAreIgnored};
 ghost use Rattle.muni_wire.specs.PathLaws.{BodiesArePosted, TradesAreConfirmed, ListsAreGiven, ListsGoOn, BodiesHaveOnePath, EachTradeIsConfirmed, EachListIsGiven, EachListGoesOn};
+ghost use Rattle.muni_wire.specs.StatusLaws.{RefusalsHaveCodes};
 
-/// The bytes of a connection have one reading, unless they are ambiguous: where they end within a
-/// target that no request has, and where they hold more than 64 header fields before the head ends.
-/// Bytes that begin with a head within the limits are never ambiguous.
+/// The bytes of a connection have one reading, unless they are ambiguous: if they, or the first
+/// 16,384 of them, end within a target that no request has, or if they hold more than 64 header
+/// fields and no whole head. Bytes that begin with a head within the limits are never ambiguous, and
+/// none are without a reading.
 pub fn bytes_are_read_in_one_way()
     ensures heads { HeadsAreReadOnce }
     ensures others { AreReadOnce }
+    ensures some { AreAllRead }
 {}
 
 /// A body without a day count basis is one of 30/360, and one without a commission has the
@@ -18,9 +23,27 @@ pub fn days_and_fee_may_be_left_out()
     ensures { MayBeLeftOut }
 {}
 
+/// A body asks for the same whatever members it has besides those that its form reads.
+pub fn other_members_are_ignored()
+    ensures { OtherMembersAreIgnored }
+{}
+
+/// Header fields give a body a length if there is no Transfer-Encoding and some Content-Length, each of
+/// them is that number of one to ten digits, and it is at most 65,536; and in no other case.
+pub fn lengths_are_given()
+    ensures { LengthsAreGiven }
+{}
+
+/// A refusal with the number 1 or 2 has the status 404, one with 3 or 11 to 14 has 409, and each other
+/// one 422.
+pub fn refusals_have_codes()
+    ensures { RefusalsHaveCodes }
+{}
+
 /// Bodies are posted under the five paths of the desk. A trade is confirmed under `/trades/`, its
 /// desk, a slash and its reference, and under no other path. A list is given under `/lists/` and its
 /// desk, and goes on behind a reference where that stands behind a slash, and under no other path.
+/// Desk and reference are names.
 pub fn paths_lead_to_requests()
     ensures posted { BodiesArePosted }
     ensures confirmed { TradesAreConfirmed }

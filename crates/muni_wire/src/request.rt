@@ -1,8 +1,10 @@
 //! One request of a connection.
 
-ghost use Rattle.std.specs.Prelude.{◌≡◌, ◌≤◌, drop, ◌++◌, IfSome, vec_len};
+ghost use Rattle.std.specs.Prelude.{◌≡◌, ◌≤◌, ◌+◌, ◌-◌, drop, ◌++◌, IfSome, vec_len};
 ghost use Rattle.muni_edge.specs.Link.{OnlyTakes};
 ghost use Rattle.muni_wire.specs.BodyLength.{body_limit};
+ghost use Rattle.muni_wire.specs.Extent.{ReadsNoFurther, TakesAtMost};
+ghost use Rattle.muni_wire.specs.Faults.{CountsTakes};
 ghost use Rattle.muni_wire.specs.Head.{head_limit};
 ghost use Rattle.muni_wire.specs.Laws.{IsTheAnswer};
 ghost use Rattle.muni_wire.specs.Reading.{Allows};
@@ -18,13 +20,15 @@ use muni_msg::Command;
 use std::alloc::Global;
 
 /// Reads one request of HTTP/1.0 or HTTP/1.1 (RFC 9112), by all bytes of the connection, however
-/// they come. Bytes behind the request may have been taken too.
+/// they come. Of bytes behind the request less than one piece may have been taken too.
 ///
 /// Where memory was wanting nothing is said of the bytes.
 #[tactic(auto, using(crate::proofs::UniqueLemmas::told_answer))]
 pub fn read_request<L: Link>(alloc: Global, link: &mut L) -> Result<Command, WireFault>
     ensures allowed { IfSome (L.left link.old) (λ bytes. Allows bytes result) }
     ensures only { IfSome (L.left link.old) (λ bytes. IsTheAnswer bytes result) }
+    ensures no_further { ReadsNoFurther (L.left link.old) (L.left link.new) }
+    ensures counts { CountsTakes result (L.Source.faults link.old) (L.Source.faults link.new) }
     ensures takes { OnlyTakes L.Source L.Sink WireFault.LinkFault result link.old link.new }
 {
     read_by_head(alloc, link)
@@ -32,6 +36,8 @@ pub fn read_request<L: Link>(alloc: Global, link: &mut L) -> Result<Command, Wir
 
 fn read_by_head<L: Link>(alloc: Global, link: &mut L) -> Result<Command, WireFault>
     ensures allowed { IfSome (L.left link.old) (λ bytes. Allows bytes result) }
+    ensures no_further { ReadsNoFurther (L.left link.old) (L.left link.new) }
+    ensures counts { CountsTakes result (L.Source.faults link.old) (L.Source.faults link.new) }
     ensures takes { OnlyTakes L.Source L.Sink WireFault.LinkFault result link.old link.new }
 {
     // The routes agree with one another, so that memory alone can be wanting for them.
@@ -66,6 +72,8 @@ fn take_body<L: Link>(
 
     ensures answer { IfSome (L.left link.old)
         (λ left. IsAnswerTo form size (drop end bytes.old.items ++ left) result) }
+    ensures few { TakesAtMost (end + size - vec_len bytes.old) (L.left link.old) (L.left link.new) }
+    ensures counts { CountsTakes result (L.Source.faults link.old) (L.Source.faults link.new) }
     ensures takes { OnlyTakes L.Source L.Sink WireFault.LinkFault result link.old link.new }
 {
     fill(link, bytes, end + size)?;

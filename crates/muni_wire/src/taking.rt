@@ -1,12 +1,15 @@
 //! The bytes of a connection, which come in pieces.
 
-ghost use Rattle.std.specs.Prelude.{◌≡◌, ◌≤◌, ◌<◌, ◌+◌, ◌-◌, ◌==◌, ◌&&◌, ◌||◌, ℕ, List, true, not, length, drop, nat_lt, ◌++◌, IfOk, IfErr, OnOk, vec_len};
+ghost use Rattle.std.specs.Prelude.{◌≡◌, ◌≤◌, ◌<◌, ◌+◌, ◌-◌, ◌==◌, ◌&&◌, ℕ, List, true, not, length, min, take, drop, nat_lt, ◌++◌, IfOk, IfErr, OnOk, vec_len};
 ghost use Rattle.std.specs.Io.KnownBytes.{Consumes, IsAtEnd};
 ghost use Rattle.std.specs.List.{list_any};
+ghost use Rattle.httparse.specs.Grammar.{HasNoRequest};
 ghost use Rattle.muni_edge.specs.Link.{OnlyTakes};
-ghost use Rattle.muni_wire.specs.Faults.{IsOfTake};
+ghost use Rattle.muni_wire.specs.Extent.{TakesAtMost, TakesHead, piece_limit};
+ghost use Rattle.muni_wire.specs.Faults.{CountsTakes, IsOfTake};
 ghost use Rattle.muni_wire.specs.Head.{IsNoHead, IsHeadTooLarge, EndsInHead, head_limit};
 ghost use Rattle.muni_wire.specs.Routes.{routes as all_routes};
+ghost use Rattle.muni_wire.specs.Taken as spec;
 ghost use Rattle.muni_wire.specs.Taken.{IsHeadOf, IsWholeAt, IsWithinLimit};
 
 use crate::WireFault;
@@ -28,7 +31,9 @@ pub(crate) fn read_head<L: Link>(
     ensures head { IfOk result (λ read. IsHeadOf read.0 read.1.items (L.left link.new)) }
     ensures taken { IfOk result
         (λ read. Consumes (L.left link.old) (L.left link.new) read.1.items) }
+    ensures no_further { TakesHead (L.left link.old) (L.left link.new) }
     ensures others { IfErr result (λ fault. IsOfTake fault) }
+    ensures counts { CountsTakes result (L.Source.faults link.old) (L.Source.faults link.new) }
     ensures takes { OnlyTakes L.Source L.Sink WireFault.LinkFault result link.old link.new }
 {
     let mut bytes = Vec::new(alloc);
@@ -56,7 +61,11 @@ fn look_behind_lines(
     requires routes { routes.now ≡ all_routes }
     requires limit { length bytes.now ≤ head_limit }
     requires count { count ≤ length bytes.now }
+    requires begun { has_begun.old ≡ spec.has_text (take (length bytes.now - count) bytes.now) }
+    requires none { HasNoRequest (take (length bytes.now - count) bytes.now) }
 
+    ensures begun { has_begun.new ≡ spec.has_text bytes.now }
+    ensures awaited { result ≡ Head.More → HasNoRequest bytes.now }
     ensures whole { (end : ℕ) (plan : _) → result ≡ Head.Whole end plan
         → IsWholeAt bytes.now end plan × IsWithinLimit plan }
     ensures more { result ≡ Head.More → length bytes.now < head_limit }
@@ -65,7 +74,7 @@ fn look_behind_lines(
     ensures too_large { (rest : List ℕ) → result ≡ Head.TooLarge
         → IsHeadTooLarge (bytes.now ++ rest) }
 {
-    *has_begun = *has_begun || has_text(&bytes[bytes.len() - count..]);
+    *has_begun |= has_text(&bytes[bytes.len() - count..]);
     if is_within_line(bytes, count, *has_begun) {
         return Head::More;
     }
@@ -86,7 +95,7 @@ fn is_within_line(bytes: &[u8], count: usize, has_begun: bool) -> bool
 
 // Whether there is more than ends of lines.
 fn has_text(bytes: &[u8]) -> bool
-    ensures { result ≡ list_any (λ b. not (b == 13 || b == 10)) bytes.now }
+    ensures { result ≡ spec.has_text bytes.now }
 {
     bytes.iter().any(|b| !(*b == b'\r' || *b == b'\n'))
 }
@@ -102,7 +111,9 @@ pub(crate) fn fill<L: Link>(
     ensures taken { OnOk result ((piece : List ℕ) × Consumes (L.left link.old) (L.left link.new) piece
         × (bytes.new.items ≡ bytes.old.items ++ piece)) }
     ensures end { OnOk result (vec_len bytes.new < limit → IsAtEnd (L.left link.new)) }
+    ensures few { TakesAtMost (limit - vec_len bytes.old) (L.left link.old) (L.left link.new) }
     ensures others { IfErr result (λ fault. IsOfTake fault) }
+    ensures counts { CountsTakes result (L.Source.faults link.old) (L.Source.faults link.new) }
     ensures takes { OnlyTakes L.Source L.Sink WireFault.LinkFault result link.old link.new }
 {
     for turn in 0..81_921usize {
@@ -128,7 +139,10 @@ fn take_more<L: Link>(link: &mut L, bytes: &mut Vec<u8>, limit: usize) -> Result
         × Consumes (L.left link.old) (L.left link.new) piece
         × (bytes.new.items ≡ bytes.old.items ++ piece)) }
     ensures end { IfOk result (λ count. count ≡ 0 → IsAtEnd (L.left link.new)) }
+    ensures few { TakesAtMost (min piece_limit (limit - vec_len bytes.old))
+        (L.left link.old) (L.left link.new) }
     ensures others { IfErr result (λ fault. IsOfTake fault) }
+    ensures counts { CountsTakes result (L.Source.faults link.old) (L.Source.faults link.new) }
     ensures takes { OnlyTakes L.Source L.Sink WireFault.LinkFault result link.old link.new }
 {
     let mut room = [0u8; 1024];

@@ -26,6 +26,12 @@ IsYieldOutcome AtLeast More Below = IsBelow least_printed AtLeast More
 IsYieldOutcome AtLeast More Above = IsAbove greatest_printed AtLeast More
 IsYieldOutcome AtLeast More (Unsure lower) = ⊤
 
+-- it is by the exact price of payments, against the given one
+abbrev pub IsExactOutcome : PaymentSeries → ℕ → Outcome → Type 0
+IsExactOutcome series price outcome =
+    IsYieldOutcome (λ y. AtLeast (to_come series) y (pos (360_000 * price)))
+    (λ y. More (to_come series) y (pos (360_000 * price))) outcome
+
 -- At the boundary above a yield the exact price is within 10^-9 dollars of the given one, in no
 -- exact case, and the yield itself is reached, unless it is the one below the range.
 pub record IsDoubtfulAbove (series : PaymentSeries) (price : ℕ) (lower : ℤ) : Type 0 where

@@ -1,9 +1,8 @@
 //! The printed yield.
 
-ghost use Rattle.std.specs.Prelude.{◌≡◌, ◌+◌, ◌*◌, ◌^◌, ◌<◌, ◌≤◌, pos};
-ghost use Rattle.muni_rule.specs.ManyPeriods.{to_come, AtLeast, More};
+ghost use Rattle.std.specs.Prelude.{◌≡◌, ◌+◌, ◌^◌, ◌<◌, ◌≤◌};
 ghost use Rattle.muni_yield.specs.Bracket.{start_of, run};
-ghost use Rattle.muni_yield.specs.Outcome.{IsYieldOutcome, IsDoubtfulOutcome, IsOutcomeInRange, IsVerdictOutcome};
+ghost use Rattle.muni_yield.specs.Outcome.{IsExactOutcome, IsDoubtfulOutcome, IsOutcomeInRange, IsVerdictOutcome};
 ghost use Rattle.muni_yield.specs.Places.{place_verdict, yield_verdict};
 ghost use Rattle.muni_yield.specs.Settled.{final_of};
 
@@ -27,14 +26,12 @@ pub fn printed_yield<E: Encloser, L: Ledger>(
     requires many { 2 ≤ flows.now.n }
     requires price { 0 < price }
     requires room { steps.old + 19 < 2 ^ 64 }
-    ensures exact { IsYieldOutcome (λ y. AtLeast (to_come flows.now) y (pos (360_000 * price)))
-        (λ y. More (to_come flows.now) y (pos (360_000 * price))) result }
+    ensures exact { IsExactOutcome flows.now price result }
     ensures doubtful { IsDoubtfulOutcome flows.now price result }
     ensures range { IsOutcomeInRange result }
     ensures verdicts { IsVerdictOutcome (yield_verdict (E.ends encloser.now flows.now) flows.now
         price) result }
-    ensures outcome { result
-        ≡ final_of (place_verdict (E.ends encloser.now)) flows.now price }
+    ensures outcome { result ≡ final_of (place_verdict (E.ends encloser.now)) flows.now price }
     ensures steps { steps.new ≡ steps.old + (run 19 (place_verdict (E.ends encloser.now))
         (start_of flows.now price)).halvings }
     ensures few { steps.new ≤ steps.old + 19 }

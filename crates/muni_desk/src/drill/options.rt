@@ -2,10 +2,11 @@
 
 ghost use Rattle.std.specs.Prelude.{◌≡◌, ◌≤◌, map, IfSome, string_bytes};
 ghost use Rattle.muni_desk.specs.DrillOptions as spec;
-ghost use Rattle.muni_desk.specs.Command.{IsAnswerable};
 
 use crate::command::{CommandLine, DeskCommand};
+use crate::drill::DrillCount;
 use crate::words::{are_options, value_of};
+use muni_book::Workers;
 use muni_dec::digits::read_number;
 
 const COUNT: &[u8] = b"--count=";
@@ -21,22 +22,19 @@ const NAMES: [&[u8]; 3] = [COUNT, SEED, WORKERS];
 pub struct DrillRequest {
     /// The first state of the generator.
     pub seed: u64,
-    /// How many trades, from 0 to 1,000.
-    pub count: u64,
+    pub count: DrillCount,
 }
 
 /// What words ask for, where they are options of `drill`, in any order.
 pub fn read_drill(words: &[String]) -> Option<CommandLine>
-    ensures command { result ≡ spec.drill_of (map string_bytes words.now) }
-    ensures answerable { IfSome result (λ line. IsAnswerable line.command) }
-    ensures workers { IfSome result (λ line. (1 ≤ line.workers) × (line.workers ≤ 16)) }
+    ensures { result ≡ spec.drill_of (map string_bytes words.now) }
 {
     if !are_options(words, &NAMES, &NAMES) {
         return None;
     }
-    let count = read_number_of(words, COUNT, 0, 1_000)?;
+    let count = DrillCount::new(read_number_of(words, COUNT, 0, 1_000)?);
     let seed = read_number_of(words, SEED, 0, u64::MAX)?;
-    let workers = read_number_of(words, WORKERS, 1, 16)? as u32;
+    let workers = Workers::new(read_number_of(words, WORKERS, 1, 16)? as u32);
     Some(CommandLine {
         command: DeskCommand::Drill(DrillRequest { seed, count }),
         workers,

@@ -10,18 +10,18 @@ use Rattle.muni_desk.proofs.drill.share.Goals as goal
 pub loop-place-init : goal.loop-place-init
 loop-place-init g c = record {
   state = c.new-generator.ensures;
-  share = share-none (g.E.Encloser.ends c.args.encloser.now) (is_dealt c.args.workers c.args.worker) c.args.request.seed c.new-sums.result c.new-sums.ensures.sums c.new-sums.ensures.small;
+  share = share-none (g.E.Encloser.ends c.args.calculator.now.encloser.now) (is_dealt c.args.workers c.args.worker) c.args.seed c.new-sums.result c.new-sums.ensures.sums c.new-sums.ensures.small;
 }
 
 pub add-requires-clause-few : goal.add-requires-clause-few
 add-requires-clause-few g c =
-    let room = share-room (g.E.Encloser.ends c.args.encloser.now) (is_dealt c.args.workers c.args.worker) c.args.request.seed c.loop-place.place c.loop-place.sums c.loop-place.invariant.share in
+    let room = share-room (g.E.Encloser.ends c.args.calculator.now.encloser.now) (is_dealt c.args.workers c.args.worker) c.args.seed c.loop-place.place c.loop-place.sums c.loop-place.invariant.share in
     omega (arith, room, c.requires.count)
 
 pub loop-place-preserved : goal.loop-place-preserved
 loop-place-preserved g c =
-    let ends = g.E.Encloser.ends c.args.encloser.now in
-    let seed = c.args.request.seed in
+    let ends = g.E.Encloser.ends c.args.calculator.now.encloser.now in
+    let seed = c.args.seed in
     let place = c.loop-place.place in
     let chosen = is_dealt c.args.workers c.args.worker in
     let so_far = c.loop-place.invariant in

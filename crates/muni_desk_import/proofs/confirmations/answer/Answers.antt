@@ -1,4 +1,4 @@
-use Rattle.std.proofs.Common.{◌≡◌, ◌∙◌, Some, IfSome, subst, sym, ap}
+use Rattle.std.proofs.Common.{◌≡◌, IfSome, subst}
 use Rattle.muni_keep.specs.Tables.{issue_at}
 use Rattle.muni_desk_import.proofs.ConfirmLemmas.{kept-confirmed}
 use Rattle.muni_desk_import.proofs.confirmations.answer.Goals as goal

@@ -1,4 +1,4 @@
-use Rattle.std.proofs.Common.{◌≤◌, ◌+◌, length}
+use Rattle.std.proofs.Common.{◌≡◌, ◌≤◌, ◌+◌, length}
 use Rattle.std.specs.Io.KnownBytes.{Consumes}
 use Rattle.muni_desk_import.proofs.input.read_input.Given as goal
 
@@ -8,5 +8,5 @@ invariant-loop-turn g l = record {
   taken : Consumes (g.I.Source.left l.fn.source) (g.I.Source.left l.source) l.bytes.items;
   each : l.turn ≤ length l.bytes.items;
   most : length l.bytes.items ≤ l.limit + 1;
-  later : g.I.Source.faults l.fn.source ≤ g.I.Source.faults l.source;
+  faults : g.I.Source.faults l.source ≡ g.I.Source.faults l.fn.source;
 }

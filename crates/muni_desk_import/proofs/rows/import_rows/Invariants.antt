@@ -5,9 +5,9 @@ use Rattle.muni_desk_import.proofs.rows.import_rows.Given as goal
 
 abbrev pub invariant-loop-count : goal.invariant-loop-count
 invariant-loop-count g l = record {
-  at : IsAt (IsRightAnswer (g.E.Encloser.ends l.fn.encloser)) l.fn.text l.rows l.count (g.K.Keeper.tables l.fn.keeper) (g.K.Keeper.tables l.keeper) (g.O.Sink.bytes l.fn.output) (g.O.Sink.bytes l.output);
+  at : IsAt (IsRightAnswer (g.E.Encloser.ends l.fn.calculator.encloser.now)) l.fn.text l.rows l.count (g.K.Keeper.tables l.fn.keeper) (g.K.Keeper.tables l.keeper) (g.O.Sink.bytes l.fn.output) (g.O.Sink.bytes l.output);
   tells : is_some (g.K.Keeper.tables l.keeper) ≡ is_some (g.K.Keeper.tables l.fn.keeper);
   later : g.K.Keeper.faults l.fn.keeper ≤ g.K.Keeper.faults l.keeper;
-  puts_later : g.O.Sink.faults l.fn.output ≤ g.O.Sink.faults l.output;
+  puts : g.O.Sink.faults l.output ≡ g.O.Sink.faults l.fn.output;
   lent_as : g.K.Keeper.lent_as l.keeper ≡ g.K.Keeper.lent_as l.fn.keeper;
 }

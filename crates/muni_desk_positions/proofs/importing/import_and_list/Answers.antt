@@ -14,14 +14,14 @@ returns-in-Err-clause-applied g c =
     let tables = g.K.Keeper.tables in
     let faults = g.K.Keeper.faults in
     let counted : c.watch.result ≡ Err keep.Failed → Rose (faults c.args.keeper) (faults c.back.result) ⊎ MayNotSum c.args.desk.now (tables c.args.keeper) = search rules in
-    unwatched (Unit {0}) g.K.Keeper g.O.Sink (IsRightAnswer (g.E.Encloser.ends c.args.encloser.now)) c.args.desk.now c.args.text.now c.watch.result c.in-Err.fault c.from.result c.args.keeper c.back.result c.args.output.now
+    unwatched (Unit {0}) g.K.Keeper g.O.Sink (IsRightAnswer (g.E.Encloser.ends c.args.calculator.now.encloser.now)) c.args.desk.now c.args.text.now c.watch.result c.in-Err.fault c.from.result c.args.keeper c.back.result c.args.output.now
     c.in-Err.is c.from.ensures (ap tables c.back.ensures ∙ c.in-Err.ensures.reads.unchanged ∙ ap tables c.over-positioned.ensures.inner) counted
 
 pub returns-in-Ok-clause-applied : goal.returns-in-Ok-clause-applied
 returns-in-Ok-clause-applied g c =
     let tables = g.K.Keeper.tables in
     let faults = g.K.Keeper.faults in
-    let prices = IsRightAnswer (g.E.Encloser.ends c.args.encloser.now) in
+    let prices = IsRightAnswer (g.E.Encloser.ends c.args.calculator.now.encloser.now) in
     let desk = c.args.desk.now in
     let keeper = c.import_rows-done.new.keeper.positioned.inner in
     let last = c.back-in-Ok.result in

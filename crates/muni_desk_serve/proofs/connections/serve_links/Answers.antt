@@ -9,7 +9,7 @@ pub returns-then-is_err-clause-run : goal.returns-then-is_err-clause-run
 returns-then-is_err-clause-run g c =
     let told = traffic g.D.L.Source.left g.D.L.Sink.bytes g.D.L.Source.faults g.D.L.Sink.faults in
     let same : g.D.Door.state c.bind.new.self ≡ g.D.Door.state c.args.door.now = search rules in
-    not-bound (IsRightAnswer (g.E.Encloser.ends c.args.encloser.now)) told c.args.port c.args.connections
+    not-bound (IsRightAnswer (g.E.Encloser.ends c.args.calculator.now.encloser.now)) told c.args.port c.args.connections
     (g.D.Door.state c.args.door.now) (g.D.Door.state c.bind.new.self) (g.K.Keeper.tables c.args.keeper.now) (g.K.Keeper.faults c.args.keeper.now) same
 
 pub loop-count-init : goal.loop-count-init
@@ -17,7 +17,7 @@ loop-count-init g c =
     let told = traffic g.D.L.Source.left g.D.L.Sink.bytes g.D.L.Source.faults g.D.L.Sink.faults in
     let bound : g.D.Door.state c.bind.new.self ≡ option_map (bound_to c.args.port) (g.D.Door.state c.args.door.now) = search rules in
     record {
-      run = first-on (IsRightAnswer (g.E.Encloser.ends c.args.encloser.now)) told c.args.port (g.D.Door.state c.args.door.now) (g.D.Door.state c.bind.new.self)
+      run = first-on (IsRightAnswer (g.E.Encloser.ends c.args.calculator.now.encloser.now)) told c.args.port (g.D.Door.state c.args.door.now) (g.D.Door.state c.bind.new.self)
           (g.K.Keeper.tables c.args.keeper.now) (g.K.Keeper.faults c.args.keeper.now) bound;
       no_fault = inl refl;
       port = bound-port (g.D.Door.state c.args.door.now) (g.D.Door.state c.bind.new.self) c.args.port bound;
@@ -35,7 +35,7 @@ loop-count-preserved g c =
     let served = c.in-Ok-Some.served in
     record {
       run = rw c.after-end.ensures
-          (next-on (IsRightAnswer (g.E.Encloser.ends c.args.encloser.now)) told c.args.port c.loop-count.count
+          (next-on (IsRightAnswer (g.E.Encloser.ends c.args.calculator.now.encloser.now)) told c.args.port c.loop-count.count
           (g.D.Door.state c.args.door.now) (g.D.Door.state c.loop-count.door) (g.D.Door.state c.serve_next.new.door)
           (g.K.Keeper.tables c.args.keeper.now) (g.K.Keeper.tables c.loop-count.keeper) (g.K.Keeper.tables c.serve_next.new.keeper)
           (g.K.Keeper.faults c.args.keeper.now) (g.K.Keeper.faults c.loop-count.keeper) (g.K.Keeper.faults c.serve_next.new.keeper)

@@ -5,7 +5,8 @@ use Rattle.csv.specs.Reading.{Reached, default_config, strip_bom}
 use Rattle.csv.specs.Records.{fields_of}
 use Rattle.csv.specs.declared.parser.State.TheVariants as st
 use Rattle.csv.proofs.ReadFacts.{rows-end, rows-more}
-use Rattle.muni_marks.specs.Rows.{row_of}
+use Rattle.muni_import.proofs.LawLemmas.{one-record-list}
+use Rattle.muni_marks.specs.Rows.{row_of, rows_of}
 use Rattle.muni_marks.proofs.reader.read_marks.Goals as goal
 
 pub loop-row-init : goal.loop-row-init
@@ -49,11 +50,9 @@ loop-row-preserved c =
     )
 
 pub returns : goal.returns
+unfolding rows_of
 returns c =
     let inv = c.loop-row.invariant in
     let s = rw c.in-None.is at ((c.next.ensures.steps inv.2 inv.0).0 inv.1) in
-    record {
-      records = inv.6;
-      all = (c.loop-row.row-iterator.rdr.state, inv.4, inv.8, rows-end (λ (s : Bor (List ℕ)). Some s.now) c.loop-row.row-iterator.rdr c.next.new.self.rdr [] default_config inv.4 inv.3 inv.5 s);
-      read = inv.7;
-    }
+    inv.7 ∙ ap (map row_of) (one-record-list c.args.text.now inv.6
+    (c.loop-row.row-iterator.rdr.state, inv.4, inv.8, rows-end (λ (s : Bor (List ℕ)). Some s.now) c.loop-row.row-iterator.rdr c.next.new.self.rdr [] default_config inv.4 inv.3 inv.5 s))

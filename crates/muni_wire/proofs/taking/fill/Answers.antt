@@ -1,14 +1,17 @@
-use Rattle.std.proofs.Common.{arith, ◌∙◌, ap, sym, [], ◌++◌}
+use Rattle.std.proofs.Common.{arith, ◌∙◌, ◌-◌, length, min, vec_len, ap, refl, sym, [], ◌++◌}
 use Rattle.std.proofs.lemmas.List.{append_assoc, append-nil}
+use Rattle.muni_wire.specs.Extent.{piece_limit}
+use Rattle.muni_wire.proofs.ExtentLemmas.{nothing, fewer, one-more}
 use Rattle.muni_wire.proofs.TakenLemmas.{both-taken, none-taken}
 use Rattle.muni_wire.proofs.taking.fill.Goals as goal
 
 pub loop-turn-init : goal.loop-turn-init
 loop-turn-init g c = record {
   taken = ([], none-taken (g.L.Source.left c.args.link.now), sym (append-nil c.args.bytes.now.items));
+  few = nothing (c.args.limit - length c.args.bytes.now.items) (g.L.Source.left c.args.link.now) (g.L.Source.left c.args.link.now) refl;
   each = omega arith;
   most = λ h. omega (arith, h);
-  later = omega arith;
+  uncounted = refl;
   keeps_bytes = cc;
   keeps_puts = cc;
 }
@@ -20,12 +23,40 @@ loop-turn-preserved g c =
     record {
       taken = (
         had.0 ++ took.taken.0,
-        both-taken (g.L.Source.left c.args.link.now) (g.L.Source.left c.loop-turn.link) (g.L.Source.left c.take_more.new.link) had.0 took.taken.0 (had.0 ++ took.taken.0) had.1 took.taken.1 cc,
+        both-taken (g.L.Source.left c.args.link.now) (g.L.Source.left c.loop-turn.link) (g.L.Source.left c.take_more.new.link) had.0 took.taken.0 (had.0 ++ took.taken.0) had.1 took.taken.1 refl,
         took.taken.2 ∙ ap (λ l. l ++ took.taken.0) had.2 ∙ append_assoc c.args.bytes.now.items had.0 took.taken.0,
       );
+      few = one-more c.args.bytes.now.items c.loop-turn.bytes.items had.0 c.args.limit (min piece_limit (c.args.limit - vec_len c.loop-turn.bytes))
+          (g.L.Source.left c.args.link.now) (g.L.Source.left c.loop-turn.link) (g.L.Source.left c.take_more.new.link)
+          had.1 had.2 (omega arith) (omega arith) took.few;
       each = omega (arith, took.count, c.if-branch-eq0.false);
       most = λ h. omega (arith, took.limit);
-      later = omega (arith, took.takes.later);
+      uncounted = took.counts ∙ c.loop-turn.invariant.uncounted;
       keeps_bytes = took.takes.keeps_bytes ∙ c.loop-turn.invariant.keeps_bytes;
       keeps_puts = took.takes.keeps_puts ∙ c.loop-turn.invariant.keeps_puts;
     }
+
+pub returns-in_err-take_more-clause-few : goal.returns-in_err-take_more-clause-few
+returns-in_err-take_more-clause-few g c =
+    let had = c.loop-turn.invariant.taken in
+    fewer (c.args.limit - length c.args.bytes.now.items) (c.args.limit - vec_len c.args.bytes.now) (g.L.Source.left c.args.link.now) (g.L.Source.left c.take_more.new.link) (omega arith)
+    (one-more c.args.bytes.now.items c.loop-turn.bytes.items had.0 c.args.limit (min piece_limit (c.args.limit - vec_len c.loop-turn.bytes))
+    (g.L.Source.left c.args.link.now) (g.L.Source.left c.loop-turn.link) (g.L.Source.left c.take_more.new.link)
+    had.1 had.2 (omega arith) (omega arith) c.take_more.ensures.few)
+
+pub returns-then-branch-eq0-clause-few : goal.returns-then-branch-eq0-clause-few
+returns-then-branch-eq0-clause-few g c =
+    let had = c.loop-turn.invariant.taken in
+    fewer (c.args.limit - length c.args.bytes.now.items) (c.args.limit - vec_len c.args.bytes.now) (g.L.Source.left c.args.link.now) (g.L.Source.left c.take_more.new.link) (omega arith)
+    (one-more c.args.bytes.now.items c.loop-turn.bytes.items had.0 c.args.limit (min piece_limit (c.args.limit - vec_len c.loop-turn.bytes))
+    (g.L.Source.left c.args.link.now) (g.L.Source.left c.loop-turn.link) (g.L.Source.left c.take_more.new.link)
+    had.1 had.2 (omega arith) (omega arith) c.take_more.ensures.few)
+
+pub returns-then-branch-eq0-clause-taken : goal.returns-then-branch-eq0-clause-taken
+returns-then-branch-eq0-clause-taken g c =
+    let took = c.in_ok-take_more.ensures.taken in
+    let had = c.loop-turn.invariant.taken in (
+      had.0 ++ took.0,
+      both-taken (g.L.Source.left c.args.link.now) (g.L.Source.left c.loop-turn.link) (g.L.Source.left c.take_more.new.link) had.0 took.0 (had.0 ++ took.0) had.1 took.1 refl,
+      took.2 ∙ ap (λ l. l ++ took.0) had.2 ∙ append_assoc c.args.bytes.now.items had.0 took.0,
+    )

@@ -1,0 +1,42 @@
+-- What has its reason is planned to be kept.
+use Rattle.std.proofs.Common.{◌⊎◌, inl, inr, ℕ, refl, sym, ap, subst}
+use Rattle.muni_terms.specs.declared.row.IssueRow.{IssueRow}
+use Rattle.muni_msg.specs.declared.asked.Terms.{Terms}
+use Rattle.muni_msg.specs.declared.command.Command.{Command}
+use Rattle.muni_msg.specs.declared.command.Key.{Key}
+use Rattle.muni_msg.specs.declared.version.Act.{Act}
+use Rattle.muni_msg.specs.declared.version.Version.{Version}
+use Rattle.muni_keep.specs.Tables.{Tables}
+use Rattle.muni_book_step.specs.declared.plan.Plan.TheVariants.{KeepIssue, KeepVersion, KeepPriced}
+use Rattle.muni_book_step.specs.Reasons.{IsNewIssue, IsNewTrade, IsCorrection, IsCancel}
+use Rattle.muni_book.proofs.PutLemmas.{next-free}
+use Rattle.muni_book.proofs.RefusedLemmas.{IsPlanned, next}
+
+pub issue-planned : (t : Tables) (c : Command) (issue : IssueRow) → IsNewIssue t c issue → IsPlanned t (KeepIssue issue) c
+issue-planned t c issue why = subst (IsPlanned t (KeepIssue issue)) (sym why.command) (rw (why.passed, why.is_new) refl)
+
+entry-planned : (t : Tables) (c : Command) (issue : IssueRow) (key : Key) (number : ℕ) (act : Act) (terms : Terms) → IsNewTrade t c issue key number act terms → IsPlanned t (KeepPriced issue key number act terms) c
+entry-planned t c issue key number act terms why =
+    subst (IsPlanned t (KeepPriced issue key number act terms)) (sym why.command)
+    (rw (why.is_new, why.issue_is, why.room) (λ i. KeepPriced issue key (sym why.number_is i) (sym why.act_is i) terms))
+
+correction-planned : (t : Tables) (c : Command) (issue : IssueRow) (key : Key) (number : ℕ) (act : Act) (terms : Terms) → IsCorrection t c issue key number act terms → IsPlanned t (KeepPriced issue key number act terms) c
+correction-planned t c issue key number act terms why =
+    let last = why.last in
+    let live = why.is_live in
+    subst (IsPlanned t (KeepPriced issue key number act terms)) (sym why.command)
+    (rw (live.last_is, next-free t key number last live.last_is live.number_is, live.live, why.room, next number last.0 live.number_is, why.issue_is)
+    (ap (λ a. KeepPriced issue key number a terms) (sym why.act_is)))
+
+pub priced-planned : (t : Tables) (c : Command) (issue : IssueRow) (key : Key) (number : ℕ) (act : Act) (terms : Terms) → (IsNewTrade t c issue key number act terms ⊎ IsCorrection t c issue key number act terms)
+    → IsPlanned t (KeepPriced issue key number act terms) c
+priced-planned t c issue key number act terms (inl why) = entry-planned t c issue key number act terms why
+priced-planned t c issue key number act terms (inr why) = correction-planned t c issue key number act terms why
+
+pub cancel-planned : (t : Tables) (c : Command) (issue : IssueRow) (key : Key) (number : ℕ) (version : Version) → IsCancel t c issue key number version → IsPlanned t (KeepVersion issue key number version) c
+cancel-planned t c issue key number version why =
+    let last = why.last in
+    let live = why.is_live in
+    subst (IsPlanned t (KeepVersion issue key number version)) (sym why.command)
+    (rw (live.last_is, next-free t key number last live.last_is live.number_is, live.live, next number last.0 live.number_is, why.issue_is)
+    (ap (λ v. KeepVersion issue key number v) (sym why.version_is)))

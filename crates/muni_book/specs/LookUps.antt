@@ -1,0 +1,58 @@
+-- What the commands that keep nothing are answered.
+use Rattle.std.specs.Prelude.{◌≡◌, ◌⊎◌, ℕ, List, Option, Some, None, Ok, Err}
+use Rattle.muni_terms.specs.declared.row.IssueRow.{IssueRow}
+use Rattle.muni_msg.specs.declared.asked.Asked.{Asked}
+use Rattle.muni_msg.specs.declared.command.Command.TheVariants as command
+use Rattle.muni_msg.specs.declared.command.Key.{Key}
+use Rattle.muni_msg.specs.declared.command.Reply.{Reply}
+use Rattle.muni_msg.specs.declared.command.Reply.TheVariants.{Added, Quoted, Listed, Confirmed, Refused}
+use Rattle.muni_msg.specs.declared.refusal.Refusal.TheVariants.{UnknownIssue, UnknownTrade}
+use Rattle.muni_msg.specs.declared.version.Version.{Version}
+use Rattle.muni_keep.specs.Tables.{Tables, issue_at, last_at, page_at}
+use Rattle.muni_book_step.specs.Step.{Pricing, Entry, IsStepOver}
+
+-- the last version of a trade with its issue; or there is none of them
+abbrev pub ConfirmsLast : Tables → Key → Reply → Type 0
+ConfirmsLast tables key (Added cusip) = ⊥
+ConfirmsLast tables key (Quoted asked figures) = ⊥
+ConfirmsLast tables key (Listed lines) = ⊥
+ConfirmsLast tables key (Confirmed issue of number version) =
+    (of ≡ key) × (last_at tables key ≡ Some (number, version))
+    × (issue_at tables version.terms.asked.cusip ≡ Some issue)
+ConfirmsLast tables key (Refused why) =
+    ((why ≡ UnknownTrade) × (last_at tables key ≡ None))
+    ⊎ ((why ≡ UnknownIssue) × (last : ℕ × Version) × (last_at tables key ≡ Some last)
+    × (issue_at tables last.1.terms.asked.cusip ≡ None))
+
+-- figures that may be answered, or the refusal that may; or the issue is not kept
+abbrev pub QuotesFigures : Pricing → Tables → Asked → Reply → Type 0
+QuotesFigures Prices tables asked (Added cusip) = ⊥
+QuotesFigures Prices tables asked (Quoted what figures) =
+    (what ≡ asked) × (issue : IssueRow) × (issue_at tables asked.cusip ≡ Some issue)
+    × Prices issue asked (Ok figures)
+QuotesFigures Prices tables asked (Listed lines) = ⊥
+QuotesFigures Prices tables asked (Confirmed issue key number version) = ⊥
+QuotesFigures Prices tables asked (Refused why) =
+    ((why ≡ UnknownIssue) × (issue_at tables asked.cusip ≡ None))
+    ⊎ ((issue : IssueRow) × (issue_at tables asked.cusip ≡ Some issue) × Prices issue asked (Err why))
+
+-- a confirmation that is asked for is of the last version, and nothing is kept
+abbrev pub LastsAreConfirmed : Pricing → Type 0
+LastsAreConfirmed Prices =
+    (tables : Tables) (key : Key) (reply : Reply) (entry : Option Entry)
+    → IsStepOver Prices tables (command.Confirm key) (record { reply = reply; entry = entry })
+    → ConfirmsLast tables key reply × (entry ≡ None)
+
+-- a list is the page of the desk, and nothing is kept
+abbrev pub PagesAreListed : Pricing → Type 0
+PagesAreListed Prices =
+    (tables : Tables) (desk : List ℕ) (from : Option (List ℕ)) (reply : Reply) (entry : Option Entry)
+    → IsStepOver Prices tables (command.List desk from) (record { reply = reply; entry = entry })
+    → (reply ≡ Listed (record { items = page_at tables desk from })) × (entry ≡ None)
+
+-- a quote has the right figures, and nothing is kept
+abbrev pub FiguresAreQuoted : Pricing → Type 0
+FiguresAreQuoted Prices =
+    (tables : Tables) (asked : Asked) (reply : Reply) (entry : Option Entry)
+    → IsStepOver Prices tables (command.Quote asked) (record { reply = reply; entry = entry })
+    → QuotesFigures Prices tables asked reply × (entry ≡ None)

@@ -1,0 +1,14 @@
+//! What computes the figures of trades.
+
+use crate::Workers;
+
+/// What computes the figures of trades: threads, how many of them may work at once, the encloser that
+/// prices payments, and the gate that is told when a candidate is begun.
+// How many threads work and when the gate is told is only tested.
+#[derive(Drop)]
+pub struct Calculator<'a, R, E, G> {
+    pub rt: &'a R,
+    pub workers: Workers,
+    pub encloser: &'a E,
+    pub gate: &'a G,
+}

@@ -1,0 +1,73 @@
+-- A law of completeness: which commands are answered.
+use Rattle.std.specs.Prelude.{◌≡◌, ◌≤◌, ⊤, ℕ, List, length, Some, None, ℤ}
+use Rattle.muni_rule.specs.Payments.{PaymentSeries}
+use Rattle.muni_rule.specs.WorthEnds.{WorthEnds}
+use Rattle.muni_edge.specs.Faults.{Rose}
+use Rattle.muni_edge.specs.declared.door.Door as Door
+use Rattle.muni_edge.specs.declared.sink.Sink as Sink
+use Rattle.muni_edge.specs.declared.source.Source as Source
+use Rattle.muni_keep.specs.declared.cabinet.Cabinet as Cabinet
+use Rattle.muni_desk_import.specs.Lent.{Lent}
+use Rattle.muni_desk_positions.specs.Listing.{MayNotSum}
+use Rattle.muni_desk_serve.specs.Serves.{Traffic}
+use Rattle.muni_desk.specs.Does.{Does}
+use Rattle.muni_desk.specs.declared.command.DeskCommand.{DeskCommand}
+use Rattle.muni_desk.specs.declared.command.DeskCommand.TheVariants.{QuoteOne, Quote, Import, Confirm, Serve, Positions, Mark, Drill, Help}
+use Rattle.muni_desk.specs.declared.status.Status.{Status}
+use Rattle.muni_desk.specs.declared.status.Status.TheVariants.{Done, Refused, NoMemory}
+
+-- no count of faults rose
+pub record NoneFailed {I O C K D L : Type 0} (source : Source.Ghosts I) (sink : Sink.Ghosts O) (cabinet : Cabinet.Ghosts C K) (door : Door.Ghosts D L) (old new : Lent I O C) (before after : D) : Type 0 where
+  pub reads : ¬ (Rose (source.faults old.input) (source.faults new.input))
+  pub writes : ¬ (Rose (sink.faults old.output) (sink.faults new.output))
+  pub stores : ¬ (Rose (cabinet.faults old.cabinet) (cabinet.faults new.cabinet))
+  pub serves : ¬ (Rose (door.faults before) (door.faults after))
+
+-- the input has at most so many bytes
+abbrev pub HasAtMost : {I : Type 0} → Source.Ghosts I → ℕ → I → Type 0
+HasAtMost source most input = (text : List ℕ) × (source.left input ≡ Some text) × (length text ≤ most)
+
+-- no more than the command reads
+abbrev pub IsWithinLimit : {I : Type 0} → Source.Ghosts I → DeskCommand → I → Type 0
+IsWithinLimit source (Import store listed) input = HasAtMost source 4_194_304 input
+IsWithinLimit source (Mark store) input = HasAtMost source 1_048_576 input
+IsWithinLimit source command input = ⊤
+
+-- the positions that it lists can be summed: the tables of the store are exposed, and the desk has at most
+-- 100,000 trades
+abbrev pub CanBeSummed : {C K : Type 0} → Cabinet.Ghosts C K → DeskCommand → C → Type 0
+CanBeSummed cabinet (Import store (Some desk)) old = ¬ (MayNotSum desk (cabinet.told old store.items))
+CanBeSummed cabinet (Positions store desk) old = ¬ (MayNotSum desk (cabinet.told old store.items))
+CanBeSummed cabinet command old = ⊤
+
+-- done, or refused by the rule
+abbrev pub IsAnswered : Status → Type 0
+IsAnswered Done = ⊤
+IsAnswered Refused = ⊤
+IsAnswered status = ⊥
+
+-- the same over a store, or out of memory
+abbrev pub IsAnsweredOverStore : Status → Type 0
+IsAnsweredOverStore NoMemory = ⊤
+IsAnsweredOverStore status = IsAnswered status
+
+abbrev pub IsCompleted : DeskCommand → Status → Type 0
+IsCompleted (QuoteOne request) status = IsAnswered status
+IsCompleted (Quote request) status = IsAnswered status
+IsCompleted (Import store listed) status = IsAnsweredOverStore status
+IsCompleted (Confirm store key) status = IsAnsweredOverStore status
+IsCompleted (Serve store port connections) status = IsAnsweredOverStore status
+IsCompleted (Positions store desk) status = IsAnsweredOverStore status
+IsCompleted (Mark store) status = IsAnsweredOverStore status
+IsCompleted (Drill request) status = IsAnswered status
+IsCompleted Help status = IsAnswered status
+
+-- A command whose input is within its limit, and whose positions can be summed, is completed if nothing failed.
+abbrev pub CommandsAreCompleted : {I O C K D L : Type 0} → Source.Ghosts I → Sink.Ghosts O → Cabinet.Ghosts C K → Door.Ghosts D L → Type 0
+CommandsAreCompleted {I} {O} {C} {K} {D} {L} source sink cabinet door =
+    (ends : PaymentSeries → ℤ → WorthEnds) (told : L → Traffic) (command : DeskCommand) (status : Status) (old new : Lent I O C) (before after : D)
+    → Does source sink cabinet door ends told command status old new before after
+    → NoneFailed source sink cabinet door old new before after
+    → IsWithinLimit source command old.input
+    → CanBeSummed cabinet command old.cabinet
+    → IsCompleted command status

@@ -1,0 +1,53 @@
+//! How a connection is ended, so that its other end has the whole answer.
+
+ghost use Rattle.muni_host.specs.Bytes.{LosesAtMost};
+
+use crate::reading::read_on;
+use std::io::{ErrorKind, Read};
+use std::net::{OpenStream, Shutdown};
+use std::time::Duration;
+
+/// At most so many reads are made.
+const READS: usize = 1_024;
+
+/// A read takes at most so many bytes, so all of them take at most 16 MiB.
+const ROOM: usize = 16_384;
+
+/// A read waits so long for bytes.
+const WAIT_MILLIS: u64 = 50;
+
+/// At most so many reads find none, so an end that is silent is waited for one second.
+const SILENT_READS: usize = 20;
+
+/// Ends what is sent over a stream, and reads away what the other end still sends.
+///
+/// The system resets a connection that is closed while bytes come, and the other end may then lose what it
+/// was sent. Nothing is read if reads cannot be timed, since the other end may be silent for ever.
+pub(crate) fn finish<S: Read + OpenStream>(stream: &mut S)
+    ensures few { LosesAtMost 16_777_216 (S.remaining stream.old) (S.remaining stream.new) }
+{
+    let wait = Duration::from_millis(WAIT_MILLIS);
+    if stream.shutdown(Shutdown::Write).is_ok() && stream.set_read_timeout(Some(wait)).is_ok() {
+        read_away(stream);
+    }
+}
+
+/// Reads up to the end, a failure, or the last read of those that are made or that find nothing.
+fn read_away<R: Read>(reader: &mut R)
+    ensures few { LosesAtMost 16_777_216 (R.remaining reader.old) (R.remaining reader.new) }
+{
+    let mut room = [0; ROOM];
+    let mut silent = 0;
+    for _turn in 0..READS {
+        match read_on(reader, &mut room) {
+            Ok(0) => return,
+            Ok(_) => {}
+            Err(error) => {
+                silent += 1;
+                if error.kind() != ErrorKind::WouldBlock || silent == SILENT_READS {
+                    return;
+                }
+            }
+        }
+    }
+}
