@@ -8,10 +8,13 @@ use muni_edge::Faults;
 use muni_journal_disk::{DiskFault, Shelf};
 use std::fs::{File, OpenOptions};
 use std::io::{self, ErrorKind};
+use std::os::unix::fs::FileExt;
 
 /// A shelf over files: the journal of a name is the file of that name with `.journal` added.
 ///
-/// A file is locked while its disk is out, and one that another process has is refused at once.
+/// A file is locked while its disk is out, and one that another process has is refused at once. So is one
+/// that is not empty and begins with another byte than 0 or 1, which no journal does. A file that is not
+/// there is made.
 #[derive(Drop)]
 pub struct FileShelf<'a> {
     rt: &'a HostRuntime,
@@ -28,19 +31,19 @@ fn folder(path: &str) -> &str {
     }
 }
 
-/// Opens a file for reading and writing. Where it is made, its folder is synced.
-fn open(rt: &HostRuntime, path: &str) -> io::Result<File> {
-    match OpenOptions::new().read(true).write(true).open(rt, path) {
-        Err(error) if error.kind() == ErrorKind::NotFound => {}
-        opened => return opened,
+/// Looks whether a file may be a journal: it is empty, or it begins with a gate.
+///
+/// An empty file may be a new one. Its folder is synced then, since a power cut could else take its name
+/// and all that was put into it.
+fn look_at(rt: &HostRuntime, path: &str, file: &File) -> io::Result<()> {
+    let mut gate = [0u8];
+    if file.read_at(&mut gate, 0)? == 0 {
+        return File::open(rt, folder(path))?.sync_all();
     }
-    let file = OpenOptions::new()
-        .read(true)
-        .write(true)
-        .create_new(true)
-        .open(rt, path)?;
-    File::open(rt, folder(path))?.sync_all()?;
-    Ok(file)
+    if gate[0] > 1 {
+        return Err(io::Error::from(ErrorKind::InvalidData));
+    }
+    Ok(())
 }
 
 impl<'a> FileShelf<'a> {
@@ -61,10 +64,15 @@ impl<'a> FileShelf<'a> {
             return Err(io::Error::from(ErrorKind::InvalidInput));
         };
         let path = format!(in self.rt.alloc(); "{name}.journal")?;
-        let file = open(self.rt, &path)?;
+        let file = OpenOptions::new()
+            .read(true)
+            .write(true)
+            .create(true)
+            .open(self.rt, &path)?;
         if file.try_lock().is_err() {
             return Err(io::Error::from(ErrorKind::WouldBlock));
         }
+        look_at(self.rt, &path, &file)?;
         Ok(file)
     }
 }
