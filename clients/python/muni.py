@@ -1,0 +1,754 @@
+"""A client of the desk over HTTP, in one file over the standard library.
+
+    import muni
+    from datetime import date
+    from decimal import Decimal
+
+    desk = muni.Client("http://127.0.0.1:8735")
+    figures = desk.quote("990034AA8", 100_000, date(2024, 4, 3), muni.Basis.YIELD, Decimal("3.65"))
+    print(figures.price, figures.redemption)
+
+Amounts go in as Decimal or int and come out as Decimal; a float is refused, since it seldom is the number that was
+typed. Days are datetime.date. What the desk refuses is an exception with the desk's number and name, and all
+exceptions of this module are of the class Error.
+
+What the desk accepted acts once, however often it is sent. So a request whose answer does not come, or comes cut, is
+sent again. The answer to a request that was sent again is that of the first time: it may be an old version of the
+trade, and `Client.confirmation` alone tells the last one.
+"""
+from __future__ import annotations
+
+import base64
+import enum
+import http.client
+import json
+import re
+import ssl
+import time
+import urllib.parse
+from collections.abc import Iterator
+from dataclasses import dataclass
+from datetime import date
+from decimal import Decimal
+from typing import Any, ClassVar, Union
+
+__all__ = [
+    "Act", "BadTerms", "Basis", "Call", "Canceled", "Client", "Confirmation", "Conflict", "DayCount", "DeskFull",
+    "Error", "Figures", "GivenOutOfRange", "Issue", "Kind", "Label", "Listed", "NoTime", "Redemption", "Refused",
+    "SettleOutside", "Side", "Status", "Trade", "Unanswered", "Undecided", "UnknownIssue", "UnknownTrade",
+    "VersionsFull", "WrongBasis", "WrongNumber", "YieldAbove", "YieldBelow", "read_confirmation", "read_figures",
+    "read_list",
+]
+
+Amount = Union[Decimal, int]
+
+PAGE = 50
+
+
+class Side(enum.Enum):
+    """What the party that is confirmed does."""
+
+    BUY = "buy"
+    SELL = "sell"
+
+
+class Basis(enum.Enum):
+    """What a trade or a quote is given by."""
+
+    PRICE = "price"
+    YIELD = "yield"
+    RATE = "rate"
+
+
+class Kind(enum.Enum):
+    """How an issue pays interest."""
+
+    PERIODIC = "periodic"
+    ZERO = "zero"
+    AT_REDEMPTION = "at-redemption"
+    DISCOUNT = "discount"
+
+
+class DayCount(enum.Enum):
+    """How days are counted. A note may have either; every other issue has the first."""
+
+    THIRTY_360 = "30/360"
+    ACTUAL_365 = "actual/365"
+
+
+class Act(enum.Enum):
+    """What made a version of a trade."""
+
+    ENTERED = "CONFIRMATION"
+    CORRECTED = "CORRECTED CONFIRMATION"
+    CANCELED = "CANCELED CONFIRMATION"
+
+
+class Label(enum.Enum):
+    """What a redemption is: the maturity, a call at exactly 100, or any other call."""
+
+    MATURITY = "MATURITY"
+    PAR_OPTION = "PAR OPTION"
+    CALL = "CALL"
+
+
+@dataclass(frozen=True)
+class Call:
+    """A call of an issue: its day and its price per 100."""
+
+    day: date
+    price: Amount
+
+
+@dataclass(frozen=True)
+class Issue:
+    """An issue to be kept. `first` is the first coupon of a periodic issue, and `coupon` is in percent."""
+
+    cusip: str
+    name: str
+    kind: Kind
+    dated: date
+    maturity: date
+    coupon: Amount | None = None
+    first: date | None = None
+    calls: tuple[Call, ...] = ()
+    day_count: DayCount = DayCount.THIRTY_360
+
+
+@dataclass(frozen=True)
+class Trade:
+    """A trade to be entered or corrected. `fee` is the commission in dollars per 100 of par."""
+
+    desk: str
+    reference: str
+    cusip: str
+    side: Side
+    par: int
+    settle: date
+    basis: Basis
+    value: Amount
+    fee: Amount = 0
+
+
+@dataclass(frozen=True)
+class Redemption:
+    """The redemption that is disclosed."""
+
+    day: date
+    price: Decimal
+    label: Label
+
+
+@dataclass(frozen=True)
+class Figures:
+    """What the desk computes. `given` is what it was asked by, and the other figures are computed from that.
+
+    A given price is printed with three decimals, truncated, and a given yield with three, rounded: neither is
+    told in full. `rate` is there only if it was given, and `commission` is 0 if there is none.
+    """
+
+    given: Basis
+    price: Decimal
+    yield_: Decimal
+    rate: Decimal | None
+    redemption: Redemption
+    accrued_days: int
+    principal: Decimal
+    accrued: Decimal
+    commission: Decimal
+    total: Decimal
+
+
+@dataclass(frozen=True)
+class Confirmation:
+    """The confirmation of a version of a trade."""
+
+    act: Act
+    number: int
+    desk: str
+    reference: str
+    side: Side
+    par: int
+    cusip: str
+    issue: str
+    coupon: Decimal
+    dated: date
+    maturity: date
+    day_count: DayCount
+    settle: date
+    figures: Figures
+
+
+@dataclass(frozen=True)
+class Listed:
+    """A line of a desk's list: the last version of a trade."""
+
+    reference: str
+    number: int
+    is_live: bool
+    par: int
+    price: Decimal
+    yield_: Decimal
+
+
+class Error(Exception):
+    """What every exception of this module is."""
+
+
+class Unanswered(Error):
+    """No answer came. Whether the request was kept is not known; sent again it acts once."""
+
+
+class Status(Error):
+    """An answer that is neither what was asked for nor a refusal, by its status of HTTP."""
+
+    def __init__(self, status: int, text: str) -> None:
+        super().__init__(f"status {status}: {text.strip()[:200]}")
+        self.status = status
+        self.text = text
+
+
+class Refused(Error):
+    """A refusal of the desk: nothing that is kept was changed.
+
+    `number` and `name` are the desk's, `rest` is what stands after the name, `means` tells what the refusal means
+    and `todo` what to do.
+    """
+
+    number: ClassVar[int] = 0
+    means: ClassVar[str] = "a refusal that this client does not know"
+    todo: ClassVar[str] = "ask whoever runs the desk"
+
+    def __init__(self, line: str) -> None:
+        found = _REFUSAL.fullmatch(line)
+        self.line = line
+        self.name = found[2] if found else type(self).__name__
+        self.rest = found[3] if found else ""
+        super().__init__(f"{line}: {self.means}. {self.todo[0].upper()}{self.todo[1:]}.")
+
+
+class UnknownIssue(Refused):
+    """1"""
+
+    number = 1
+    means = "no issue of this CUSIP is kept"
+    todo = "check the CUSIP, or add the issue first"
+
+
+class UnknownTrade(Refused):
+    """2"""
+
+    number = 2
+    means = "the desk keeps no trade of this reference"
+    todo = "check the desk and the reference, in which capitals and small letters differ"
+
+
+class Conflict(Refused):
+    """3. `version` is the number that is kept, or None of an issue."""
+
+    number = 3
+    means = ("this CUSIP, or this number of the trade, is kept with other contents or by another act; what is sent "
+             "again as it was is answered as before")
+    todo = ("an issue: compare the terms, since what is kept is never changed. A trade: correct it under the next "
+            "number, or enter it under another reference")
+
+    @property
+    def version(self) -> int | None:
+        kind, _, number = self.rest.partition(" ")
+        return int(number) if kind == "version" else None
+
+
+class BadTerms(Refused):
+    """4. `fault` is the number of the test that fails, and `call` the day of the call at fault, if it is one."""
+
+    number = 4
+    means = "the terms fail a test, so the desk cannot price the issue"
+    todo = "look the number up in docs/RULES.md and mend the terms"
+
+    @property
+    def fault(self) -> int:
+        return int(self.rest.partition(" ")[0])
+
+    @property
+    def call(self) -> date | None:
+        day = self.rest.partition(" ")[2]
+        return date.fromisoformat(day) if day else None
+
+
+class SettleOutside(Refused):
+    """5"""
+
+    number = 5
+    means = "the settlement is before the dated date, or not before maturity"
+    todo = "check the settlement"
+
+
+class GivenOutOfRange(Refused):
+    """6. `rest` is below, above or price below zero."""
+
+    number = 6
+    means = ("what is given, or a price with its commission, lies below or above its range, or the price at this yield "
+             "would be below zero")
+    todo = "look for a slipped point, or a price where a yield belongs"
+
+
+class YieldBelow(Refused):
+    """7. `rest` is the day of the redemption that decides."""
+
+    number = 7
+    means = "up to this redemption so little is earned at the price that no yield is printed"
+    todo = "check the price against that call's, or the maturity"
+
+
+class YieldAbove(Refused):
+    """8"""
+
+    number = 8
+    means = "at the price every yield is above all that are printed"
+    todo = "check the price for a slipped point"
+
+
+class NoTime(Refused):
+    """9. `rest` is the day of the redemption."""
+
+    number = 9
+    means = "the day count leaves no day up to this redemption, so there is no yield"
+    todo = "settle on another day; where interest is paid, a yield may be given"
+
+
+class Undecided(Refused):
+    """10. `rest` is the day of the redemption and the boundary."""
+
+    number = 10
+    means = ("at a yield, the exact price lies on the boundary that is named or within 10^-9 dollars of it; at a "
+             "price, the exact price at the boundary that is named is the net price given or within 10^-9 dollars of "
+             "it. So it cannot be told which of two printed figures it is")
+    todo = "give another yield or price, the last digit suffices"
+
+
+class Canceled(Refused):
+    """11"""
+
+    number = 11
+    means = "the trade is canceled, and nothing follows a cancel"
+    todo = "enter a new trade under another reference"
+
+
+class WrongNumber(Refused):
+    """12. `next` is the number that the desk takes."""
+
+    number = 12
+    means = "the number is neither one that is kept nor the next one"
+    todo = "read the last version, which may be another's correction, and send the number that is named"
+
+    @property
+    def next(self) -> int:
+        return int(self.rest)
+
+
+class VersionsFull(Refused):
+    """13"""
+
+    number = 13
+    means = "the trade has 99 versions"
+    todo = "cancel it, which is still taken, and enter a new one"
+
+
+class DeskFull(Refused):
+    """14"""
+
+    number = 14
+    means = "the desk has 100,000 trades"
+    todo = "enter the trade under another desk"
+
+
+class WrongBasis(Refused):
+    """15"""
+
+    number = 15
+    means = ("a rate for any issue but a discounted note, a yield for one, or a commission beside a yield or a rate")
+    todo = "give a price, or what this kind of issue is asked by"
+
+
+REFUSALS: dict[int, type[Refused]] = {each.number: each for each in (
+    UnknownIssue, UnknownTrade, Conflict, BadTerms, SettleOutside, GivenOutOfRange, YieldBelow, YieldAbove, NoTime,
+    Undecided, Canceled, WrongNumber, VersionsFull, DeskFull, WrongBasis)}
+
+_REFUSAL = re.compile(r"REFUSED (\d+) (\w+) ?(.*)")
+
+# The names of lines. The longer of two that begin alike comes first.
+_NAMES = (
+    "CORRECTED CONFIRMATION", "CANCELED CONFIRMATION", "CONFIRMATION", "DESK", "REFERENCE", "BOUGHT", "SOLD", "CUSIP",
+    "ISSUE", "COUPON", "DATED", "MATURITY", "BASIS", "SETTLEMENT", "PRICE", "YIELD", "RATE", "REDEMPTION",
+    "ACCRUED DAYS", "ACCRUED", "PRINCIPAL", "COMMISSION", "TOTAL")
+
+
+def _lines(text: str) -> dict[str, str]:
+    lines: dict[str, str] = {}
+    for line in text.splitlines():
+        name = next((each for each in _NAMES if line.startswith(each + " ")), None)
+        if name is not None:
+            lines[name] = line[len(name) + 1:]
+    return lines
+
+
+def _refusal(line: str) -> Refused | None:
+    """The exception of a refusal's line, or None of another.
+
+    >>> error = _refusal("REFUSED 12 WrongNumber 2")
+    >>> error.number, error.name, error.next
+    (12, 'WrongNumber', 2)
+    >>> _refusal("REFUSED 4 BadTerms 7 2034-08-01").call
+    datetime.date(2034, 8, 1)
+    >>> _refusal("TOTAL 5.10") is None
+    True
+    """
+    found = _REFUSAL.fullmatch(line)
+    return REFUSALS.get(int(found[1]), Refused)(line) if found else None
+
+
+def _figures(lines: dict[str, str]) -> Figures:
+    price, _, how = lines["PRICE"].partition(" ")
+    day, redeemed, label = lines["REDEMPTION"].split(" ", 2)
+    rate = lines["RATE"].split(" ")[0] if "RATE" in lines else None
+    given = Basis.RATE if rate is not None else Basis.PRICE if how == "GIVEN" else Basis.YIELD
+    return Figures(
+        given=given,
+        price=Decimal(price),
+        yield_=Decimal(lines["YIELD"].split(" ")[0]),
+        rate=None if rate is None else Decimal(rate),
+        redemption=Redemption(date.fromisoformat(day), Decimal(redeemed), Label(label)),
+        accrued_days=int(lines["ACCRUED DAYS"]),
+        principal=Decimal(lines["PRINCIPAL"]),
+        accrued=Decimal(lines["ACCRUED"]),
+        commission=Decimal(lines.get("COMMISSION", "0.00")),
+        total=Decimal(lines["TOTAL"]))
+
+
+def read_figures(text: str) -> Figures:
+    """Reads the lines of figures.
+
+    >>> figures = read_figures('''PRICE 104.370 COMPUTED
+    ... YIELD 3.650 GIVEN
+    ... REDEMPTION 2035-08-01 100.000000 PAR OPTION
+    ... ACCRUED DAYS 62
+    ... PRINCIPAL 104370.00
+    ... ACCRUED 710.42
+    ... TOTAL 105080.42
+    ... ''')
+    >>> figures.given.name, figures.price, figures.total
+    ('YIELD', Decimal('104.370'), Decimal('105080.42'))
+    >>> figures.redemption
+    Redemption(day=datetime.date(2035, 8, 1), price=Decimal('100.000000'), label=<Label.PAR_OPTION: 'PAR OPTION'>)
+    """
+    return _figures(_lines(text))
+
+
+def read_confirmation(text: str) -> Confirmation:
+    """Reads a confirmation.
+
+    >>> read = read_confirmation('''CORRECTED CONFIRMATION 2
+    ... DESK RETAIL
+    ... REFERENCE H0001
+    ... SOLD 30000
+    ... CUSIP 990034AA8
+    ... ISSUE ELM GROVE UNION SCH DIST 4.125S 2039
+    ... COUPON 4.1250000
+    ... DATED 2023-08-01
+    ... MATURITY 2039-08-01
+    ... SETTLEMENT 2024-04-03
+    ... PRICE 104.250 GIVEN
+    ... YIELD 3.703 COMPUTED
+    ... REDEMPTION 2035-08-01 100.000000 PAR OPTION
+    ... ACCRUED DAYS 62
+    ... PRINCIPAL 31275.00
+    ... ACCRUED 213.13
+    ... COMMISSION 112.50
+    ... TOTAL 31375.63
+    ... ''')
+    >>> read.act.name, read.number, read.side.name, read.par
+    ('CORRECTED', 2, 'SELL', 30000)
+    >>> read.figures.accrued_days, read.figures.accrued, read.figures.commission
+    (62, Decimal('213.13'), Decimal('112.50'))
+    """
+    lines = _lines(text)
+    act = next(each for each in Act if each.value in lines)
+    return Confirmation(
+        act=act,
+        number=int(lines[act.value]),
+        desk=lines["DESK"],
+        reference=lines["REFERENCE"],
+        side=Side.SELL if "SOLD" in lines else Side.BUY,
+        par=int(lines["SOLD"] if "SOLD" in lines else lines["BOUGHT"]),
+        cusip=lines["CUSIP"],
+        issue=lines["ISSUE"],
+        coupon=Decimal(lines["COUPON"]),
+        dated=date.fromisoformat(lines["DATED"]),
+        maturity=date.fromisoformat(lines["MATURITY"]),
+        day_count=DayCount.ACTUAL_365 if "BASIS" in lines else DayCount.THIRTY_360,
+        settle=date.fromisoformat(lines["SETTLEMENT"]),
+        figures=_figures(lines))
+
+
+def read_list(text: str) -> list[Listed]:
+    """Reads the lines of a desk's list.
+
+    >>> read_list('H0002 2 CANCELED 50000 100.303 3.545\\n')[0].is_live
+    False
+    >>> read_list('')
+    []
+    """
+    found = []
+    for line in text.splitlines():
+        reference, number, state, par, price, yields = line.split(" ")
+        found.append(Listed(reference, int(number), state == "LIVE", int(par), Decimal(price), Decimal(yields)))
+    return found
+
+
+def _amount(name: str, value: Amount, places: int, least: str, most: str) -> str:
+    """The text of an amount, or an exception if it is out of the range or has too many decimals.
+
+    >>> _amount("value", Decimal("104.2500"), 6, "0", "999.999999"), _amount("value", Decimal("1E+2"), 6, "0", "999")
+    ('104.25', '100')
+    >>> _amount("fee", Decimal("0.0005"), 3, "0", "10")
+    Traceback (most recent call last):
+    ...
+    ValueError: fee: 0 to 10 with up to 3 decimals, not 0.0005
+    >>> _amount("value", 104.25, 6, "0", "999.999999")
+    Traceback (most recent call last):
+    ...
+    TypeError: value: a Decimal or an int, not a float
+    """
+    if isinstance(value, bool) or not isinstance(value, (int, Decimal)):
+        raise TypeError(f"{name}: a Decimal or an int, not a {type(value).__name__}")
+    number = Decimal(value)
+    text = format(number, "f")
+    if "." in text:
+        text = text.rstrip("0").rstrip(".")
+    decimals = len(text.partition(".")[2])
+    if not number.is_finite() or not Decimal(least) <= number <= Decimal(most) or decimals > places:
+        raise ValueError(f"{name}: {least} to {most} with up to {places} decimals, not {value}")
+    return "0" if number == 0 else text
+
+
+def _formed(name: str, value: str, form: str) -> str:
+    """The text itself, or an exception if it has not the form.
+
+    >>> _formed("cusip", "990034AA", "[0-9A-Z]{9}")
+    Traceback (most recent call last):
+    ...
+    ValueError: cusip: [0-9A-Z]{9}, not '990034AA'
+    """
+    if not re.fullmatch(form, value, re.ASCII):
+        raise ValueError(f"{name}: {form}, not {value!r}")
+    return value
+
+
+def _cusip(value: str) -> str:
+    return _formed("cusip", value, "[0-9A-Z]{9}")
+
+
+def _desk(value: str) -> str:
+    return _formed("desk", value, "[A-Z0-9]{1,16}")
+
+
+def _reference(value: str) -> str:
+    return _formed("reference", value, "[A-Za-z0-9]{1,20}")
+
+
+def _number(value: int) -> str:
+    return _amount("number", value, 0, "0", "999999999")
+
+
+def _day(name: str, value: date) -> str:
+    if not date(1900, 1, 1) <= value <= date(2199, 12, 31):
+        raise ValueError(f"{name}: 1900-01-01 to 2199-12-31, not {value}")
+    return value.strftime("%Y-%m-%d")
+
+
+def _given(cusip: str, par: int, settle: date, basis: Basis, value: Amount) -> dict[str, Any]:
+    is_price = basis is Basis.PRICE
+    text = _amount("value", value, 6 if is_price else 4, "0" if is_price else "-99.9999",
+                   "999.999999" if is_price else "999.9999")
+    return {"cusip": _cusip(cusip), "par": _amount("par", par, 0, "1", "1000000000"), "settle": _day("settle", settle),
+            "basis": basis.value, "value": text}
+
+
+def _trade(trade: Trade) -> dict[str, Any]:
+    """The body of a trade. The desk is named first and once, as what stands before the desk may ask.
+
+    >>> body = _trade(Trade("RETAIL", "H1", "990034AA8", Side.SELL, 25000, date(2024, 4, 3), Basis.PRICE,
+    ...                     Decimal("104.2500"), Decimal("0.375")))
+    >>> print(json.dumps(body))
+    {"desk": "RETAIL", "reference": "H1", "side": "sell", "cusip": "990034AA8", "par": "25000", \
+"settle": "2024-04-03", "basis": "price", "value": "104.25", "fee": "0.375"}
+    """
+    return {"desk": _desk(trade.desk), "reference": _reference(trade.reference), "side": trade.side.value,
+            **_given(trade.cusip, trade.par, trade.settle, trade.basis, trade.value),
+            "fee": _amount("fee", trade.fee, 3, "0", "10")}
+
+
+def _issue(issue: Issue) -> dict[str, Any]:
+    """The body of an issue.
+
+    >>> note = Issue("990081AB7", "MARLOW NOTES", Kind.AT_REDEMPTION, date(2024, 2, 29), date(2025, 2, 28),
+    ...              coupon=Decimal("3.9"), day_count=DayCount.ACTUAL_365)
+    >>> print(json.dumps(_issue(note)))
+    {"cusip": "990081AB7", "name": "MARLOW NOTES", "kind": "at-redemption", "dated": "2024-02-29", \
+"maturity": "2025-02-28", "days": "actual/365", "coupon": "3.9"}
+    """
+    body: dict[str, Any] = {
+        "cusip": _cusip(issue.cusip), "name": _formed("name", issue.name, "[ -~]{1,60}"), "kind": issue.kind.value,
+        "dated": _day("dated", issue.dated), "maturity": _day("maturity", issue.maturity),
+        "days": issue.day_count.value}
+    if (issue.first is not None) != (issue.kind is Kind.PERIODIC):
+        raise ValueError("first: a periodic issue has a first coupon, and no other has")
+    if issue.first is not None:
+        body["first"] = _day("first", issue.first)
+    if issue.coupon is not None:
+        body["coupon"] = _amount("coupon", issue.coupon, 7, "0", "30")
+    elif issue.kind in (Kind.PERIODIC, Kind.AT_REDEMPTION):
+        raise ValueError("coupon: missing")
+    if len(issue.calls) > 40:
+        raise ValueError(f"calls: up to 40, not {len(issue.calls)}")
+    if issue.calls:
+        body["calls"] = [{"date": _day("call", call.day), "price": _amount("call", call.price, 6, "0", "999.999999")}
+                         for call in issue.calls]
+    return body
+
+
+class Client:
+    """Asks a desk, each request over a connection of its own, so that threads may share a client.
+
+    `url` is that of the desk itself, or of a proxy before it, which may want a user and a password. `tries` is how
+    often a request is sent before Unanswered is raised, and `pause` the seconds before the second time, which double
+    from then on. `context` is for https: by default certificates are checked.
+
+    A value that has not the form or the range of its member is a ValueError or a TypeError before anything is sent,
+    since the desk's status 400 does not say which member is wrong.
+
+    >>> Client("http://127.0.0.1:1").quote("990034AA8", 0, date(2024, 4, 3), Basis.YIELD, 4)
+    Traceback (most recent call last):
+    ...
+    ValueError: par: 1 to 1000000000 with up to 0 decimals, not 0
+    """
+
+    # Statuses of what stands before the desk, and of a store that failed: the same request may go well later.
+    LATER: ClassVar[tuple[int, ...]] = (429, 502, 503, 504)
+
+    def __init__(self, url: str = "http://127.0.0.1:8735", *, user: str | None = None, password: str = "",
+                 context: ssl.SSLContext | None = None, timeout: float = 30.0, tries: int = 6,
+                 pause: float = 0.1) -> None:
+        parts = urllib.parse.urlsplit(url)
+        if parts.scheme not in ("http", "https") or not parts.hostname:
+            raise ValueError(f"url: http://HOST:PORT or https://HOST, not {url!r}")
+        self._is_secure = parts.scheme == "https"
+        self._host = parts.hostname
+        self._port = parts.port
+        self._context = context
+        self._timeout = timeout
+        self._tries = tries
+        self._pause = pause
+        self._fields: dict[str, str] = {}
+        if user is not None:
+            word = base64.b64encode(f"{user}:{password}".encode()).decode()
+            self._fields["Authorization"] = "Basic " + word
+
+    def add_issue(self, issue: Issue) -> str:
+        """Has an issue kept, and gives its CUSIP. What is kept is never changed."""
+        text = self._ask("POST", "/issues", _issue(issue))
+        if not text.startswith("ADDED "):
+            raise Status(200, text)
+        return text[6:].rstrip("\n")
+
+    def quote(self, cusip: str, par: int, settle: date, basis: Basis, value: Amount) -> Figures:
+        """Figures of an issue that is kept; nothing is kept by it. A quote knows no commission."""
+        return self._figures(self._ask("POST", "/quotes", _given(cusip, par, settle, basis, value)))
+
+    def enter(self, trade: Trade) -> Confirmation:
+        """Enters a trade. One that was entered before, with equal contents, is answered as the first time."""
+        return self._confirmation(self._ask("POST", "/trades", _trade(trade)))
+
+    def correct(self, trade: Trade, number: int) -> Confirmation:
+        """Corrects a trade; `number` is that of the new version, the one after the version that was seen."""
+        return self._confirmation(self._ask("POST", "/corrections", {**_trade(trade), "number": _number(number)}))
+
+    def cancel(self, desk: str, reference: str, number: int) -> Confirmation:
+        """Cancels a trade; `number` is as of `correct`. Nothing follows a cancel."""
+        body = {"desk": _desk(desk), "reference": _reference(reference), "number": _number(number)}
+        return self._confirmation(self._ask("POST", "/cancels", body))
+
+    def confirmation(self, desk: str, reference: str) -> Confirmation:
+        """The confirmation of the last version of a trade."""
+        return self._confirmation(self._ask("GET", f"/trades/{_desk(desk)}/{_reference(reference)}"))
+
+    def page(self, desk: str, after: str = "") -> list[Listed]:
+        """The first 50 trades of a desk by their references, or the first 50 after a reference."""
+        return read_list(self._ask("GET", f"/lists/{_desk(desk)}" + (f"/{_reference(after)}" if after else "")))
+
+    def trades(self, desk: str, after: str = "") -> Iterator[Listed]:
+        """All trades of a desk by their references, or those after a reference, page by page as they are used."""
+        while True:
+            page = self.page(desk, after)
+            yield from page
+            if len(page) < PAGE:
+                return
+            after = page[-1].reference
+
+    def _figures(self, text: str) -> Figures:
+        try:
+            return read_figures(text)
+        except (KeyError, ValueError) as error:
+            raise Status(200, text) from error
+
+    def _confirmation(self, text: str) -> Confirmation:
+        try:
+            return read_confirmation(text)
+        except (KeyError, ValueError, StopIteration) as error:
+            raise Status(200, text) from error
+
+    def _ask(self, method: str, path: str, body: dict[str, Any] | None = None) -> str:
+        """The text of a good answer. What does not come, comes cut or may go well later is asked for again."""
+        data = None if body is None else json.dumps(body).encode("ascii")
+        failure: Exception | None = None
+        for attempt in range(self._tries):
+            if attempt:
+                time.sleep(self._pause * 2 ** (attempt - 1))
+            try:
+                status, text = self._send(method, path, data)
+            except ssl.SSLCertVerificationError:
+                raise
+            except (OSError, http.client.HTTPException) as error:
+                failure = error
+                continue
+            if status in self.LATER:
+                failure = Status(status, text)
+                continue
+            if status == 200:
+                return text
+            raise _refusal(text.rstrip("\n")) or Status(status, text)
+        if isinstance(failure, Status):
+            raise failure
+        raise Unanswered(f"no answer to {method} {path} in {self._tries} tries; sent again it acts once") from failure
+
+    def _send(self, method: str, path: str, data: bytes | None) -> tuple[int, str]:
+        link: http.client.HTTPConnection
+        if self._is_secure:
+            link = http.client.HTTPSConnection(self._host, self._port, timeout=self._timeout, context=self._context)
+        else:
+            link = http.client.HTTPConnection(self._host, self._port, timeout=self._timeout)
+        try:
+            fields = {**self._fields, "Connection": "close"}
+            if data is not None:
+                fields["Content-Type"] = "application/json"
+            link.request(method, path, data, fields)
+            answer = link.getresponse()
+            came = answer.read()
+        finally:
+            link.close()
+        # http.client takes a head that is cut for a whole one, so the length is looked at here.
+        length = answer.getheader("Content-Length", "")
+        is_whole = length == str(len(came)) or answer.chunked
+        if not is_whole or (answer.status == 200 and came and not came.endswith(b"\n")):
+            raise http.client.IncompleteRead(came)
+        return answer.status, came.decode("ascii", "replace")

@@ -1,0 +1,161 @@
+// A new issue with its call schedule.
+import { ask } from "./ask.js";
+import { $, element } from "./dom.js";
+import { dress, dressField, FORMS, mark, read, unmark } from "./fields.js";
+import { sure } from "./sure.js";
+import { FAULTS, hush, hushGood, refuse, say, tellSent, waitingIn } from "./tell.js";
+
+const form = $("issue");
+const told = $("issue-told");
+const body = form.querySelector("tbody");
+const MOST = 40;
+const NAMES = ["cusip", "name", "kind", "dated", "first", "maturity", "coupon", "days"];
+let isBusy = false;
+let quoteIssue = null;
+
+const hasCalls = () => ["periodic", "zero"].includes(form.elements.kind.value);
+
+function callField(number, name, word, kind) {
+  const field = element("input", "", "figure", { id: `issue-call-${number}-${name}`, autocomplete: "off" });
+  field.dataset.form = kind;
+  field.setAttribute("aria-label", `${word} of call ${number}`);
+  return field;
+}
+
+function addCall() {
+  const number = body.rows.length + 1;
+  if (number > MOST) return;
+  const row = body.insertRow();
+  row.append(element("th", number, "", { scope: "row" }));
+  for (const field of [callField(number, "date", "Date", "day"), callField(number, "price", "Price", "price")]) {
+    row.insertCell().append(field);
+    dressField(field);
+  }
+}
+
+const fieldsOf = row => [...row.querySelectorAll("input")];
+const isFilled = row => fieldsOf(row).some(field => field.value.trim() !== "");
+
+function growCalls() {
+  if (!body.rows.length || isFilled(body.rows[body.rows.length - 1])) addCall();
+}
+
+// A schedule that is pasted: a date and a price in turn, with anything of blanks, commas and the like between.
+function pasteCalls(event) {
+  const pasted = event.clipboardData.getData("text").split(/[\s,;:|]+/).filter(Boolean);
+  if (pasted.length < 2) return;
+  event.preventDefault();
+  const flat = () => [...body.querySelectorAll("input")];
+  const from = flat().indexOf(event.target);
+  const count = Math.ceil((from + pasted.length) / 2);
+  if (count > MOST) {
+    const words = `It would make ${count} calls, and an issue has ${MOST} at most.`;
+    say(told, "bad", ["The schedule was not pasted", words]);
+    return;
+  }
+  pasted.forEach((word, place) => {
+    growCalls();
+    flat()[from + place].value = word;
+  });
+  growCalls();
+}
+
+function readCalls() {
+  const calls = [];
+  let first = null;
+  for (const row of body.rows) {
+    if (!isFilled(row)) continue;
+    const [date, price] = fieldsOf(row);
+    for (const field of [date, price]) {
+      unmark(field);
+      field.value = field.value.trim();
+      const way = FORMS[field.dataset.form];
+      if (way.takes(field.value)) continue;
+      mark(field, `Not of its form: ${way.words}.`);
+      first ??= field;
+    }
+    calls.push({ date: date.value, price: price.value });
+  }
+  first?.focus();
+  return first ? null : calls;
+}
+
+// The fields that a kind has not are left out of what is sent; what was typed in them stays.
+function kindChanged() {
+  const kind = form.elements.kind.value;
+  for (const field of form.querySelectorAll("[data-kinds]")) {
+    field.disabled = !field.dataset.kinds.split(" ").includes(kind);
+    field.closest(".field").classList.toggle("off", field.disabled);
+  }
+  $("issue-calls").disabled = !hasCalls();
+}
+
+const labelOf = name => form.elements[name].labels[0].textContent;
+const wordOf = name => form.elements[name].selectedOptions?.[0].textContent ?? form.elements[name].value;
+
+function markFault(answer) {
+  const [number, day] = answer.rest.split(" ");
+  const [, name] = FAULTS[number] ?? [];
+  const words = `Test ${number} fails: see below.`;
+  if (name && name !== "calls") mark(form.elements[name], words);
+  if (name !== "calls") return;
+  const row = [...body.rows].find(each => fieldsOf(each)[0].value === day);
+  if (row) mark(fieldsOf(row)[number === "8" ? 1 : 0], words);
+}
+
+async function add() {
+  const typed = read(form, NAMES);
+  const calls = hasCalls() ? readCalls() : [];
+  if (!typed || !calls) return;
+  if (calls.length) typed.calls = calls;
+  const rows = Object.keys(typed).filter(name => name !== "calls").map(name => [labelOf(name), wordOf(name)]);
+  rows.push(...calls.map(({ date, price }, place) => [`Call ${place + 1}`, `${date} at ${price}`]));
+  if (!await sure("Add this issue? It is never changed or removed.", rows, "Add issue")) return;
+  hush(told);
+  const answer = await ask("/issues", typed, waitingIn(told));
+  if (answer.kind !== "done") {
+    refuse(told, answer);
+    if (answer.number === 4) markFault(answer);
+    return;
+  }
+  say(told, "good", [answer.text.trim(), ...tellSent(answer), "It is kept with these terms."],
+    ["Quote it", () => quoteIssue(typed.cusip)]);
+}
+
+function clear() {
+  form.reset();
+  body.replaceChildren();
+  growCalls();
+  kindChanged();
+  for (const field of form.querySelectorAll("input")) unmark(field);
+  hush(told);
+  form.elements.cusip.focus();
+}
+
+// Goes to the form. A CUSIP that is missing is filled in, but none that was typed is lost.
+export function goToIssue(cusip) {
+  if (form.elements.cusip.value === "") form.elements.cusip.value = cusip;
+  form.elements.cusip.focus();
+}
+
+export function startIssue(quote) {
+  quoteIssue = quote;
+  dress(form);
+  growCalls();
+  kindChanged();
+  form.addEventListener("input", () => hushGood(told));
+  form.elements.kind.addEventListener("change", kindChanged);
+  body.addEventListener("input", growCalls);
+  body.addEventListener("paste", pasteCalls);
+  $("issue-clear").addEventListener("click", clear);
+  form.addEventListener("submit", async event => {
+    event.preventDefault();
+    if (isBusy) return;
+    isBusy = true;
+    try {
+      await add();
+    } finally {
+      isBusy = false;
+    }
+  });
+}

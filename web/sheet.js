@@ -1,0 +1,137 @@
+// The confirmation as a sheet.
+import { ask } from "./ask.js";
+import { $, element } from "./dom.js";
+import { grouped, readConfirmation, split } from "./texts.js";
+import { hush, refuse, say, waitingIn } from "./tell.js";
+
+let shown = null;
+
+function row(label, value, remark) {
+  const line = element("tr");
+  line.append(element("th", label, "", { scope: "row" }));
+  if (remark) line.append(element("td", remark, "remark"), element("td", value, "value"));
+  else line.append(element("td", value, "value", { colSpan: 2 }));
+  return line;
+}
+
+function part(title, rows) {
+  const table = element("table");
+  table.append(element("caption", title), ...rows.filter(Boolean));
+  return table;
+}
+
+const redeemed = value => {
+  const [day, price, ...label] = value.split(" ");
+  return [day, `at ${price}, ${label.join(" ").toLowerCase()}`];
+};
+
+function figure(lines, name, label, suffix = "") {
+  if (!lines.has(name)) return null;
+  const [value, given] = split(lines.get(name));
+  return row(label, value + suffix, given.toLowerCase());
+}
+
+const money = (lines, name, label) => lines.has(name) && row(label, grouped(lines.get(name)));
+
+// The rows of figures, as they stand in a quote and at the end of a confirmation.
+export function figureRows(lines) {
+  const [day, way] = redeemed(lines.get("REDEMPTION"));
+  return [
+    figure(lines, "PRICE", "Price per 100"),
+    figure(lines, "YIELD", "Yield", " %"),
+    figure(lines, "RATE", "Discount rate", " %"),
+    row("Redemption", day, way),
+    row("Days accrued", lines.get("ACCRUED DAYS")),
+    money(lines, "PRINCIPAL", "Principal"),
+    money(lines, "ACCRUED", "Accrued interest"),
+    money(lines, "COMMISSION", "Commission"),
+    money(lines, "TOTAL", "Total"),
+  ].filter(Boolean);
+}
+
+// What is said of printed figures that a reader might take for more than they are.
+function remarks(confirmation) {
+  const { lines } = confirmation;
+  const words = [];
+  if (lines.get("PRICE").endsWith(" GIVEN")) {
+    words.push("The price was given. It is printed with three decimals; as given it may have more.");
+  }
+  if (lines.get("YIELD").endsWith(" GIVEN")) {
+    words.push("The yield was given. It is printed with three decimals; as given it may have four.");
+  }
+  if (lines.has("COMMISSION")) words.push("The yield is that of the price with the commission.");
+  return words;
+}
+
+function draw(confirmation) {
+  const { lines } = confirmation;
+  const paper = $("sheet-paper");
+  const basis = lines.has("BASIS") ? row("Days counted by", lines.get("BASIS").toLowerCase()) : null;
+  const figures = figureRows(lines);
+  figures.at(-1).className = "total";
+  paper.className = confirmation.isCanceled ? "canceled" : "";
+  paper.replaceChildren(
+    element("h3", confirmation.title),
+    part("Trade", [
+      row("Desk", confirmation.desk),
+      row("Reference", confirmation.reference),
+      row(confirmation.side === "sell" ? "Sold" : "Bought", grouped(confirmation.par), "par, dollars"),
+      row("Settlement", lines.get("SETTLEMENT")),
+    ]),
+    part("Issue", [
+      row("CUSIP", lines.get("CUSIP")),
+      row("Name", lines.get("ISSUE")),
+      row("Coupon", lines.get("COUPON") + " %"),
+      row("Dated date", lines.get("DATED")),
+      row("Maturity", lines.get("MATURITY")),
+      basis,
+    ]),
+    part("Figures", figures),
+    ...remarks(confirmation).map(words => element("p", words, "note")),
+  );
+}
+
+export function showSheet(text) {
+  shown = readConfirmation(text);
+  draw(shown);
+  $("sheet-paper").hidden = false;
+  $("sheet-acts").hidden = false;
+  $("sheet").classList.add("has");
+  hush($("sheet-told"));
+  return shown;
+}
+
+export function clearSheet() {
+  shown = null;
+  $("sheet-paper").replaceChildren();
+  $("sheet-paper").hidden = true;
+  $("sheet-acts").hidden = true;
+  $("sheet").classList.remove("has");
+  hush($("sheet-told"));
+}
+
+export const shownSheet = () => shown;
+
+// Reads the last version of a trade and shows it. Gives the answer.
+export async function openTrade(desk, reference, box) {
+  const answer = await ask(`/trades/${desk}/${reference}`, null, waitingIn(box));
+  if (answer.kind === "done") {
+    hush(box);
+    showSheet(answer.text);
+  } else {
+    refuse(box, answer);
+  }
+  return answer;
+}
+
+export function startSheet(take) {
+  $("sheet-print").addEventListener("click", () => window.print());
+  $("sheet-take").addEventListener("click", () => take(shown));
+  $("sheet-again").addEventListener("click", async () => {
+    const before = shown;
+    const answer = await openTrade(shown.desk, shown.reference, $("sheet-told"));
+    if (answer.kind !== "done") return;
+    const isNew = shown.number > before.number;
+    say($("sheet-told"), "good", [isNew ? `${shown.title} has come since.` : "This is the last version."]);
+  });
+}

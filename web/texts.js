@@ -1,0 +1,70 @@
+// The lines of the desk's texts, and numbers as texts. Nothing is rounded here: figures stay the desk's.
+
+const NAMES = [
+  "CORRECTED CONFIRMATION", "CANCELED CONFIRMATION", "CONFIRMATION", "DESK", "REFERENCE", "BOUGHT", "SOLD",
+  "CUSIP", "ISSUE", "COUPON", "DATED", "MATURITY", "BASIS", "SETTLEMENT", "PRICE", "YIELD", "RATE", "REDEMPTION",
+  "ACCRUED DAYS", "ACCRUED", "PRINCIPAL", "COMMISSION", "TOTAL",
+];
+
+// The lines by their names. A name may have a blank, as ACCRUED DAYS beside ACCRUED: the longer one comes first.
+export function readLines(text) {
+  const lines = new Map();
+  for (const line of text.split("\n").slice(0, -1)) {
+    const name = NAMES.find(each => line.startsWith(each + " "));
+    if (name) lines.set(name, line.slice(name.length + 1));
+  }
+  return lines;
+}
+
+export function readConfirmation(text) {
+  const lines = readLines(text);
+  const act = [...lines.keys()][0];
+  const number = Number(lines.get(act));
+  return {
+    act, number, lines,
+    title: `${act} ${number}`,
+    desk: lines.get("DESK"),
+    reference: lines.get("REFERENCE"),
+    side: lines.has("SOLD") ? "sell" : "buy",
+    par: lines.get("SOLD") ?? lines.get("BOUGHT"),
+    isCanceled: act.startsWith("CANCELED"),
+  };
+}
+
+export function readList(text) {
+  return text.split("\n").slice(0, -1).map(line => {
+    const [reference, number, state, par, price, yields] = line.split(" ");
+    return { reference, number, state, par, price, yields };
+  });
+}
+
+// `104.250 GIVEN` in two.
+export function split(value) {
+  const at = value.indexOf(" ");
+  return at < 0 ? [value, ""] : [value.slice(0, at), value.slice(at + 1)];
+}
+
+// 26062.50 as 26,062.50.
+export function grouped(text) {
+  const [whole, rest] = text.split(".");
+  return whole.replace(/\B(?=(\d{3})+$)/g, ",") + (rest === undefined ? "" : "." + rest);
+}
+
+// A decimal in units of 10^-places, exactly.
+export function scaled(text, places) {
+  const [, sign, whole, rest = ""] = text.match(/^(-?)(\d+)(?:\.(\d+))?$/);
+  const units = BigInt(whole + rest.padEnd(places, "0"));
+  return sign ? -units : units;
+}
+
+export function unscaled(units, places) {
+  const digits = String(units < 0n ? -units : units).padStart(places + 1, "0");
+  const rest = digits.slice(-places).replace(/0+$/, "");
+  return (units < 0n ? "-" : "") + digits.slice(0, -places) + (rest && "." + rest);
+}
+
+// The price that counts for the yield: a buyer pays the commission, and a seller bears it.
+export function netPrice(price, fee, side) {
+  const cost = scaled(fee, 6);
+  return unscaled(scaled(price, 6) + (side === "buy" ? cost : -cost), 6);
+}
