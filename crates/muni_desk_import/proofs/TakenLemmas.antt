@@ -4,7 +4,7 @@ use Rattle.std.proofs.lemmas.List.{append-nil, append_assoc, length-append}
 use Rattle.std.specs.Io.KnownBytes.{Consumes, IsAtEnd}
 use Rattle.muni_edge.specs.Faults.{Rose}
 use Rattle.muni_edge.specs.declared.source.Source.{Ghosts}
-use Rattle.muni_desk_import.specs.Input.{IsNotTooLarge, ReadsAll}
+use Rattle.muni_desk_import.specs.Input.{CountsReads, IsNotTooLarge, ReadsAll}
 use Rattle.muni_desk_import.specs.declared.input.InputFault.{InputFault}
 use Rattle.muni_desk_import.specs.declared.input.InputFault.TheVariants.{Failed, TooLarge, NoMemory}
 
@@ -32,28 +32,27 @@ taken-more n (Some all) (Some rest) bytes taken many = omega (arith, many, ap le
 pub none-read : {I V : Type 0} (source : Ghosts I) (limit : ℕ) (items : V → List ℕ) (r : Result ℕ InputFault) (fault : InputFault) (out : Result V InputFault) (first mid last : I) (bytes piece : List ℕ)
     → r ≡ Err fault → out ≡ Err fault → IfErr r IsNotTooLarge → Consumes (source.left first) (source.left mid) bytes → source.faults mid ≡ source.faults first
     → Consumes (source.left mid) (source.left last) piece → length bytes + length piece ≤ limit + 1
-    → source.faults mid ≤ source.faults last → (r ≡ Err Failed → Rose (source.faults mid) (source.faults last)) → (source.faults last ≡ source.faults mid) ⊎ (r ≡ Err Failed)
-    → ReadsAll source limit out items first last
-none-read source limit items r Failed out first mid last bytes piece is ends other taken none more few later failed counted =
-    let failed_too = failed is in
+    → CountsReads r (source.faults mid) (source.faults last) → ReadsAll source limit out items first last
+none-read source limit items r Failed out first mid last bytes piece is ends other taken none more few counts =
+    let rose : Rose (source.faults mid) (source.faults last) = rw is at counts in
     rw ends record {
       whole = tt;
       few = tt;
       too_large = λ never. absurd (cc never);
       limited = (bytes ++ piece, taken-then (source.left first) (source.left mid) (source.left last) bytes piece (bytes ++ piece) taken more refl, omega (arith, few, length-append bytes piece));
-      later = omega (arith, none, later);
-      failed = λ _. omega (arith, none, failed_too);
+      later = omega (arith, none, rose);
+      failed = λ _. omega (arith, none, rose);
       uncounted = inr refl;
     }
-none-read source limit items r NoMemory out first mid last bytes piece is ends other taken none more few later failed (inl same) =
+none-read source limit items r NoMemory out first mid last bytes piece is ends other taken none more few counts =
+    let same : source.faults last ≡ source.faults mid = rw is at counts in
     rw ends record {
       whole = tt;
       few = tt;
       too_large = λ never. absurd (cc never);
       limited = (bytes ++ piece, taken-then (source.left first) (source.left mid) (source.left last) bytes piece (bytes ++ piece) taken more refl, omega (arith, few, length-append bytes piece));
-      later = omega (arith, none, later);
+      later = omega (arith, none, same);
       failed = λ never. absurd (cc never);
       uncounted = inl (same ∙ none);
     }
-none-read source limit items r NoMemory out first mid last bytes piece is ends other taken none more few later failed (inr never) = absurd (cc (is, never))
-none-read source limit items r TooLarge out first mid last bytes piece is ends other taken none more few later failed counted = absurd (rw is at other)
+none-read source limit items r TooLarge out first mid last bytes piece is ends other taken none more few counts = absurd (rw is at other)

@@ -1,5 +1,5 @@
 -- What is read from an input, and why there is none.
-use Rattle.std.specs.Prelude.{◌≡◌, ◌<◌, ◌≤◌, ◌+◌, ◌⊎◌, ⊤, ℕ, List, [], length, Some, Result, IfOk, IfSome, IsErrOf}
+use Rattle.std.specs.Prelude.{◌≡◌, ◌<◌, ◌≤◌, ◌+◌, ◌⊎◌, ⊤, ℕ, List, [], length, Some, Result, Ok, Err, IfOk, IfSome, IsErrOf}
 use Rattle.std.specs.Io.KnownBytes.{Consumes}
 use Rattle.muni_edge.specs.Faults.{Rose}
 use Rattle.muni_edge.specs.declared.source.Source.{Ghosts}
@@ -11,6 +11,13 @@ abbrev pub IsNotTooLarge : InputFault → Type 0
 IsNotTooLarge Failed = ⊤
 IsNotTooLarge TooLarge = ⊥
 IsNotTooLarge NoMemory = ⊤
+
+-- A read that failed is counted and told; after any other outcome none has failed.
+abbrev pub CountsReads : {T : Type 0} → Result T InputFault → ℕ → ℕ → Type 0
+CountsReads (Ok value) before now = now ≡ before
+CountsReads (Err Failed) before now = Rose before now
+CountsReads (Err TooLarge) before now = now ≡ before
+CountsReads (Err NoMemory) before now = now ≡ before
 
 -- at most so many bytes are taken
 abbrev pub TakesUpTo : {I : Type 0} → Ghosts I → ℕ → I → I → Type 0

@@ -1,9 +1,8 @@
 //! A whole input.
 
-ghost use Rattle.std.specs.Prelude.{◌≡◌, ◌≤◌, ◌<◌, ◌+◌, ◌^◌, ◌++◌, ◌⊎◌, ℕ, List, Err, length, vec_len, IfOk, IfErr};
+ghost use Rattle.std.specs.Prelude.{◌≡◌, ◌≤◌, ◌<◌, ◌+◌, ◌-◌, ◌^◌, ◌++◌, ℕ, List, vec_len, IfOk, IfErr};
 ghost use Rattle.std.specs.Io.KnownBytes.{Consumes, IsAtEnd};
-ghost use Rattle.muni_edge.specs.Faults.{Rose};
-ghost use Rattle.muni_desk_import.specs.Input.{IsNotTooLarge, ReadsAll};
+ghost use Rattle.muni_desk_import.specs.Input.{CountsReads, IsNotTooLarge, ReadsAll, TakesUpTo};
 
 use muni_edge::{Failed, Source};
 use std::alloc::Global;
@@ -55,15 +54,12 @@ fn take_more<I: Source>(
     requires room { vec_len bytes.old ≤ limit }
     ensures bound { IfOk result (λ count. vec_len bytes.new ≡ vec_len bytes.old + count) }
     ensures limit { IfOk result (λ count. vec_len bytes.new ≤ limit + 1) }
-    ensures limited { (piece : List ℕ) × Consumes (I.left source.old) (I.left source.new) piece
-        × (vec_len bytes.old + length piece ≤ limit + 1) }
+    ensures limited { TakesUpTo I.Source (limit + 1 - vec_len bytes.old) source.old source.new }
     ensures taken { IfOk result (λ count. (piece : List ℕ)
         × Consumes (I.left source.old) (I.left source.new) piece
         × (bytes.new.items ≡ bytes.old.items ++ piece)) }
     ensures end { IfOk result (λ count. count ≡ 0 → IsAtEnd (I.left source.new)) }
-    ensures later { I.faults source.old ≤ I.faults source.new }
-    ensures failed { result ≡ Err InputFault.Failed → Rose (I.faults source.old) (I.faults source.new) }
-    ensures uncounted { (I.faults source.new ≡ I.faults source.old) ⊎ (result ≡ Err InputFault.Failed) }
+    ensures counts { CountsReads result (I.faults source.old) (I.faults source.new) }
     ensures others { IfErr result (λ fault. IsNotTooLarge fault) }
 {
     let mut room = [0u8; 4096];

@@ -7,9 +7,9 @@ use Rattle.httparse.specs.Spans.{IsRequestAt, IsRequestOf, IsRequestWithin, head
 use Rattle.httparse.specs.declared.spans.RequestSpans.{RequestSpans}
 use Rattle.httparse.specs.declared.spans.HeaderSpan.{HeaderSpan}
 use Rattle.httparse.proofs.GrammarLemmas.{ReadsRequest-append}
-use Rattle.muni_wire.specs.Head.{IsNoHead, IsHeadTooLarge, EndsInHead, head_limit, field_limit}
+use Rattle.muni_wire.specs.Head.{EndsInHead, head_limit, field_limit}
 use Rattle.muni_wire.specs.Awaited.{plan_of, plan_by}
-use Rattle.muni_wire.specs.Taken.{IsHeadOf, IsWholeAt, IsWithinLimit}
+use Rattle.muni_wire.specs.Taken.{IsHeadOf, IsSeenIn, IsWholeAt}
 use Rattle.muni_wire.specs.declared.head.Awaited.{Awaited}
 use Rattle.muni_wire.specs.declared.head.Head.{Head}
 use Rattle.muni_wire.specs.declared.head.Head.TheVariants as head
@@ -36,13 +36,10 @@ whole-later bytes headers spans p short room within (h, at) is more = (
   rw (at.method, at.path, at.fields) at is,
 )
 
--- a head, by what a look says of it
-pub head-said : (h : Head) (bytes : List ℕ) (left : Option (List ℕ))
-    → ((end : ℕ) (plan : Awaited) → h ≡ head.Whole end plan → IsWholeAt bytes end plan × IsWithinLimit plan)
-    → ((rest : List ℕ) → h ≡ head.Never → IsNoHead (bytes ++ rest))
-    → ((rest : List ℕ) → h ≡ head.TooLarge → IsHeadTooLarge (bytes ++ rest))
+-- a head, by what is seen in the bytes
+pub head-said : (h : Head) (bytes : List ℕ) (left : Option (List ℕ)) → IsSeenIn bytes h
     → (h ≡ head.More → EndsInHead bytes × IsAtEnd left) → IsHeadOf h bytes left
-head-said (head.Whole end plan) bytes left whole never large more = whole end plan refl
-head-said head.More bytes left whole never large more = more refl
-head-said head.Never bytes left whole never large more = λ rest. never rest refl
-head-said head.TooLarge bytes left whole never large more = λ rest. large rest refl
+head-said (head.Whole end plan) bytes left seen more = seen
+head-said head.More bytes left seen more = more refl
+head-said head.Never bytes left seen more = seen
+head-said head.TooLarge bytes left seen more = seen

@@ -2,7 +2,7 @@
 use Rattle.std.specs.Prelude.{◌≡◌, ◌≤◌, ◌==◌, ◌||◌, ℕ, List, Option, Bool, not, drop, length, ◌++◌, Result, Ok, Err, ⊤}
 use Rattle.std.specs.Io.KnownBytes.{IsAtEnd}
 use Rattle.std.specs.List.{list_any}
-use Rattle.httparse.specs.Grammar.{RequestHead}
+use Rattle.httparse.specs.Grammar.{RequestHead, HasNoRequest}
 use Rattle.muni_msg.specs.declared.command.Command.{Command}
 use Rattle.muni_wire.specs.BodyLength.{body_limit}
 use Rattle.muni_wire.specs.Head.{HasHead, IsNoHead, IsHeadTooLarge, EndsInHead}
@@ -31,6 +31,18 @@ abbrev pub IsWithinLimit : Awaited → Type 0
 IsWithinLimit (plan.Refuse kind) = ⊤
 IsWithinLimit (plan.Ask command) = ⊤
 IsWithinLimit (plan.Read form size) = size ≤ body_limit
+
+-- what a head says of these bytes, whatever follows them
+abbrev pub IsSeenIn : List ℕ → Head → Type 0
+IsSeenIn bytes (head.Whole end plan) = IsWholeAt bytes end plan × IsWithinLimit plan
+IsSeenIn bytes head.More = ⊤
+IsSeenIn bytes head.Never = (more : List ℕ) → IsNoHead (bytes ++ more)
+IsSeenIn bytes head.TooLarge = (more : List ℕ) → IsHeadTooLarge (bytes ++ more)
+
+-- bytes that hold no head yet, and whether they hold more than ends of lines
+pub record AreBefore (bytes : List ℕ) (has_begun : Bool) : Type 0 where
+  pub begun : has_begun ≡ has_text bytes
+  pub none : HasNoRequest bytes
 
 -- what a head says of the bytes that were taken and of those that are left
 abbrev pub IsHeadOf : Head → List ℕ → Option (List ℕ) → Type 0

@@ -2,10 +2,10 @@
 
 ghost use Rattle.std.specs.Prelude.{◌≡◌, ◌≤◌, ◌<◌, ℕ, List, true, false, length, take, map, ◌++◌};
 ghost use Rattle.httparse.specs.Spans.{IsRequestWithin, header_bytes, span_bytes};
-ghost use Rattle.muni_wire.specs.Head.{IsNoHead, IsHeadTooLarge, EndsInHead, head_limit};
+ghost use Rattle.muni_wire.specs.Head.{EndsInHead, head_limit};
 ghost use Rattle.muni_wire.specs.Awaited as spec;
 ghost use Rattle.muni_wire.specs.Routes.{routes as all_routes};
-ghost use Rattle.muni_wire.specs.Taken.{IsWholeAt, IsWithinLimit};
+ghost use Rattle.muni_wire.specs.Taken.{IsSeenIn, IsWithinLimit};
 
 use crate::Bad;
 use crate::length::body_length;
@@ -54,12 +54,8 @@ pub(crate) fn look(routes: &Router<Route>, bytes: &[u8]) -> Head
     requires routes { routes.now ≡ all_routes }
     requires limit { length bytes.now ≤ head_limit }
 
-    ensures whole { (end : ℕ) (plan : _) → result ≡ Head.Whole end plan
-        → IsWholeAt bytes.now end plan × IsWithinLimit plan }
+    ensures seen { IsSeenIn bytes.now result }
     ensures more { result ≡ Head.More → EndsInHead bytes.now }
-    ensures never { (rest : List ℕ) → result ≡ Head.Never → IsNoHead (bytes.now ++ rest) }
-    ensures too_large { (rest : List ℕ) → result ≡ Head.TooLarge
-        → IsHeadTooLarge (bytes.now ++ rest) }
 {
     let mut headers = [EMPTY_HEADER_SPAN; 64];
     match parse_request(bytes, &mut headers) {

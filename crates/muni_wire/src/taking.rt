@@ -4,13 +4,12 @@ ghost use Rattle.std.specs.Prelude.{◌≡◌, ◌≤◌, ◌<◌, ◌+◌, ◌-
 ghost use Rattle.std.specs.Io.KnownBytes.{Consumes, IsAtEnd};
 ghost use Rattle.std.specs.List.{list_any};
 ghost use Rattle.httparse.specs.Grammar.{HasNoRequest};
-ghost use Rattle.muni_edge.specs.Link.{OnlyTakes};
 ghost use Rattle.muni_wire.specs.Extent.{TakesAtMost, TakesHead, piece_limit};
-ghost use Rattle.muni_wire.specs.Faults.{CountsTakes, IsOfTake};
-ghost use Rattle.muni_wire.specs.Head.{IsNoHead, IsHeadTooLarge, EndsInHead, head_limit};
+ghost use Rattle.muni_wire.specs.Faults.{IsOfTake, TakesAndTells};
+ghost use Rattle.muni_wire.specs.Head.{EndsInHead, head_limit};
 ghost use Rattle.muni_wire.specs.Routes.{routes as all_routes};
 ghost use Rattle.muni_wire.specs.Taken as spec;
-ghost use Rattle.muni_wire.specs.Taken.{IsHeadOf, IsWholeAt, IsWithinLimit};
+ghost use Rattle.muni_wire.specs.Taken.{AreBefore, IsHeadOf, IsSeenIn};
 
 use crate::WireFault;
 use crate::head::{Head, look};
@@ -33,8 +32,7 @@ pub(crate) fn read_head<L: Link>(
         (λ read. Consumes (L.left link.old) (L.left link.new) read.1.items) }
     ensures no_further { TakesHead (L.left link.old) (L.left link.new) }
     ensures others { IfErr result (λ fault. IsOfTake fault) }
-    ensures counts { CountsTakes result (L.Source.faults link.old) (L.Source.faults link.new) }
-    ensures takes { OnlyTakes L.Source L.Sink WireFault.LinkFault result link.old link.new }
+    ensures takes { TakesAndTells L.Source L.Sink result link.old link.new }
 {
     let mut bytes = Vec::new(alloc);
     let mut has_begun = false;
@@ -61,18 +59,12 @@ fn look_behind_lines(
     requires routes { routes.now ≡ all_routes }
     requires limit { length bytes.now ≤ head_limit }
     requires count { count ≤ length bytes.now }
-    requires begun { has_begun.old ≡ spec.has_text (take (length bytes.now - count) bytes.now) }
-    requires none { HasNoRequest (take (length bytes.now - count) bytes.now) }
+    requires before { AreBefore (take (length bytes.now - count) bytes.now) has_begun.old }
 
     ensures begun { has_begun.new ≡ spec.has_text bytes.now }
-    ensures awaited { result ≡ Head.More → HasNoRequest bytes.now }
-    ensures whole { (end : ℕ) (plan : _) → result ≡ Head.Whole end plan
-        → IsWholeAt bytes.now end plan × IsWithinLimit plan }
-    ensures more { result ≡ Head.More → length bytes.now < head_limit }
+    ensures seen { IsSeenIn bytes.now result }
+    ensures awaited { result ≡ Head.More → HasNoRequest bytes.now × length bytes.now < head_limit }
     ensures last { result ≡ Head.More → count ≡ 0 → EndsInHead bytes.now }
-    ensures never { (rest : List ℕ) → result ≡ Head.Never → IsNoHead (bytes.now ++ rest) }
-    ensures too_large { (rest : List ℕ) → result ≡ Head.TooLarge
-        → IsHeadTooLarge (bytes.now ++ rest) }
 {
     *has_begun |= has_text(&bytes[bytes.len() - count..]);
     if is_within_line(bytes, count, *has_begun) {
@@ -113,8 +105,7 @@ pub(crate) fn fill<L: Link>(
     ensures end { OnOk result (vec_len bytes.new < limit → IsAtEnd (L.left link.new)) }
     ensures few { TakesAtMost (limit - vec_len bytes.old) (L.left link.old) (L.left link.new) }
     ensures others { IfErr result (λ fault. IsOfTake fault) }
-    ensures counts { CountsTakes result (L.Source.faults link.old) (L.Source.faults link.new) }
-    ensures takes { OnlyTakes L.Source L.Sink WireFault.LinkFault result link.old link.new }
+    ensures takes { TakesAndTells L.Source L.Sink result link.old link.new }
 {
     for turn in 0..81_921usize {
         let _turn = turn;
@@ -142,8 +133,7 @@ fn take_more<L: Link>(link: &mut L, bytes: &mut Vec<u8>, limit: usize) -> Result
     ensures few { TakesAtMost (min piece_limit (limit - vec_len bytes.old))
         (L.left link.old) (L.left link.new) }
     ensures others { IfErr result (λ fault. IsOfTake fault) }
-    ensures counts { CountsTakes result (L.Source.faults link.old) (L.Source.faults link.new) }
-    ensures takes { OnlyTakes L.Source L.Sink WireFault.LinkFault result link.old link.new }
+    ensures takes { TakesAndTells L.Source L.Sink result link.old link.new }
 {
     let mut room = [0u8; 1024];
     let size = (limit - bytes.len()).min(1024);

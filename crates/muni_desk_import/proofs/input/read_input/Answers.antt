@@ -1,4 +1,4 @@
-use Rattle.std.proofs.Common.{◌∙◌, Err, ap, arith, rules}
+use Rattle.std.proofs.Common.{◌∙◌, Err, inl, ap, arith, rules}
 use Rattle.std.proofs.lemmas.Result.{err_from_is_err_and}
 use Rattle.muni_desk_import.proofs.TakenLemmas.{taken-then, taken-whole, none-read}
 use Rattle.muni_desk_import.proofs.input.read_input.Goals as goal
@@ -12,9 +12,9 @@ returns-then-branch-eq0 g c =
       few = search rules;
       too_large = search rules;
       limited = (c.take_more.new.bytes.items, all, omega (arith, took.limit));
-      later = search rules;
-      failed = search rules;
-      uncounted = search rules;
+      later = omega (arith, took.counts, c.loop-turn.invariant.faults);
+      failed = λ never. absurd (cc never);
+      uncounted = inl (took.counts ∙ c.loop-turn.invariant.faults);
     }
 
 pub loop-turn-preserved : goal.loop-turn-preserved
@@ -24,7 +24,7 @@ loop-turn-preserved g c =
       taken = taken-then (g.I.Source.left c.args.source.now) (g.I.Source.left c.loop-turn.source) (g.I.Source.left c.take_more.new.source) c.loop-turn.bytes.items took.taken.0 c.take_more.new.bytes.items c.loop-turn.invariant.taken took.taken.1 took.taken.2;
       each = omega (arith, took.bound, c.if-branch-eq0.false);
       most = omega (arith, took.limit);
-      faults = search rules;
+      faults = took.counts ∙ c.loop-turn.invariant.faults;
     }
 
 pub returns-in_err-take_more : goal.returns-in_err-take_more
@@ -33,4 +33,4 @@ returns-in_err-take_more g c =
     let took = c.take_more.ensures in
     none-read g.I.Source c.args.limit (λ bytes. bytes.items) c.take_more.result c.in_err-take_more.field-0.0 c.from_residual.result c.args.source.now c.loop-turn.source c.take_more.new.source
     c.loop-turn.bytes.items took.limited.0 c.in_err-take_more.was (p.1 ∙ ap Err p.2) took.others c.loop-turn.invariant.taken c.loop-turn.invariant.faults
-    took.limited.1 (omega (arith, took.limited.2)) took.later took.failed took.uncounted
+    took.limited.1 (omega (arith, took.limited.2, c.loop-turn.invariant.most)) took.counts

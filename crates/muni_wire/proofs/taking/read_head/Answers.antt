@@ -35,12 +35,12 @@ loop-turn-preserved g c =
       taken = both-taken (g.L.Source.left c.args.link.now) (g.L.Source.left c.loop-turn.link) (g.L.Source.left c.take_more.new.link)
           c.loop-turn.bytes.items took.taken.0 c.take_more.new.bytes.items had.taken took.taken.1 took.taken.2;
       each = omega (arith, had.each, took.count, still.1);
-      room = seen.more still.0;
+      room = (seen.awaited still.0).1;
       begun = seen.begun;
-      none = seen.awaited still.0;
-      uncounted = took.counts ∙ had.uncounted;
-      keeps_bytes = took.takes.keeps_bytes ∙ had.keeps_bytes;
-      keeps_puts = took.takes.keeps_puts ∙ had.keeps_puts;
+      none = (seen.awaited still.0).0;
+      uncounted = took.takes.counts ∙ had.uncounted;
+      keeps_bytes = took.takes.only.keeps_bytes ∙ had.keeps_bytes;
+      keeps_puts = took.takes.only.keeps_puts ∙ had.keeps_puts;
     }
 
 pub returns-in_err-count-clause-no_further : goal.returns-in_err-count-clause-no_further
@@ -64,5 +64,5 @@ returns-then-is_settled-clause-no_further g c =
 pub returns-then-is_settled-clause-head : goal.returns-then-is_settled-clause-head
 returns-then-is_settled-clause-head g c =
     let seen = rw c.deref.ensures.value at c.look_behind_lines-head.ensures in
-    head-said c.look_behind_lines-head.result c.take_more.new.bytes.items (g.L.Source.left c.take_more.new.link) seen.whole seen.never seen.too_large
+    head-said c.look_behind_lines-head.result c.take_more.new.bytes.items (g.L.Source.left c.take_more.new.link) seen.seen
     (λ e. let none = c.is_settled.ensures.settled c.if-is_settled.true e in (seen.last e none, c.in_ok-count.ensures.end none))
