@@ -1,5 +1,5 @@
 -- What pieces that are taken one after another say of all bytes.
-use Rattle.std.proofs.Common.{◌≡◌, ◌<◌, ◌≤◌, ◌+◌, ◌⊎◌, inl, inr, ◌∙◌, ℕ, List, [], ◌++◌, Option, Some, None, Result, Err, length, refl, sym, ap, IfErr, IfSome, arith}
+use Rattle.std.proofs.Common.{◌≡◌, ◌<◌, ◌≤◌, ◌+◌, ◌⊎◌, inl, inr, ◌∙◌, ℕ, List, [], ◌++◌, Option, Some, None, Result, Err, length, refl, sym, ap, subst, IfErr, IfSome, arith}
 use Rattle.std.proofs.lemmas.List.{append-nil, append_assoc, length-append}
 use Rattle.std.specs.Io.KnownBytes.{Consumes, IsAtEnd}
 use Rattle.muni_edge.specs.Faults.{Rose}
@@ -32,27 +32,27 @@ taken-more n (Some all) (Some rest) bytes taken many = omega (arith, many, ap le
 pub none-read : {I V : Type 0} (source : Ghosts I) (limit : ℕ) (items : V → List ℕ) (r : Result ℕ InputFault) (fault : InputFault) (out : Result V InputFault) (first mid last : I) (bytes piece : List ℕ)
     → r ≡ Err fault → out ≡ Err fault → IfErr r IsNotTooLarge → Consumes (source.left first) (source.left mid) bytes → source.faults mid ≡ source.faults first
     → Consumes (source.left mid) (source.left last) piece → length bytes + length piece ≤ limit + 1
-    → CountsReads r (source.faults mid) (source.faults last) → ReadsAll source limit out items first last
-none-read source limit items r Failed out first mid last bytes piece is ends other taken none more few counts =
+    → CountsReads r (source.faults mid) (source.faults last) → source.faults mid ≤ source.faults last → ReadsAll source limit out items first last
+none-read source limit items r Failed out first mid last bytes piece is ends other taken none more few counts later =
     let rose : Rose (source.faults mid) (source.faults last) = rw is at counts in
     rw ends record {
       whole = tt;
       few = tt;
       too_large = λ never. absurd (cc never);
       limited = (bytes ++ piece, taken-then (source.left first) (source.left mid) (source.left last) bytes piece (bytes ++ piece) taken more refl, omega (arith, few, length-append bytes piece));
-      later = omega (arith, none, rose);
-      failed = λ _. omega (arith, none, rose);
+      later = omega (arith, none, later);
+      failed = λ _. subst (λ n. Rose n (source.faults last)) none rose;
       uncounted = inr refl;
     }
-none-read source limit items r NoMemory out first mid last bytes piece is ends other taken none more few counts =
+none-read source limit items r NoMemory out first mid last bytes piece is ends other taken none more few counts later =
     let same : source.faults last ≡ source.faults mid = rw is at counts in
     rw ends record {
       whole = tt;
       few = tt;
       too_large = λ never. absurd (cc never);
       limited = (bytes ++ piece, taken-then (source.left first) (source.left mid) (source.left last) bytes piece (bytes ++ piece) taken more refl, omega (arith, few, length-append bytes piece));
-      later = omega (arith, none, same);
+      later = omega (arith, none, later);
       failed = λ never. absurd (cc never);
       uncounted = inl (same ∙ none);
     }
-none-read source limit items r TooLarge out first mid last bytes piece is ends other taken none more few counts = absurd (rw is at other)
+none-read source limit items r TooLarge out first mid last bytes piece is ends other taken none more few counts later = absurd (rw is at other)

@@ -60,6 +60,7 @@ fn take_more<I: Source>(
         × (bytes.new.items ≡ bytes.old.items ++ piece)) }
     ensures end { IfOk result (λ count. count ≡ 0 → IsAtEnd (I.left source.new)) }
     ensures counts { CountsReads result (I.faults source.old) (I.faults source.new) }
+    ensures later { I.faults source.old ≤ I.faults source.new }
     ensures others { IfErr result (λ fault. IsNotTooLarge fault) }
 {
     let mut room = [0u8; 4096];

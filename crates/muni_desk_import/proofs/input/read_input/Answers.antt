@@ -33,4 +33,4 @@ returns-in_err-take_more g c =
     let took = c.take_more.ensures in
     none-read g.I.Source c.args.limit (λ bytes. bytes.items) c.take_more.result c.in_err-take_more.field-0.0 c.from_residual.result c.args.source.now c.loop-turn.source c.take_more.new.source
     c.loop-turn.bytes.items took.limited.0 c.in_err-take_more.was (p.1 ∙ ap Err p.2) took.others c.loop-turn.invariant.taken c.loop-turn.invariant.faults
-    took.limited.1 (omega (arith, took.limited.2, c.loop-turn.invariant.most)) took.counts
+    took.limited.1 (omega (arith, took.limited.2, c.loop-turn.invariant.most)) took.counts took.later
