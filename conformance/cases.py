@@ -4,10 +4,39 @@ import decimal
 import pathlib
 
 FILE = pathlib.Path(__file__).resolve().parent / "cases.csv"
-ASKED = ["case", "tries", "command", "cusip", "kind", "days", "dated", "first", "maturity", "coupon", "calls", "settle",
-         "redeemed", "given", "value", "side", "par", "fee"]
-ANSWERED = ["price", "yield", "redemption", "at", "label", "accrued_days", "principal", "accrued", "commission", "total",
-            "refusal"]
+ASKED = [
+    "case",
+    "tries",
+    "command",
+    "cusip",
+    "kind",
+    "days",
+    "dated",
+    "first",
+    "maturity",
+    "coupon",
+    "calls",
+    "settle",
+    "redeemed",
+    "given",
+    "value",
+    "side",
+    "par",
+    "fee",
+]
+ANSWERED = [
+    "price",
+    "yield",
+    "redemption",
+    "at",
+    "label",
+    "accrued_days",
+    "principal",
+    "accrued",
+    "commission",
+    "total",
+    "refusal",
+]
 COLUMNS = ASKED + ANSWERED + ["exact"]
 
 # The desk under which a case of the command `trade` is entered.
@@ -43,7 +72,9 @@ def reference(row):
 
 def imported(row):
     """The two rows of an import that ask a case of `trade`: its issue and its trade."""
-    issue = [row["cusip"], "CASE"] + [row[name] for name in ("kind", "dated", "first", "maturity", "coupon", "calls", "days")]
+    issue = [row["cusip"], "CASE"] + [
+        row[name] for name in ("kind", "dated", "first", "maturity", "coupon", "calls", "days")
+    ]
     trade = [row[name] for name in ("cusip", "side", "par", "settle", "given", "value", "fee")]
     return "issue,%s\ntrade,%s,%s,%s\n" % (",".join(issue), DESK, reference(row), ",".join(trade))
 
@@ -65,7 +96,9 @@ def figures(row):
         lines.append("RATE %.4f GIVEN" % decimal.Decimal(row["value"]))
     lines.append("REDEMPTION %s %s %s" % (row["redemption"], row["at"], row["label"]))
     lines.append("ACCRUED DAYS " + row["accrued_days"])
-    lines += ["%s %s" % (name.upper(), row[name]) for name in ("principal", "accrued", "commission", "total") if row[name]]
+    lines += [
+        "%s %s" % (name.upper(), row[name]) for name in ("principal", "accrued", "commission", "total") if row[name]
+    ]
     return "".join(line + "\n" for line in lines)
 
 

@@ -13,6 +13,7 @@ CUSIP, NAME = b"000000000", b"QUOTE"
 @dataclasses.dataclass
 class Case:
     """What a case tries, and what is asked. Numbers are in the units of the calculator."""
+
     tries: str
     issue: object
     settle: datetime.date
@@ -32,7 +33,7 @@ class Case:
 def decimal_text(value, places):
     """A number in units of its last place as the shortest text."""
     sign, digits = "-" if value < 0 else "", "%0*d" % (places + 1, abs(value))
-    whole, part = digits[:len(digits) - places], digits[len(digits) - places:].rstrip("0")
+    whole, part = digits[: len(digits) - places], digits[len(digits) - places :].rstrip("0")
     return sign + whole + ("." + part if part else "")
 
 
@@ -40,18 +41,32 @@ def row_of(case):
     """The row of a case, without its answer."""
     issue, row = case.issue, dict.fromkeys(cases.COLUMNS, "")
     command = case.command()
-    row |= {"tries": case.tries, "command": command, "maturity": issue.maturity.isoformat(),
-            "settle": case.settle.isoformat(), "given": case.given,
-            "value": decimal_text(case.value, 6 if case.given == "price" else 4)}
+    row |= {
+        "tries": case.tries,
+        "command": command,
+        "maturity": issue.maturity.isoformat(),
+        "settle": case.settle.isoformat(),
+        "given": case.given,
+        "value": decimal_text(case.value, 6 if case.given == "price" else 4),
+    }
     if issue.coupon or issue.kind in ("periodic", "at-redemption"):
         row["coupon"] = decimal_text(issue.coupon, 7)
     if command == "quote-one":
         return row | {"redeemed": decimal_text(case.redeemed, 6)}
-    row |= {"kind": issue.kind, "dated": issue.dated.isoformat(), "days": "actual/365" if issue.basis else "",
-            "first": issue.first.isoformat() if issue.first else "", "par": str(case.par),
-            "calls": " ".join("%s:%s" % (day, decimal_text(price, 6)) for day, price in issue.calls)}
+    row |= {
+        "kind": issue.kind,
+        "dated": issue.dated.isoformat(),
+        "days": "actual/365" if issue.basis else "",
+        "first": issue.first.isoformat() if issue.first else "",
+        "par": str(case.par),
+        "calls": " ".join("%s:%s" % (day, decimal_text(price, 6)) for day, price in issue.calls),
+    }
     if command == "trade":
-        row |= {"cusip": issue.cusip.decode(), "side": case.side, "fee": decimal_text(case.fee, 3) if case.fee else ""}
+        row |= {
+            "cusip": issue.cusip.decode(),
+            "side": case.side,
+            "fee": decimal_text(case.fee, 3) if case.fee else "",
+        }
     return row
 
 
@@ -86,13 +101,17 @@ class Drawer:
         return self.number(1_000_000, 90_000_000)
 
     def start(self):
-        return datetime.date(self.number(1990, 2024), self.number(1, 12), self.one_of((1, 1, 1, 15, 15, 28, self.number(2, 28))))
+        return datetime.date(
+            self.number(1990, 2024), self.number(1, 12), self.one_of((1, 1, 1, 15, 15, 28, self.number(2, 28)))
+        )
 
     def regular(self, halves, coupon=None):
         """A periodic issue whose first coupon is a regular one, with so many payments after the first."""
         dated = self.start()
         first = self.months_on(dated, 6)
-        return self.issue("periodic", dated, self.months_on(first, 6 * halves), self.coupon() if coupon is None else coupon, first)
+        return self.issue(
+            "periodic", dated, self.months_on(first, 6 * halves), self.coupon() if coupon is None else coupon, first
+        )
 
     def zero(self, halves):
         maturity = self.months_on(self.start(), 6 * halves)

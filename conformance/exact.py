@@ -25,12 +25,12 @@ def fraction(candidate, y):
     what = candidate.what
     if candidate.shape != "many":
         due = Fraction(what.due * what.B * 1_000_000, what.B * 1_000_000 + what.left * y)
-        return (due - what.accrued) / (what.B * 10 ** 9)
+        return (due - what.accrued) / (what.B * 10**9)
     discount = Fraction(H, H + y)
     total = Fraction(0)
     for payment in reversed(what.a):
         total = total * discount + payment
-    return (total * (discount if what.A == 0 else 1) - what.accrued) / (360 * 10 ** 9)
+    return (total * (discount if what.A == 0 else 1) - what.accrued) / (360 * 10**9)
 
 
 def decimal(candidate, y):
@@ -45,7 +45,7 @@ def decimal(candidate, y):
         for payment in reversed(what.a):
             total = total * discount + payment
         part = (Decimal(180 - what.A) / 180 * discount.ln()).exp()
-        return (total * part - what.accrued) / (360 * 10 ** 9)
+        return (total * part - what.accrued) / (360 * 10**9)
 
 
 def exact_yield(candidate, price):
@@ -53,7 +53,7 @@ def exact_yield(candidate, price):
     what = candidate.what
     with localcontext(DIGITS):
         if candidate.shape != "many":
-            paid = price * (what.B * 10 ** 9) + what.accrued
+            paid = price * (what.B * 10**9) + what.accrued
             found = (what.due - paid) / paid * what.B / what.left * 1_000_000
             return Decimal(found.numerator) / found.denominator
         wanted = Decimal(price.numerator) / price.denominator
@@ -85,6 +85,7 @@ class Line:
             if is_rational(candidate):
                 return fraction(candidate, y)
             return Fraction(decimal(candidate, y))
+
         self.base = at(0)
         self.slope = (at(COUPON_MAX) - self.base) / COUPON_MAX
 
@@ -100,12 +101,15 @@ class Line:
         return least + more
 
     def coupon_at(self, unit, parts, least):
-        """The first coupon from the least on whose price is so many parts of its fraction above a multiple of the unit."""
+        """The first coupon from the least on whose price is so many parts above a whole multiple of the unit."""
         return whole_at(self.slope / unit, self.base / unit, parts, least, COUPON_MAX)
 
 
 def whole_at(slope, base, parts, least, greatest):
-    """The first x from the least to the greatest with slope * x + base so many of the least parts above a whole number."""
+    """The first x from the least to the greatest with slope * x + base so many parts above a whole number.
+
+    A part is the least that the fraction can be off.
+    """
     whole = math.lcm(slope.denominator, base.denominator)
     slope, base = int(slope * whole), int(base * whole)
     shared = math.gcd(slope, whole)
@@ -137,15 +141,15 @@ def yields_near(candidate, unit, low, high, start, step):
     """The yields from the start on, in steps, whose price is a whole multiple of the unit and low to high dollars. The
     payments are regular ones. A double looks first, and finds each; the decimal decides."""
     what = candidate.what
-    half = what.regular / (360 * 10 ** 9)
-    redemption, accrued = what.redemption / 10 ** 6, what.accrued / (360 * 10 ** 9)
+    half = what.regular / (360 * 10**9)
+    redemption, accrued = what.redemption / 10**6, what.accrued / (360 * 10**9)
     part, count = (180 - what.A) / 180, what.n - 1
     size, near = float(unit), max(abs(float(low)), abs(float(high))) + 1e-10
     y = start
     while y < 1_000_000:
         growth = 1 + y / H
-        power = growth ** -count
-        price = growth ** -part * (half * (1 + (1 - power) / (growth - 1)) + redemption * power) - accrued
+        power = growth**-count
+        price = growth**-part * (half * (1 + (1 - power) / (growth - 1)) + redemption * power) - accrued
         off = (price + near) % size
         if off < 2 * near:
             value = Fraction(decimal(candidate, y))

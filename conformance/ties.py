@@ -17,8 +17,13 @@ def on_interest_date(draw, halves, coupon):
     issue = draw.regular(halves + draw.number(1, 12), coupon)
     settle = draw.months_on(issue.maturity, -6 * halves)
     if draw.chance(30):
-        issue = draw.issue("periodic", datetime.date(2001, 1, 1), datetime.date(draw.number(2010, 2030), 1, 1), coupon,
-                           datetime.date(2001, 7, 1))
+        issue = draw.issue(
+            "periodic",
+            datetime.date(2001, 1, 1),
+            datetime.date(draw.number(2010, 2030), 1, 1),
+            coupon,
+            datetime.date(2001, 7, 1),
+        )
         settle = draw.months_on(issue.maturity, -12 * (halves // 2 + 1)) - datetime.timedelta(1)
     return issue, settle
 
@@ -48,8 +53,11 @@ def yield_ties(draw):
         issue, settle = on_interest_date(draw, draw.number(2, 60), coupon)
         if issue.dated <= settle:
             off = draw.one_of((0, 0, 0, 1, -1))
-            tries = "an exact yield of just half a thousandth at 100, which goes up" if off == 0 else \
-                "a millionth of a dollar beside the price at which the yield is just half a thousandth"
+            tries = (
+                "an exact yield of just half a thousandth at 100, which goes up"
+                if off == 0
+                else "a millionth of a dollar beside the price at which the yield is just half a thousandth"
+            )
             yield Case(tries, issue, settle, "price", PAR + off)
 
 
@@ -83,7 +91,9 @@ def rational(draw, shapes):
 
 def aside(parts, tie):
     """A tie, or that the price is as little above or below one as a fraction can be."""
-    return tie if parts == 0 else "%s, but for a few parts of its fraction %s" % (tie, "more" if parts > 0 else "less")
+    return (
+        tie if parts == 0 else "%s, but for a few parts of its fraction %s" % (tie, "more" if parts > 0 else "less")
+    )
 
 
 def rational_ties(draw, unit, make):
@@ -94,122 +104,40 @@ def rational_ties(draw, unit, make):
         line = exact.Line(draw.rule, issue, settle, 0, y)
         least = draw.number(1_000_000, 80_000_000)
         for parts in (0, draw.one_of((1, -1))):
-            coupon = next((found for more in range(0, 60) for found in
-                           [line.coupon_at(unit, parts * (more + 1), least)] if found), None)
+            coupon = next(
+                (
+                    found
+                    for more in range(0, 60)
+                    for found in [line.coupon_at(unit, parts * (more + 1), least)]
+                    if found
+                ),
+                None,
+            )
             if coupon and coupon < 150_000_000:
                 yield dataclasses.replace(issue, coupon=coupon), settle, y, parts
 
 
 def price_ties(draw):
     def given():
-        return draw.one_of((draw.one_of(SHORT), 2_500 * draw.number(1, 40), 10 * draw.number(100, 9_000), draw.number(100, 90_000)))
+        return draw.one_of(
+            (draw.one_of(SHORT), 2_500 * draw.number(1, 40), 10 * draw.number(100, 9_000), draw.number(100, 90_000))
+        )
+
     for issue, settle, y, parts in rational_ties(draw, MILL, given):
         yield Case(aside(parts, "an exact price of a whole thousandth"), issue, settle, "yield", y)
 
 
 def boundary_ties(draw):
     def boundary():
-        return 10 * draw.one_of((draw.number(100, 9_000), draw.number(-4_000, 100), 250 * draw.number(1, 400) + 1)) - 5
+        return (
+            10 * draw.one_of((draw.number(100, 9_000), draw.number(-4_000, 100), 250 * draw.number(1, 400) + 1)) - 5
+        )
+
     for issue, settle, y, parts in rational_ties(draw, MICRO, boundary):
         price = exact.fraction(draw.rule.candidates(issue, settle)[0], y) / MICRO
         if 1_000 < price < draw.rule.PRICE_MAX:
             tries = aside(-parts, "a given price at which the yield is just half a thousandth")
             yield Case(tries, issue, settle, "price", round(price))
-
-
-def near(draw, unit, low, high, make, tries):
-    """Coupons at which a price that is no fraction lies so near a whole multiple of the unit."""
-    while True:
-        kind = draw.number(1, 10)
-        issue = draw.regular(draw.number(2, 60))
-        if kind <= 2:
-            first = draw.months_on(draw.start(), 6)
-            dated = first - datetime.timedelta(draw.number(30, 350))
-            issue = draw.issue("periodic", dated, draw.months_on(first, 6 * draw.number(2, 40)), 50_000_000, first)
-        settle = draw.day_between(issue.dated, issue.maturity)
-        candidate = draw.rule.candidates(issue, settle)[0]
-        if candidate.shape != "many":
-            continue
-        y, side = make(), draw.one_of((1, -1))
-        line = exact.Line(draw.rule, issue, settle, 0, y)
-        ends = sorted((side * low, side * high))
-        coupon = line.coupon_near(unit, ends[0], ends[1], draw.number(5_000_000, 80_000_000))
-        if coupon is None or coupon > 200_000_000:
-            continue
-        issue = dataclasses.replace(issue, coupon=coupon)
-        distance = Fraction(exact.decimal(draw.rule.candidates(issue, settle)[0], y)) % unit
-        past = distance if distance < unit / 2 else distance - unit
-        yield issue, settle, y, "%s: %.2g dollars %s it" % (tries, abs(past), "above" if past > 0 else "below")
-
-
-WINDOWS = [(Fraction(11, 10 ** 10), Fraction(3, 10 ** 9)), (Fraction(3, 10 ** 9), Fraction(3, 10 ** 8)),
-           (Fraction(3, 10 ** 8), Fraction(1, 10 ** 6))]
-INSIDE = (Fraction(1, 10 ** 14), Fraction(9, 10 ** 10))
-
-
-def near_prices(draw):
-    def given():
-        return draw.one_of((draw.number(5_000, 90_000), 10 * draw.number(500, 9_000)))
-    each = [near(draw, MILL, low, high, given, "an exact price near a whole thousandth") for low, high in WINDOWS]
-    while True:
-        for source in each:
-            issue, settle, y, tries = next(source)
-            yield Case(tries, issue, settle, "yield", y)
-
-
-def at_boundaries(draw, windows, tries):
-    def boundary():
-        return 10 * draw.one_of((draw.number(500, 9_000), draw.number(500, 9_000), draw.number(-400, 40))) - 5
-    each = [near(draw, MICRO, low, high, boundary, tries) for low, high in windows]
-    while True:
-        for source in each:
-            issue, settle, y, said = next(source)
-            price = round(Fraction(exact.decimal(draw.rule.candidates(issue, settle)[0], y)) / MICRO)
-            if 0 < price < draw.rule.PRICE_MAX:
-                yield Case(said, issue, settle, "price", price)
-
-
-def near_yields(draw):
-    return at_boundaries(draw, WINDOWS, "a given price near the exact one at half a thousandth of yield")
-
-
-def within(draw):
-    """Nearer than 10^-9 dollars: the exact figure and `Undecided` are both right."""
-    def given():
-        return draw.number(5_000, 90_000)
-    prices = near(draw, MILL, *INSIDE, given, "an exact price nearer than 10^-9 dollars to a whole thousandth")
-    yields = at_boundaries(draw, [INSIDE], "a given price nearer than 10^-9 dollars to the exact one at half a thousandth")
-    while True:
-        issue, settle, y, tries = next(prices)
-        yield Case(tries, issue, settle, "yield", y)
-        yield next(yields)
-
-
-def usual_terms(draw, unit, first_yield, step, given):
-    """Near ties with a coupon of eighths, found among the yields of a printed form."""
-    low, high = Fraction(11, 10 ** 10), Fraction(2, 10 ** 8)
-    while True:
-        issue = draw.regular(draw.number(4, 60), 1_250_000 * draw.number(8, 56))
-        settle = draw.day_between(issue.first, issue.maturity)
-        candidate = draw.rule.candidates(issue, settle)[0]
-        if candidate.shape != "many":
-            continue
-        side = draw.one_of((1, -1))
-        ends = sorted((side * low, side * high))
-        y = next(exact.yields_near(candidate, unit, ends[0], ends[1], first_yield + step * draw.number(0, 500), step), None)
-        if y is not None and y < 150_000:
-            yield issue, settle, y
-
-
-def usual_prices(draw):
-    for issue, settle, y in usual_terms(draw, MILL, 10_000, 1, "yield"):
-        yield Case("usual terms, and an exact price within 2e-8 dollars of a whole thousandth", issue, settle, "yield", y)
-
-
-def usual_yields(draw):
-    for issue, settle, y in usual_terms(draw, 10 * MICRO, 9_995, 10, "price"):
-        price = round(Fraction(exact.decimal(draw.rule.candidates(issue, settle)[0], y)) / MICRO)
-        yield Case("usual terms, and a yield within a hair of half a thousandth", issue, settle, "price", price)
 
 
 def tied_calls(draw):
@@ -227,15 +155,17 @@ def tied_calls(draw):
             n, growth = 2 * 2 - 1, Fraction(1024, 1000)
             maturity, call = draw.months_on(settle, 18), draw.months_on(settle, 12)
             settle = draw.months_on(settle, 3)
-        unit = (1000 * growth ** n).numerator
+        unit = (1000 * growth**n).numerator
         prices = [price for price in range(unit, int(greatest), unit) if price >= 1_000_000]
         if prices:
             issue = draw.issue("zero", dated, maturity, calls=((call, draw.one_of(prices)),))
-            yield Case("an exact price of a whole thousandth up to the call, in no exact case", issue, settle, "yield", y)
+            yield Case(
+                "an exact price of a whole thousandth up to the call, in no exact case", issue, settle, "yield", y
+            )
 
 
 def tied_schedules(draw, yields, unit):
-    """Prices of a call at which the exact price up to it is a whole multiple of the unit, with four or five payments."""
+    """Prices of a call, four or five payments on, at which the exact price up to it is a multiple of the unit."""
     while True:
         y, n = draw.one_of(yields), draw.number(4, 5)
         issue, settle = on_interest_date(draw, draw.number(8, 30), 1000 * y + 10_000 * draw.number(100, 1_500))
@@ -246,7 +176,9 @@ def tied_schedules(draw, yields, unit):
         to_call = draw.rule.candidates(dataclasses.replace(issue, calls=((call, PAR),)), settle)[0]
         with_par = exact.fraction(to_call, y)
         worth = exact.fraction(dataclasses.replace(to_call, what=bumped(to_call.what)), y) - with_par
-        price = exact.whole_at(worth / unit, (with_par - PAR * worth) / unit, 0, draw.number(80_000_000, 100_000_000), 104_000_000)
+        price = exact.whole_at(
+            worth / unit, (with_par - PAR * worth) / unit, 0, draw.number(80_000_000, 100_000_000), 104_000_000
+        )
         if price:
             issue = dataclasses.replace(issue, calls=((call, price),))
             yield issue, settle, y, (with_par + (price - PAR) * worth) / MICRO
@@ -262,8 +194,13 @@ def undecided(draw):
         issue, settle, y, _ = next(prices)
         yield Case("an exact price of a whole thousandth up to the call, in no exact case", issue, settle, "yield", y)
         issue, settle, _, price = next(yields)
-        yield Case("a given price at which the yield up to the call is just half a thousandth, in no exact case", issue, settle,
-                   "price", int(price))
+        yield Case(
+            "a given price at which the yield up to the call is just half a thousandth, in no exact case",
+            issue,
+            settle,
+            "price",
+            int(price),
+        )
 
 
 def passed_over(draw):
@@ -278,14 +215,19 @@ def passed_over(draw):
         if to_call.shape != "many":
             continue
         last, with_par = Fraction(exact.decimal(plain, y)), Fraction(exact.decimal(to_call, y))
-        worth = (Fraction(exact.decimal(dataclasses.replace(to_call, what=bumped(to_call.what)), y)) - with_par)
-        # The call's price at which the exact price up to it is a whole thousandth, some thousandths over that of maturity.
+        worth = Fraction(exact.decimal(dataclasses.replace(to_call, what=bumped(to_call.what)), y)) - with_par
+        # The call's price at which the exact price up to it is some whole thousandths over that of maturity.
         target = (int(last / MILL) + draw.number(1, 300)) * MILL
         price = PAR + round((target - with_par) / worth)
         off = abs(with_par + (price - PAR) * worth - target)
-        if off < Fraction(1, 10 ** 9) and 1_000_000 <= price <= 200_000_000:
-            yield Case("a call within 10^-9 dollars of a boundary, which a lower price at maturity makes immaterial",
-                       dataclasses.replace(issue, calls=((call, price),)), settle, "yield", y)
+        if off < Fraction(1, 10**9) and 1_000_000 <= price <= 200_000_000:
+            yield Case(
+                "a call within 10^-9 dollars of a boundary, which a lower price at maturity makes immaterial",
+                dataclasses.replace(issue, calls=((call, price),)),
+                settle,
+                "yield",
+                y,
+            )
 
 
 def bumped(what):
@@ -304,8 +246,16 @@ def equal_figures(draw):
         last = Fraction(exact.decimal(draw.rule.candidates(issue, settle)[-1], y))
         with_par = Fraction(exact.decimal(to_call, y))
         worth = Fraction(exact.decimal(dataclasses.replace(to_call, what=bumped(to_call.what)), y)) - with_par
-        off = draw.one_of((Fraction(3, 10_000), Fraction(-3, 10_000), Fraction(1, 1_000_000), Fraction(-1, 1_000_000),
-                           Fraction(9, 10_000), Fraction(12, 10_000)))
+        off = draw.one_of(
+            (
+                Fraction(3, 10_000),
+                Fraction(-3, 10_000),
+                Fraction(1, 1_000_000),
+                Fraction(-1, 1_000_000),
+                Fraction(9, 10_000),
+                Fraction(12, 10_000),
+            )
+        )
         price = PAR + round((last + off - with_par) / worth)
         if not 1_000_000 <= price <= 200_000_000:
             continue
@@ -313,8 +263,10 @@ def equal_figures(draw):
         same = int(last / MILL) == int((with_par + (price - PAR) * worth) / MILL)
         lower = "the call" if off < 0 else "maturity"
         tries = "exact prices up to the call and maturity %s dollars apart, %s the lower: %s" % (
-            decimal_text(abs(int(off * 10 ** 6)), 6), lower, "both print the same, so the call is disclosed" if same
-            else "they print differently")
+            decimal_text(abs(int(off * 10**6)), 6),
+            lower,
+            "both print the same, so the call is disclosed" if same else "they print differently",
+        )
         yield Case(tries, issue, settle, "yield", y)
 
 
@@ -333,7 +285,9 @@ def equal_yields(draw):
         price = PAR + round((MICRO * value - with_par) / worth)
         if 1_000_000 <= price <= 200_000_000:
             tries = "exact yields up to the call and maturity about %s percent apart, %s the lower" % (
-                decimal_text(abs(off), 4), "the call" if off < 0 else "maturity")
+                decimal_text(abs(off), 4),
+                "the call" if off < 0 else "maturity",
+            )
             yield Case(tries, dataclasses.replace(issue, calls=((call, price),)), settle, "price", value)
 
 
@@ -341,14 +295,19 @@ def par_calls(draw):
     """Par calls of a bond at 100 or beside it: the printed yields are equal, or all but."""
     while True:
         issue, settle = on_interest_date(draw, draw.number(12, 40), draw.coupon())
-        dates = [day for day in draw.rule.quasi_dates(issue.first) if max(settle, issue.first) <= day < issue.maturity]
-        calls = tuple((day, PAR) for day in dates[draw.number(0, 3):][:draw.one_of((1, 3, 10, 40))])
+        dates = [
+            day for day in draw.rule.quasi_dates(issue.first) if max(settle, issue.first) <= day < issue.maturity
+        ]
+        calls = tuple((day, PAR) for day in dates[draw.number(0, 3) :][: draw.one_of((1, 3, 10, 40))])
         if not calls or not issue.dated <= settle:
             continue
         issue = dataclasses.replace(issue, calls=calls)
         off = draw.one_of((0, 0, 1, -1, 1000, -1000, 5000, -5000))
-        tries = "par calls at 100: every yield is the coupon, so the earliest is disclosed" if off == 0 else \
-            "par calls at %s: the yields differ by little, or print the same" % decimal_text(PAR + off, 6)
+        tries = (
+            "par calls at 100: every yield is the coupon, so the earliest is disclosed"
+            if off == 0
+            else "par calls at %s: the yields differ by little, or print the same" % decimal_text(PAR + off, 6)
+        )
         yield Case(tries, issue, settle, "price", PAR + off)
 
 
