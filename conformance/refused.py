@@ -231,3 +231,33 @@ def commissions(draw):
         elif par * fee % 1000 in (499, 500, 501):
             tries = "a commission at half a cent or beside it"
         yield Case(tries, issue, settle, given, value, par, side, fee)
+
+
+def decides(draw):
+    """Calls whose ranges, times and refusals differ from those of maturity: which candidate decides."""
+    while True:
+        issue = draw.regular(draw.number(3, 30), 1_250_000 * draw.number(2, 60))
+        dates = [day for day in draw.rule.quasi_dates(issue.first) if issue.first <= day < issue.maturity]
+        soon = draw.number(0, len(dates) - 1)
+        calls = [(day, draw.one_of((1_000_000, 80_000_000, 100_000_000, 120_000_000, 200_000_000))) for day in dates]
+        issue = dataclasses.replace(issue, calls=tuple(calls[soon : soon + draw.one_of((1, 2, 5))]))
+        settle = draw.day_between(draw.months_on(dates[soon], -6), dates[soon])
+        how = draw.number(1, 4)
+        if how == 1:
+            y = draw.one_of((-900_000, -50_001, -50_000, 1_000_000, 1_000_001, 9_999_990))
+            yield Case(
+                "a call with one payment and a maturity with many: the range of each", issue, settle, "yield", y
+            )
+        elif how == 2:
+            price = draw.one_of((1_000, 500_000, 1_000_000, 3_000_000, 300_000_000, 600_000_000, 999_999_999))
+            yield Case("a price at which a call or maturity has no printed yield", issue, settle, "price", price)
+        elif how == 3 and issue.first.month in (1, 5, 7, 8, 10, 12) and issue.first.day == 1:
+            settle = dates[soon] - ONE_DAY
+            value = 1_000 * draw.number(80_000, 130_000)
+            yield Case(
+                "settled on the day before a call: a price there may have no time", issue, settle, "price", value
+            )
+        elif how == 4:
+            yield Case(
+                "calls far above and far below 100", issue, settle, "price", 1_000 * draw.number(60_000, 160_000)
+            )
