@@ -1,0 +1,120 @@
+"""A case of cases.csv: its columns, the words that ask it, and the lines that answer it."""
+import csv
+import decimal
+import pathlib
+
+FILE = pathlib.Path(__file__).resolve().parent / "cases.csv"
+ASKED = [
+    "case",
+    "tries",
+    "command",
+    "cusip",
+    "kind",
+    "days",
+    "dated",
+    "first",
+    "maturity",
+    "coupon",
+    "calls",
+    "settle",
+    "redeemed",
+    "given",
+    "value",
+    "side",
+    "par",
+    "fee",
+]
+ANSWERED = [
+    "price",
+    "yield",
+    "redemption",
+    "at",
+    "label",
+    "accrued_days",
+    "principal",
+    "accrued",
+    "commission",
+    "total",
+    "refusal",
+]
+COLUMNS = ASKED + ANSWERED + ["exact"]
+
+# The desk under which a case of the command `trade` is entered.
+DESK = "CASES"
+
+
+def read(path=FILE):
+    """The cases of a file, each a dictionary from its columns to their texts."""
+    with open(path, newline="", encoding="ascii") as file:
+        return list(csv.DictReader(file))
+
+
+def write(file, rows):
+    writer = csv.DictWriter(file, COLUMNS, lineterminator="\n")
+    writer.writeheader()
+    writer.writerows(rows)
+
+
+def words(row):
+    """The words that ask a case of `quote-one` or `quote`."""
+    if row["command"] == "quote-one":
+        return ["quote-one"] + [row[name] for name in ("coupon", "maturity", "settle", "redeemed", "value")]
+    options = ["kind", "dated", "first", "maturity", "coupon", "days", "settle", "par"]
+    said = ["--%s=%s" % (name, row[name]) for name in options if row[name]]
+    said += ["--call=" + call for call in row["calls"].split()]
+    return ["quote"] + said + ["--%s=%s" % (row["given"], row["value"])]
+
+
+def reference(row):
+    """The reference under which a case of `trade` is entered."""
+    return row["case"].replace("-", "")
+
+
+def imported(row):
+    """The two rows of an import that ask a case of `trade`: its issue and its trade."""
+    issue = [row["cusip"], "CASE"] + [
+        row[name] for name in ("kind", "dated", "first", "maturity", "coupon", "calls", "days")
+    ]
+    trade = [row[name] for name in ("cusip", "side", "par", "settle", "given", "value", "fee")]
+    return "issue,%s\ntrade,%s,%s,%s\n" % (",".join(issue), DESK, reference(row), ",".join(trade))
+
+
+def answers(row):
+    """The right answers: the lines of the figures, or the line of the refusal. If a row has both, both are right."""
+    right = []
+    if row["price"]:
+        right.append(row["price"] + "\n" if row["command"] == "quote-one" else figures(row))
+    if row["refusal"]:
+        right.append(row["refusal"] + "\n")
+    return right
+
+
+def figures(row):
+    source = {"price": "COMPUTED", "yield": "COMPUTED"} | {row["given"]: "GIVEN"}
+    lines = ["PRICE %s %s" % (row["price"], source["price"]), "YIELD %s %s" % (row["yield"], source["yield"])]
+    if row["given"] == "rate":
+        lines.append("RATE %.4f GIVEN" % decimal.Decimal(row["value"]))
+    lines.append("REDEMPTION %s %s %s" % (row["redemption"], row["at"], row["label"]))
+    lines.append("ACCRUED DAYS " + row["accrued_days"])
+    lines += [
+        "%s %s" % (name.upper(), row[name]) for name in ("principal", "accrued", "commission", "total") if row[name]
+    ]
+    return "".join(line + "\n" for line in lines)
+
+
+def set_answer(row, text):
+    """Puts the lines of an answer into their columns."""
+    for line in text.splitlines():
+        name, _, rest = line.partition(" ")
+        if name == "REFUSED":
+            row["refusal"] = line
+        elif line.startswith("ACCRUED DAYS "):
+            row["accrued_days"] = line.rpartition(" ")[2]
+        elif name == "REDEMPTION":
+            row["redemption"], row["at"], row["label"] = rest.split(" ", 2)
+        elif name in ("PRICE", "YIELD"):
+            row[name.lower()] = rest.partition(" ")[0]
+        elif name in ("PRINCIPAL", "ACCRUED", "COMMISSION", "TOTAL"):
+            row[name.lower()] = rest
+        elif row["command"] == "quote-one":
+            row["price"] = line
