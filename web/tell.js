@@ -54,11 +54,11 @@ export const FAULTS = {
 };
 
 export const STATUSES = {
-  400: ["the body is none of its form", "compare its members with the table of requests, and each value with its form"],
+  400: ["the body does not have its form", "compare its members with the table of requests, and each value with its form"],
   401: ["the name or the password was not taken", "load this page again and log in"],
   403: ["this user may not do that, or not for this desk",
     "check the desk; whoever runs the service says who may do what"],
-  404: ["no path is such",
+  404: ["the path is unknown",
     "compare it with the table of requests: a desk is 1 to 16 capitals and digits, a reference 1 to 20 letters and " +
     "digits, and small letters are others than capitals"],
   405: ["the path has the other method, which the field Allow names", "take that one"],
