@@ -14,9 +14,9 @@ returns-then-is_within_line-clause-awaited c _ =
     let place = length bytes - c.args.count in
     let begun = c.args.has_begun.now || c.has_text.result in
     let none = still-none bytes place begun
-          (begun-now bytes place c.args.has_begun.now c.has_text.result c.requires.before.begun c.has_text.ensures) c.requires.before.none
-          (third (nat_lt 0 c.args.count) (nat_lt (length bytes) head_limit) (not (begun && list_any (λ b. b == 10) (drop place bytes)))
-          (sym c.is_within_line.ensures.value ∙ c.if-is_within_line.true)) in
+    (begun-now bytes place c.args.has_begun.now c.has_text.result c.requires.before.begun c.has_text.ensures) c.requires.before.none
+    (third (nat_lt 0 c.args.count) (nat_lt (length bytes) head_limit) (not (begun && list_any (λ b. b == 10) (drop place bytes)))
+    (sym c.is_within_line.ensures.value ∙ c.if-is_within_line.true)) in
     (none, (c.is_within_line.ensures.some c.if-is_within_line.true).1)
 
 pub returns-clause-begun : goal.returns-clause-begun
