@@ -42,7 +42,7 @@ pub with_next : (k : ℕ) (c : List ℕ) (at next e : Place) → byte_at c at.ga
 with_next k c at next e is_open behind ends = open_step k c at is_open ∙ ap (λ (o : Option Place). option_and_then (end_from k c) o) behind ∙ ends
 
 -- a slot is five bytes longer than its body
-some_of : {A B : Type 0} (f : A → B) (o : Option A) (y : B) → option_map f o ≡ Some y → (x : A) × (o ≡ Some x) × (f x ≡ y)
+pub some_of : {A B : Type 0} (f : A → B) (o : Option A) (y : B) → option_map f o ≡ Some y → (x : A) × (o ≡ Some x) × (f x ≡ y)
 some_of f None y e = absurd (cc e)
 some_of f (Some x) y e = (x, refl, cc)
 

@@ -21,7 +21,7 @@ use Rattle.muni_journal.proofs.Ends.{closed_step, has_next, same_end, longer_end
 
 -- the size of a body
 abbrev pub IsShort : Put → Type 0
-IsShort x = (1 ≤ length (body_of x)) × (length (body_of x) ≤ 410)
+IsShort x = (1 ≤ length (body_of x)) × (length (body_of x) ≤ 1_024)
 
 -- the piece of a put reads as it
 pub number_read : (p n : ℕ) (c : List ℕ) → n < 2 ^ 32 → StandsAt p (four n) c → number_at c p ≡ n
@@ -30,19 +30,26 @@ number_read p n c small holds =
     let same : bytes_at c p 4 ≡ four n = ap (bytes_at c p) (sym (length-four n)) ∙ held_piece p (four n) c holds in
     ap number_of_4 same ∙ four_is n small
 
-pub slot_read : (at : Place) (x : Put) (c : List ℕ) → PutFits x → IsShort x → is_next at.tables x ≡ true → StandsAt (at.gate + 1) (piece_of x) c → behind_slot c at ≡ Some (place_with at x)
-unfolding piece_of behind_slot
-slot_read at x c fits short next holds =
+pub slot_reads : (at : Place) (x : Put) (c : List ℕ) → put_of (body_of x) ≡ Some x → IsShort x → is_next at.tables x ≡ true → StandsAt (at.gate + 1) (four (length (body_of x))) c → StandsAt (at.gate + 1 + 4) (body_of x) c
+    → behind_slot c at ≡ Some (place_with at x)
+unfolding behind_slot
+slot_reads at x c reads short next length_there body_there =
     let n = length (body_of x) in
-    let number : number_at c (at.gate + 1) ≡ n = number_read (at.gate + 1) n c (omega (arith, short.1)) (front (at.gate + 1) (four n) (body_of x ++ 0 ∷ []) c holds) in
-    let behind = back (at.gate + 1) (at.gate + 1 + 4) (four n) (body_of x ++ 0 ∷ []) c (omega (arith, length-four n)) holds in
-    let body : bytes_at c (at.gate + 1 + 4) n ≡ body_of x = held_piece (at.gate + 1 + 4) (body_of x) c (front (at.gate + 1 + 4) (body_of x) (0 ∷ []) c behind) in
+    let number : number_at c (at.gate + 1) ≡ n = number_read (at.gate + 1) n c (omega (arith, short.1)) length_there in
+    let body : bytes_at c (at.gate + 1 + 4) n ≡ body_of x = held_piece (at.gate + 1 + 4) (body_of x) c body_there in
     let right : is_length n ≡ true = grind (arith, nat_tests, short.0, short.1) in
     let F : ℕ → List ℕ → Option Place = λ k b. option_map (λ (tables : Tables). let p : Place = record { gate = at.gate + 5 + k; tables = tables } in p)
     (option_and_then (put_on at.tables) (if is_length k then put_of b else None)) in
     let G : Option Put → Option Place = λ o. option_map (λ (tables : Tables). let p : Place = record { gate = at.gate + 5 + n; tables = tables } in p) (option_and_then (put_on at.tables) o) in
     let done : G (Some x) ≡ Some (place_with at x) = rw next refl in
-    ap (λ (k : ℕ). F k (bytes_at c (at.gate + 1 + 4) k)) number ∙ ap (F n) body ∙ ap (λ b. G (if b then put_of (body_of x) else None)) right ∙ ap G (what_is_written_is_read x fits) ∙ done
+    ap (λ (k : ℕ). F k (bytes_at c (at.gate + 1 + 4) k)) number ∙ ap (F n) body ∙ ap (λ b. G (if b then put_of (body_of x) else None)) right ∙ ap G reads ∙ done
+
+pub slot_read : (at : Place) (x : Put) (c : List ℕ) → PutFits x → IsShort x → is_next at.tables x ≡ true → StandsAt (at.gate + 1) (piece_of x) c → behind_slot c at ≡ Some (place_with at x)
+unfolding piece_of
+slot_read at x c fits short next holds =
+    let n = length (body_of x) in
+    let behind = back (at.gate + 1) (at.gate + 1 + 4) (four n) (body_of x ++ 0 ∷ []) c (omega (arith, length-four n)) holds in
+    slot_reads at x c (what_is_written_is_read x fits) short next (front (at.gate + 1) (four n) (body_of x ++ 0 ∷ []) c holds) (front (at.gate + 1 + 4) (body_of x) (0 ∷ []) c behind)
 
 pub closed_behind : (at : Place) (x : Put) (c : List ℕ) → StandsAt (at.gate + 1) (piece_of x) c → byte_at c (place_with at x).gate ≢ 1
 unfolding piece_of
@@ -127,7 +134,7 @@ module _ (at : Place) (x : Put) where
       both d c f first second = record { before = λ i below. second.before i below ∙ first.before i below; after = λ i past. second.after i past ∙ first.after i past }
 
   pub taken_back : (old new : List ℕ → Type 0) → AllImages old (IsInDoubt at x) → AllImages new (ComesFrom (IsTakenBack at.gate) old) → AllImages new (λ c. journal_of c ≡ Some at)
-  taken_back old new doubt all = record { each = λ c now. let from = all.each c now in (doubt.each from.0 from.1).without c from.2.others from.2.is_closed }
+  taken_back old new doubt all = record { each = λ c now. let from = all.each c now in (doubt.each from.0 from.1).without c from.2.others (λ is_open. absurd (cc (is_open, from.2.is_closed))) }
 
   pub doubt_stops : (old : List ℕ → Type 0) → AllImages old (IsInDoubt at x) → (c : List ℕ) → ComesFrom (IsSameOutside at.gate 1) old c → StandsFor at.tables (Some x) None c
   doubt_stops old doubt c from =

@@ -3,5 +3,7 @@ pub mod Ends
 pub mod GoesOn
 pub mod JournalImages
 pub mod KeptLemmas
+pub mod SlotLaws
 pub mod SlotLemmas
+pub mod StandLemmas
 pub mod ToldLemmas

@@ -18,7 +18,7 @@ by_test : (name o : List ℕ) (P : List ℕ → Type 0) (same : Bool) → same �
 by_test name o P true is own others = subst P (sym (same_text o name is)) own
 by_test name o P false is own others = others o (other_text o name is)
 
-by_name : (name : List ℕ) (P : List ℕ → Type 0) → P name → ((o : List ℕ) → o ≢ name → P o) → (o : List ℕ) → P o
+pub by_name : (name : List ℕ) (P : List ℕ → Type 0) → P name → ((o : List ℕ) → o ≢ name → P o) → (o : List ℕ) → P o
 by_name name P own others o = by_test name o P (pointwise nat_eq o name) refl own others
 
 -- the tables of a name whose disk is off the shelf

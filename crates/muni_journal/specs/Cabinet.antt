@@ -1,20 +1,25 @@
 -- The disks of a cabinet of journals: what came back to the shelf, and what has failed.
 use Rattle.std.specs.Prelude.{◌≡◌, ◌⊎◌, ℕ, List, Option, Some, None, IfSome, IsSomeAnd}
 use Rattle.muni_edge.specs.Faults.{Rose}
-use Rattle.muni_keep.specs.Tables.{Tables}
-use Rattle.muni_journal_disk.specs.Frames.{KeepsOthers}
+use Rattle.muni_journal_disk.specs.Frames.{KeepsMoments, KeepsOthers}
 use Rattle.muni_journal_disk.specs.declared.disk.Disk as disk
 use Rattle.muni_journal_disk.specs.declared.shelf.Shelf as shelf
-use Rattle.muni_journal.specs.Journal.{IsNoJournal}
+use Rattle.muni_journal.specs.Journal.{IsNoJournal, tables_of}
+use Rattle.muni_journal.specs.Stops.{StandsFor}
 use Rattle.muni_journal.specs.Told.{told_of}
 use Rattle.muni_journal.specs.declared.cabinet.Held.{Held}
+use Rattle.muni_journal.specs.declared.keeper.JournalKeeper.{JournalKeeper}
 
--- The disk of a name is back on its shelf, and stands there for the tables that were told for it. The tables
--- of the other names stay.
-pub record IsBack {S D : Type 0} (of : shelf.Ghosts S D) (name : List ℕ) (tables : Tables) (old new : S) : Type 0 where
+-- The disk of a keeper is back on its shelf, and stands there for the tables of the keeper, which were told for
+-- its name. Those of the other names stay.
+pub record IsBack {S D : Type 0} (of : shelf.Ghosts S D) (lends : disk.Ghosts D) (name : List ℕ) (keeper : JournalKeeper D lends) (old new : S) : Type 0 where
   pub none_out : of.out new ≡ None
-  pub told : (other : List ℕ) → told_of None (of.told new) other ≡ told_of (Some (name, tables)) (of.told old) other
+  pub told : (other : List ℕ) → told_of None (of.told new) other ≡ told_of (Some (name, keeper.kept)) (of.told old) other
   pub others : KeepsOthers of.told of.disk_faults name old new
+  pub moments : KeepsMoments of.clock of.since name old new
+  -- no stop now leaves anything else, and none since the call began anything but the put in doubt
+  pub stands : (c : List ℕ) → of.since new name (of.clock new name) c → tables_of c ≡ Some keeper.kept
+  pub stops : (c : List ℕ) → of.since new name (lends.clock keeper.disk) c → StandsFor keeper.kept keeper.in_doubt None c
 
 -- the disk of a keeper has failed that was held before and is held after
 abbrev pub HeldFailed : {D : Type 0} → (of : disk.Ghosts D) → Option (Held D of) → Option (Held D of) → Type 0

@@ -1,9 +1,11 @@
 pub mod Cabinet
 pub mod Journal
 pub mod Keeper
+pub mod Laws
 pub mod Opened
 pub mod Piece
 pub mod Puts
 pub mod Reading
 pub mod Stops
 pub mod Told
+pub mod Whereabouts

@@ -7,5 +7,5 @@ use Rattle.muni_journal.specs.Journal.{piece_of}
 pub record IsPieceOf (put : Put) (piece : List ℕ) : Type 0 where
   pub is : piece ≡ piece_of put
   pub size : length piece ≡ 5 + length (body_of put)
-  pub body : (1 ≤ length (body_of put)) × (length (body_of put) ≤ 410)
+  pub body : (1 ≤ length (body_of put)) × (length (body_of put) ≤ 1_024)
   pub fits : PutFits put

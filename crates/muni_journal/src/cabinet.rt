@@ -1,6 +1,7 @@
 //! The cabinet that lends keepers over the journals of a shelf.
 
-ghost use Rattle.std.specs.Prelude.{◌≡◌, ◌≢◌, ◌≤◌, ◌⊎◌, Some, None, is_some, IfErr, OnOk, OnErr};
+ghost use Rattle.std.specs.Prelude.{◌≡◌, ◌≢◌, ◌≤◌, ◌⊎◌, ℕ, List, Some, None, is_some, IfSome, IfNone, IsSomeAnd, IfOk, IfErr, OnOk, OnErr};
+ghost use Rattle.muni_edge.specs.Calls.{raised};
 ghost use Rattle.std.specs.Option.{option_map, ForSome};
 ghost use Rattle.muni_edge.specs.Faults.{Rose};
 ghost use Rattle.muni_keep.specs.Cabinet.{Fetches};
@@ -54,7 +55,7 @@ fn release<S: Shelf>(shelf: &mut S, held: Held<S::D>) -> Result<(), Unreleased<S
     requires out { S.out shelf.old ≡ Some held.name.items }
     requires alike { is_some (S.told shelf.old held.name.items) ≡ is_some (S.D.bytes held.keeper.disk) }
 
-    ensures back { OnOk result (IsBack S.Shelf held.name.items held.keeper.kept shelf.old shelf.new) }
+    ensures back { OnOk result (IsBack S.Shelf S.D.Disk held.name.items held.keeper shelf.old shelf.new) }
     ensures unchanged { OnErr result (shelf.new ≡ shelf.old) }
     ensures name { IfErr result (λ unreleased. unreleased.held.name.items ≡ held.name.items) }
     ensures refused { IfErr result (λ unreleased.
@@ -93,6 +94,8 @@ impl<S: Shelf> JournalCabinet<S> {
         }
     }
 
+    ghost use Rattle.muni_journal.specs.Whereabouts.{LendsAsItStands};
+
     /// Lends the keeper over the journal of a name. No keeper may be out or held.
     fn lend(&mut self, name: Vec<u8>) -> Result<JournalKeeper<S::D>, KeepFault>
         requires none_out { self.old.out ≡ None }
@@ -100,6 +103,8 @@ impl<S: Shelf> JournalCabinet<S> {
 
         ensures fetched { Fetches ⟦<JournalCabinet<S> as Cabinet>⟧ ⟦<JournalKeeper<S::D> as Keeper>⟧
             name.items result self.old self.new }
+        ensures settled { IfOk result (λ keeper. keeper.in_doubt ≡ None) }
+        ensures stands { LendsAsItStands S.Shelf S.D.Disk name.items result self.old.shelf self.new.shelf }
         ensures held { self.new.held ≡ None }
         ensures counted { self.new.faults ≢ self.old.faults
             → Rose (S.faults self.old.shelf) (S.faults self.new.shelf)
@@ -125,6 +130,7 @@ impl<S: Shelf> JournalCabinet<S> {
 
 /// What stands for no journal counts as a failure of the disk.
 fn disk_fault(fault: FetchFault) -> DiskFault
+    ensures failed { fault ≡ FetchFault.NotAJournal → result ≡ DiskFault.Failed }
     ensures cause { result ≡ DiskFault.Failed
         → (fault ≡ FetchFault.Disk DiskFault.Failed) ⊎ (fault ≡ FetchFault.NotAJournal) }
 {
@@ -137,6 +143,7 @@ fn disk_fault(fault: FetchFault) -> DiskFault
 impl<S: Shelf> Cabinet for JournalCabinet<S> {
     ghost use Rattle.std.specs.Option.{option_map};
     ghost use Rattle.muni_journal.specs.Told.{off_shelf, told_of, lent_as_of};
+    ghost use Rattle.muni_journal.specs.Whereabouts.{FetchesAsItStands, GivesBackAsItStands};
 
     type K = JournalKeeper<S::D>;
 
@@ -151,6 +158,11 @@ impl<S: Shelf> Cabinet for JournalCabinet<S> {
 
         ensures fetched { Fetches ⟦<JournalCabinet<S> as Cabinet>⟧ ⟦<JournalKeeper<S::D> as Keeper>⟧
             name.now result self.old self.new }
+
+        // No put is in doubt but that of a keeper that was held. A stop leaves what it might have left before.
+        ensures settled { IfNone self.old.held (IfOk result (λ keeper. keeper.in_doubt ≡ None)) }
+        ensures stands { FetchesAsItStands S.Shelf S.D.Disk name.now result
+            self.old.held self.new.held self.old.shelf self.new.shelf }
 
         // It counts a fault only if its shelf failed, the disk of a held keeper did, or the disk of the
         // name failed or is no journal.
@@ -177,7 +189,25 @@ impl<S: Shelf> Cabinet for JournalCabinet<S> {
         }
     }
 
-    fn give_back(&mut self, keeper: JournalKeeper<S::D>) {
+    fn give_back(&mut self, keeper: JournalKeeper<S::D>)
+        requires { IsSomeAnd (⟦<JournalCabinet<S> as Cabinet>⟧.out self.old)
+            (λ lent. lent.1 ≡ lent_as_of (S.D.bytes keeper.disk)) }
+
+        ensures tables { IfSome (⟦<JournalCabinet<S> as Cabinet>⟧.out self.old)
+            (λ lent. IfSome (⟦<JournalCabinet<S> as Cabinet>⟧.told self.old lent.0)
+            (λ _. ⟦<JournalCabinet<S> as Cabinet>⟧.told self.new lent.0 ≡ Some keeper.kept)) }
+        ensures tells { (other : List ℕ) → is_some (⟦<JournalCabinet<S> as Cabinet>⟧.told self.new other)
+            ≡ is_some (⟦<JournalCabinet<S> as Cabinet>⟧.told self.old other) }
+        ensures others { IfSome (⟦<JournalCabinet<S> as Cabinet>⟧.out self.old) (λ lent. (other : List ℕ)
+            → other ≢ lent.0 → ⟦<JournalCabinet<S> as Cabinet>⟧.told self.new other
+            ≡ ⟦<JournalCabinet<S> as Cabinet>⟧.told self.old other) }
+        ensures none_out { self.new.out ≡ None }
+        ensures counted { self.new.faults ≡ raised self.old.faults keeper.faults }
+
+        // A stop leaves what stands for the tables of the keeper, or for them after the put in doubt.
+        ensures stands { IfSome self.old.out (λ name. GivesBackAsItStands S.Shelf S.D.Disk
+            name.items keeper self.new.held self.old.shelf self.new.shelf) }
+    {
         self.faults.add(&keeper.faults);
         let Some(name) = self.out.take() else {
             return;

@@ -1,10 +1,10 @@
 //! Reads a journal.
 
-ghost use Rattle.std.specs.Prelude.{◌≡◌, ◌==◌, ◌<◌, ◌≤◌, ◌+◌, ◌^◌, ◌≢◌, Err, Some, None, IfOk, IfErr};
+ghost use Rattle.std.specs.Prelude.{◌≡◌, ◌==◌, ◌<◌, ◌≤◌, ◌+◌, ◌^◌, ◌≢◌, Err, Some, None, length, IfOk, IfErr, OnOk};
 ghost use Rattle.muni_keep.specs.Tables.{no_tables};
 ghost use Rattle.muni_journal_disk.specs.Bytes.{byte_at, bytes_at};
 ghost use Rattle.muni_journal_disk.specs.Calls.{KeepsBytes};
-ghost use Rattle.muni_journal_disk.specs.Disk.{Found, IfRead};
+ghost use Rattle.muni_journal_disk.specs.Disk.{Found, IfRead, StopsLeave};
 ghost use Rattle.muni_journal_record.specs.Body.{put_of as spec_put_of};
 ghost use Rattle.muni_journal.specs.Journal as spec;
 
@@ -28,14 +28,26 @@ pub enum FetchFault {
     NotAJournal,
 }
 
+/// Fills a room with the bytes at a place, in which no image comes.
+fn fill<D: Disk>(disk: &mut D, place: u64, room: &mut [u8]) -> Result<(), DiskFault>
+    requires { place + length room.old < 2 ^ 41 }
+    ensures filled { OnOk result (IfRead (D.bytes disk.old)
+        (λ c. room.new ≡ bytes_at c place (length room.old))) }
+    ensures keeps { KeepsBytes D.Disk DiskFault.Failed result disk.old disk.new }
+    ensures stops { StopsLeave D.clock D.since disk.old disk.new (D.image disk.old) }
+{
+    disk.read(place, room)
+}
+
 /// Whether the gate at a place is open.
 fn is_open<D: Disk>(disk: &mut D, place: u64) -> Result<bool, DiskFault>
     requires { place + 1 < 2 ^ 41 }
     ensures gate { Found (D.bytes disk.old) result (λ c. byte_at c place == 1) }
     ensures keeps { KeepsBytes D.Disk DiskFault.Failed result disk.old disk.new }
+    ensures stops { StopsLeave D.clock D.since disk.old disk.new (D.image disk.old) }
 {
     let mut room = [0];
-    disk.read(place, &mut room)?;
+    fill(disk, place, &mut room)?;
     Ok(room[0] == 1)
 }
 
@@ -45,9 +57,10 @@ fn number_at<D: Disk>(disk: &mut D, place: u64) -> Result<u32, DiskFault>
     requires { place + 4 < 2 ^ 41 }
     ensures number { Found (D.bytes disk.old) result (λ c. spec.number_at c place) }
     ensures keeps { KeepsBytes D.Disk DiskFault.Failed result disk.old disk.new }
+    ensures stops { StopsLeave D.clock D.since disk.old disk.new (D.image disk.old) }
 {
     let mut room = [0; 4];
-    disk.read(place, &mut room)?;
+    fill(disk, place, &mut room)?;
     Ok(u32::from_be_bytes(room))
 }
 
@@ -57,9 +70,10 @@ fn body_at<D: Disk>(disk: &mut D, place: u64, count: usize) -> Result<Option<Put
     requires length { count ≤ 1_024 }
     ensures put { Found (D.bytes disk.old) result (λ c. spec_put_of (bytes_at c place count)) }
     ensures keeps { KeepsBytes D.Disk DiskFault.Failed result disk.old disk.new }
+    ensures stops { StopsLeave D.clock D.since disk.old disk.new (D.image disk.old) }
 {
     let mut room = [0; 1024];
-    disk.read(place, &mut room[..count])?;
+    fill(disk, place, &mut room[..count])?;
     Ok(put_of(&room[..count]))
 }
 
@@ -74,6 +88,7 @@ fn next_gate<D: Disk>(disk: &mut D, gate: u64, kept: &mut MemTables) -> Result<u
     ensures none { result ≡ Err FetchFault.NotAJournal → IfRead (D.bytes disk.old)
         (λ c. spec.behind_slot c (record { gate = gate; tables = kept.old }) ≡ None) }
     ensures keeps { KeepsBytes D.Disk (FetchFault.Disk DiskFault.Failed) result disk.old disk.new }
+    ensures stops { StopsLeave D.clock D.since disk.old disk.new (D.image disk.old) }
 {
     let place = gate + 1;
     let count = match number_at(disk, place) {
@@ -102,6 +117,7 @@ fn open_at<D: Disk>(disk: &mut D, place: u64) -> Result<bool, FetchFault>
     ensures gate { Found (D.bytes disk.old) result (λ c. byte_at c place == 1) }
     ensures disk { IfErr result (λ fault. fault ≢ FetchFault.NotAJournal) }
     ensures keeps { KeepsBytes D.Disk (FetchFault.Disk DiskFault.Failed) result disk.old disk.new }
+    ensures stops { StopsLeave D.clock D.since disk.old disk.new (D.image disk.old) }
 {
     match is_open(disk, place) {
         Ok(opened) => Ok(opened),
@@ -118,6 +134,7 @@ pub(crate) fn read_slots<D: Disk>(disk: &mut D, kept: &mut MemTables) -> Result<
     // It is no journal only where the disk stands for no tables, or its slots end past the limit.
     ensures none { result ≡ Err FetchFault.NotAJournal → IfRead (D.bytes disk.old) spec.IsNoJournal }
     ensures keeps { KeepsBytes D.Disk (FetchFault.Disk DiskFault.Failed) result disk.old disk.new }
+    ensures stops { StopsLeave D.clock D.since disk.old disk.new (D.image disk.old) }
 {
     let mut gate = 0;
     'slots: while open_at(disk, gate)? {

@@ -1,6 +1,6 @@
 //! The keeper over a journal.
 
-ghost use Rattle.std.specs.Prelude.{◌≡◌, ◌≤◌, ◌+◌, ◌^◌, Some, None, Ok, true, List, ℕ, length, OnOk, OnErr};
+ghost use Rattle.std.specs.Prelude.{◌≡◌, ◌≤◌, ◌+◌, ◌^◌, Some, None, Ok, true, List, ℕ, length, IsSome, OnOk, OnErr};
 ghost use Rattle.std.specs.Option.{ForSome, ForNone};
 ghost use Rattle.std.specs.Result.{result_map_both};
 ghost use Rattle.muni_keep.specs.History.{next_number};
@@ -44,7 +44,7 @@ pub struct JournalKeeper<D: Disk> {
 }
 
 impl<D: Disk> JournalKeeper<D> {
-    ghost use Rattle.muni_journal.specs.Keeper.{EditsJournal};
+    ghost use Rattle.muni_journal.specs.Keeper.{EditsJournal, SettlesDoubt};
 
     /// Takes back a put that is in doubt.
     pub(crate) fn settle(&mut self) -> Result<(), DiskFault>
@@ -53,6 +53,7 @@ impl<D: Disk> JournalKeeper<D> {
         ensures faults { self.new.faults ≡ self.old.faults }
         ensures settled { OnOk result (self.new.in_doubt ≡ None) }
         ensures kept { OnErr result (self.new.in_doubt ≡ self.old.in_doubt) }
+        ensures doubted { OnErr result (IsSome self.old.in_doubt) }
         ensures stops { StopsLeave D.clock D.since self.old.disk self.new.disk
             (StandsFor self.old.kept self.old.in_doubt None) }
         ensures same { SameDisk D.Disk DiskFault.Failed result self.old.disk self.new.disk }
@@ -75,6 +76,7 @@ impl<D: Disk> JournalKeeper<D> {
         ensures put { OnOk result (self.new.kept ≡ after self.old.kept put.now) }
         ensures unchanged { OnErr result (self.new.kept ≡ self.old.kept) }
         ensures faults { self.new.faults ≡ self.old.faults }
+        ensures doubt { SettlesDoubt D.Disk put.now result self.old self.new }
         ensures stops { StopsLeave D.clock D.since self.old.disk self.new.disk
             (StandsFor self.old.kept None (Some put.now)) }
         ensures same { SameDisk D.Disk DiskFault.Failed result self.old.disk self.new.disk }

@@ -7,6 +7,7 @@ mod faults;
 mod fetching;
 mod keeper;
 mod kept;
+pub mod laws;
 mod opening;
 mod piece;
 

@@ -1,11 +1,12 @@
 //! Opens a journal.
 
-ghost use Rattle.std.specs.Prelude.{◌≡◌, List, ℕ, None, is_some, IfOk, IfErr};
+ghost use Rattle.std.specs.Prelude.{◌≡◌, List, ℕ, Some, None, is_some, IfOk, IfErr};
 ghost use Rattle.muni_edge.specs.Faults.{Rose};
-ghost use Rattle.muni_journal_disk.specs.Disk.{IfRead};
-ghost use Rattle.muni_journal.specs.Journal.{IsNoJournal, HasTables};
+ghost use Rattle.muni_journal_disk.specs.Disk.{IfRead, StopsLeave};
+ghost use Rattle.muni_journal.specs.Journal.{IsNoJournal, HasTables, tables_of};
 ghost use Rattle.muni_journal.specs.Keeper.{IsUnsettled};
 ghost use Rattle.muni_journal.specs.Opened.{left};
+ghost use Rattle.muni_journal.specs.Stops.{StandsFor};
 
 use crate::fetching::{FetchFault, read_slots};
 use crate::keeper::JournalKeeper;
@@ -40,9 +41,10 @@ pub fn open<D: Disk + Drop>(alloc: Global, disk: D) -> Result<JournalKeeper<D>, 
     ensures failed { IfErr result (λ unfetched. unfetched.fault ≡ FetchFault.Disk DiskFault.Failed
         → Rose (D.faults disk) (D.faults unfetched.disk)) }
 
-    // What the disk reads as stays, and no image comes.
+    // What the disk reads as stays, and no image comes, nor does one within the call.
     ensures bytes { D.bytes (left result) ≡ D.bytes disk }
     ensures images { (c : List ℕ) → D.image (left result) c → D.image disk c }
+    ensures stops { StopsLeave D.clock D.since disk (left result) (D.image disk) }
 {
     let mut disk = disk;
     let mut kept = MemTables::new(alloc);
@@ -77,6 +79,10 @@ impl<D: Disk> JournalKeeper<D> {
     /// taken back.
     pub(crate) fn into_disk(self) -> Result<D, Unsettled<D>>
         ensures stands { IfOk result (λ disk. HasTables (D.bytes disk) self.kept) }
+        ensures images { IfOk result
+            (λ disk. (c : List ℕ) → D.image disk c → tables_of c ≡ Some self.kept) }
+        ensures stops { IfOk result (λ disk. StopsLeave D.clock D.since self.disk disk
+            (StandsFor self.kept self.in_doubt None)) }
         ensures tells { IfOk result (λ disk. is_some (D.bytes disk) ≡ is_some (D.bytes self.disk)) }
         ensures refused { IfErr result
             (λ unsettled. IsUnsettled D.Disk unsettled.fault self unsettled.keeper) }

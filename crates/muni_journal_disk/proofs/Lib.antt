@@ -1,4 +1,5 @@
 pub mod Elapsed
+pub mod MadeLemmas
 pub mod Patches
 pub mod Pieces
 pub mod PlaceLemmas

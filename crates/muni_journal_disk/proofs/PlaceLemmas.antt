@@ -1,11 +1,15 @@
 -- A place more on a shelf in memory.
-use Rattle.std.proofs.Common.{◌≡◌, ◌≢◌, ◌∙◌, sym, ap, refl, length, take, drop, Bool, true, false, ℕ, Option, None, List, [], ◌∷◌, ◌++◌, if◌then◌else◌, ◌||◌, nat_eq}
+use Rattle.std.proofs.Common.{◌≡◌, ◌≢◌, ◌∙◌, sym, ap, subst, refl, length, take, drop, Bool, true, false, ℕ, Option, Some, None, List, [], ◌∷◌, ◌++◌, if◌then◌else◌, ◌||◌, nat_eq}
+use Rattle.std.specs.Option.{unwrap_or}
 use Rattle.std.specs.Cmp.Lexicographic.{pointwise, same_text}
 use Rattle.std.proofs.Math.Seq.{take-append_seam}
 use Rattle.std.proofs.lemmas.Cmp.{nat_list_eq_equiv}
 use Rattle.muni_journal_disk.specs.declared.mem_disk.MemDisk.{MemDisk}
+use Rattle.muni_journal_disk.specs.declared.past.MadeCall.{MadeCall}
 use Rattle.muni_journal_disk.specs.declared.mem_shelf.Place.{Place}
-use Rattle.muni_journal_disk.specs.Places.{has_place, disk_under}
+use Rattle.muni_journal_disk.specs.Frames.{IsMoved}
+use Rattle.muni_journal_disk.specs.Moments.{WasImage}
+use Rattle.muni_journal_disk.specs.Places.{has_place, disk_under, clock_of, since_of}
 
 or_true : (b : Bool) → b || true ≡ true
 or_true true = refl
@@ -33,3 +37,19 @@ others_have (p ∷ places) place o differs = if_same (pointwise nat_eq p.name.it
 pub one_more : (len : ℕ) (old there new : List Place) (place : Place) → new ≡ take len (there ++ drop (length there) old) ++ place ∷ [] → there ≡ old → len ≡ length old → new ≡ old ++ place ∷ []
 one_more len old there new place is same long =
     is ∙ ap (λ l. l ++ place ∷ []) (ap (λ n. take n (there ++ drop (length there) old)) (long ∙ ap length (sym same)) ∙ (take-append_seam there _ ∙ same))
+
+-- a disk goes to its place
+pub goes_there : (there : Option MemDisk) (disk : MemDisk) → there ≡ Some disk → IsMoved (length disk.past.items) (clock_of there) (WasImage disk.first.items disk.past.items) (since_of there)
+goes_there there disk is = subst (λ (o : Option MemDisk). IsMoved (length disk.past.items) (clock_of o) (WasImage disk.first.items disk.past.items) (since_of o)) (sym is) (record { clock = refl; same = λ t c left. left })
+
+-- a disk comes out of its place, or is new
+pub comes_out : (there : Option MemDisk) (new disk : MemDisk) → new.first.items ≡ [] → new.past.items ≡ [] → disk ≡ unwrap_or there new → IsMoved (clock_of there) (length disk.past.items) (since_of there) (WasImage disk.first.items disk.past.items)
+comes_out (Some d) new disk first past is = subst (λ (x : MemDisk). IsMoved (length d.past.items) (length x.past.items) (WasImage d.first.items d.past.items) (WasImage x.first.items x.past.items)) (sym is) (record { clock = refl; same = λ t c left. left })
+comes_out None new disk first past is = record {
+  clock = ap (λ (x : MemDisk). length x.past.items) is ∙ ap length past;
+  same = λ t c left. subst (λ (p : List MadeCall). WasImage [] p t c) past (subst (λ (f : List ℕ). WasImage f new.past.items t c) first (subst (λ (x : MemDisk). WasImage x.first.items x.past.items t c) is left));
+}
+
+-- nothing happens to a disk that stays
+pub stays_there : (now was : Option MemDisk) → now ≡ was → IsMoved (clock_of was) (clock_of now) (since_of was) (since_of now)
+stays_there now was is = subst (λ (o : Option MemDisk). IsMoved (clock_of was) (clock_of o) (since_of was) (since_of o)) (sym is) (record { clock = refl; same = λ t c left. left })

@@ -23,3 +23,17 @@ module _ {D : Type 0} (clock : D → ℕ) (since : D → ℕ → List ℕ → Ty
     each = λ c left. ⊎_elim (first.each c) (λ so. so) (second.before (clock old) c first.later left);
     before = λ t c le left. ⊎_elim (first.before t c le) inr (second.before t c (omega (arith, le, first.later)) left);
   }
+
+  -- one call in which no image comes
+  pub one_call : (image : D → List ℕ → Type 0) (old new : D) → ((c : List ℕ) → since old (clock old) c → image old c) → GoesBy (clock old) (clock new) (since old) (since new) (image new)
+      → ((c : List ℕ) → image new c → image old c) → StopsLeave clock since old new (image old)
+  one_call image old new now time fewer = goes_on old old new (image old) (image new) (started old (image old) now) time fewer
+
+  -- and a run of calls behind another
+  pub no_image : (image : D → List ℕ → Type 0) (old mid new : D) → StopsLeave clock since old mid (image old) → ((c : List ℕ) → image mid c → image old c) → StopsLeave clock since mid new (image mid)
+      → StopsLeave clock since old new (image old)
+  no_image image old mid new first fewer second = joins old mid new (image old) first (record {
+    later = second.later;
+    each = λ c left. fewer c (second.each c left);
+    before = λ t c le left. ⊎_elim inl (λ is. inr (fewer c is)) (second.before t c le left);
+  })

@@ -1,17 +1,15 @@
 -- What is remembered of a disk agrees with its images.
-use Rattle.std.proofs.Common.{◌≡◌, inl, inr, ⊎_elim, ℕ, zero, suc, ◌+◌, ◌-◌, ◌<◌, ◌||◌, Bool, true, false, cond, Some, Vec, Global, List, [], ◌∷◌, length, drop, refl, sym, ◌∙◌, ap, subst, arith}
+use Rattle.std.proofs.Common.{◌≡◌, inl, inr, ℕ, zero, suc, ◌+◌, ◌-◌, ◌<◌, ◌||◌, Bool, true, false, cond, Some, Vec, Global, List, [], ◌∷◌, length, drop, refl, sym, ◌∙◌, ap, subst, arith}
 use Rattle.std.specs.Prelude.{slice_get}
 use Rattle.std.proofs.lemmas.Bool.{cases_lt}
 use Rattle.std.proofs.lemmas.Bool.Decides.{nat_tests}
 use Rattle.muni_journal_disk.specs.Bytes.{byte_at, IsSameOutside}
-use Rattle.muni_journal_disk.specs.Disk.{GoesBy}
 use Rattle.muni_journal_disk.specs.declared.past.Piece.{Piece}
 use Rattle.muni_journal_disk.specs.declared.past.Step.{Step}
 use Rattle.muni_journal_disk.specs.declared.past.Step.TheVariants.{Read, Write, Synced, Unsynced}
 use Rattle.muni_journal_disk.specs.declared.past.MadeCall.{MadeCall}
 use Rattle.muni_journal_disk.specs.Past.{is_in, unsure_after, is_unsure, synced_after, synced_bytes, IsImage, IsStopped}
 use Rattle.muni_journal_disk.specs.Moments.{WasImage}
-use Rattle.muni_journal_disk.proofs.Elapsed.{elapses}
 
 -- what the disk read as before a call was an image then
 abbrev pub IsTrue : List ℕ → List MadeCall → Type 0
@@ -99,11 +97,3 @@ pub sure_synced : (b : Bool) (first bytes : List ℕ) (past later : List MadeCal
     → Sure first bytes past → Sure first bytes later
 sure_synced true first bytes past later before is copied sure = subst (λ (l : List MadeCall). Sure first bytes l) (sym is) (λ i h. ap (λ (x : List ℕ). byte_at x i) (sym copied))
 sure_synced false first bytes past later before is copied sure = subst (λ (l : List MadeCall). Sure first bytes l) (sym is) sure
-
-pub elapses_either : (b : Bool) (first : List ℕ) (past later : List MadeCall) (call : MadeCall) → later ≡ cond b (call ∷ past) past
-    → GoesBy (length past) (length later) (WasImage first past) (WasImage first later) (IsImage first later)
-elapses_either true first past later call is = elapses first past later call is
-elapses_either false first past later call is = subst (λ (l : List MadeCall). GoesBy (length past) (length l) (WasImage first past) (WasImage first l) (IsImage first l)) (sym is) (record {
-  later = omega arith;
-  told = λ t c le. ((λ was. inl was), (λ either. ⊎_elim (λ was. was) (λ now. record { back = 0; since = omega (arith, le); was = now }) either));
-})

@@ -26,3 +26,12 @@ pub record KeepsOthers {S : Type 0} (told_of : S → List ℕ → Option (List �
   pub tells : (other : List ℕ) → is_some (told_of new other) ≡ is_some (told_of old other)
   pub others : (other : List ℕ) → other ≢ name → told_of new other ≡ told_of old other
   pub faults : (other : List ℕ) → other ≢ name → disk_faults_of new other ≡ disk_faults_of old other
+
+-- A disk comes off a shelf, or goes back: nothing happens to it meanwhile.
+pub record IsMoved (before now : ℕ) (past since : ℕ → List ℕ → Type 0) : Type 0 where
+  pub clock : now ≡ before
+  pub same : (t : ℕ) (c : List ℕ) → since t c → past t c
+
+-- Nothing happens to the disks of the other names.
+pub record KeepsMoments {S : Type 0} (clock_of : S → List ℕ → ℕ) (since_of : S → List ℕ → ℕ → List ℕ → Type 0) (name : List ℕ) (old new : S) : Type 0 where
+  pub others : (other : List ℕ) → other ≢ name → IsMoved (clock_of old other) (clock_of new other) (since_of old other) (since_of new other)

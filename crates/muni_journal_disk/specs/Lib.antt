@@ -5,3 +5,5 @@ pub mod Calls
 pub mod Past
 pub mod Moments
 pub mod Places
+pub mod MemDisk
+pub mod Takes

@@ -1,5 +1,5 @@
 -- The calls of a disk in memory, the latest first.
-use Rattle.std.specs.Prelude.{◌≡◌, ℕ, ◌+◌, ◌-◌, ◌&&◌, ◌||◌, nat_le, nat_lt, min, Bool, false, List, [], ◌∷◌, take, length, Option, slice_get}
+use Rattle.std.specs.Prelude.{◌≡◌, ℕ, ◌+◌, ◌-◌, ◌&&◌, ◌||◌, nat_le, nat_lt, min, Bool, false, if◌then◌else◌, List, [], ◌∷◌, take, length, Option, slice_get}
 use Rattle.muni_journal_disk.specs.Bytes.{byte_at, StandsAt, IsSameOutside}
 use Rattle.muni_journal_disk.specs.declared.past.Piece.{Piece}
 use Rattle.muni_journal_disk.specs.declared.past.Step.{Step}
@@ -53,3 +53,16 @@ IsStopped before kept bytes Unsynced = bytes ≡ before
 -- the call with a number; the first has 0
 abbrev pub call_of : List MadeCall → ℕ → Option MadeCall
 call_of past number = slice_get past (length past - 1 - number)
+
+-- a call was to read, to write a piece at a place, or to sync, which succeeded or failed
+abbrev pub IsRead : Step → Type 0
+IsRead step = step ≡ Read
+
+pub record IsWrite (place : ℕ) (bytes : List ℕ) (step : Step) : Type 0 where
+  pub piece : Piece
+  pub is : step ≡ Write piece
+  pub at : piece.place ≡ place
+  pub holds : piece.bytes.items ≡ bytes
+
+abbrev pub IsSync : Bool → Step → Type 0
+IsSync fails step = step ≡ (if fails then Unsynced else Synced)

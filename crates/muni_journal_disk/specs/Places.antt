@@ -1,7 +1,8 @@
 -- The disks of a shelf in memory, by their names.
-use Rattle.std.specs.Prelude.{ℕ, nat_eq, Bool, List, [], ◌∷◌, Option, Some, None, if◌then◌else◌}
+use Rattle.std.specs.Prelude.{ℕ, nat_eq, Bool, List, [], ◌∷◌, length, Option, Some, None, if◌then◌else◌}
 use Rattle.std.specs.List.{list_any}
 use Rattle.std.specs.Cmp.Lexicographic.{pointwise}
+use Rattle.muni_journal_disk.specs.Moments.{WasImage}
 use Rattle.muni_journal_disk.specs.declared.mem_disk.MemDisk.{MemDisk}
 use Rattle.muni_journal_disk.specs.declared.mem_shelf.Place.{Place}
 
@@ -24,3 +25,12 @@ bytes_of (Some disk) = disk.bytes.items
 abbrev pub faults_of : Option MemDisk → ℕ
 faults_of None = 0
 faults_of (Some disk) = disk.faults
+
+-- its moment, and what a stop since an earlier one may have left
+abbrev pub clock_of : Option MemDisk → ℕ
+clock_of None = 0
+clock_of (Some disk) = length disk.past.items
+
+abbrev pub since_of : Option MemDisk → ℕ → List ℕ → Type 0
+since_of None = WasImage [] []
+since_of (Some disk) = WasImage disk.first.items disk.past.items

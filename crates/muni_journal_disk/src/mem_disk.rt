@@ -1,9 +1,10 @@
 //! A disk in memory.
 
-ghost use Rattle.std.specs.Prelude.{◌≡◌, ◌≤◌, ◌+◌, ◌<◌, ℕ, Some, Err, [], drop, slice_get, IfSome, false, length, IfOk, OnErr};
-ghost use Rattle.muni_journal_disk.specs.Bytes.{byte_at};
+ghost use Rattle.std.specs.Prelude.{◌≡◌, ◌≤◌, ◌+◌, ◌<◌, ◌^◌, ℕ, List, Some, Err, [], drop, slice_get, IfSome, false, length, IfOk, OnOk, OnErr};
+ghost use Rattle.muni_journal_disk.specs.Bytes.{byte_at, bytes_at, StandsAt};
+ghost use Rattle.muni_journal_disk.specs.Disk.{ReadsAs, IfRead, IsTorn};
 ghost use Rattle.muni_journal_disk.specs.declared.past.MadeCall.{MadeCall};
-ghost use Rattle.muni_journal_disk.specs.Past.{is_unsure, synced_bytes, IsImage, call_of, IsStopped};
+ghost use Rattle.muni_journal_disk.specs.Past.{is_unsure, synced_bytes, IsImage, call_of, IsStopped, IsRead, IsWrite, IsSync};
 ghost use Rattle.muni_journal_disk.specs.Moments.{WasImage, at_present, is_present};
 
 use crate::bytes::{fill, overlaid};
@@ -49,7 +50,7 @@ fn stopped(alloc: Global, call: &MadeCall, kept: usize) -> Result<Vec<u8>, Alloc
 impl MemDisk {
     /// An empty disk.
     pub fn new(alloc: Global, failing: &[u64]) -> Result<MemDisk, DiskFault>
-        ensures empty { IfOk result (λ disk. disk.bytes.items ≡ []) }
+        ensures empty { IfOk result (λ disk. (disk.first.items ≡ []) × (disk.bytes.items ≡ [])) }
         ensures fresh { IfOk result (λ disk. disk.past.items ≡ []) }
         ensures failing { IfOk result (λ disk. disk.failing.items ≡ failing.now) }
         ensures uncounted { IfOk result (λ disk. disk.faults ≡ 0) }
@@ -118,13 +119,23 @@ impl MemDisk {
         };
         Ok(stopped(self.alloc, call, kept)?)
     }
+}
 
-    fn is_listed(&self) -> bool {
+impl MemDisk {
+    ghost use Rattle.muni_journal_disk.specs.MemDisk as spec;
+
+    /// Whether the next call is one of those that fail.
+    fn is_listed(&self) -> bool
+        ensures { result ≡ spec.is_listed self.now }
+    {
         self.failing.contains(&(self.past.len() as u64))
     }
 }
 
 impl Disk for MemDisk {
+    ghost use Rattle.muni_journal_disk.specs.Calls.{KeepsBytes, SameDisk, Elapses};
+    ghost use Rattle.muni_journal_disk.specs.MemDisk.{MakesCall};
+
     ghost bytes = { λ disk. Some disk.bytes.items };
 
     ghost image = { λ disk. IsImage disk.first.items disk.past.items };
@@ -139,7 +150,15 @@ impl Disk for MemDisk {
 
     ghost now = { λ disk c. at_present disk.first.items disk.past.items c };
 
-    fn read(&mut self, place: u64, room: &mut [u8]) -> Result<(), DiskFault> {
+    fn read(&mut self, place: u64, room: &mut [u8]) -> Result<(), DiskFault>
+        requires { place + length room.old < 2 ^ 41 }
+
+        ensures filled { OnOk result (IfRead (Some self.old.bytes.items)
+            (λ c. room.new ≡ bytes_at c place (length room.old))) }
+        ensures keeps { KeepsBytes ⟦<MemDisk as Disk>⟧ DiskFault.Failed result self.old self.new }
+        ensures time { Elapses ⟦<MemDisk as Disk>⟧ self.old self.new }
+        ensures called { MakesCall (λ _. IsRead) result self.old self.new }
+    {
         let listed = self.is_listed();
         let before = self.bytes.to_vec(self.alloc)?;
         let step = Step::Read;
@@ -151,7 +170,18 @@ impl Disk for MemDisk {
         Ok(())
     }
 
-    fn write(&mut self, place: u64, piece: &[u8]) -> Result<(), DiskFault> {
+    fn write(&mut self, place: u64, piece: &[u8]) -> Result<(), DiskFault>
+        requires { place + length piece.now < 2 ^ 41 }
+
+        ensures written { OnOk result (IfRead (Some self.new.bytes.items) (StandsAt place piece.now)) }
+        ensures outside { IsTorn place (length piece.now) (ReadsAs (Some self.old.bytes.items))
+            (ReadsAs (Some self.new.bytes.items)) }
+        ensures images { IsTorn place (length piece.now) (IsImage self.old.first.items self.old.past.items)
+            (IsImage self.new.first.items self.new.past.items) }
+        ensures same { SameDisk ⟦<MemDisk as Disk>⟧ DiskFault.Failed result self.old self.new }
+        ensures time { Elapses ⟦<MemDisk as Disk>⟧ self.old self.new }
+        ensures called { MakesCall (λ _. IsWrite place piece.now) result self.old self.new }
+    {
         let listed = self.is_listed();
         let before = self.bytes.to_vec(self.alloc)?;
         let next = overlaid(self.alloc, &self.bytes, place as usize, piece)?;
@@ -165,7 +195,13 @@ impl Disk for MemDisk {
         Ok(())
     }
 
-    fn sync(&mut self) -> Result<(), DiskFault> {
+    fn sync(&mut self) -> Result<(), DiskFault>
+        ensures only { OnOk result ((c : List ℕ)
+            → IsImage self.new.first.items self.new.past.items c → ReadsAs (Some self.old.bytes.items) c) }
+        ensures keeps { KeepsBytes ⟦<MemDisk as Disk>⟧ DiskFault.Failed result self.old self.new }
+        ensures time { Elapses ⟦<MemDisk as Disk>⟧ self.old self.new }
+        ensures called { MakesCall IsSync result self.old self.new }
+    {
         let listed = self.is_listed();
         let before = self.bytes.to_vec(self.alloc)?;
         if listed {
@@ -174,9 +210,7 @@ impl Disk for MemDisk {
             return Err(DiskFault::from(self.faults.fail()));
         }
         let step = Step::Synced;
-        match self.past.push_front(MadeCall { before, step }) {
-            Ok(()) => Ok(()),
-            Err(_) => Err(DiskFault::NoMemory),
-        }
+        self.past.push_front(MadeCall { before, step })?;
+        Ok(())
     }
 }

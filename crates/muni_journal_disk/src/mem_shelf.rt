@@ -1,10 +1,11 @@
 //! A shelf in memory.
 
-ghost use Rattle.std.specs.Prelude.{◌≡◌, ◌≢◌, ℕ, List, true, false, map, Some, None, Err, IfOk, OnOk, OnErr};
+ghost use Rattle.std.specs.Prelude.{◌≡◌, ◌≢◌, ◌↔◌, IsErrOf, ℕ, List, true, false, map, Some, None, Err, IfOk, OnOk, OnErr};
 ghost use Rattle.std.specs.Option.{ForSome};
 ghost use Rattle.muni_edge.specs.Calls.{none_made};
 ghost use Rattle.muni_journal_disk.specs.Places.{has_place, disk_under};
 
+use crate::disk::Disk;
 use crate::fault::DiskFault;
 use crate::mem_disk::MemDisk;
 use crate::shelf::Shelf;
@@ -105,8 +106,9 @@ impl MemShelf {
 
 impl Shelf for MemShelf {
     ghost use Rattle.std.specs.Option.{option_map};
-    ghost use Rattle.muni_edge.specs.Calls.{none_made};
-    ghost use Rattle.muni_journal_disk.specs.Places.{disk_under, bytes_of, faults_of};
+    ghost use Rattle.muni_edge.specs.Calls.{none_made, is_listed, after_call};
+    ghost use Rattle.muni_journal_disk.specs.Places.{disk_under, bytes_of, faults_of, clock_of, since_of};
+    ghost use Rattle.muni_journal_disk.specs.Takes.{Takes};
 
     type D = MemDisk;
 
@@ -114,11 +116,23 @@ impl Shelf for MemShelf {
 
     ghost disk_faults = { λ shelf name. faults_of (disk_under shelf.places.items name) };
 
+    ghost clock = { λ shelf name. clock_of (disk_under shelf.places.items name) };
+
+    ghost since = { λ shelf name. since_of (disk_under shelf.places.items name) };
+
     ghost out = { λ shelf. option_map (λ name. name.items) shelf.out };
 
     ghost faults = { λ shelf. shelf.calls.faults };
 
-    fn take(&mut self, name: &[u8]) -> Result<MemDisk, DiskFault> {
+    fn take(&mut self, name: &[u8]) -> Result<MemDisk, DiskFault>
+        requires { self.old.out ≡ None }
+
+        ensures taken { Takes ⟦<MemShelf as Shelf>⟧ ⟦<MemDisk as Disk>⟧ name.now result self.old self.new }
+
+        // It fails exactly at the listed calls.
+        ensures failed { IsErrOf result DiskFault.Failed ↔ (is_listed self.old.calls ≡ true) }
+        ensures counted { self.new.calls ≡ after_call self.old.calls }
+    {
         if self.calls.make().is_err() {
             return Err(DiskFault::Failed);
         }

@@ -2,7 +2,7 @@
 
 ghost use Rattle.std.specs.Prelude.{◌≡◌, ℕ, List, Option, Some, None, is_some, IfOk, IfSome, OnOk, OnErr};
 ghost use Rattle.muni_journal_disk.specs.Disk.{HasCause};
-ghost use Rattle.muni_journal_disk.specs.Frames.{KeepsOthers};
+ghost use Rattle.muni_journal_disk.specs.Frames.{IsMoved, KeepsMoments, KeepsOthers};
 
 use crate::disk::Disk;
 use crate::fault::DiskFault;
@@ -18,6 +18,12 @@ pub trait Shelf {
     /// How often the disk under a name has failed. It is told where the disk tells what it reads as.
     ghost disk_faults: { Self → List ℕ → ℕ };
 
+    /// The moment of the disk under a name, and what a stop at some moment since the one of a number may
+    /// have left of it.
+    ghost clock: { Self → List ℕ → ℕ };
+
+    ghost since: { Self → List ℕ → ℕ → List ℕ → Type 0 };
+
     /// The name of the disk that is out.
     ghost out: { Self → Option (List ℕ) };
 
@@ -31,12 +37,17 @@ pub trait Shelf {
         ensures disk { IfOk result (λ disk. Self.D.bytes disk ≡ told self.old name.now) }
         ensures disk_faults { IfOk result (λ disk. IfSome (told self.old name.now)
             (λ _. Self.D.faults disk ≡ disk_faults self.old name.now)) }
+        ensures moved { IfOk result (λ disk. IsMoved (clock self.old name.now) (Self.D.clock disk)
+            (since self.old name.now) (Self.D.since disk)) }
         ensures out { OnOk result (out self.new ≡ Some name.now) }
         ensures none_out { OnErr result (out self.new ≡ None) }
 
         // The disks of the other names stay as they are, and after a refusal those of all names.
         ensures others { KeepsOthers told disk_faults name.now self.old self.new }
+        ensures moments { KeepsMoments clock since name.now self.old self.new }
         ensures unchanged { OnErr result ((other : List ℕ) → told self.new other ≡ told self.old other) }
+        ensures unmoved { OnErr result ((other : List ℕ) → IsMoved (clock self.old other) (clock self.new other)
+            (since self.old other) (since self.new other)) }
         ensures cause { HasCause (faults self.old) (faults self.new) result };
 
     /// Takes back the disk that is out, under the name by which it was lent.
@@ -47,7 +58,10 @@ pub trait Shelf {
             → told self.new name.now ≡ Self.D.bytes disk }
         ensures disk_faults { IfSome (told self.old name.now)
             (λ _. disk_faults self.new name.now ≡ Self.D.faults disk) }
+        ensures moved { IsMoved (Self.D.clock disk) (clock self.new name.now)
+            (Self.D.since disk) (since self.new name.now) }
         ensures none_out { out self.new ≡ None }
         ensures others { KeepsOthers told disk_faults name.now self.old self.new }
+        ensures moments { KeepsMoments clock since name.now self.old self.new }
         ensures uncounted { faults self.new ≡ faults self.old };
 }

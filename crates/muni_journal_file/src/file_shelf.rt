@@ -87,6 +87,10 @@ impl<'a> Shelf for FileShelf<'a> {
 
     ghost disk_faults = { λ _ _. 0 };
 
+    ghost clock = { λ _ _. 0 };
+
+    ghost since = { λ _ _ _ _. ⊥ };
+
     ghost out = { λ shelf. option_map (λ name. name.items) shelf.out };
 
     ghost faults = { λ shelf. shelf.faults };

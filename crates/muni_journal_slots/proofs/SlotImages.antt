@@ -93,8 +93,7 @@ module _ (gate : ℕ) (image : List ℕ → Type 0) where
     each = λ c now.
         let from = kept.each c (is_image c (only c now)) in
         let place : gate ≡ gate + 0 = omega arith in
-        let zero_there : byte_at c gate ≡ 0 = ap (byte_at c) place ∙ (written c (only c now)).each 0 (omega arith) in
-        (from.0, from.1, record { others = from.2; is_closed = λ is_open. absurd (cc (is_open, zero_there)) });
+        (from.0, from.1, record { others = from.2; is_closed = ap (byte_at c) place ∙ (written c (only c now)).each 0 (omega arith) });
   }
 
 -- a run of calls, and the call behind it

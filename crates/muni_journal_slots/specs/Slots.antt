@@ -22,10 +22,10 @@ pub record IsPut (gate : ℕ) (piece old new : List ℕ) : Type 0 where
   pub is_open : byte_at new gate ≡ 1
   pub behind : StandsAt (gate + 1) piece new
 
--- nothing but the gate has changed, and the gate is closed
+-- nothing but the gate has changed, and the gate is closed by 0
 pub record IsTakenBack (gate : ℕ) (old new : List ℕ) : Type 0 where
   pub others : IsSameOutside gate 1 old new
-  pub is_closed : byte_at new gate ≢ 1
+  pub is_closed : byte_at new gate ≡ 0
 
 -- a fact of all images
 pub record AllImages (image IsSo : List ℕ → Type 0) : Type 0 where

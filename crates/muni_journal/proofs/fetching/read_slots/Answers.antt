@@ -2,6 +2,7 @@ use Rattle.std.proofs.Common.{ℕ, List, Option, refl, sym, ◌∙◌, subst, ar
 use Rattle.muni_keep.specs.Tables.{Tables}
 use Rattle.muni_journal_disk.specs.Bytes.{byte_at}
 use Rattle.muni_journal_disk.specs.Disk.{ReadsAs}
+use Rattle.muni_journal_disk.proofs.Runs.{started, no_image}
 use Rattle.muni_journal.specs.Journal.{Place}
 use Rattle.muni_journal.specs.Reading.{GoesOn}
 use Rattle.muni_journal.proofs.GoesOn.{at_start, one_on, at_end, no_journal, not_before, one_there, not_one}
@@ -12,6 +13,7 @@ slots-init g c = record {
   bytes = refl;
   images = λ f now. now;
   faults = omega arith;
+  stops = started g.D.Disk.clock g.D.Disk.since c.args.disk.now (g.D.Disk.image c.args.disk.now) (λ f left. (g.met.D.Disk.now c.args.disk.now f).0 left);
   room = omega arith;
   goes_on = λ f reads. subst (λ (t : Tables). GoesOn f (record { gate = 0; tables = t })) (sym c.requires) (at_start f);
 }
@@ -25,6 +27,11 @@ slots-preserved g c =
       bytes = c.next_gate.ensures.keeps.bytes ∙ c.open_at.ensures.keeps.bytes ∙ so_far.bytes;
       images = λ f now. so_far.images f (c.open_at.ensures.keeps.images f (c.next_gate.ensures.keeps.images f now));
       faults = omega (arith, so_far.faults, c.open_at.ensures.keeps.later, c.next_gate.ensures.keeps.later);
+      stops =
+          let D = g.D.Disk in
+          let old = c.args.disk.now in
+          let here = no_image D.clock D.since D.image old c.slots.disk c.open_at.new.disk so_far.stops so_far.images c.open_at.ensures.stops in
+          no_image D.clock D.since D.image old c.open_at.new.disk c.next_gate.new.disk here (λ f now. so_far.images f (c.open_at.ensures.keeps.images f now)) c.next_gate.ensures.stops;
       room = omega arith;
       goes_on = λ f reads.
           let here = subst (λ (o : Option (List ℕ)). ReadsAs o f) (sym so_far.bytes) reads in
@@ -57,3 +64,29 @@ returns-in-Err-clause-none g c none f reads e is =
     let there = subst (λ (o : Option (List ℕ)). ReadsAs o f) (sym c.open_at.ensures.keeps.bytes) here in
     let opened = one_there c.in_ok-open_at.field-0 (byte_at f c.slots.gate) (c.in_ok-open_at.ensures.gate f here) c.if-branch.true in
     absurd (no_journal f at e opened (c.next_gate.ensures.none (c.in-Err.is ∙ none) f there) (so_far.goes_on f reads) is)
+
+pub returns-clause-stops : goal.returns-clause-stops
+returns-clause-stops g c =
+    let D = g.D.Disk in
+    no_image D.clock D.since D.image c.args.disk.now c.slots.disk c.open_at.new.disk c.slots.invariant.stops c.slots.invariant.images c.open_at.ensures.stops
+
+pub returns-in_err-open_at-clause-stops : goal.returns-in_err-open_at-clause-stops
+returns-in_err-open_at-clause-stops g c =
+    let D = g.D.Disk in
+    no_image D.clock D.since D.image c.args.disk.now c.slots.disk c.open_at.new.disk c.slots.invariant.stops c.slots.invariant.images c.open_at.ensures.stops
+
+pub returns-then-next-gt-LIMIT-clause-stops : goal.returns-then-next-gt-LIMIT-clause-stops
+returns-then-next-gt-LIMIT-clause-stops g c =
+    let D = g.D.Disk in
+    let old = c.args.disk.now in
+    let so_far = c.slots.invariant in
+    let here = no_image D.clock D.since D.image old c.slots.disk c.open_at.new.disk so_far.stops so_far.images c.open_at.ensures.stops in
+    no_image D.clock D.since D.image old c.open_at.new.disk c.next_gate.new.disk here (λ f now. so_far.images f (c.open_at.ensures.keeps.images f now)) c.next_gate.ensures.stops
+
+pub returns-in-Err-clause-stops : goal.returns-in-Err-clause-stops
+returns-in-Err-clause-stops g c =
+    let D = g.D.Disk in
+    let old = c.args.disk.now in
+    let so_far = c.slots.invariant in
+    let here = no_image D.clock D.since D.image old c.slots.disk c.open_at.new.disk so_far.stops so_far.images c.open_at.ensures.stops in
+    no_image D.clock D.since D.image old c.open_at.new.disk c.next_gate.new.disk here (λ f now. so_far.images f (c.open_at.ensures.keeps.images f now)) c.next_gate.ensures.stops

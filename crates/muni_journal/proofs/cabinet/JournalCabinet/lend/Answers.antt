@@ -1,6 +1,8 @@
 use Rattle.std.proofs.Common.{◌≡◌, inr, sym, ap, ◌∙◌, is_some, rules, ℕ, List, None}
 use Rattle.muni_journal.specs.Told.{told_of}
 use Rattle.muni_journal.proofs.CauseLemmas.{shelf_cause}
+use Rattle.muni_journal_disk.specs.Frames.{IsMoved, KeepsMoments}
+use Rattle.muni_journal.proofs.StandLemmas.{off_the_shelf, on_the_shelf, two_moves}
 use Rattle.muni_journal.proofs.ToldLemmas.{all_same}
 use Rattle.muni_journal.proofs.cabinet.JournalCabinet.lend.Goals as goal
 
@@ -40,3 +42,38 @@ returns-in-Err-open-clause-counted g c differs =
     inr (shelf_cause (S.told old name) (S.told c.take.new.self name) (D.bytes disk) (S.disk_faults old name) (S.disk_faults c.put_back.new.self name) (D.faults disk) (D.faults unfetched.disk) unfetched.fault
     (rw named at c.in-Ok.ensures.disk) (c.take.ensures.others.tells name) (rw named at c.in-Ok.ensures.disk_faults) (rw back at c.put_back.ensures.disk_faults)
     c.in-Err-open.ensures.failed c.in-Err-open.ensures.none (c.disk_fault.ensures.cause (c.counted-in-Err-open.ensures.cause differs)))
+
+pub returns-in-Ok-open-clause-stands : goal.returns-in-Ok-open-clause-stands
+returns-in-Ok-open-clause-stands g c =
+    let S = g.S.Shelf in
+    let D = g.S.D.Disk in
+    let name = c.args.name.items in
+    let named : c.deref.result.now ≡ name = c.deref.ensures.value in
+    let disk = c.in-Ok.disk in
+    let moved : IsMoved (S.clock c.args.self.now.shelf name) (D.clock disk) (S.since c.args.self.now.shelf name) (D.since disk) = rw named at c.in-Ok.ensures.moved in
+    record {
+      lent = off_the_shelf S D c.args.self.now.shelf name disk c.in-Ok-open.keeper.disk (λ f now. (g.met.S.D.Disk.now disk f).1 now) moved c.in-Ok-open.ensures.stops;
+      unlent = tt;
+      others = rw named at c.take.ensures.moments;
+    }
+
+pub returns-in-Err-open-clause-stands : goal.returns-in-Err-open-clause-stands
+returns-in-Err-open-clause-stands g c =
+    let S = g.S.Shelf in
+    let D = g.S.D.Disk in
+    let name = c.args.name.items in
+    let named : c.deref.result.now ≡ name = c.deref.ensures.value in
+    let back : c.deref-in-Err-open.result.now ≡ name = c.deref-in-Err-open.ensures.value in
+    let disk = c.in-Ok.disk in
+    let old = c.args.self.now.shelf in
+    let new = c.put_back.new.self in
+    let left = c.in-Err-open.unfetched.disk in
+    let moved : IsMoved (S.clock old name) (D.clock disk) (S.since old name) (D.since disk) = rw named at c.in-Ok.ensures.moved in
+    let moved_back : IsMoved (D.clock left) (S.clock new name) (D.since left) (S.since new name) = rw back at c.put_back.ensures.moved in
+    let off : KeepsMoments S.clock S.since name old c.take.new.self = rw named at c.take.ensures.moments in
+    let on : KeepsMoments S.clock S.since name c.take.new.self new = rw back at c.put_back.ensures.moments in
+    record {
+      lent = tt;
+      unlent = on_the_shelf S D old new name disk left (λ f now. (g.met.S.D.Disk.now disk f).1 now) moved c.in-Err-open.ensures.stops moved_back;
+      others = two_moves S D name old c.take.new.self new off on;
+    }

@@ -3,6 +3,9 @@ use Rattle.muni_journal_disk.specs.Bytes.{IsSameOutside}
 use Rattle.muni_journal_disk.proofs.Elapsed.{elapses}
 use Rattle.std.proofs.Common.{ℕ, List, refl, subst, rules, length}
 use Rattle.muni_journal_disk.proofs.Patches.{torn}
+use Rattle.std.proofs.Common.{refl, sym, ◌∙◌}
+use Rattle.muni_journal_disk.proofs.MadeLemmas.{made, failed}
+use Rattle.muni_journal_disk.specs.Past.{IsWrite}
 use Rattle.muni_journal_disk.proofs.mem_disk.MemDiskDisk.write.Goals as goal
 
 pub returns-then-listed-clause-time : goal.returns-then-listed-clause-time
@@ -32,3 +35,25 @@ pub invariant_of-self-2-clause-sure : goal.invariant_of-self-2-clause-sure
 invariant_of-self-2-clause-sure c =
     let keeps = c.in_ok-next.ensures.outside in
     sure_write c.args.self.now.first.items c.args.self.now.bytes.items c.in_ok-next.next.items c.args.self.now.past.items _ c.in_ok-before.before _ c.args.place (length c.args.piece.now) refl (search rules) c.in_ok-push_front.ensures.items (subst (λ (b : List ℕ). IsSameOutside c.args.place (length c.args.piece.now) b c.in_ok-next.next.items) c.deref-2.ensures.value keeps) c.args.self.now.sure
+
+pub returns-then-listed-clause-called : goal.returns-then-listed-clause-called
+returns-then-listed-clause-called c = failed (λ _. IsWrite c.args.place c.args.piece.now) c.args.self.now _ _ (search rules) (record {
+  listed = sym c.is_listed-listed.ensures ∙ c.if-listed.true;
+  call = _;
+  before = search rules;
+  step = record { piece = _; is = refl; at = refl; holds = search rules };
+  past = c.in_ok-push_front.ensures.items;
+  faults = c.fail.ensures.counted;
+  failing = refl;
+})
+
+pub returns-clause-called : goal.returns-clause-called
+returns-clause-called c = made (λ _. IsWrite c.args.place c.args.piece.now) c.args.self.now _ (record {
+  listed = sym c.is_listed-listed.ensures ∙ c.if-listed.false;
+  call = _;
+  before = search rules;
+  step = record { piece = _; is = refl; at = refl; holds = search rules };
+  past = c.in_ok-push_front.ensures.items;
+  faults = refl;
+  failing = refl;
+})
