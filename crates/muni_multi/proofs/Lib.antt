@@ -1,4 +1,5 @@
 pub mod ExactSums
+pub mod TotalLemmas
 pub mod HornerTurns
 pub mod BoundLemmas
 pub mod PriceLemmas

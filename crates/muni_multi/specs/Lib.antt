@@ -7,3 +7,4 @@ pub mod Doubling
 pub mod DoublingLaws
 pub mod Prices
 pub mod Agreement
+pub mod Readings

@@ -9,7 +9,7 @@ ghost use Rattle.muni_rule.specs.WorthEnds as rule;
 ghost use Rattle.muni_rule.specs.WorthEnds.{more_half_years, ends_of};
 
 use crate::ends::Ends;
-use crate::payments::payment_at;
+use crate::payments::{payment_at, total};
 use crate::{Discount, Encloser};
 use muni_terms::Flows;
 
@@ -67,16 +67,6 @@ fn exactly(top: u128, unit: u128) -> Ends
         hi: top,
         unit,
     }
-}
-
-fn total(flows: &Flows) -> u64
-    ensures { result ≡ sum_to (series.payment_at flows.now) flows.now.n }
-{
-    let mut sum = 0;
-    for k in 0..flows.n() {
-        sum += payment_at(flows, k);
-    }
-    sum
 }
 
 fn is_par_bond(flows: &Flows, divisor: u64) -> bool

@@ -1,6 +1,7 @@
 //! The payments one by one.
 
-ghost use Rattle.std.specs.Prelude.{◌≡◌, ◌+◌, ◌<◌, ◌≤◌};
+ghost use Rattle.std.specs.Prelude.{◌≡◌, ◌+◌, ◌^◌, ◌<◌, ◌≤◌};
+ghost use Rattle.muni_rule.specs.ManyPeriods.{sum_to};
 ghost use Rattle.muni_rule.specs.PaymentLaws.{interest_at_place};
 ghost use Rattle.muni_rule.specs.Payments as rule;
 
@@ -32,4 +33,13 @@ fn interest_at(flows: &Flows, k: u32) -> u64
     } else {
         flows.regular()
     }
+}
+
+/// What all payments are worth at a yield of zero.
+pub fn total(flows: &Flows) -> u64
+    ensures value { result ≡ sum_to (rule.payment_at flows.now) flows.now.n }
+    ensures small { result < 2 ^ 50 }
+{
+    let later = u64::from(flows.n() - 1 - flows.skip());
+    flows.first() + later * flows.regular() + flows.redemption()
 }

@@ -6,6 +6,7 @@ ghost use Rattle.muni_rule.specs.ManyPeriods.{to_come, AtLeast, More};
 ghost use Rattle.muni_rule.specs.Ranges.{IsManyPeriodsBoundary};
 ghost use Rattle.muni_rule.specs.Verdicts.{at_least_verdict, more_verdict};
 ghost use Rattle.muni_rule.specs.WorthEnds.{ends_of};
+ghost use Rattle.muni_multi.specs.Readings.{is_clear, told};
 
 use crate::ends::Ends;
 use crate::exact::ends;
@@ -13,6 +14,15 @@ use crate::{Discount, Encloser};
 use muni_dec::Price;
 use muni_rule::Verdict;
 use muni_terms::Flows;
+
+/// What the ends of a worth tell of a price.
+#[derive(Clone, Copy, Debug, PartialEq, Eq)]
+pub struct Reading {
+    pub verdict: Verdict,
+    /// Whether the verdict is Yes also for a price 10^-9 dollars higher, or No for one that much
+    /// lower.
+    pub clear: bool,
+}
 
 /// Whether the exact price at a yield in 10^-6, from -50,005 to 1,000,005, is at least a price
 /// (MSRB Rule G-33(b)(i)). Two payments or more are to come.
@@ -31,7 +41,7 @@ pub fn at_least<E: Encloser>(encloser: &E, flows: &Flows, y: i32, price: Price) 
     ensures unsure { result ≡ Verdict.Unsure →
         IsDoubtful flows.now y (pos (360_000 * price)) }
 {
-    at_least_at(encloser, flows, &Discount::at(y, flows.a()), price)
+    at_least_at(encloser, flows, &Discount::at(y, flows.a()), price).verdict
 }
 
 /// Whether the exact price at a yield is more than a price, and else as `at_least`.
@@ -46,7 +56,7 @@ pub fn more<E: Encloser>(encloser: &E, flows: &Flows, y: i32, price: Price) -> V
     ensures unsure { result ≡ Verdict.Unsure →
         IsDoubtful flows.now y (pos (360_000 * price)) }
 {
-    more_at(encloser, flows, &Discount::at(y, flows.a()), price)
+    more_at(encloser, flows, &Discount::at(y, flows.a()), price).verdict
 }
 
 /// What `at_least` tells at the yield of a discount on the day of the settlement.
@@ -55,15 +65,19 @@ pub fn at_least_at<E: Encloser>(
     flows: &Flows,
     discount: &Discount,
     price: Price,
-) -> Verdict
+) -> Reading
     requires many { 2 ≤ flows.now.n }
     requires days { discount.now.a ≡ flows.now.a }
-    ensures { result ≡ at_least_verdict
+    ensures verdict { result.verdict ≡ at_least_verdict
+        (ends_of flows.now discount.now.y (E.ends encloser.now flows.now discount.now.y))
+        (360_000 * price + flows.now.accrued) }
+    ensures clear { result.clear ≡ is_clear result.verdict
         (ends_of flows.now discount.now.y (E.ends encloser.now flows.now discount.now.y))
         (360_000 * price + flows.now.accrued) }
 {
     let dirty = 360_000 * price.units() + flows.accrued();
-    at_least_between(&ends(encloser, flows, discount), dirty)
+    let ends = ends(encloser, flows, discount);
+    told(&ends, dirty, at_least_between(&ends, dirty))
 }
 
 /// What `more` tells at the yield of a discount on the day of the settlement.
@@ -72,15 +86,33 @@ pub fn more_at<E: Encloser>(
     flows: &Flows,
     discount: &Discount,
     price: Price,
-) -> Verdict
+) -> Reading
     requires many { 2 ≤ flows.now.n }
     requires days { discount.now.a ≡ flows.now.a }
-    ensures { result ≡ more_verdict
+    ensures verdict { result.verdict ≡ more_verdict
+        (ends_of flows.now discount.now.y (E.ends encloser.now flows.now discount.now.y))
+        (360_000 * price + flows.now.accrued) }
+    ensures clear { result.clear ≡ is_clear result.verdict
         (ends_of flows.now discount.now.y (E.ends encloser.now flows.now discount.now.y))
         (360_000 * price + flows.now.accrued) }
 {
     let dirty = 360_000 * price.units() + flows.accrued();
-    more_between(&ends(encloser, flows, discount), dirty)
+    let ends = ends(encloser, flows, discount);
+    told(&ends, dirty, more_between(&ends, dirty))
+}
+
+// A verdict on an amount, and if it clears the amount by 10^-9 dollars.
+fn told(ends: &Ends, amount: u64, verdict: Verdict) -> Reading
+    requires amount { amount + 360 < 2 ^ 50 }
+    requires unit { ends.now.unit ≤ 2 ^ 66 }
+    ensures { result ≡ told verdict ends.now amount }
+{
+    let clear = match verdict {
+        Verdict::Yes => at_least_between(ends, amount + 360) == Verdict::Yes,
+        Verdict::No => at_least_between(ends, amount.saturating_sub(360)) == Verdict::No,
+        Verdict::Unsure => false,
+    };
+    Reading { verdict, clear }
 }
 
 fn at_least_between(ends: &Ends, amount: u64) -> Verdict

@@ -16,3 +16,4 @@ pub mod OneRightLemmas
 pub mod RoundLemmas
 pub mod SearchLemmas
 pub mod StartLemmas
+pub mod CountLemmas

@@ -1,23 +1,26 @@
 -- What the searches keep from round to round, and that they find the lowest of all outcomes.
 use Rattle.std.proofs.Common.{◌≡◌, ◌≢◌, ◌<◌, ◌≤◌, ◌+◌, ◌-◌, ℕ, List, [], ◌∷◌, Bool, true, false, not, ◌&&◌, All, length, map, slice_set, get_or, Option, Some, None, refl, ap, sym, subst, inl, inr, ⊎_elim, arith, ◌∙◌, ◌⊎◌, ℤ, pos, negsuc, ◌<ℤ◌, ◌≤ℤ◌}
-use Rattle.std.specs.Prelude.{if◌then◌else◌, nat_le, ◌==◌, unwrap_or, ⊤}
+use Rattle.std.specs.Prelude.{if◌then◌else◌, nat_le, nat_lt, min, ◌==◌, unwrap_or, ⊤}
 use Rattle.std.specs.Int.{int_min}
-use Rattle.std.specs.List.{filter}
-use Rattle.std.proofs.lemmas.Bool.{cases_lt, cases_eq, eqb-true, and_parts, leb-true}
+use Rattle.std.specs.List.{filter, AllZip}
+use Rattle.std.proofs.lemmas.Bool.{cases_lt, cases_eq, eqb-true, and_parts, leb-true, ltb-false}
 use Rattle.std.proofs.lemmas.Bool.Decides.{nat_tests}
 use Rattle.std.proofs.lemmas.Int.{ints, clamps}
 use Rattle.std.proofs.lemmas.List.{length-map, get_or_default, get_or_past, get_or-map, get_or-set_same, get_or-set_other}
-use Rattle.std.proofs.lemmas.List.Elements.{All-map, All-head, All-tail, All-filter, filter_passes}
+use Rattle.std.proofs.lemmas.List.Elements.{All-head, All-tail, All-cons, All-nil, All-filter, filter_passes}
+use Rattle.std.proofs.lemmas.Slice.Zip.{AllZip-long}
 use Rattle.std.proofs.lemmas.List.Sums.{length-filter, count_by-le-length}
 use Rattle.muni_rule.specs.Payments.{PaymentSeries}
 use Rattle.muni_rule.specs.declared.verdict.Verdict.{Verdict}
 use Rattle.muni_rule.specs.declared.verdict.Verdict.TheVariants as verdict
-use Rattle.muni_yield.specs.Bracket.{YieldBracket, IsBracket, is_settled, run}
+use Rattle.muni_yield.specs.Bracket.{YieldBracket, IsBracket, IsAnswered, is_settled, halved, run}
+use Rattle.muni_yield.specs.Known.{IsWindow, IsGuided}
 use Rattle.muni_yield.specs.Places.{yield_at}
 use Rattle.muni_yield.specs.Settled.{printed_as, outcome_at, outcome_of}
 use Rattle.muni_yield.specs.declared.outcome.Outcome.TheVariants as found
-use Rattle.muni_yield.proofs.BracketLemmas.{few-asked, settled-next, halved-next, run-settled, run-next}
-use Rattle.muni_yield.proofs.FinalLemmas.{IsRunOut, run-out}
+use Rattle.muni_yield.specs.declared.window.Window.{Window}
+use Rattle.muni_yield.proofs.BracketLemmas.{few-asked, settled-next, halved-next, halved-answered, run-settled, run-next}
+use Rattle.muni_yield.proofs.FinalLemmas.{run-out, run-held}
 use Rattle.muni_sched.specs.FigureKind.{Yield}
 use Rattle.muni_sched.specs.LowestFigure.{Lowest}
 use Rattle.muni_sched.specs.declared.outcome.CandidateOutcome.{CandidateOutcome}
@@ -27,7 +30,7 @@ use Rattle.muni_sched.specs.declared.search.Search.{Search}
 use Rattle.muni_sched.specs.Figures.{IsOf}
 use Rattle.muni_sched.specs.Lowest as lowest
 use Rattle.muni_sched.specs.Ranks.{rank, decided_by, IsFirstOfLeastRank, IsRanked}
-use Rattle.muni_sched.specs.Search.{CanRefine, asked, noted, recorded, missed, lower_of, ceiling_after, is_at_ceiling, is_passed, is_needed, refined, outcomes_of}
+use Rattle.muni_sched.specs.Search.{CanRefine, IsHalved, IsRound, noted, recorded, missed, missed_after, lower_of, ceiling_after, is_at_ceiling, is_passed, is_needed, outcomes_of}
 use Rattle.muni_sched.specs.YieldOutcome.{many_yield}
 use Rattle.muni_sched.proofs.IntLemmas.{int_eq-same, int_eq-other, equal_or_not, less_or_not}
 use Rattle.muni_sched.proofs.RoundLemmas.{length-noted, length-recorded}
@@ -43,10 +46,10 @@ abbrev pub known_at : List (Option CandidateOutcome) → ℕ → Option Candidat
 known_at known k = get_or known k (Some Above)
 
 -- ---- the rank of the outcome that a bracket comes to
--- it lies between the two yields
-pub record IsBetween (bracket : YieldBracket) (outcome : CandidateOutcome) : Type 0 where
-  pub low : 1 ≤ bracket.low → yield_at bracket.low ≤ℤ rank_of outcome
-  pub high : bracket.high ≤ 105002 → rank_of outcome <ℤ yield_at bracket.high
+-- it lies between the yields at two places
+pub record IsBetween (low high : ℕ) (outcome : CandidateOutcome) : Type 0 where
+  pub least : 1 ≤ low → yield_at low ≤ℤ rank_of outcome
+  pub most : high ≤ 105002 → rank_of outcome <ℤ yield_at high
   pub of : IsOf Yield outcome
 
 -- of the outcome at the end, where the two are neighbours
@@ -94,37 +97,51 @@ beside low verdict.Unsure most = beside-unsure low most
 beside low verdict.Yes most = beside-printed low most
 beside low verdict.No most = beside-printed low most
 
-between-last : (bracket last : YieldBracket) → IsRunOut bracket last → IsBetween bracket (many_yield (outcome_of last))
-between-last bracket last out =
-    let next = settled-next last out.settled in
-    let top = out.is.top in
-    let low = out.low in
-    let high = out.high in
+between-last : (low high : ℕ) (last : YieldBracket) → IsBracket last → is_settled last ≡ true → low ≤ last.low → last.high ≤ high → IsBetween low high (many_yield (outcome_of last))
+between-last low high last bracket settled from to =
+    let next = settled-next last settled in
+    let top = bracket.top in
     let is = beside last.low last.at_high (omega (arith, next, top)) in
     record {
-      low = λ some. let from = is.from (omega (arith, low, some)) in omega (arith, ints, low, from);
-      high = λ asked. let to = is.to (omega (arith, high, next, asked)) in omega (arith, ints, high, next, to);
+      least = λ some. let least = is.from (omega (arith, from, some)) in omega (arith, ints, from, least);
+      most = λ asked. let most = is.to (omega (arith, to, next, asked)) in omega (arith, ints, to, next, most);
       of = is.of;
     }
 
-pub between : (count : ℕ) (verdicts : PaymentSeries → ℕ → ℕ → Verdict) (bracket : YieldBracket) → IsBracket bracket → 19 ≤ count + bracket.halvings → IsBetween bracket (many_yield (outcome_of (run count verdicts bracket)))
-between count verdicts bracket is enough = between-last bracket (run count verdicts bracket) (run-out count verdicts bracket is enough)
+pub between : (count : ℕ) (verdicts : PaymentSeries → ℕ → ℕ → Verdict) (bracket : YieldBracket) → IsBracket bracket → 19 ≤ count + bracket.halvings → IsBetween bracket.low bracket.high (many_yield (outcome_of (run count verdicts bracket)))
+between count verdicts bracket is enough =
+    let out = run-out count verdicts bracket is enough in
+    between-last bracket.low bracket.high (run count verdicts bracket) out.is out.settled out.low out.high
+
+-- and within the places that are known
+within-window : (count : ℕ) (verdicts : PaymentSeries → ℕ → ℕ → Verdict) (bracket : YieldBracket) (window : Window) → IsBracket bracket → 19 ≤ count + bracket.halvings → IsAnswered (verdicts bracket.series bracket.price) bracket → IsWindow (verdicts bracket.series bracket.price) window
+    → IsBetween window.yes window.no (many_yield (outcome_of (run count verdicts bracket)))
+within-window count verdicts bracket window is enough answered known =
+    let out = run-out count verdicts bracket is enough in
+    let held = run-held count verdicts bracket window is enough answered known in
+    let next = settled-next (run count verdicts bracket) out.settled in
+    let no = held.no in
+    between-last window.yes window.no (run count verdicts bracket) out.is out.settled held.yes (omega (arith, next, no))
 
 -- ---- what is kept
 -- a search after r rounds that comes to the outcome of its candidate
 pub record IsRunning (verdicts : PaymentSeries → ℕ → ℕ → Verdict) (finals : List CandidateOutcome) (r : ℕ) (one : OpenSearch) : Type 0 where
-  pub is : IsBracket one.bracket
-  pub pending : is_settled one.bracket ≡ false
-  pub halvings : one.bracket.halvings ≡ r
+  pub is : IsBracket one.guided.bracket
+  pub pending : is_settled one.guided.bracket ≡ false
+  pub halvings : one.guided.bracket.halvings ≡ r
   pub within : one.candidate < length finals
-  pub same : many_yield (outcome_of (run (19 - r) verdicts one.bracket)) ≡ at finals one.candidate
+  pub answered : IsAnswered (verdicts one.guided.bracket.series one.guided.bracket.price) one.guided.bracket
+  pub guided : IsGuided verdicts one.guided
+  pub same : many_yield (outcome_of (run (19 - r) verdicts one.guided.bracket)) ≡ at finals one.candidate
 
 -- the same without knowing whether it is settled, as a question leaves it
-record IsAsked (verdicts : PaymentSeries → ℕ → ℕ → Verdict) (finals : List CandidateOutcome) (r : ℕ) (one : OpenSearch) : Type 0 where
-  is : IsBracket one.bracket
-  halvings : one.bracket.halvings ≡ r
-  within : one.candidate < length finals
-  same : many_yield (outcome_of (run (19 - r) verdicts one.bracket)) ≡ at finals one.candidate
+pub record IsAsked (verdicts : PaymentSeries → ℕ → ℕ → Verdict) (finals : List CandidateOutcome) (r : ℕ) (one : OpenSearch) : Type 0 where
+  pub is : IsBracket one.guided.bracket
+  pub halvings : one.guided.bracket.halvings ≡ r
+  pub within : one.candidate < length finals
+  pub answered : IsAnswered (verdicts one.guided.bracket.series one.guided.bracket.price) one.guided.bracket
+  pub guided : IsGuided verdicts one.guided
+  pub same : many_yield (outcome_of (run (19 - r) verdicts one.guided.bracket)) ≡ at finals one.candidate
 
 -- candidate k is still searched
 abbrev pub IsSearchedFor : List OpenSearch → ℕ → Type 0
@@ -132,51 +149,96 @@ IsSearchedFor [] k = ⊥
 IsSearchedFor (one ∷ rest) k = (one.candidate ≡ k) ⊎ IsSearchedFor rest k
 
 -- a rank is at the ceiling or above
-abbrev IsPast : Option ℤ → ℤ → Type 0
+abbrev pub IsPast : Option ℤ → ℤ → Type 0
 IsPast None r = ⊥
 IsPast (Some ceiling) r = ceiling ≤ℤ r
+
+-- or at a place that one is known not to reach, or above
+abbrev IsOver : ℕ → ℤ → Type 0
+IsOver missed r = (missed ≤ 105002) × (yield_at missed ≤ℤ r)
+
+abbrev IsBehind : Option ℤ → ℕ → ℤ → Type 0
+IsBehind ceiling missed r = IsPast ceiling r ⊎ IsOver missed r
 
 -- the rank of some candidate's outcome is below the ceiling, if there is one
 abbrev pub IsCeiling : List CandidateOutcome → Option ℤ → Type 0
 IsCeiling finals None = ⊤
 IsCeiling finals (Some ceiling) = (k : ℕ) × (rank_of (at finals k) <ℤ ceiling)
 
+-- and so it is at the least place that one is known not to reach
+pub record IsMissedPlace (finals : List CandidateOutcome) (missed : ℕ) : Type 0 where
+  pub some : 1 ≤ missed
+  pub holder : missed ≤ 105002 → (k : ℕ) × (rank_of (at finals k) <ℤ yield_at missed)
+
 -- The outcome of candidate k is known, or it decides nothing, since that of some other has a lower rank, or
 -- it is still searched.
-abbrev pub IsCovered : (finals : List CandidateOutcome) (known : List (Option CandidateOutcome)) (ceiling : Option ℤ) (searches : List OpenSearch) → ℕ → Type 0
-IsCovered finals known ceiling searches k =
-    (known_at known k ≡ Some (at finals k)) ⊎ ((known_at known k ≡ None) × (IsPast ceiling (rank_of (at finals k)) ⊎ IsSearchedFor searches k))
+abbrev pub IsCovered : (finals : List CandidateOutcome) (known : List (Option CandidateOutcome)) (ceiling : Option ℤ) (missed : ℕ) (searches : List OpenSearch) → ℕ → Type 0
+IsCovered finals known ceiling missed searches k =
+    (known_at known k ≡ Some (at finals k)) ⊎ ((known_at known k ≡ None) × (IsBehind ceiling missed (rank_of (at finals k)) ⊎ IsSearchedFor searches k))
 
-pub record IsRefined (verdicts : PaymentSeries → ℕ → ℕ → Verdict) (finals : List CandidateOutcome) (r : ℕ) (search : Search) : Type 0 where
-  pub lengths : length search.known.items ≡ length finals
+pub record IsLeft (verdicts : PaymentSeries → ℕ → ℕ → Verdict) (finals : List CandidateOutcome) (r : ℕ) (known : List (Option CandidateOutcome)) (ceiling : Option ℤ) (missed : ℕ) (searches : List OpenSearch) : Type 0 where
+  pub lengths : length known ≡ length finals
   pub of : (k : ℕ) → IsOf Yield (at finals k)
-  pub ceiling : IsCeiling finals search.ceiling
-  pub each : All (IsRunning verdicts finals r) search.searches.items
-  pub few : length search.searches.items ≤ 41
-  pub covered : (k : ℕ) → IsCovered finals search.known.items search.ceiling search.searches.items k
+  pub ceiling_is : IsCeiling finals ceiling
+  pub missed_is : IsMissedPlace finals missed
+  pub each : All (IsRunning verdicts finals r) searches
+  pub few : length searches ≤ 41
+  pub covered : (k : ℕ) → IsCovered finals known ceiling missed searches k
 
--- ---- one question
-one-asked : (verdicts : PaymentSeries → ℕ → ℕ → Verdict) (finals : List CandidateOutcome) (r : ℕ) (one : OpenSearch) → r < 19 → IsRunning verdicts finals r one → IsAsked verdicts finals (r + 1) (asked verdicts one)
-one-asked verdicts finals r one few running =
-    let next = halved-next verdicts one.bracket running.is running.pending in
+abbrev pub IsRefined : (verdicts : PaymentSeries → ℕ → ℕ → Verdict) (finals : List CandidateOutcome) (r : ℕ) (search : Search) → Type 0
+IsRefined verdicts finals r search = IsLeft verdicts finals r search.known.items search.ceiling search.missed search.searches.items
+
+-- ---- one halving
+answered-again : (verdicts : PaymentSeries → ℕ → ℕ → Verdict) (bracket next : YieldBracket) → next.series ≡ bracket.series → next.price ≡ bracket.price → IsAnswered (verdicts bracket.series bracket.price) next → IsAnswered (verdicts next.series next.price) next
+answered-again verdicts bracket next series price is =
+    let same : verdicts bracket.series bracket.price ≡ verdicts next.series next.price = rw (series, price) refl in
+    subst (λ verdict. IsAnswered verdict next) same is
+
+one-asked : (verdicts : PaymentSeries → ℕ → ℕ → Verdict) (finals : List CandidateOutcome) (r : ℕ) (one after : OpenSearch) → r < 19 → IsRunning verdicts finals r one → IsHalved verdicts one after → IsAsked verdicts finals (r + 1) after
+one-asked verdicts finals r one after few running half =
+    let bracket = one.guided.bracket in
+    let next = halved-next verdicts bracket running.is running.pending in
+    let back = sym half.bracket in
+    let answered = halved-answered verdicts bracket running.is running.pending running.answered in
     record {
-      is = next.is;
-      halvings = omega (arith, next.halvings, running.halvings);
-      within = running.within;
-      same = ap (λ (last : YieldBracket). many_yield (outcome_of last)) (sym (run-next r verdicts one.bracket few running.pending)) ∙ running.same;
+      is = subst IsBracket back next.is;
+      halvings = omega (arith, ap (λ (b : YieldBracket). b.halvings) half.bracket, next.halvings, running.halvings);
+      within = subst (λ k. k < length finals) (sym half.candidate) running.within;
+      answered = subst (λ (b : YieldBracket). IsAnswered (verdicts b.series b.price) b) back (answered-again verdicts bracket (halved verdicts bracket) next.series next.price answered);
+      guided = half.guided;
+      same = ap (λ (b : YieldBracket). many_yield (outcome_of (run (19 - (r + 1)) verdicts b))) half.bracket
+          ∙ (ap (λ (last : YieldBracket). many_yield (outcome_of last)) (sym (run-next r verdicts bracket few running.pending))
+          ∙ (running.same ∙ ap (at finals) (sym half.candidate)));
     }
 
-all-asked : (verdicts : PaymentSeries → ℕ → ℕ → Verdict) (finals : List CandidateOutcome) (r : ℕ) (searches : List OpenSearch) → r < 19 → All (IsRunning verdicts finals r) searches → All (IsAsked verdicts finals (r + 1)) (map (asked verdicts) searches)
-all-asked verdicts finals r searches few all = All-map (IsAsked verdicts finals (r + 1)) (asked verdicts) searches (λ k d inside. one-asked verdicts finals r (get_or searches k d) few (all k d inside))
+pub all-asked : (verdicts : PaymentSeries → ℕ → ℕ → Verdict) (finals : List CandidateOutcome) (r : ℕ) (searches asked : List OpenSearch) → r < 19 → AllZip (IsHalved verdicts) searches asked → All (IsRunning verdicts finals r) searches → All (IsAsked verdicts finals (r + 1)) asked
+all-asked verdicts finals r [] [] few zip all = All-nil (IsAsked verdicts finals (r + 1))
+all-asked verdicts finals r [] (after ∷ asked) few zip all = absurd zip
+all-asked verdicts finals r (one ∷ rest) [] few zip all = absurd zip
+all-asked verdicts finals r (one ∷ rest) (after ∷ asked) few zip all =
+    All-cons (IsAsked verdicts finals (r + 1)) after asked
+    (one-asked verdicts finals r one after few (All-head (IsRunning verdicts finals r) one rest all) zip.0)
+    (all-asked verdicts finals r rest asked few zip.1 (All-tail (IsRunning verdicts finals r) one rest all))
 
-searched-asked : (verdicts : PaymentSeries → ℕ → ℕ → Verdict) (searches : List OpenSearch) (k : ℕ) → IsSearchedFor searches k → IsSearchedFor (map (asked verdicts) searches) k
-searched-asked verdicts [] k has = has
-searched-asked verdicts (one ∷ rest) k has = ⊎_elim (λ (here : one.candidate ≡ k). inl here) (λ (later : IsSearchedFor rest k). inr (searched-asked verdicts rest k later)) has
+searched-asked : (verdicts : PaymentSeries → ℕ → ℕ → Verdict) (searches asked : List OpenSearch) (k : ℕ) → AllZip (IsHalved verdicts) searches asked → IsSearchedFor searches k → IsSearchedFor asked k
+searched-asked verdicts [] [] k zip has = has
+searched-asked verdicts [] (after ∷ asked) k zip has = absurd zip
+searched-asked verdicts (one ∷ rest) [] k zip has = absurd zip
+searched-asked verdicts (one ∷ rest) (after ∷ asked) k zip has =
+    ⊎_elim
+    (λ (here : one.candidate ≡ k). inl (zip.0.candidate ∙ here))
+    (λ (later : IsSearchedFor rest k). inr (searched-asked verdicts rest asked k zip.1 later))
+    has
 
-asked-between : (verdicts : PaymentSeries → ℕ → ℕ → Verdict) (finals : List CandidateOutcome) (r : ℕ) (one : OpenSearch) → r ≤ 19 → IsAsked verdicts finals r one → IsBetween one.bracket (at finals one.candidate)
+asked-between : (verdicts : PaymentSeries → ℕ → ℕ → Verdict) (finals : List CandidateOutcome) (r : ℕ) (one : OpenSearch) → r ≤ 19 → IsAsked verdicts finals r one → IsBetween one.guided.bracket.low one.guided.bracket.high (at finals one.candidate)
 asked-between verdicts finals r one most is =
     let halvings = is.halvings in
-    subst (IsBetween one.bracket) is.same (between (19 - r) verdicts one.bracket is.is (omega (arith, halvings)))
+    subst (IsBetween one.guided.bracket.low one.guided.bracket.high) is.same (between (19 - r) verdicts one.guided.bracket is.is (omega (arith, halvings)))
+
+pub asked-within : (verdicts : PaymentSeries → ℕ → ℕ → Verdict) (finals : List CandidateOutcome) (r : ℕ) (one : OpenSearch) → r ≤ 19 → IsAsked verdicts finals r one → IsBetween one.guided.window.yes one.guided.window.no (at finals one.candidate)
+asked-within verdicts finals r one most is =
+    let halvings = is.halvings in
+    subst (IsBetween one.guided.window.yes one.guided.window.no) is.same (within-window (19 - r) verdicts one.guided.bracket one.guided.window is.is (omega (arith, halvings)) is.answered is.guided)
 
 -- ---- the ceiling
 min-first : (a b : ℤ) → int_min a b ≤ℤ a
@@ -185,7 +247,7 @@ min-first a b = omega (arith, ints, clamps)
 min-second : (a b : ℤ) → int_min a b ≤ℤ b
 min-second a b = omega (arith, ints, clamps)
 
-past-lower : (ceiling other : Option ℤ) (r : ℤ) → IsPast ceiling r → IsPast (lower_of ceiling other) r
+pub past-lower : (ceiling other : Option ℤ) (r : ℤ) → IsPast ceiling r → IsPast (lower_of ceiling other) r
 past-lower None other r past = absurd past
 past-lower (Some c) None r past = past
 past-lower (Some c) (Some o) r past = omega (arith, ints, past, min-first c o)
@@ -219,8 +281,8 @@ missed-by : (finals : List CandidateOutcome) (k : ℕ) (test : Bool) (figure : �
 missed-by finals k true figure below = (k, below refl)
 missed-by finals k false figure below = tt
 
-own-ceiling : (finals : List CandidateOutcome) (one : OpenSearch) → IsBetween one.bracket (at finals one.candidate) → IsCeiling finals (missed one)
-own-ceiling finals one is = missed-by finals one.candidate (nat_le one.bracket.high 105002) (yield_at one.bracket.high) (λ asked. is.high (leb-true one.bracket.high 105002 asked))
+own-ceiling : (finals : List CandidateOutcome) (one : OpenSearch) → IsBetween one.guided.bracket.low one.guided.bracket.high (at finals one.candidate) → IsCeiling finals (missed one)
+own-ceiling finals one is = missed-by finals one.candidate (nat_le one.guided.bracket.high 105002) (yield_at one.guided.bracket.high) (λ asked. is.most (leb-true one.guided.bracket.high 105002 asked))
 
 ceiling-holds : (verdicts : PaymentSeries → ℕ → ℕ → Verdict) (finals : List CandidateOutcome) (r : ℕ) (ceiling : Option ℤ) (searches : List OpenSearch) → r ≤ 19 → All (IsAsked verdicts finals r) searches → IsCeiling finals ceiling → IsCeiling finals (ceiling_after ceiling searches)
 ceiling-holds verdicts finals r ceiling [] most all is = is
@@ -228,6 +290,37 @@ ceiling-holds verdicts finals r ceiling (one ∷ rest) most all is =
     let here = All-head (IsAsked verdicts finals r) one rest all in
     ceiling-holds verdicts finals r (lower_of ceiling (missed one)) rest most (All-tail (IsAsked verdicts finals r) one rest all)
     (lower-ceiling finals ceiling (missed one) is (own-ceiling finals one (asked-between verdicts finals r one most here)))
+
+-- ---- the least place that one is known not to reach
+pub yield-rises : (place other : ℕ) → place ≤ other → yield_at place ≤ℤ yield_at other
+yield-rises place other order = omega (arith, ints)
+
+over-lower : (missed lower : ℕ) (r : ℤ) → lower ≤ missed → IsOver missed r → IsOver lower r
+over-lower missed lower r order over =
+    let from = over.1 in
+    let rises = yield-rises lower missed order in
+    (omega (arith, order, over.0), omega (arith, ints, rises, from))
+
+missed-falls : (missed : ℕ) (searches : List OpenSearch) → missed_after missed searches ≤ missed
+missed-falls missed [] = omega arith
+missed-falls missed (one ∷ rest) =
+    let more = missed-falls (min missed one.guided.window.no) rest in
+    omega (arith, more)
+
+missed-more : (finals : List CandidateOutcome) (missed : ℕ) (one : OpenSearch) → 1 ≤ one.guided.window.no → IsBetween one.guided.window.yes one.guided.window.no (at finals one.candidate) → IsMissedPlace finals missed → IsMissedPlace finals (min missed one.guided.window.no)
+missed-more finals missed one some between is =
+    ⊎_elim
+    (λ (less : missed < one.guided.window.no). let same : min missed one.guided.window.no ≡ missed = omega arith in subst (IsMissedPlace finals) (sym same) is)
+    (λ (order : one.guided.window.no ≤ missed). let same : min missed one.guided.window.no ≡ one.guided.window.no = omega arith in
+    subst (IsMissedPlace finals) (sym same) (record { some = some; holder = λ most. (one.candidate, between.most most) }))
+    (cases_lt missed one.guided.window.no)
+
+missed-holds : (verdicts : PaymentSeries → ℕ → ℕ → Verdict) (finals : List CandidateOutcome) (r missed : ℕ) (searches : List OpenSearch) → r ≤ 19 → All (IsAsked verdicts finals r) searches → IsMissedPlace finals missed → IsMissedPlace finals (missed_after missed searches)
+missed-holds verdicts finals r missed [] most all is = is
+missed-holds verdicts finals r missed (one ∷ rest) most all is =
+    let here = All-head (IsAsked verdicts finals r) one rest all in
+    missed-holds verdicts finals r (min missed one.guided.window.no) rest most (All-tail (IsAsked verdicts finals r) one rest all)
+    (missed-more finals missed one here.guided.some (asked-within verdicts finals r one most here) is)
 
 -- ---- what is written
 written-if : (test : Bool) (known : List (Option CandidateOutcome)) (c k : ℕ) (it wanted : Option CandidateOutcome) → c < length known → (c ≡ k → test ≡ true → it ≡ wanted) → known_at known k ≡ wanted → known_at (if test then slice_set known c it else known) k ≡ wanted
@@ -251,16 +344,16 @@ written-or true known c k it wanted before inside right there =
     (cases_eq c k)
 written-or false known c k it wanted before inside right there = inr there
 
-settled-final : (verdicts : PaymentSeries → ℕ → ℕ → Verdict) (finals : List CandidateOutcome) (r : ℕ) (one : OpenSearch) → IsAsked verdicts finals r one → is_settled one.bracket ≡ true → Some (many_yield (outcome_of one.bracket)) ≡ Some (at finals one.candidate)
-settled-final verdicts finals r one is settled = ap Some (ap (λ (last : YieldBracket). many_yield (outcome_of last)) (sym (run-settled (19 - r) verdicts one.bracket settled)) ∙ is.same)
+settled-final : (verdicts : PaymentSeries → ℕ → ℕ → Verdict) (finals : List CandidateOutcome) (r : ℕ) (one : OpenSearch) → IsAsked verdicts finals r one → is_settled one.guided.bracket ≡ true → Some (many_yield (outcome_of one.guided.bracket)) ≡ Some (at finals one.candidate)
+settled-final verdicts finals r one is settled = ap Some (ap (λ (last : YieldBracket). many_yield (outcome_of last)) (sym (run-settled (19 - r) verdicts one.guided.bracket settled)) ∙ is.same)
 
-settled-for : (verdicts : PaymentSeries → ℕ → ℕ → Verdict) (finals : List CandidateOutcome) (r : ℕ) (one : OpenSearch) (k : ℕ) → IsAsked verdicts finals r one → one.candidate ≡ k → is_settled one.bracket ≡ true → Some (many_yield (outcome_of one.bracket)) ≡ Some (at finals k)
+settled-for : (verdicts : PaymentSeries → ℕ → ℕ → Verdict) (finals : List CandidateOutcome) (r : ℕ) (one : OpenSearch) (k : ℕ) → IsAsked verdicts finals r one → one.candidate ≡ k → is_settled one.guided.bracket ≡ true → Some (many_yield (outcome_of one.guided.bracket)) ≡ Some (at finals k)
 settled-for verdicts finals r one k is here settled = settled-final verdicts finals r one is settled ∙ ap (λ n. Some (at finals n)) here
 
 noted-keeps : (verdicts : PaymentSeries → ℕ → ℕ → Verdict) (finals : List CandidateOutcome) (known : List (Option CandidateOutcome)) (r : ℕ) (one : OpenSearch) (k : ℕ) → length known ≡ length finals → IsAsked verdicts finals r one → known_at known k ≡ Some (at finals k) → known_at (noted one known) k ≡ Some (at finals k)
 noted-keeps verdicts finals known r one k same is there =
     let within = is.within in
-    written-if (is_settled one.bracket) known one.candidate k (Some (many_yield (outcome_of one.bracket))) (Some (at finals k)) (omega (arith, within, same))
+    written-if (is_settled one.guided.bracket) known one.candidate k (Some (many_yield (outcome_of one.guided.bracket))) (Some (at finals k)) (omega (arith, within, same))
     (settled-for verdicts finals r one k is) there
 
 recorded-keeps : (verdicts : PaymentSeries → ℕ → ℕ → Verdict) (finals : List CandidateOutcome) (known : List (Option CandidateOutcome)) (r : ℕ) (searches : List OpenSearch) (k : ℕ) → length known ≡ length finals → All (IsAsked verdicts finals r) searches → known_at known k ≡ Some (at finals k) → known_at (recorded searches known) k ≡ Some (at finals k)
@@ -280,113 +373,145 @@ recorded-or verdicts finals known r (one ∷ rest) k same all there =
     ⊎_elim
     (λ (right : known_at (noted one known) k ≡ Some (at finals k)). inl (recorded-keeps verdicts finals (noted one known) r rest k more others right))
     (λ (open_yet : known_at (noted one known) k ≡ None). recorded-or verdicts finals (noted one known) r rest k more others open_yet)
-    (written-or (is_settled one.bracket) known one.candidate k (Some (many_yield (outcome_of one.bracket))) (Some (at finals k)) None (omega (arith, within, same))
+    (written-or (is_settled one.guided.bracket) known one.candidate k (Some (many_yield (outcome_of one.guided.bracket))) (Some (at finals k)) None (omega (arith, within, same))
     (settled-for verdicts finals r one k is) there)
 
 -- ---- a search is settled, or dropped, or goes on
-abbrev IsSorted : (finals : List CandidateOutcome) (known : List (Option CandidateOutcome)) (ceiling : Option ℤ) (searches : List OpenSearch) (k : ℕ) → Type 0
-IsSorted finals known ceiling searches k = (known_at known k ≡ Some (at finals k)) ⊎ (IsPast ceiling (rank_of (at finals k)) ⊎ IsSearchedFor searches k)
+abbrev IsSorted : (finals : List CandidateOutcome) (known : List (Option CandidateOutcome)) (ceiling : Option ℤ) (missed : ℕ) (searches : List OpenSearch) (k : ℕ) → Type 0
+IsSorted finals known ceiling missed searches k = (known_at known k ≡ Some (at finals k)) ⊎ (IsBehind ceiling missed (rank_of (at finals k)) ⊎ IsSearchedFor searches k)
 
 kept-if : (test : Bool) (one : OpenSearch) (searches : List OpenSearch) (k : ℕ) → IsSearchedFor searches k → IsSearchedFor (if test then one ∷ searches else searches) k
 kept-if true one searches k has = inr has
 kept-if false one searches k has = has
 
-needed-cases : (settled passed : Bool) → ((not settled && not passed) ≡ true) ⊎ ((settled ≡ true) ⊎ (passed ≡ true))
-needed-cases true passed = inr (inl refl)
-needed-cases false true = inr (inr refl)
-needed-cases false false = inl refl
+needed-cases : (settled passed below : Bool) → ((not settled && (not passed && below)) ≡ true) ⊎ ((settled ≡ true) ⊎ ((passed ≡ true) ⊎ (below ≡ false)))
+needed-cases true passed below = inr (inl refl)
+needed-cases false true below = inr (inr (inl refl))
+needed-cases false false true = inl refl
+needed-cases false false false = inr (inr (inr refl))
 
-at-ceiling : (ceiling : Option ℤ) (t r : ℤ) → is_at_ceiling ceiling t ≡ true → t ≤ℤ r → IsPast ceiling r
+pub at-ceiling : (ceiling : Option ℤ) (t r : ℤ) → is_at_ceiling ceiling t ≡ true → t ≤ℤ r → IsPast ceiling r
 at-ceiling None t r passed order = cc
 at-ceiling (Some c) t r passed order = let from : c ≤ℤ t = grind (arith, ints) in omega (arith, ints, from, order)
 
-passed-past : (verdicts : PaymentSeries → ℕ → ℕ → Verdict) (finals : List CandidateOutcome) (r : ℕ) (ceiling : Option ℤ) (one : OpenSearch) → r ≤ 19 → IsAsked verdicts finals r one → is_passed ceiling one.bracket ≡ true → IsPast ceiling (rank_of (at finals one.candidate))
+passed-past : (verdicts : PaymentSeries → ℕ → ℕ → Verdict) (finals : List CandidateOutcome) (r : ℕ) (ceiling : Option ℤ) (one : OpenSearch) → r ≤ 19 → IsAsked verdicts finals r one → is_passed ceiling one.guided.bracket ≡ true → IsPast ceiling (rank_of (at finals one.candidate))
 passed-past verdicts finals r ceiling one most is passed =
-    let both = and_parts (nat_le 1 one.bracket.low) (is_at_ceiling ceiling (yield_at one.bracket.low)) passed in
-    at-ceiling ceiling (yield_at one.bracket.low) (rank_of (at finals one.candidate)) both.1 ((asked-between verdicts finals r one most is).low (leb-true 1 one.bracket.low both.0))
+    let both = and_parts (nat_le 1 one.guided.bracket.low) (is_at_ceiling ceiling (yield_at one.guided.bracket.low)) passed in
+    at-ceiling ceiling (yield_at one.guided.bracket.low) (rank_of (at finals one.candidate)) both.1 ((asked-between verdicts finals r one most is).least (leb-true 1 one.guided.bracket.low both.0))
 
-sorted : (verdicts : PaymentSeries → ℕ → ℕ → Verdict) (finals : List CandidateOutcome) (known : List (Option CandidateOutcome)) (r : ℕ) (ceiling : Option ℤ) (searches : List OpenSearch) (k : ℕ) → r ≤ 19 → length known ≡ length finals → All (IsAsked verdicts finals r) searches → IsSearchedFor searches k → IsSorted finals (recorded searches known) ceiling (filter (is_needed ceiling) searches) k
-sorted verdicts finals known r ceiling [] k most same all has = absurd has
-sorted verdicts finals known r ceiling (one ∷ rest) k most same all has =
+known-over : (verdicts : PaymentSeries → ℕ → ℕ → Verdict) (finals : List CandidateOutcome) (r missed : ℕ) (one : OpenSearch) → r ≤ 19 → 1 ≤ missed → IsAsked verdicts finals r one → nat_lt one.guided.window.yes missed ≡ false → IsOver missed (rank_of (at finals one.candidate))
+known-over verdicts finals r missed one most some is test =
+    let order = ltb-false one.guided.window.yes missed test in
+    let from = (asked-within verdicts finals r one most is).least (omega (arith, order, some)) in
+    let top = is.guided.most in
+    let rises = yield-rises missed one.guided.window.yes order in
+    (omega (arith, order, top), omega (arith, ints, from, rises))
+
+sorted : (verdicts : PaymentSeries → ℕ → ℕ → Verdict) (finals : List CandidateOutcome) (known : List (Option CandidateOutcome)) (r : ℕ) (ceiling : Option ℤ) (missed : ℕ) (searches : List OpenSearch) (k : ℕ) → r ≤ 19 → 1 ≤ missed → length known ≡ length finals → All (IsAsked verdicts finals r) searches → IsSearchedFor searches k → IsSorted finals (recorded searches known) ceiling missed (filter (is_needed ceiling missed) searches) k
+sorted verdicts finals known r ceiling missed [] k most some same all has = absurd has
+sorted verdicts finals known r ceiling missed (one ∷ rest) k most some same all has =
     let is = All-head (IsAsked verdicts finals r) one rest all in
     let others = All-tail (IsAsked verdicts finals r) one rest all in
     let more = length-noted one known ∙ same in
     let within = is.within in
-    let needed = filter (is_needed ceiling) rest in
+    let needed = filter (is_needed ceiling missed) rest in
     ⊎_elim
     (λ (here : one.candidate ≡ k). ⊎_elim
-    (λ (need : is_needed ceiling one ≡ true). inr (inr (subst (λ test. IsSearchedFor (if test then one ∷ needed else needed) k) (sym need) (inl here))))
-    (λ (other : (is_settled one.bracket ≡ true) ⊎ (is_passed ceiling one.bracket ≡ true)). ⊎_elim
-    (λ (settled : is_settled one.bracket ≡ true). inl (recorded-keeps verdicts finals (noted one known) r rest k more others
-    (subst (λ n. known_at (noted one known) n ≡ Some (at finals n)) here (written-here (is_settled one.bracket) known one.candidate (Some (many_yield (outcome_of one.bracket))) (omega (arith, within, same)) settled ∙ settled-final verdicts finals r one is settled))))
-    (λ (passed : is_passed ceiling one.bracket ≡ true). inr (inl (subst (λ n. IsPast ceiling (rank_of (at finals n))) here (passed-past verdicts finals r ceiling one most is passed))))
+    (λ (need : is_needed ceiling missed one ≡ true). inr (inr (subst (λ test. IsSearchedFor (if test then one ∷ needed else needed) k) (sym need) (inl here))))
+    (λ (other : (is_settled one.guided.bracket ≡ true) ⊎ ((is_passed ceiling one.guided.bracket ≡ true) ⊎ (nat_lt one.guided.window.yes missed ≡ false))). ⊎_elim
+    (λ (settled : is_settled one.guided.bracket ≡ true). inl (recorded-keeps verdicts finals (noted one known) r rest k more others
+    (subst (λ n. known_at (noted one known) n ≡ Some (at finals n)) here (written-here (is_settled one.guided.bracket) known one.candidate (Some (many_yield (outcome_of one.guided.bracket))) (omega (arith, within, same)) settled ∙ settled-final verdicts finals r one is settled))))
+    (λ (behind : (is_passed ceiling one.guided.bracket ≡ true) ⊎ (nat_lt one.guided.window.yes missed ≡ false)). inr (inl (subst (λ n. IsBehind ceiling missed (rank_of (at finals n))) here (⊎_elim
+    (λ (passed : is_passed ceiling one.guided.bracket ≡ true). inl (passed-past verdicts finals r ceiling one most is passed))
+    (λ (over : nat_lt one.guided.window.yes missed ≡ false). inr (known-over verdicts finals r missed one most some is over))
+    behind))))
     other)
-    (needed-cases (is_settled one.bracket) (is_passed ceiling one.bracket)))
+    (needed-cases (is_settled one.guided.bracket) (is_passed ceiling one.guided.bracket) (nat_lt one.guided.window.yes missed)))
     (λ (later : IsSearchedFor rest k). ⊎_elim
     (λ (right : known_at (recorded rest (noted one known)) k ≡ Some (at finals k)). inl right)
-    (λ (left : IsPast ceiling (rank_of (at finals k)) ⊎ IsSearchedFor needed k). ⊎_elim
-    (λ (past : IsPast ceiling (rank_of (at finals k))). inr (inl past))
-    (λ (goes_on : IsSearchedFor needed k). inr (inr (kept-if (is_needed ceiling one) one needed k goes_on)))
+    (λ (left : IsBehind ceiling missed (rank_of (at finals k)) ⊎ IsSearchedFor needed k). ⊎_elim
+    (λ (past : IsBehind ceiling missed (rank_of (at finals k))). inr (inl past))
+    (λ (goes_on : IsSearchedFor needed k). inr (inr (kept-if (is_needed ceiling missed one) one needed k goes_on)))
     left)
-    (sorted verdicts finals (noted one known) r ceiling rest k most more others later))
+    (sorted verdicts finals (noted one known) r ceiling missed rest k most some more others later))
     has
 
 -- ---- one round
-needed-pending : (settled passed : Bool) → (not settled && not passed) ≡ true → settled ≡ false
-needed-pending true passed need = cc
-needed-pending false passed need = refl
+needed-pending : (settled passed below : Bool) → (not settled && (not passed && below)) ≡ true → settled ≡ false
+needed-pending true passed below need = cc
+needed-pending false passed below need = refl
 
-needed-running : (verdicts : PaymentSeries → ℕ → ℕ → Verdict) (finals : List CandidateOutcome) (r : ℕ) (ceiling : Option ℤ) (one : OpenSearch) → IsAsked verdicts finals r one → is_needed ceiling one ≡ true → IsRunning verdicts finals r one
-needed-running verdicts finals r ceiling one is need = record {
+needed-running : (verdicts : PaymentSeries → ℕ → ℕ → Verdict) (finals : List CandidateOutcome) (r : ℕ) (ceiling : Option ℤ) (missed : ℕ) (one : OpenSearch) → IsAsked verdicts finals r one → is_needed ceiling missed one ≡ true → IsRunning verdicts finals r one
+needed-running verdicts finals r ceiling missed one is need = record {
   is = is.is;
-  pending = needed-pending (is_settled one.bracket) (is_passed ceiling one.bracket) need;
+  pending = needed-pending (is_settled one.guided.bracket) (is_passed ceiling one.guided.bracket) (nat_lt one.guided.window.yes missed) need;
   halvings = is.halvings;
   within = is.within;
+  answered = is.answered;
+  guided = is.guided;
   same = is.same;
 }
 
 length-filter_most : (test : OpenSearch → Bool) (searches : List OpenSearch) → length (filter test searches) ≤ length searches
 length-filter_most test searches = omega (arith, length-filter test searches, count_by-le-length test searches)
 
-covered-next : (verdicts : PaymentSeries → ℕ → ℕ → Verdict) (finals : List CandidateOutcome) (known : List (Option CandidateOutcome)) (r : ℕ) (before ceiling : Option ℤ) (searches : List OpenSearch) (k : ℕ) → r ≤ 19 → ((rank : ℤ) → IsPast before rank → IsPast ceiling rank) → length known ≡ length finals → All (IsAsked verdicts finals r) (map (asked verdicts) searches)
-    → IsCovered finals known before searches k → IsCovered finals (recorded (map (asked verdicts) searches) known) ceiling (filter (is_needed ceiling) (map (asked verdicts) searches)) k
-covered-next verdicts finals known r before ceiling searches k most falls same all covered =
-    let after = map (asked verdicts) searches in
+covered-next : (verdicts : PaymentSeries → ℕ → ℕ → Verdict) (finals : List CandidateOutcome) (known : List (Option CandidateOutcome)) (r : ℕ) (before ceiling : Option ℤ) (missed least : ℕ) (searches after : List OpenSearch) (k : ℕ) → r ≤ 19 → 1 ≤ least → ((rank : ℤ) → IsBehind before missed rank → IsBehind ceiling least rank) → length known ≡ length finals → All (IsAsked verdicts finals r) after → (IsSearchedFor searches k → IsSearchedFor after k)
+    → IsCovered finals known before missed searches k → IsCovered finals (recorded after known) ceiling least (filter (is_needed ceiling least) after) k
+covered-next verdicts finals known r before ceiling missed least searches after k most some falls same all goes covered =
     ⊎_elim
     (λ (right : known_at known k ≡ Some (at finals k)). inl (recorded-keeps verdicts finals known r after k same all right))
-    (λ (left : (known_at known k ≡ None) × (IsPast before (rank_of (at finals k)) ⊎ IsSearchedFor searches k)). ⊎_elim
+    (λ (left : (known_at known k ≡ None) × (IsBehind before missed (rank_of (at finals k)) ⊎ IsSearchedFor searches k)). ⊎_elim
     (λ (right : known_at (recorded after known) k ≡ Some (at finals k)). inl right)
     (λ (unknown : known_at (recorded after known) k ≡ None). ⊎_elim
-    (λ (past : IsPast before (rank_of (at finals k))). inr (unknown, inl (falls (rank_of (at finals k)) past)))
+    (λ (past : IsBehind before missed (rank_of (at finals k))). inr (unknown, inl (falls (rank_of (at finals k)) past)))
     (λ (has : IsSearchedFor searches k). ⊎_elim
     (λ (right : known_at (recorded after known) k ≡ Some (at finals k)). inl right)
-    (λ (rest : IsPast ceiling (rank_of (at finals k)) ⊎ IsSearchedFor (filter (is_needed ceiling) after) k). inr (unknown, rest))
-    (sorted verdicts finals known r ceiling after k most same all (searched-asked verdicts searches k has)))
+    (λ (rest : IsBehind ceiling least (rank_of (at finals k)) ⊎ IsSearchedFor (filter (is_needed ceiling least) after) k). inr (unknown, rest))
+    (sorted verdicts finals known r ceiling least after k most some same all (goes has)))
     left.1)
     (recorded-or verdicts finals known r after k same all left.0))
     covered
 
-pub refined-keeps : (verdicts : PaymentSeries → ℕ → ℕ → Verdict) (finals : List CandidateOutcome) (r : ℕ) (search : Search) → r < 19 → IsRefined verdicts finals r search → IsRefined verdicts finals (r + 1) (refined verdicts search)
-unfolding refined
-refined-keeps verdicts finals r search few is =
-    let searches = map (asked verdicts) search.searches.items in
-    let ceiling = ceiling_after search.ceiling searches in
-    let all = all-asked verdicts finals r search.searches.items few is.each in
+behind-after : (ceiling : Option ℤ) (missed : ℕ) (searches : List OpenSearch) (rank : ℤ) → IsBehind ceiling missed rank → IsBehind (ceiling_after ceiling searches) (missed_after missed searches) rank
+behind-after ceiling missed searches rank behind =
+    ⊎_elim
+    (λ (past : IsPast ceiling rank). inl (past-after ceiling searches rank past))
+    (λ (over : IsOver missed rank). inr (over-lower missed (missed_after missed searches) rank (missed-falls missed searches) over))
+    behind
+
+-- what is known after one round, by the searches as it leaves them
+refined-by : (verdicts : PaymentSeries → ℕ → ℕ → Verdict) (finals : List CandidateOutcome) (r : ℕ) (search : Search) (asked : List OpenSearch) → r < 19 → AllZip (IsHalved verdicts) search.searches.items asked → IsRefined verdicts finals r search
+    → IsLeft verdicts finals (r + 1) (recorded asked search.known.items) (ceiling_after search.ceiling asked) (missed_after search.missed asked) (filter (is_needed (ceiling_after search.ceiling asked) (missed_after search.missed asked)) asked)
+refined-by verdicts finals r search asked few zip is =
+    let ceiling = ceiling_after search.ceiling asked in
+    let missed = missed_after search.missed asked in
+    let all = all-asked verdicts finals r search.searches.items asked few zip is.each in
     let most : r + 1 ≤ 19 = omega arith in
     let room = is.few in
+    let place = missed-holds verdicts finals (r + 1) search.missed asked most all is.missed_is in
     record {
-      lengths = length-recorded searches search.known.items ∙ is.lengths;
+      lengths = length-recorded asked search.known.items ∙ is.lengths;
       of = is.of;
-      ceiling = ceiling-holds verdicts finals (r + 1) search.ceiling searches most all is.ceiling;
-      each = λ k d inside. needed-running verdicts finals (r + 1) ceiling (get_or (filter (is_needed ceiling) searches) k d) (All-filter (is_needed ceiling) (IsAsked verdicts finals (r + 1)) searches all k d inside) (filter_passes (is_needed ceiling) searches k d inside);
-      few = omega (arith, length-filter_most (is_needed ceiling) searches, length-map search.searches.items (asked verdicts), room);
-      covered = λ k. covered-next verdicts finals search.known.items (r + 1) search.ceiling ceiling search.searches.items k most (past-after search.ceiling searches) is.lengths all (is.covered k);
+      ceiling_is = ceiling-holds verdicts finals (r + 1) search.ceiling asked most all is.ceiling_is;
+      missed_is = place;
+      each = λ k d inside. needed-running verdicts finals (r + 1) ceiling missed (get_or (filter (is_needed ceiling missed) asked) k d) (All-filter (is_needed ceiling missed) (IsAsked verdicts finals (r + 1)) asked all k d inside) (filter_passes (is_needed ceiling missed) asked k d inside);
+      few = omega (arith, length-filter_most (is_needed ceiling missed) asked, AllZip-long (IsHalved verdicts) search.searches.items asked zip, room);
+      covered = λ k. covered-next verdicts finals search.known.items (r + 1) search.ceiling ceiling search.missed missed search.searches.items asked k most place.some (behind-after search.ceiling search.missed asked) is.lengths all (searched-asked verdicts search.searches.items asked k zip) (is.covered k);
     }
 
+pub refined-keeps : (verdicts : PaymentSeries → ℕ → ℕ → Verdict) (finals : List CandidateOutcome) (r : ℕ) (search after : Search) → r < 19 → IsRound verdicts search after → IsRefined verdicts finals r search → IsRefined verdicts finals (r + 1) after
+refined-keeps verdicts finals r search after few round is =
+    let left = refined-by verdicts finals r search round.asked few round.each is in
+    subst (λ known. IsLeft verdicts finals (r + 1) known after.ceiling after.missed after.searches.items) (sym round.known)
+    (subst (λ searches. IsLeft verdicts finals (r + 1) (recorded round.asked search.known.items) after.ceiling after.missed searches) (sym round.searches)
+    (subst (λ missed. IsLeft verdicts finals (r + 1) (recorded round.asked search.known.items) after.ceiling missed (filter (is_needed after.ceiling missed) round.asked)) (sym round.missed)
+    (subst (λ ceiling. IsLeft verdicts finals (r + 1) (recorded round.asked search.known.items) ceiling (missed_after search.missed round.asked) (filter (is_needed ceiling (missed_after search.missed round.asked)) round.asked)) (sym round.ceiling)
+    left)))
+
 -- what a round asks for
-pub can-refine : (verdicts : PaymentSeries → ℕ → ℕ → Verdict) (finals : List CandidateOutcome) (r : ℕ) (search : Search) → IsRefined verdicts finals r search → CanRefine search
+pub can-refine : (verdicts : PaymentSeries → ℕ → ℕ → Verdict) (finals : List CandidateOutcome) (r : ℕ) (search : Search) → IsRefined verdicts finals r search → CanRefine verdicts search
 can-refine verdicts finals r search is = record {
-  each = λ k d inside. let running = is.each k d inside in (running.is, running.pending);
+  each = λ k d inside. let running = is.each k d inside in (running.is, running.pending, running.guided);
   candidates = λ k d inside. let running = is.each k d inside in let within = running.within in omega (arith, within, is.lengths);
   few = is.few;
 }
@@ -397,7 +522,7 @@ few-rounds verdicts finals r [] all some = absurd (some refl)
 few-rounds verdicts finals r (one ∷ rest) all some =
     let here = All-head (IsRunning verdicts finals r) one rest all in
     let halvings = here.halvings in
-    omega (arith, halvings, few-asked one.bracket here.is here.pending)
+    omega (arith, halvings, few-asked one.guided.bracket here.is here.pending)
 
 not-over : (searches : List OpenSearch) → (length searches == 0) ≡ false → searches ≢ []
 not-over searches pending none = let over : (length searches == 0) ≡ true = rw none refl in let never : true ≡ false = sym over ∙ pending in cc
@@ -425,7 +550,7 @@ told-unknown known k is = told-at known k ∙ ap (λ (it : Option CandidateOutco
 -- each outcome is told, or decides nothing
 record IsDropped (finals : List CandidateOutcome) (search : Search) (k : ℕ) : Type 0 where
   told : at (outcomes_of search.known.items) k ≡ Above
-  past : IsPast search.ceiling (rank_of (at finals k))
+  past : IsBehind search.ceiling search.missed (rank_of (at finals k))
 
 abbrev IsDecided : (finals : List CandidateOutcome) (search : Search) → ℕ → Type 0
 IsDecided finals search k = (at (outcomes_of search.known.items) k ≡ at finals k) ⊎ IsDropped finals search k
@@ -434,28 +559,62 @@ over-decided : (verdicts : PaymentSeries → ℕ → ℕ → Verdict) (finals : 
 over-decided verdicts finals r search is none k =
     ⊎_elim
     (λ (right : known_at search.known.items k ≡ Some (at finals k)). inl (told-known search.known.items k (at finals k) right))
-    (λ (left : (known_at search.known.items k ≡ None) × (IsPast search.ceiling (rank_of (at finals k)) ⊎ IsSearchedFor search.searches.items k)). ⊎_elim
-    (λ (past : IsPast search.ceiling (rank_of (at finals k))). inr (record { told = told-unknown search.known.items k left.0; past = past }))
+    (λ (left : (known_at search.known.items k ≡ None) × (IsBehind search.ceiling search.missed (rank_of (at finals k)) ⊎ IsSearchedFor search.searches.items k)). ⊎_elim
+    (λ (past : IsBehind search.ceiling search.missed (rank_of (at finals k))). inr (record { told = told-unknown search.known.items k left.0; past = past }))
     (λ (has : IsSearchedFor search.searches.items k). absurd (subst (λ searches. IsSearchedFor searches k) none has))
     left.1)
     (is.covered k)
 
 -- The first of least rank among the outcomes that are told is so among all. A candidate that holds the
 -- ceiling is told, so that the least rank is below the ceiling, and each that was dropped is not.
-below-dropped : (finals told : List CandidateOutcome) (ceiling : Option ℤ) (c k : ℕ) → IsCeiling finals ceiling → ((j : ℕ) → (at told j ≡ at finals j) ⊎ IsPast ceiling (rank_of (at finals j))) → IsFirstOfLeastRank (negsuc 5000) told c → IsPast ceiling (rank_of (at finals k)) → rank_of (at told c) <ℤ rank_of (at finals k)
-below-dropped finals told None c k holder decided first past = absurd past
-below-dropped finals told (Some ceiling) c k holder decided first past =
+abbrev IsToldOrBehind : (finals told : List CandidateOutcome) (ceiling : Option ℤ) (missed : ℕ) → ℕ → Type 0
+IsToldOrBehind finals told ceiling missed j = (at told j ≡ at finals j) ⊎ IsBehind ceiling missed (rank_of (at finals j))
+
+below-past : (finals told : List CandidateOutcome) (ceiling : Option ℤ) (missed c k : ℕ) → IsCeiling finals ceiling → IsMissedPlace finals missed → ((j : ℕ) → IsToldOrBehind finals told ceiling missed j) → IsFirstOfLeastRank (negsuc 5000) told c → IsPast ceiling (rank_of (at finals k)) → rank_of (at told c) <ℤ rank_of (at finals k)
+below-past finals told None missed c k holder place decided first past = absurd past
+below-past finals told (Some ceiling) missed c k holder place decided first past =
+    let holds = holder.1 in
     ⊎_elim
-    (λ (right : at told holder.0 ≡ at finals holder.0). let least = first.none_lower holder.0 in let holds = holder.1 in omega (arith, ints, least, ap rank_of right, holds, past))
-    (λ (dropped : ceiling ≤ℤ rank_of (at finals holder.0)). let holds = holder.1 in absurd (omega (arith, ints, dropped, holds)))
+    (λ (right : at told holder.0 ≡ at finals holder.0). let least = first.none_lower holder.0 in omega (arith, ints, least, ap rank_of right, holds, past))
+    (λ (behind : IsBehind (Some ceiling) missed (rank_of (at finals holder.0))). ⊎_elim
+    (λ (never : ceiling ≤ℤ rank_of (at finals holder.0)). absurd (omega (arith, ints, never, holds)))
+    (λ (over : IsOver missed (rank_of (at finals holder.0))).
+    let other = place.holder over.0 in
+    let misses = other.1 in
+    let from = over.1 in
+    ⊎_elim
+    (λ (right : at told other.0 ≡ at finals other.0). let least = first.none_lower other.0 in omega (arith, ints, least, ap rank_of right, misses, from, holds, past))
+    (λ (too : IsBehind (Some ceiling) missed (rank_of (at finals other.0))). ⊎_elim
+    (λ (never : ceiling ≤ℤ rank_of (at finals other.0)). absurd (omega (arith, ints, never, misses, from, holds)))
+    (λ (never : IsOver missed (rank_of (at finals other.0))). let at_least = never.1 in absurd (omega (arith, ints, at_least, misses)))
+    too)
+    (decided other.0))
+    behind)
     (decided holder.0)
 
-first-of_all : (finals : List CandidateOutcome) (search : Search) (c : ℕ) → ((k : ℕ) → IsOf Yield (at finals k)) → IsCeiling finals search.ceiling → ((k : ℕ) → IsDecided finals search k) → IsFirstOfLeastRank (negsuc 5000) (outcomes_of search.known.items) c
+below-behind : (finals told : List CandidateOutcome) (ceiling : Option ℤ) (missed c k : ℕ) → IsCeiling finals ceiling → IsMissedPlace finals missed → ((j : ℕ) → IsToldOrBehind finals told ceiling missed j) → IsFirstOfLeastRank (negsuc 5000) told c → IsBehind ceiling missed (rank_of (at finals k)) → rank_of (at told c) <ℤ rank_of (at finals k)
+below-behind finals told ceiling missed c k holder place decided first behind =
+    ⊎_elim
+    (λ (past : IsPast ceiling (rank_of (at finals k))). below-past finals told ceiling missed c k holder place decided first past)
+    (λ (over : IsOver missed (rank_of (at finals k))).
+    let other = place.holder over.0 in
+    let misses = other.1 in
+    let from = over.1 in
+    ⊎_elim
+    (λ (right : at told other.0 ≡ at finals other.0). let least = first.none_lower other.0 in omega (arith, ints, least, ap rank_of right, misses, from))
+    (λ (too : IsBehind ceiling missed (rank_of (at finals other.0))). ⊎_elim
+    (λ (past : IsPast ceiling (rank_of (at finals other.0))). let less = below-past finals told ceiling missed c other.0 holder place decided first past in omega (arith, ints, less, misses, from))
+    (λ (never : IsOver missed (rank_of (at finals other.0))). let at_least = never.1 in absurd (omega (arith, ints, at_least, misses)))
+    too)
+    (decided other.0))
+    behind
+
+first-of_all : (finals : List CandidateOutcome) (search : Search) (c : ℕ) → ((k : ℕ) → IsOf Yield (at finals k)) → IsCeiling finals search.ceiling → IsMissedPlace finals search.missed → ((k : ℕ) → IsDecided finals search k) → IsFirstOfLeastRank (negsuc 5000) (outcomes_of search.known.items) c
     → IsFirstOfLeastRank (negsuc 5000) finals c × (at (outcomes_of search.known.items) c ≡ at finals c)
-first-of_all finals search c of holder decided first =
+first-of_all finals search c of holder place decided first =
     let told = outcomes_of search.known.items in
     let below : (k : ℕ) → IsDropped finals search k → rank_of (at told c) <ℤ rank_of (at finals k) =
-    λ k dropped. below-dropped finals told search.ceiling c k holder
+    λ k dropped. below-behind finals told search.ceiling search.missed c k holder place
     (λ j. ⊎_elim (λ (right : at told j ≡ at finals j). inl right) (λ (it : IsDropped finals search j). inr it.past) (decided j)) first dropped.past in
     let here : at told c ≡ at finals c =
     ⊎_elim
@@ -478,7 +637,7 @@ first-of_all finals search c of holder decided first =
 pub ranked-of_all : (verdicts : PaymentSeries → ℕ → ℕ → Verdict) (finals : List CandidateOutcome) (r : ℕ) (search : Search) (answer : Lowest) → IsRefined verdicts finals r search → search.searches.items ≡ [] → IsRanked (negsuc 5000) (outcomes_of search.known.items) answer → IsRanked (negsuc 5000) finals answer
 ranked-of_all verdicts finals r search answer is none ranked =
     let decided = over-decided verdicts finals r search is none in
-    let first = first-of_all finals search ranked.candidate is.of is.ceiling decided ranked.first in
+    let first = first-of_all finals search ranked.candidate is.of is.ceiling_is is.missed_is decided ranked.first in
     record {
       candidate = ranked.candidate;
       first = first.0;
@@ -490,7 +649,7 @@ pub told-of : (verdicts : PaymentSeries → ℕ → ℕ → Verdict) (finals : L
 told-of verdicts finals r search is = λ k d inside. subst (IsOf Yield) (get_or_default (outcomes_of search.known.items) k Above d inside)
     (⊎_elim
     (λ (right : known_at search.known.items k ≡ Some (at finals k)). subst (IsOf Yield) (sym (told-known search.known.items k (at finals k) right)) (is.of k))
-    (λ (left : (known_at search.known.items k ≡ None) × (IsPast search.ceiling (rank_of (at finals k)) ⊎ IsSearchedFor search.searches.items k)). subst (IsOf Yield) (sym (told-unknown search.known.items k left.0)) tt)
+    (λ (left : (known_at search.known.items k ≡ None) × (IsBehind search.ceiling search.missed (rank_of (at finals k)) ⊎ IsSearchedFor search.searches.items k)). subst (IsOf Yield) (sym (told-unknown search.known.items k left.0)) tt)
     (is.covered k))
 
 pub over-none : (searches : List OpenSearch) → (length searches == 0) ≡ true → searches ≡ []

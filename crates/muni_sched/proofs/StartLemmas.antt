@@ -1,14 +1,15 @@
--- What the searches keep holds before the first round, and the rounds are counted.
+-- What the searches keep holds before the first round, and after each.
 use Rattle.std.proofs.Common.{◌≡◌, ◌<◌, ◌≤◌, ◌+◌, ◌-◌, ℕ, zero, suc, List, [], ◌∷◌, All, true, false, length, Option, Some, None, refl, ap, sym, subst, inl, inr, ⊎_elim, arith, ◌∙◌, ◌⊎◌, ℤ}
 use Rattle.std.specs.Prelude.{unwrap_or, if◌then◌else◌}
 use Rattle.std.specs.List.{AllZip}
 use Rattle.std.proofs.lemmas.Int.{ints}
 use Rattle.std.proofs.lemmas.List.{get_or_default}
 use Rattle.std.proofs.lemmas.List.Elements.{All-head, All-tail, All-cons, All-nil}
-use Rattle.muni_rule.specs.Payments.{PaymentSeries}
+use Rattle.muni_rule.specs.Payments.{PaymentSeries, IsSeries}
 use Rattle.muni_rule.specs.WorthEnds.{WorthEnds}
 use Rattle.muni_rule.specs.declared.verdict.Verdict.{Verdict}
 use Rattle.muni_yield.specs.Bracket.{start_of}
+use Rattle.muni_yield.specs.Known.{IsWindow, window_first, guided_start}
 use Rattle.muni_yield.specs.Places.{place_verdict}
 use Rattle.muni_yield.specs.Settled.{final_of}
 use Rattle.muni_yield.proofs.BracketLemmas.{start-is}
@@ -23,23 +24,23 @@ use Rattle.muni_sched.specs.declared.search.Search.{Search}
 use Rattle.muni_sched.specs.Candidates.{IsCandidate}
 use Rattle.muni_sched.specs.Figures.{IsOf}
 use Rattle.muni_sched.specs.Lowest as lowest
-use Rattle.muni_sched.specs.Search.{IsKnownYield, missed_first, lower_of, ceiling_first, searches_for, searches_from, IsStarted, is_over, refined, rounds, outcomes_of}
+use Rattle.muni_sched.specs.Search.{IsKnownYield, missed_first, lower_of, ceiling_first, searches_for, searches_from, IsStarted, IsRound, is_over, outcomes_of}
 use Rattle.muni_sched.specs.SearchedOut.{AreSearchedOut}
 use Rattle.muni_sched.specs.Shape.{IsPriceable}
 use Rattle.muni_sched.specs.ToCome.{ToCome, many, one, to_come_of}
 use Rattle.muni_sched.specs.YieldOutcome.{final, IsYieldOutcomeFor, IsYieldOutcome, IsKnownFor, IsKnownFirst}
-use Rattle.muni_sched.proofs.SearchLemmas.{rank_of, known_at, IsRunning, IsSearchedFor, IsCeiling, IsRefined, between, lower-ceiling, refined-keeps, ranked-of_all, over-none, told-of}
+use Rattle.muni_sched.proofs.SearchLemmas.{rank_of, known_at, IsRunning, IsSearchedFor, IsCeiling, IsMissedPlace, IsRefined, between, lower-ceiling, refined-keeps, ranked-of_all, over-none, told-of}
 
 abbrev at : List CandidateOutcome → ℕ → CandidateOutcome
 at outcomes k = lowest.outcome_at outcomes k
 
 -- many payments that may be searched
-abbrev MayBeSearched : ToCome → Type 0
-MayBeSearched (many series) = 2 ≤ series.n
+abbrev pub MayBeSearched : ToCome → Type 0
+MayBeSearched (many series) = IsSeries series × (2 ≤ series.n)
 MayBeSearched (one least payment) = Unit
 
-may_be : (shape : Shape) → IsPriceable shape → MayBeSearched (to_come_of shape)
-may_be (Many series) is = is.1
+pub may_be : (shape : Shape) → IsPriceable shape → MayBeSearched (to_come_of shape)
+may_be (Many series) is = is
 may_be (One payment) is = tt
 may_be (AtRedemption payment) is = tt
 may_be (Discount days basis) is = tt
@@ -83,7 +84,7 @@ known-of None of = tt
 known-of (Some outcome) of = of
 
 for-of : (verdicts : PaymentSeries → ℕ → ℕ → Verdict) (price : ℕ) (to_come : ToCome) (known : Option CandidateOutcome) → MayBeSearched to_come → 0 < price → IsKnownYield known → IsOf Yield (final-for verdicts price to_come known)
-for-of verdicts price (many series) known more some of = final-of_yield verdicts price series more some
+for-of verdicts price (many series) known more some of = final-of_yield verdicts price series more.1 some
 for-of verdicts price (one least payment) known more some of = known-of known of
 
 finals-of_yield : (verdicts : PaymentSeries → ℕ → ℕ → Verdict) (price : ℕ) (list : List Candidate) (known : List (Option CandidateOutcome)) → 0 < price → All IsCandidate list → All IsKnownYield known → (k : ℕ) → IsOf Yield (at (finals-of verdicts price list known) k)
@@ -94,34 +95,40 @@ finals-of_yield verdicts price (candidate ∷ list) (it ∷ known) some all of z
 finals-of_yield verdicts price (candidate ∷ list) (it ∷ known) some all of (suc k) =
     finals-of_yield verdicts price list known some (All-tail IsCandidate candidate list all) (All-tail IsKnownYield it known of) k
 
+-- what the sum of the payments tells is so
+abbrev pub AreFirstKnown : (verdicts : PaymentSeries → ℕ → ℕ → Verdict) (price : ℕ) → Type 0
+AreFirstKnown verdicts price = (series : PaymentSeries) → IsSeries series → 2 ≤ series.n → IsWindow (verdicts series price) (window_first series price)
+
 -- each search comes to the outcome of its candidate
-started-running : (verdicts : PaymentSeries → ℕ → ℕ → Verdict) (price : ℕ) (finals : List CandidateOutcome) (c : ℕ) (series : PaymentSeries) → 2 ≤ series.n → 0 < price → c < length finals → at finals c ≡ final verdicts price series → IsRunning verdicts finals 0 (record { candidate = c; bracket = start_of series price })
+started-running : (verdicts : PaymentSeries → ℕ → ℕ → Verdict) (price : ℕ) (finals : List CandidateOutcome) (c : ℕ) (series : PaymentSeries) → 2 ≤ series.n → 0 < price → c < length finals → at finals c ≡ final verdicts price series → IsWindow (verdicts series price) (window_first series price) → IsRunning verdicts finals 0 (record { candidate = c; guided = guided_start series price })
 unfolding final_of
-started-running verdicts price finals c series more some inside is = record {
+started-running verdicts price finals c series more some inside is known = record {
   is = start-is series price more some;
   pending = refl;
   halvings = refl;
   within = inside;
+  answered = record { low = inl refl; high = inl (refl, refl) };
+  guided = known;
   same = sym is;
 }
 
-running-for : (verdicts : PaymentSeries → ℕ → ℕ → Verdict) (price : ℕ) (finals : List CandidateOutcome) (c : ℕ) (to_come : ToCome) (known : Option CandidateOutcome) (rest : List OpenSearch) → MayBeSearched to_come → 0 < price → c < length finals → at finals c ≡ final-for verdicts price to_come known → All (IsRunning verdicts finals 0) rest → All (IsRunning verdicts finals 0) (searches_for price c to_come rest)
-running-for verdicts price finals c (many series) known rest more some inside is all =
-    All-cons (IsRunning verdicts finals 0) (record { candidate = c; bracket = start_of series price }) rest (started-running verdicts price finals c series more some inside is) all
-running-for verdicts price finals c (one least payment) known rest more some inside is all = all
+running-for : (verdicts : PaymentSeries → ℕ → ℕ → Verdict) (price : ℕ) (finals : List CandidateOutcome) (c : ℕ) (to_come : ToCome) (known : Option CandidateOutcome) (rest : List OpenSearch) → AreFirstKnown verdicts price → MayBeSearched to_come → 0 < price → c < length finals → at finals c ≡ final-for verdicts price to_come known → All (IsRunning verdicts finals 0) rest → All (IsRunning verdicts finals 0) (searches_for price c to_come rest)
+running-for verdicts price finals c (many series) known rest first more some inside is all =
+    All-cons (IsRunning verdicts finals 0) (record { candidate = c; guided = guided_start series price }) rest (started-running verdicts price finals c series more.1 some inside is (first series more.0 more.1)) all
+running-for verdicts price finals c (one least payment) known rest first more some inside is all = all
 
 next-candidate : (finals rest : List CandidateOutcome) (c : ℕ) (first : CandidateOutcome) → ((j : ℕ) → at finals (c + j) ≡ at (first ∷ rest) j) → (j : ℕ) → at finals (c + 1 + j) ≡ at rest j
 next-candidate finals rest c first same j = let next : c + 1 + j ≡ c + suc j = omega arith in ap (at finals) next ∙ same (suc j)
 
-running-from : (verdicts : PaymentSeries → ℕ → ℕ → Verdict) (price : ℕ) (finals : List CandidateOutcome) (c : ℕ) (list : List Candidate) (known : List (Option CandidateOutcome)) → 0 < price → All IsCandidate list → AllZip (IsKnownFirst price) list known → c + length list ≤ length finals
+running-from : (verdicts : PaymentSeries → ℕ → ℕ → Verdict) (price : ℕ) (finals : List CandidateOutcome) (c : ℕ) (list : List Candidate) (known : List (Option CandidateOutcome)) → AreFirstKnown verdicts price → 0 < price → All IsCandidate list → AllZip (IsKnownFirst price) list known → c + length list ≤ length finals
     → ((j : ℕ) → at finals (c + j) ≡ at (finals-of verdicts price list known) j) → All (IsRunning verdicts finals 0) (searches_from price c list)
-running-from verdicts price finals c [] known some all zip room same = All-nil (IsRunning verdicts finals 0)
-running-from verdicts price finals c (candidate ∷ list) [] some all zip room same = absurd zip
-running-from verdicts price finals c (candidate ∷ list) (it ∷ known) some all zip room same =
+running-from verdicts price finals c [] known first some all zip room same = All-nil (IsRunning verdicts finals 0)
+running-from verdicts price finals c (candidate ∷ list) [] first some all zip room same = absurd zip
+running-from verdicts price finals c (candidate ∷ list) (it ∷ known) first some all zip room same =
     let here : c + 0 ≡ c = omega arith in
-    running-for verdicts price finals c (to_come_of candidate.shape) it (searches_from price (c + 1) list)
+    running-for verdicts price finals c (to_come_of candidate.shape) it (searches_from price (c + 1) list) first
     (may_be candidate.shape (All-head IsCandidate candidate list all)) some (omega arith) (sym (ap (at finals) here) ∙ same 0)
-    (running-from verdicts price finals (c + 1) list known some (All-tail IsCandidate candidate list all) zip.1 (omega arith)
+    (running-from verdicts price finals (c + 1) list known first some (All-tail IsCandidate candidate list all) zip.1 (omega arith)
     (next-candidate finals (finals-of verdicts price list known) c (final-for verdicts price (to_come_of candidate.shape) it) same))
 
 few-for : (price c : ℕ) (to_come : ToCome) (rest : List OpenSearch) (n : ℕ) → length rest ≤ n → length (searches_for price c to_come rest) ≤ suc n
@@ -185,8 +192,8 @@ pub record IsFinal (verdicts : PaymentSeries → ℕ → ℕ → Verdict) (price
   pub outcomes : AllZip (IsYieldOutcome verdicts price) list finals
   pub refined : IsRefined verdicts finals r search
 
-pub started-final : (verdicts : PaymentSeries → ℕ → ℕ → Verdict) (price : ℕ) (list : List Candidate) (search : Search) → 0 < price → All IsCandidate list → length list ≤ 41 → IsStarted price list search → IsFinal verdicts price list 0 search
-started-final verdicts price list search some all few is =
+pub started-final : (verdicts : PaymentSeries → ℕ → ℕ → Verdict) (price : ℕ) (list : List Candidate) (search : Search) → AreFirstKnown verdicts price → 0 < price → All IsCandidate list → length list ≤ 41 → IsStarted price list search → IsFinal verdicts price list 0 search
+started-final verdicts price list search first some all few is =
     let known = search.known.items in
     let finals = finals-of verdicts price list known in
     let lengths = length-finals verdicts price list known is.known in
@@ -199,14 +206,15 @@ started-final verdicts price list search some all few is =
       refined = record {
         lengths = lengths.0 ∙ sym lengths.1;
         of = of;
-        ceiling = subst (IsCeiling finals) (sym is.ceiling)
+        ceiling_is = subst (IsCeiling finals) (sym is.ceiling)
             (ceiling-from finals 0 None known
             (λ j. ⊎_elim
             (λ (right : known_at known j ≡ Some (at finals j)). inl (right ∙ ap Some (sym (zero_more j))))
             (λ (left : (known_at known j ≡ None) × IsSearchedFor (searches_from price 0 list) (0 + j)). inr left.0)
             (start j))
             tt);
-        each = subst (All (IsRunning verdicts finals 0)) (sym is.searches) (running-from verdicts price finals 0 list known some all is.known (omega (arith, lengths.1)) zero_more);
+        missed_is = subst (IsMissedPlace finals) (sym is.missed) (record { some = omega arith; holder = λ most. absurd (omega (arith, most)) });
+        each = subst (All (IsRunning verdicts finals 0)) (sym is.searches) (running-from verdicts price finals 0 list known first some all is.known (omega (arith, lengths.1)) zero_more);
         few = let count = few-from price 0 list in omega (arith, count, few, ap (λ (searches : List OpenSearch). length searches) is.searches);
         covered = λ k. ⊎_elim
             (λ (right : known_at known k ≡ Some (at finals k)). inl right)
@@ -218,11 +226,11 @@ started-final verdicts price list search some all few is =
     }
 
 -- one more round
-pub next-final : (verdicts : PaymentSeries → ℕ → ℕ → Verdict) (price : ℕ) (list : List Candidate) (r : ℕ) (search next : Search) → r < 19 → next ≡ refined verdicts search → IsFinal verdicts price list r search → IsFinal verdicts price list (r + 1) next
+pub next-final : (verdicts : PaymentSeries → ℕ → ℕ → Verdict) (price : ℕ) (list : List Candidate) (r : ℕ) (search next : Search) → r < 19 → IsRound verdicts search next → IsFinal verdicts price list r search → IsFinal verdicts price list (r + 1) next
 next-final verdicts price list r search next few is before = record {
   finals = before.finals;
   outcomes = before.outcomes;
-  refined = subst (IsRefined verdicts before.finals (r + 1)) (sym is) (refined-keeps verdicts before.finals r search few before.refined);
+  refined = refined-keeps verdicts before.finals r search next few is before.refined;
 }
 
 -- and when nothing is left to ask
@@ -236,24 +244,3 @@ searched-out ends price list r search over is =
       range = λ k d inside. subst (IsOf Yield) (get_or_default is.finals k Above d inside) (is.refined.of k);
       found_range = told-of (place_verdict ends) is.finals r search is.refined;
     }
-
--- ---- the count of the rounds
-rounds-by : (verdicts : PaymentSeries → ℕ → ℕ → Verdict) (most : ℕ) (search : Search) → rounds (suc most) verdicts search ≡ (if is_over search then 0 else rounds most verdicts (refined verdicts search) + 1)
-unfolding rounds
-rounds-by verdicts most search = refl
-
-rounds-none : (verdicts : PaymentSeries → ℕ → ℕ → Verdict) (search : Search) → rounds zero verdicts search ≡ 0
-unfolding rounds
-rounds-none verdicts search = refl
-
-pub rounds-over : (verdicts : PaymentSeries → ℕ → ℕ → Verdict) (most : ℕ) (search : Search) → is_over search ≡ true → rounds most verdicts search ≡ 0
-rounds-over verdicts zero search over = rounds-none verdicts search
-rounds-over verdicts (suc most) search over = rounds-by verdicts most search ∙ ap (λ test. if test then 0 else rounds most verdicts (refined verdicts search) + 1) over
-
-pub rounds-next : (verdicts : PaymentSeries → ℕ → ℕ → Verdict) (r : ℕ) (search next : Search) → r < 19 → is_over search ≡ false → next ≡ refined verdicts search → r + rounds (19 - r) verdicts search ≡ r + 1 + rounds (19 - (r + 1)) verdicts next
-rounds-next verdicts r search next few pending is =
-    let left : 19 - r ≡ suc (19 - (r + 1)) = omega arith in
-    let one : rounds (19 - r) verdicts search ≡ rounds (19 - (r + 1)) verdicts (refined verdicts search) + 1 =
-    ap (λ most. rounds most verdicts search) left ∙ rounds-by verdicts (19 - (r + 1)) search ∙ ap (λ test. if test then 0 else rounds (19 - (r + 1)) verdicts (refined verdicts search) + 1) pending in
-    let same : rounds (19 - (r + 1)) verdicts next ≡ rounds (19 - (r + 1)) verdicts (refined verdicts search) = ap (λ it. rounds (19 - (r + 1)) verdicts it) is in
-    omega (arith, one, same)

@@ -1,5 +1,5 @@
 -- Lists that stand for lists, item by item.
-use Rattle.std.proofs.Common.{◌≡◌, ℕ, ◌+◌, ◌<◌, List, [], ◌∷◌, ◌++◌, All, length, map, take, get_or, refl, ap, sym, subst, ◌∙◌}
+use Rattle.std.proofs.Common.{◌≡◌, ℕ, ◌+◌, ◌<◌, List, [], ◌∷◌, ◌++◌, All, length, map, take, get_or, suc, refl, ap, sym, subst, ◌∙◌, arith}
 use Rattle.std.specs.List.{AllZip}
 use Rattle.std.proofs.lemmas.List.{take_more}
 use Rattle.std.proofs.lemmas.Slice.Zip.{AllZip-long}
@@ -64,3 +64,10 @@ zip-map Is f (x ∷ xs) (y ∷ ys) is = (is.0, zip-map Is f xs ys is.1)
 pub map-same : {X : Type 0} (xs : List X) → map (λ (x : X). x) xs ≡ xs
 map-same [] = refl
 map-same (x ∷ xs) = ap (λ rest. x ∷ rest) (map-same xs)
+
+-- two lists of one length that agree place by place
+pub zip-each : {X : Type 0} (R : X → X → Type 0) (xs ys : List X) → length ys ≡ length xs → ((k : ℕ) (d : X) → k < length xs → R (get_or xs k d) (get_or ys k d)) → AllZip R xs ys
+zip-each R [] [] count each = tt
+zip-each R [] (y ∷ ys) count each = absurd (omega (arith, count))
+zip-each R (x ∷ xs) [] count each = absurd (omega (arith, count))
+zip-each R (x ∷ xs) (y ∷ ys) count each = (each 0 x (omega arith), zip-each R xs ys (omega (arith, count)) (λ k d inside. each (suc k) d (omega (arith, inside))))

@@ -14,6 +14,7 @@ pub mod Exact
 pub mod PriceOutcome
 pub mod YieldOutcome
 pub mod Search
+pub mod Rounds
 pub mod SearchedOut
 pub mod GivenFigure
 pub mod Answer

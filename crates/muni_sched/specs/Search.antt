@@ -1,10 +1,11 @@
 -- One round of the search for the lowest yield, over lists.
-use Rattle.std.specs.Prelude.{◌≡◌, ℕ, zero, suc, ◌+◌, ◌<◌, ◌≤◌, List, [], ◌∷◌, Bool, false, not, ◌&&◌, ◌==◌, if◌then◌else◌, nat_le, map, length, All, slice_set, Option, Some, None, unwrap_or, IfSome, ℤ, pos, ◌+ℤ◌, int_le}
+use Rattle.std.specs.Prelude.{◌≡◌, ℕ, ◌+◌, ◌<◌, ◌≤◌, List, [], ◌∷◌, Bool, false, not, ◌&&◌, ◌==◌, if◌then◌else◌, nat_le, nat_lt, min, map, length, All, slice_set, Option, Some, None, unwrap_or, IfSome, ℤ, pos, ◌+ℤ◌, int_le}
 use Rattle.std.specs.Int.{int_min}
 use Rattle.std.specs.List.{filter, AllZip}
 use Rattle.muni_rule.specs.Payments.{PaymentSeries}
 use Rattle.muni_rule.specs.declared.verdict.Verdict.{Verdict}
-use Rattle.muni_yield.specs.Bracket.{YieldBracket, IsBracket, start_of, is_settled, halved}
+use Rattle.muni_yield.specs.Bracket.{YieldBracket, IsBracket, is_settled, halved}
+use Rattle.muni_yield.specs.Known.{IsWindow, IsGuided, guided_start}
 use Rattle.muni_yield.specs.Places.{yield_at}
 use Rattle.muni_yield.specs.Settled.{outcome_of}
 use Rattle.muni_sched.specs.declared.candidate.Candidate.{Candidate}
@@ -19,23 +20,26 @@ use Rattle.muni_sched.specs.YieldOutcome.{many_yield, IsKnownFirst}
 
 -- a search as every number of questions leaves it, and one that is not settled
 abbrev pub IsSearch : OpenSearch → Type 0
-IsSearch search = IsBracket search.bracket
+IsSearch search = IsBracket search.guided.bracket
 
-abbrev pub IsOpen : OpenSearch → Type 0
-IsOpen search = IsSearch search × (is_settled search.bracket ≡ false)
+abbrev pub IsPending : OpenSearch → Type 0
+IsPending search = is_settled search.guided.bracket ≡ false
 
--- one question of a search
-abbrev pub asked : (PaymentSeries → ℕ → ℕ → Verdict) → OpenSearch → OpenSearch
-asked verdicts search = record {
-  candidate = search.candidate;
-  bracket = halved verdicts search.bracket;
-}
+-- and whose known verdicts are right
+abbrev pub IsOpen : (PaymentSeries → ℕ → ℕ → Verdict) → OpenSearch → Type 0
+IsOpen verdicts search = IsSearch search × IsPending search × IsGuided verdicts search.guided
+
+-- one halving of a search: whatever it asks, its known verdicts stay right
+pub record IsHalved (verdicts : PaymentSeries → ℕ → ℕ → Verdict) (before after : OpenSearch) : Type 0 where
+  pub candidate : after.candidate ≡ before.candidate
+  pub bracket : after.guided.bracket ≡ halved verdicts before.guided.bracket
+  pub guided : IsGuided verdicts after.guided
 
 -- the outcome of a settled search is known of its candidate
 abbrev pub noted : OpenSearch → List (Option CandidateOutcome) → List (Option CandidateOutcome)
 noted search known =
-    if is_settled search.bracket
-    then slice_set known search.candidate (Some (many_yield (outcome_of search.bracket)))
+    if is_settled search.guided.bracket
+    then slice_set known search.candidate (Some (many_yield (outcome_of search.guided.bracket)))
     else known
 
 -- and so for each
@@ -46,7 +50,9 @@ recorded (search ∷ rest) known = recorded rest (noted search known)
 -- the figure that a candidate is known not to reach, if there is one; past the range none was asked
 abbrev pub missed : OpenSearch → Option ℤ
 missed search =
-    if nat_le search.bracket.high 105_002 then Some (yield_at search.bracket.high) else None
+    if nat_le search.guided.bracket.high 105_002
+    then Some (yield_at search.guided.bracket.high)
+    else None
 
 abbrev pub missed_first : Option CandidateOutcome → Option ℤ
 missed_first (Some (Print t)) = Some (t +ℤ pos 1)
@@ -79,14 +85,22 @@ is_at_ceiling (Some ceiling) t = int_le ceiling t
 abbrev pub is_passed : Option ℤ → YieldBracket → Bool
 is_passed ceiling bracket = nat_le 1 bracket.low && is_at_ceiling ceiling (yield_at bracket.low)
 
--- the outcome is not known yet, and may be the lowest
-abbrev pub is_needed : Option ℤ → OpenSearch → Bool
-is_needed ceiling search = not (is_settled search.bracket) && not (is_passed ceiling search.bracket)
+-- the least place that one is known not to reach, of those before and of each search
+abbrev pub missed_after : ℕ → List OpenSearch → ℕ
+missed_after missed [] = missed
+missed_after missed (search ∷ rest) = missed_after (min missed search.guided.window.no) rest
+
+-- The outcome is not known yet, and may be the lowest: the lower yield is not at the ceiling, and a
+-- place that one does not reach is not known to be reached.
+abbrev pub is_needed : Option ℤ → ℕ → OpenSearch → Bool
+is_needed ceiling missed search =
+    not (is_settled search.guided.bracket)
+    && (not (is_passed ceiling search.guided.bracket) && nat_lt search.guided.window.yes missed)
 
 -- a search before its first question for each candidate of many payments, which are counted from c
 abbrev pub searches_for : ℕ → ℕ → ToCome → List OpenSearch → List OpenSearch
 searches_for price c (many series) rest =
-    record { candidate = c; bracket = start_of series price } ∷ rest
+    record { candidate = c; guided = guided_start series price } ∷ rest
 searches_for price c (one least payment) rest = rest
 
 abbrev pub searches_from : ℕ → ℕ → List Candidate → List OpenSearch
@@ -104,32 +118,25 @@ pub record IsStarted (price : ℕ) (list : List Candidate) (search : Search) : T
   pub range : All IsKnownYield search.known.items
   pub searches : search.searches.items ≡ searches_from price 0 list
   pub ceiling : search.ceiling ≡ ceiling_first None search.known.items
+  pub missed : search.missed ≡ 105_003
 
--- what is known after one more
-abbrev pub refined_by : List OpenSearch → List (Option CandidateOutcome) → Option ℤ → Search
-refined_by searches known ceiling = record {
-  known = record { items = recorded searches known };
-  searches = record { items = filter (is_needed (ceiling_after ceiling searches)) searches };
-  ceiling = ceiling_after ceiling searches;
-}
-
-unfoldable pub refined : (PaymentSeries → ℕ → ℕ → Verdict) → Search → Search
-refined verdicts search =
-    refined_by (map (asked verdicts) search.searches.items) search.known.items search.ceiling
+-- one round: each search is halved, what is known then is recorded, and those are kept that are
+-- still needed
+pub record IsRound (verdicts : PaymentSeries → ℕ → ℕ → Verdict) (before after : Search) : Type 0 where
+  pub asked : List OpenSearch
+  pub each : AllZip (IsHalved verdicts) before.searches.items asked
+  pub known : after.known.items ≡ recorded asked before.known.items
+  pub ceiling : after.ceiling ≡ ceiling_after before.ceiling asked
+  pub missed : after.missed ≡ missed_after before.missed asked
+  pub searches : after.searches.items ≡ filter (is_needed after.ceiling after.missed) asked
 
 -- nothing is left to ask
 abbrev pub is_over : Search → Bool
 is_over search = length search.searches.items == 0
 
--- how many rounds there are, up to the one that leaves nothing to ask, and at most so many
-unfoldable pub rounds : ℕ → (PaymentSeries → ℕ → ℕ → Verdict) → Search → ℕ
-rounds zero verdicts search = 0
-rounds (suc most) verdicts search =
-    if is_over search then 0 else rounds most verdicts (refined verdicts search) + 1
-
 -- each open search belongs to a candidate
-pub record CanRefine (search : Search) : Type 0 where
-  pub each : All IsOpen search.searches.items
+pub record CanRefine (verdicts : PaymentSeries → ℕ → ℕ → Verdict) (search : Search) : Type 0 where
+  pub each : All (IsOpen verdicts) search.searches.items
   pub candidates : All (λ (it : OpenSearch). it.candidate < length search.known.items)
       search.searches.items
   pub few : length search.searches.items ≤ 41

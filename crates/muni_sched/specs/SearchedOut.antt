@@ -1,5 +1,5 @@
 -- A search that is over.
-use Rattle.std.specs.Prelude.{◌≡◌, ℕ, ◌+◌, List, All, ℤ}
+use Rattle.std.specs.Prelude.{◌≡◌, ℕ, ◌+◌, List, All, Option, None, ℤ}
 use Rattle.std.specs.List.{AllZip}
 use Rattle.muni_rule.specs.Payments.{PaymentSeries}
 use Rattle.muni_rule.specs.WorthEnds.{WorthEnds}
@@ -8,11 +8,11 @@ use Rattle.muni_sched.specs.declared.candidate.Candidate.{Candidate}
 use Rattle.muni_sched.specs.FigureKind.{Yield}
 use Rattle.muni_sched.specs.LowestFigure.{Lowest}
 use Rattle.muni_sched.specs.declared.outcome.CandidateOutcome.{CandidateOutcome}
-use Rattle.muni_sched.specs.declared.search.Search.{Search}
 use Rattle.muni_sched.specs.Figures.{least_unsure, IsOf}
 use Rattle.muni_sched.specs.Ranks.{IsRanked}
-use Rattle.muni_sched.specs.Search.{IsStarted, rounds}
-use Rattle.muni_sched.specs.YieldOutcome.{IsYieldOutcome}
+use Rattle.muni_sched.specs.Rounds.{brackets_from, rounds}
+use Rattle.muni_sched.specs.Search.{ceiling_first}
+use Rattle.muni_sched.specs.YieldOutcome.{IsYieldOutcome, IsKnownFirst}
 
 -- the first of least rank among these outcomes is that among the outcomes of all candidates
 pub record AreSearchedOut
@@ -29,6 +29,7 @@ pub record AreSearchedOut
 pub record CountsRounds
     (ends : PaymentSeries → ℤ → WorthEnds) (price : ℕ) (list : List Candidate)
     (before now : ℕ) : Type 0 where
-  pub search : Search
-  pub started : IsStarted price list search
-  pub counted : now ≡ before + rounds 19 (place_verdict ends) search
+  pub known : List (Option CandidateOutcome)
+  pub first : AllZip (IsKnownFirst price) list known
+  pub counted : now ≡ before + rounds 19 (place_verdict ends) (ceiling_first None known)
+      (brackets_from price list)

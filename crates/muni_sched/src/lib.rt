@@ -2,6 +2,7 @@
 //! G-15(a)).
 #![tactic(auto)]
 
+mod aim;
 mod answer;
 mod candidate;
 pub mod laws;

@@ -8,17 +8,18 @@ ghost use Rattle.muni_yield.specs.Settled.{settled_as};
 ghost use Rattle.muni_sched.specs.Candidates.{IsCandidate};
 ghost use Rattle.muni_sched.specs.Figures.{IsOf};
 ghost use Rattle.muni_sched.specs.Search as spec;
-ghost use Rattle.muni_sched.specs.Search.{IsSearch, IsOpen, IsKnownYield, CanRefine, IsStarted, asked, recorded, missed, missed_first, ceiling_after, ceiling_first, outcomes_of, searches_from, refined};
+ghost use Rattle.muni_sched.specs.Search.{IsSearch, IsPending, IsOpen, IsHalved, IsKnownYield, CanRefine, IsStarted, IsRound, recorded, missed, missed_first, missed_after, ceiling_after, ceiling_first, outcomes_of, searches_from};
 ghost use Rattle.muni_sched.specs.YieldOutcome.{IsKnownFirst, many_yield};
 ghost use Rattle.muni_sched.specs.FigureKind.{Yield};
 
+use crate::aim::Aim;
 use crate::yield_outcome::{known_first, many_yield};
 use crate::{Candidate, CandidateOutcome, Shape};
 use arrayvec::ArrayVec;
 use muni_dec::Price;
 use muni_edge::Gate;
-use muni_multi::Encloser;
-use muni_yield::Bracket;
+use muni_multi::{Discount, Encloser};
+use muni_yield::GuidedSearch;
 use muni_yield::laws::searches_are_in_order;
 use std::thread;
 use std::thread::Threads;
@@ -26,8 +27,8 @@ use std::thread::Threads;
 /// The search for the yield of one candidate, which is counted from 0 in order of date.
 #[derive(Clone, Copy, Debug, PartialEq, Eq, Default)]
 pub(crate) struct OpenSearch {
-    candidate: usize,
-    bracket: Bracket,
+    pub(crate) candidate: usize,
+    pub(crate) guided: GuidedSearch,
 }
 
 impl OpenSearch {
@@ -36,8 +37,8 @@ impl OpenSearch {
         requires { IsSearch self.now }
         ensures { result ≡ missed self.now }
     {
-        if self.bracket.high() <= 100_001 {
-            Some(self.bracket.high())
+        if self.guided.bracket().high() <= 100_001 {
+            Some(self.guided.bracket().high())
         } else {
             None
         }
@@ -46,26 +47,29 @@ impl OpenSearch {
     // The outcome, once it is known.
     fn settled(&self) -> Option<CandidateOutcome>
         requires { IsSearch self.now }
-        ensures { result ≡ option_map many_yield (settled_as self.now.bracket) }
+        ensures { result ≡ option_map many_yield (settled_as self.now.guided.bracket) }
     {
-        Some(many_yield(self.bracket.settled()?))
+        Some(many_yield(self.guided.bracket().settled()?))
     }
 
     // Whether the outcome is not known yet and may be the lowest.
-    fn is_needed(&self, ceiling: Option<i32>) -> bool
-        ensures { result ≡ spec.is_needed ceiling self.now }
+    fn is_needed(&self, ceiling: Option<i32>, missed: u32) -> bool
+        ensures { result ≡ spec.is_needed ceiling missed self.now }
     {
-        searches_are_in_order(&self.bracket);
-        self.bracket.settled().is_none() && !self.is_passed(ceiling)
+        searches_are_in_order(self.guided.bracket());
+        self.guided.bracket().settled().is_none()
+            && !self.is_passed(ceiling)
+            && self.guided.window().yes() < missed
     }
 
     // Whether the lower yield was answered by yes, and is at the ceiling or above. At -5.001
     // percent nothing is asked.
     fn is_passed(&self, ceiling: Option<i32>) -> bool
         requires { IsSearch self.now }
-        ensures { result ≡ spec.is_passed ceiling self.now.bracket }
+        ensures { result ≡ spec.is_passed ceiling self.now.guided.bracket }
     {
-        self.bracket.low() > -5_001 && is_at_ceiling(ceiling, self.bracket.low())
+        let low = self.guided.bracket().low();
+        low > -5_001 && is_at_ceiling(ceiling, low)
     }
 }
 
@@ -85,8 +89,20 @@ pub(crate) struct Search {
     known: ArrayVec<Option<CandidateOutcome>, 41>,
     /// The searches that are still needed.
     searches: ArrayVec<OpenSearch, 41>,
-    /// The least figure that a candidate is known not to reach.
+    /// The least figure that a candidate is known not to reach, by its questions.
     ceiling: Option<i32>,
+    /// The least place that a search knows not to be reached, or 105,003.
+    missed: u32,
+    /// Where the next round asks if an answer is known.
+    aim: Aim,
+}
+
+/// What all searches are told in a round.
+#[derive(Clone, Copy)]
+struct Round {
+    number: u32,
+    aim: Aim,
+    discount: Option<Discount>,
 }
 
 impl Search {
@@ -100,10 +116,13 @@ impl Search {
         let known = all_known_first(list, price);
         let searches = all_searches(list, price);
         let ceiling = ceiling_first(known.as_slice());
+        let aim = Aim::first(searches.as_slice());
         Search {
             known,
             searches,
             ceiling,
+            missed: 105_003,
+            aim,
         }
     }
 
@@ -126,7 +145,19 @@ impl Search {
         self.searches.as_slice().is_empty()
     }
 
-    /// One round: one question for each search. Then those are dropped whose outcome is known or
+    // What all searches are told in a round. Most ask at one place in it, so one discount serves
+    // them. A search that asks at another one computes its own.
+    fn round(&self, number: u32) -> Round
+        requires { All IsPending self.now.searches.items }
+    {
+        Round {
+            number,
+            aim: self.aim,
+            discount: first_discount(self.searches.as_slice(), self.aim.place()),
+        }
+    }
+
+    /// One round: each search is halved once. Then those are dropped whose outcome is known or
     /// cannot be the lowest.
     pub(crate) fn refine<R: Threads + Sync, E: Encloser + Sync, G: Gate + Sync>(
         &mut self,
@@ -137,21 +168,24 @@ impl Search {
         gate: &G,
     )
         requires workers { 0 < workers }
-        requires can { CanRefine self.old }
-        ensures { self.new ≡ refined (place_verdict (E.ends encloser.now)) self.old }
+        requires can { CanRefine (place_verdict (E.ends encloser.now)) self.old }
+        ensures { IsRound (place_verdict (E.ends encloser.now)) self.old self.new }
     {
+        let asking = self.round(round);
         ask_each(
             rt,
             self.searches.as_mut_slice(),
             workers,
-            round,
+            &asking,
             encloser,
             gate,
         );
         let searches = self.searches.as_slice();
         record_settled(searches, self.known.as_mut_slice());
         self.ceiling = least_ceiling(searches, self.ceiling);
-        keep_needed(&mut self.searches, self.ceiling);
+        self.missed = least_missed(searches, self.missed);
+        keep_needed(&mut self.searches, self.ceiling, self.missed);
+        self.aim = self.aim.next(self.searches.as_slice());
     }
 }
 
@@ -180,7 +214,7 @@ fn all_searches(list: &[Candidate], price: Price) -> ArrayVec<OpenSearch, 41>
         if let Shape::Many(flows) = redemption.shape {
             searches.push(OpenSearch {
                 candidate,
-                bracket: Bracket::start(flows, price),
+                guided: GuidedSearch::start(flows, price),
             });
         }
     }
@@ -219,35 +253,44 @@ fn ceiling_first(known: &[Option<CandidateOutcome>]) -> Option<i32>
     ceiling
 }
 
+fn first_discount(searches: &[OpenSearch], aim: u32) -> Option<Discount>
+    requires each { All IsPending searches.now }
+    requires aim { (1 ≤ aim) × (aim ≤ 105_002) }
+{
+    for search in searches {
+        let discount = search.guided.discount(aim);
+        if discount.is_some() {
+            return discount;
+        }
+    }
+    None
+}
+
 fn ask_each<R: Threads + Sync, E: Encloser + Sync, G: Gate + Sync>(
     rt: &R,
     searches: &mut [OpenSearch],
     workers: usize,
-    round: u32,
+    round: &Round,
     encloser: &E,
     gate: &G,
 )
     requires workers { 0 < workers }
-    requires each { All IsOpen searches.old }
-    ensures { searches.new ≡ map (asked (place_verdict (E.ends encloser.now))) searches.old }
+    requires each { All (IsOpen (place_verdict (E.ends encloser.now))) searches.old }
+    ensures { AllZip (IsHalved (place_verdict (E.ends encloser.now))) searches.old searches.new }
 {
-    // All ask at the same yield in a round, so one discount serves them. A search that asked at
-    // another one would compute its own.
-    let Some(first) = searches.first() else {
-        return;
-    };
-    let discount = first.bracket.discount();
     thread::for_each_mut(
         rt,
         searches,
         workers,
         &|_, search: &mut OpenSearch|
-            requires { IsOpen search.now }
-            ensures { search.exit.now ≡ asked
-                (place_verdict (E.ends encloser.entry.now)) search.entry.now }
+            requires { IsOpen (place_verdict (E.ends encloser.now)) search.now }
+            ensures { IsHalved (place_verdict (E.ends encloser.entry.now))
+                search.entry.now search.exit.now }
         {
-            gate.start(round, search.candidate);
-            search.bracket.halve_at(encloser, &discount);
+            gate.start(round.number, search.candidate);
+            search
+                .guided
+                .halve(encloser, round.aim.place(), round.discount.as_ref());
         },
     );
 }
@@ -275,13 +318,23 @@ fn least_ceiling(searches: &[OpenSearch], before: Option<i32>) -> Option<i32>
     ceiling
 }
 
-fn keep_needed(searches: &mut ArrayVec<OpenSearch, 41>, ceiling: Option<i32>)
-    ensures { searches.new.items ≡ filter (spec.is_needed ceiling) searches.old.items }
+fn least_missed(searches: &[OpenSearch], before: u32) -> u32
+    ensures { result ≡ missed_after before searches.now }
+{
+    let mut missed = before;
+    for search in searches {
+        missed = missed.min(search.guided.window().no());
+    }
+    missed
+}
+
+fn keep_needed(searches: &mut ArrayVec<OpenSearch, 41>, ceiling: Option<i32>, missed: u32)
+    ensures { searches.new.items ≡ filter (spec.is_needed ceiling missed) searches.old.items }
 {
     searches.retain(
         |search: &mut OpenSearch| -> bool
-            ensures { (result ≡ spec.is_needed ceiling search.entry.now)
+            ensures { (result ≡ spec.is_needed ceiling missed search.entry.now)
                 × (search.exit.now ≡ search.entry.now) }
-        { search.is_needed(ceiling) },
+        { search.is_needed(ceiling, missed) },
     );
 }

@@ -1,15 +1,19 @@
 -- What is left of a search after its last question, and that its outcome is true.
+use Rattle.std.proofs.lemmas.Bool.{cases_lt}
 use Rattle.std.proofs.Common.{◌≡◌, ◌<◌, ◌≤◌, ◌+◌, ◌*◌, ℕ, zero, suc, Bool, true, false, refl, sym, ◌∙◌, subst, inl, inr, ⊎_elim, arith, ◌⊎◌, ℤ, pos}
 use Rattle.muni_rule.specs.ManyPeriods.{to_come, AtLeast, More}
 use Rattle.muni_rule.specs.Payments.{PaymentSeries, IsSeries}
 use Rattle.muni_rule.specs.declared.verdict.Verdict.{Verdict}
+use Rattle.muni_rule.specs.declared.verdict.Verdict.TheVariants.{Yes, No}
 use Rattle.muni_rule.specs.WorthEnds.{WorthEnds}
-use Rattle.muni_yield.specs.Bracket.{YieldBracket, start_of, is_settled, halved, run, IsBracket, IsAnswered}
+use Rattle.muni_yield.specs.Bracket.{YieldBracket, start_of, is_settled, halved, run, IsBracket, IsMissed, IsAnswered}
+use Rattle.muni_yield.specs.Known.{IsWindow}
+use Rattle.muni_yield.specs.declared.window.Window.{Window}
 use Rattle.muni_yield.specs.Outcome.{IsYieldOutcome, IsDoubtfulOutcome, IsVerdictOutcome}
 use Rattle.muni_yield.specs.Places.{place_verdict, yield_verdict}
 use Rattle.muni_yield.specs.Settled.{final_of}
 use Rattle.muni_yield.proofs.PlaceLemmas.{AreEnclosed}
-use Rattle.muni_yield.proofs.BracketLemmas.{few-asked, halved-next, halved-answered, start-is, run-pending, run-settled, answered-next}
+use Rattle.muni_yield.proofs.BracketLemmas.{settled-next, few-asked, halved-next, halved-answered, start-is, run-pending, run-settled, answered-next}
 use Rattle.muni_yield.proofs.OutcomeLemmas.{settled-verdict, outcome-true, outcome-doubtful}
 
 -- a search from a bracket that has come to its end
@@ -42,7 +46,7 @@ run-out (suc count) verdicts bracket is enough =
     (record { is = rest.is; settled = rest.settled; low = omega (arith, next.low, rest.low); high = omega (arith, next.high, rest.high) }))
     (settled-or_pending bracket)
 
-run-answered : (count : ℕ) (verdicts : PaymentSeries → ℕ → ℕ → Verdict) (series : PaymentSeries) (price : ℕ) (bracket : YieldBracket) → IsBracket bracket → bracket.series ≡ series → bracket.price ≡ price → IsAnswered (verdicts series price) bracket → IsAnswered (verdicts series price) (run count verdicts bracket)
+pub run-answered : (count : ℕ) (verdicts : PaymentSeries → ℕ → ℕ → Verdict) (series : PaymentSeries) (price : ℕ) (bracket : YieldBracket) → IsBracket bracket → bracket.series ≡ series → bracket.price ≡ price → IsAnswered (verdicts series price) bracket → IsAnswered (verdicts series price) (run count verdicts bracket)
 unfolding run
 run-answered zero verdicts series price bracket is same_series same_price answered = answered
 run-answered (suc count) verdicts series price bracket is same_series same_price answered =
@@ -54,6 +58,39 @@ run-answered (suc count) verdicts series price bracket is same_series same_price
     (run-answered count verdicts series price (halved verdicts bracket) next.is (next.series ∙ same_series) (next.price ∙ same_price)
     (answered-next verdicts series price bracket (halved verdicts bracket) same_series same_price (halved-answered verdicts bracket is pending) answered)))
     (settled-or_pending bracket)
+
+-- a search comes to its end within the places that are known
+pub record IsHeld (window : Window) (last : YieldBracket) : Type 0 where
+  pub yes : window.yes ≤ last.low
+  pub no : last.low < window.no
+
+last-held : (verdict : ℕ → Verdict) (last : YieldBracket) (window : Window) → IsBracket last → last.high ≡ last.low + 1 → IsAnswered verdict last → IsWindow verdict window → IsHeld window last
+last-held verdict last window is next answered known =
+    let top = is.top in
+    let most = known.most in
+    let some = known.some in
+    record {
+      yes = ⊎_elim
+          (λ (less : last.low < window.yes). absurd (⊎_elim
+          (λ (unasked : (last.high ≡ 105003) × (last.at_high ≡ No)). omega (arith, unasked.0, next, less, most))
+          (λ (missed : IsMissed verdict last.high last.at_high). missed.not_reached (sym missed.same ∙ known.yes last.high (omega (arith, next)) (omega (arith, next, less))))
+          answered.high))
+          (λ (order : window.yes ≤ last.low). order)
+          (cases_lt last.low window.yes);
+      no = ⊎_elim
+          (λ (less : last.low < window.no). less)
+          (λ (order : window.no ≤ last.low). absurd (⊎_elim
+          (λ (none : last.low ≡ 0). omega (arith, none, order, some))
+          (λ (yes : verdict last.low ≡ Yes). let no = known.no last.low order (omega (arith, top, next)) in let never : Yes ≡ No = sym yes ∙ no in cc)
+          answered.low))
+          (cases_lt last.low window.no);
+    }
+
+pub run-held : (count : ℕ) (verdicts : PaymentSeries → ℕ → ℕ → Verdict) (bracket : YieldBracket) (window : Window) → IsBracket bracket → 19 ≤ count + bracket.halvings → IsAnswered (verdicts bracket.series bracket.price) bracket → IsWindow (verdicts bracket.series bracket.price) window → IsHeld window (run count verdicts bracket)
+run-held count verdicts bracket window is enough answered known =
+    let out = run-out count verdicts bracket is enough in
+    last-held (verdicts bracket.series bracket.price) (run count verdicts bracket) window out.is (settled-next (run count verdicts bracket) out.settled)
+    (run-answered count verdicts bracket.series bracket.price bracket is refl refl answered) known
 
 -- the final outcome is that of verdicts
 pub final-verdict : (ends : PaymentSeries → ℤ → WorthEnds) (series : PaymentSeries) (price : ℕ) → 2 ≤ series.n → 0 < price → IsVerdictOutcome (yield_verdict (ends series) series price) (final_of (place_verdict ends) series price)

@@ -1,4 +1,5 @@
 pub mod PlaceLemmas
+pub mod KnownLemmas
 pub mod BracketLemmas
 pub mod OutcomeLemmas
 pub mod FinalLemmas

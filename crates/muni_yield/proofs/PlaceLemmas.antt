@@ -45,7 +45,7 @@ Tells series price t Unsure = IsDoubtful series (boundary t) (pos (360000 * pric
 abbrev pub AreEnclosed : PaymentSeries → (ℤ → WorthEnds) → Type 0
 AreEnclosed series ends = (y : ℤ) → IsManyPeriodsBoundary y → IsEnclosed series y (ends y)
 
-in-range : (t : ℤ) → negsuc 4999 ≤ℤ t → t ≤ℤ pos 100001 → IsManyPeriodsBoundary (boundary t)
+pub in-range : (t : ℤ) → negsuc 4999 ≤ℤ t → t ≤ℤ pos 100001 → IsManyPeriodsBoundary (boundary t)
 in-range t least most = (omega (arith, ints), omega (arith, ints))
 
 pub tells : (series : PaymentSeries) (ends : ℤ → WorthEnds) (price : ℕ) (t : ℤ) (verdict : Verdict) → AreEnclosed series ends → negsuc 4999 ≤ℤ t → t ≤ℤ pos 100001 → yield_verdict ends series price t ≡ verdict → Tells series price t verdict

@@ -2,4 +2,5 @@ pub mod Places
 pub mod Bracket
 pub mod BracketView
 pub mod Settled
+pub mod Known
 pub mod Outcome

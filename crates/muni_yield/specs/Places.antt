@@ -29,3 +29,8 @@ yield_verdict ends series price t =
 abbrev pub place_verdict : (PaymentSeries → ℤ → WorthEnds) → PaymentSeries → ℕ → ℕ → Verdict
 place_verdict ends series price place =
     yield_verdict (ends series) series price (yield_at place)
+
+-- the ends that the verdict at a place is read off
+abbrev pub ends_at : (PaymentSeries → ℤ → WorthEnds) → PaymentSeries → ℕ → WorthEnds
+ends_at ends series place =
+    ends_of series (boundary (yield_at place)) (ends series (boundary (yield_at place)))

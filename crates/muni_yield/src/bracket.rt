@@ -1,18 +1,20 @@
 //! The two places between which a yield is sought.
 
-ghost use Rattle.std.specs.Prelude.{◌≡◌, ◌+◌, ◌<◌, ◌≤◌, true, false, ℕ, ℤ};
+ghost use Rattle.std.specs.Prelude.{◌≡◌, ◌+◌, ◌*◌, ◌<◌, ◌≤◌, true, false, ℕ, ℤ};
+ghost use Rattle.muni_rule.specs.Payments.{PaymentSeries, IsSeries};
 ghost use Rattle.muni_rule.specs.PrintedYield.{boundary};
 ghost use Rattle.muni_rule.specs.declared.verdict.Verdict.{Verdict};
+ghost use Rattle.muni_multi.specs.Readings.{is_clear};
 ghost use Rattle.muni_yield.specs.Bracket as spec;
 ghost use Rattle.muni_yield.specs.Bracket.{IsAnswered, IsBracket, IsQuestion};
-ghost use Rattle.muni_yield.specs.Places.{place_verdict, yield_at};
+ghost use Rattle.muni_yield.specs.Places.{place_verdict, yield_at, ends_at};
 ghost use Rattle.muni_yield.specs.Settled.{settled_as, outcome_at};
 
 use crate::Outcome;
 use crate::place::{ask, boundary_at, printed_at, yield_at};
 use muni_dec::Price;
-use muni_multi::{Discount, Encloser, Verdict};
-use muni_terms::Flows;
+use muni_multi::{Discount, Encloser, Reading, Verdict};
+use muni_terms::{Flows, flows_are_in_range};
 use std::marker::Model;
 
 /// The search for the yield at a price: two printed yields, of which the lower is reached, as far
@@ -78,6 +80,18 @@ impl Bracket {
         }
     }
 
+    pub(crate) fn flows(&self) -> &Flows
+        ensures { result.now ≡ self.now.series }
+    {
+        &self.flows
+    }
+
+    pub(crate) fn price(&self) -> Price
+        ensures { result ≡ self.now.price }
+    {
+        self.price
+    }
+
     /// The lower of the two, in thousandths of a percent.
     pub fn low(&self) -> i32
         ensures { result ≡ yield_at self.now.low }
@@ -139,8 +153,7 @@ impl Bracket {
         Discount::at(boundary_at(self.question()), self.flows.a())
     }
 
-    /// The same, with a discount at hand. Where it is not that of the question, that one is
-    /// computed.
+    /// Halves with a discount at hand. If it is not that of the question, that one is computed.
     pub fn halve_at<E: Encloser>(&mut self, encloser: &E, discount: &Discount)
         requires open { spec.is_settled self.old ≡ false }
         ensures halved { self.new
@@ -152,12 +165,44 @@ impl Bracket {
             self.old.series self.old.price) self.new }
     {
         let place = self.question();
-        let verdict = ask(encloser, &self.flows, self.price, place, discount);
+        let reading = self.read(encloser, place, Some(discount));
+        self.answer(place, reading.verdict);
+    }
+
+    /// Halves without a question, if the verdict on the next one is known.
+    pub fn halve_known(&mut self, verdict: Verdict)
+        requires open { spec.is_settled self.old ≡ false }
+        ensures halved { (verdicts : PaymentSeries → ℕ → ℕ → Verdict)
+            → verdicts self.old.series self.old.price (spec.question self.old) ≡ verdict
+            → self.new ≡ spec.halved verdicts self.old }
+        ensures count { self.new.halvings ≡ self.old.halvings + 1 }
+        ensures series { self.new.series ≡ self.old.series }
+        ensures price { self.new.price ≡ self.old.price }
+    {
+        let place = self.question();
         self.answer(place, verdict);
     }
 
-    // The place that is asked next. At 0 and 105,003, next to the range, nothing is.
-    fn question(&self) -> u32
+    /// What is told of the price at a place.
+    pub(crate) fn read<E: Encloser>(
+        &self,
+        encloser: &E,
+        place: u32,
+        kept: Option<&Discount>,
+    ) -> Reading
+        requires some { 1 ≤ place }
+        requires most { place ≤ 105_002 }
+        ensures verdict { result.verdict ≡ place_verdict (E.ends encloser.now)
+            self.now.series self.now.price place }
+        ensures clear { result.clear ≡ is_clear result.verdict
+            (ends_at (E.ends encloser.now) self.now.series place)
+            (360_000 * self.now.price + self.now.series.accrued) }
+    {
+        ask(encloser, &self.flows, self.price, place, kept)
+    }
+
+    /// The place that is asked next. At 0 and 105,003, next to the range, nothing is.
+    pub(crate) fn question(&self) -> u32
         requires { spec.is_settled self.now ≡ false }
         ensures value { result ≡ spec.question self.now }
         ensures some { 1 ≤ result }
@@ -191,9 +236,10 @@ impl Bracket {
 
 /// What holds of every search.
 pub fn searches_are_in_order(bracket: &Bracket)
-    ensures { IsBracket bracket.now }
+    ensures places { IsBracket bracket.now }
+    ensures series { IsSeries bracket.now.series }
 {
-    let _held = bracket.low;
+    flows_are_in_range(&bracket.flows);
 }
 
 // The outcome between a place and the next one.

@@ -2,11 +2,16 @@
 #![tactic(auto)]
 
 mod bracket;
+mod guess;
+mod guided;
 pub mod laws;
 mod outcome;
 mod place;
 mod printed;
+mod window;
 
 pub use bracket::Bracket;
+pub use guided::GuidedSearch;
 pub use outcome::Outcome;
 pub use printed::printed_yield;
+pub use window::Window;

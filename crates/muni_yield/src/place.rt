@@ -2,13 +2,15 @@
 //!
 //! A place counts thousandths of a percent from -5.001.
 
-ghost use Rattle.std.specs.Prelude.{◌≡◌, ◌≤◌, ◌<◌, pos};
+ghost use Rattle.std.specs.Prelude.{◌≡◌, ◌+◌, ◌*◌, ◌≤◌, ◌<◌, pos};
 ghost use Rattle.muni_rule.specs.PrintedYield as rule;
 ghost use Rattle.muni_rule.specs.Ranges.{IsManyPeriodsBoundary};
+ghost use Rattle.muni_rule.specs.WorthEnds.{ends_of};
+ghost use Rattle.muni_multi.specs.Readings.{is_clear};
 ghost use Rattle.muni_yield.specs.Places as spec;
 
 use muni_dec::{Price, Yield3};
-use muni_multi::{Discount, Encloser, Verdict, at_least_at, more_at};
+use muni_multi::{Discount, Encloser, Reading, at_least_at, more_at};
 use muni_terms::Flows;
 
 /// The yield at a place, in thousandths of a percent.
@@ -38,21 +40,24 @@ pub(crate) fn boundary_at(place: u32) -> i32
 }
 
 /// Whether the yield at a price is printed as the one at a place or above. No discount is computed
-/// where the one at hand is that of the question.
+/// if the one at hand is that of the question.
 pub(crate) fn ask<E: Encloser>(
     encloser: &E,
     flows: &Flows,
     price: Price,
     place: u32,
-    discount: &Discount,
-) -> Verdict
+    kept: Option<&Discount>,
+) -> Reading
     requires many { 2 ≤ flows.now.n }
     requires some { 1 ≤ place }
     requires most { place ≤ 105_002 }
-    ensures { result ≡ spec.place_verdict (E.ends encloser.now) flows.now
+    ensures verdict { result.verdict ≡ spec.place_verdict (E.ends encloser.now) flows.now
         price place }
+    ensures clear { result.clear ≡ is_clear result.verdict
+        (spec.ends_at (E.ends encloser.now) flows.now place)
+        (360_000 * price + flows.now.accrued) }
 {
-    let discount = Discount::kept_or_at(Some(discount), boundary_at(place), flows.a());
+    let discount = Discount::kept_or_at(kept, boundary_at(place), flows.a());
     if place > 5_001 {
         at_least_at(encloser, flows, &discount, price)
     } else {

@@ -6,13 +6,16 @@ use Rattle.muni_sched.specs.Lowest.{IsLowest, outcome_at}
 use Rattle.muni_sched.specs.Figures.{least_unsure, IsOf, IsLowestOf}
 use Rattle.muni_sched.specs.FigureKind.{Yield}
 use Rattle.muni_sched.specs.Ranks.{decided_by, IsRanked, IsFirstOfLeastRank}
-use Rattle.muni_sched.specs.Search.{rounds, is_over}
+use Rattle.muni_sched.specs.Search.{is_over}
 use Rattle.muni_sched.specs.SearchedOut.{AreSearchedOut}
 use Rattle.muni_sched.specs.YieldOutcome.{IsYieldOutcome}
+use Rattle.muni_yield.proofs.KnownLemmas.{first-window}
 use Rattle.muni_sched.proofs.AllSoundLemmas.{lowest-answer}
 use Rattle.muni_sched.proofs.RankLemmas.{ranked_lowest, ranked_of}
-use Rattle.muni_sched.proofs.SearchLemmas.{round-few}
-use Rattle.muni_sched.proofs.StartLemmas.{started-final, next-final, searched-out, rounds-over, rounds-next}
+use Rattle.muni_sched.proofs.SearchLemmas.{round-few, over-none}
+use Rattle.muni_sched.specs.Rounds.{brackets_from, rounds}
+use Rattle.muni_sched.proofs.CountLemmas.{counted-first, counted-next, counted-last}
+use Rattle.muni_sched.proofs.StartLemmas.{AreFirstKnown, started-final, next-final, searched-out}
 use Rattle.muni_sched.proofs.ZipLemmas.{zip-long, map-same}
 use Rattle.muni_sched.proofs.yields.searched.Given as given
 use Rattle.muni_sched.proofs.yields.searched.Goals.{After-outcomes-outcomes, After-outcome_at-outcome}
@@ -21,10 +24,21 @@ use Rattle.muni_sched.proofs.yields.searched.Goals as goal
 pub loop-search-init : goal.loop-search-init
 loop-search-init g c =
     let verdicts = place_verdict (g.E.Encloser.ends c.args.encloser.now) in
+    let ends = g.E.Encloser.ends c.args.encloser.now in
+    let law = g.met.E.Encloser g.world.𝓛 g.world.𝓜 g.world.𝓡 ((λ s x. x), (λ x. x), (λ x. x), λ x. x) in
+    let first : AreFirstKnown verdicts c.args.price = λ series is many. first-window ends series c.args.price (record {
+      is = is;
+      many = many;
+      some = c.requires.price;
+      narrow = λ y within. record {
+        holds = law.encloses c.args.encloser.now series y is many within;
+        narrow = law.narrow c.args.encloser.now series y is many within;
+      };
+    }) in
     record {
-      final = started-final verdicts c.args.price c.args.list.now c.start-search.result c.requires.price c.requires.candidates c.requires.few c.start-search.ensures;
+      final = started-final verdicts c.args.price c.args.list.now c.start-search.result first c.requires.price c.requires.candidates c.requires.few c.start-search.ensures;
       most = omega arith;
-      counted = omega arith;
+      counted = counted-first verdicts c.args.price c.args.list.now c.start-search.result c.requires.price c.requires.candidates c.start-search.ensures;
     }
 
 pub overflow_add-rounds : goal.overflow_add-rounds
@@ -45,10 +59,11 @@ loop-search-preserved g c =
     let known = c.loop-search.invariant in
     let some : c.is_over.result ≡ false = search rules in
     let few = round-few verdicts known.final.finals c.loop-search.rounds c.loop-search.search known.final.refined (sym c.is_over.ensures ∙ some) in
+    let pending = sym c.is_over.ensures ∙ some in
     record {
       final = next-final verdicts c.args.price c.args.list.now c.loop-search.rounds c.loop-search.search c.refine.new.self few c.refine.ensures known.final;
       most = omega (arith, few);
-      counted = sym (rounds-next verdicts c.loop-search.rounds c.loop-search.search c.refine.new.self few (sym c.is_over.ensures ∙ some) c.refine.ensures) ∙ known.counted;
+      counted = counted-next verdicts known.final.finals c.args.price c.args.list.now c.start-search.result.ceiling c.loop-search.rounds c.loop-search.search c.refine.new.self few pending known.final.refined c.refine.ensures known.counted;
     }
 
 -- the outcomes that are told, once nothing is left to ask
@@ -101,16 +116,13 @@ returns-clause-answer g c =
 pub returns-clause-rounds : goal.returns-clause-rounds
 returns-clause-rounds g c =
     let verdicts = place_verdict (g.E.Encloser.ends c.args.encloser.now) in
-    let known = c.loop-search.invariant in
-    let round = c.loop-search.rounds in
     let last = c.loop-search.search in
     let over : is_over last ≡ true = sym c.is_over.ensures ∙ search rules in
-    let no_more : rounds (19 - round) verdicts last ≡ 0 = rounds-over verdicts (19 - round) last over in
-    let counted = known.counted in
+    let all = counted-last verdicts c.args.price c.args.list.now c.start-search.result.ceiling c.loop-search.rounds last (over-none last.searches.items over) c.loop-search.invariant.counted in
     record {
-      search = c.start-search.result;
-      started = c.start-search.ensures;
-      counted = omega (arith, counted, no_more);
+      known = c.start-search.result.known.items;
+      first = c.start-search.ensures.known;
+      counted = omega (arith, all, ap (λ ceiling. rounds 19 verdicts ceiling (brackets_from c.args.price c.args.list.now)) c.start-search.ensures.ceiling);
     }
 
 pub returns-clause-few : goal.returns-clause-few

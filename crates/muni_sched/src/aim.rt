@@ -1,0 +1,98 @@
+//! Where the searches of a round ask if they know the answer to their own question. Nothing rests
+//! on it.
+
+ghost use Rattle.std.specs.Prelude.{◌≤◌};
+
+use crate::search::OpenSearch;
+
+/// A place, and the guess that it comes from: the highest place that a candidate reaches.
+#[derive(Clone, Copy, Debug, PartialEq, Eq)]
+pub(crate) struct Aim {
+    place: u32,
+    candidate: usize,
+    guess: u32,
+}
+
+impl Aim {
+    /// Next to a guess at the yield of the candidate whose rough yield is the lowest.
+    pub(crate) fn first(searches: &[OpenSearch]) -> Aim {
+        let mut lowest: Option<(i64, &OpenSearch)> = None;
+        for search in searches {
+            let rough = search.guided.rough_yield();
+            if lowest.is_none_or(|(yld, _)| rough < yld) {
+                lowest = Some((rough, search));
+            }
+        }
+        match lowest {
+            Some((rough, search)) => Aim::at(search, search.guided.guess(rough), 0),
+            None => Aim {
+                place: 1,
+                candidate: 0,
+                guess: 0,
+            },
+        }
+    }
+
+    /// After a round, next to the lowest guess at the yields that are left.
+    pub(crate) fn next(&self, searches: &[OpenSearch]) -> Aim {
+        let mut lowest: Option<Aim> = None;
+        for search in searches {
+            if search.guided.window().is_wide() {
+                let aim = Aim::at(search, self.guess_of(search), self.place);
+                if lowest.is_none_or(|other| aim.guess < other.guess) {
+                    lowest = Some(aim);
+                }
+            }
+        }
+        lowest.unwrap_or(*self)
+    }
+
+    /// The place.
+    pub(crate) fn place(&self) -> u32
+        ensures least { 1 ≤ result }
+        ensures most { result ≤ 105_002 }
+    {
+        self.place.clamp(1, 105_002)
+    }
+
+    // The guess at hand, if it is of this search and what is known allows it.
+    fn guess_of(&self, search: &OpenSearch) -> u32 {
+        let window = search.guided.window();
+        if self.candidate == search.candidate
+            && window.yes() <= self.guess
+            && self.guess < window.no()
+        {
+            self.guess
+        } else {
+            search.guided.guess(yield_near(self.place))
+        }
+    }
+
+    // The place after a guess, or the guess itself if that one is known. A place that was asked and
+    // is too near to tell is passed by.
+    fn at(search: &OpenSearch, guess: u32, asked: u32) -> Aim {
+        let window = search.guided.window();
+        let guess = guess.max(window.yes()).min(window.no().saturating_sub(1));
+        let place = if window.is_open_at(asked) {
+            if window.yes() < asked.saturating_sub(1) {
+                asked.saturating_sub(1)
+            } else {
+                asked.saturating_add(1)
+            }
+        } else if guess.saturating_add(1) < window.no() {
+            guess.saturating_add(1)
+        } else {
+            guess
+        };
+        Aim {
+            place,
+            candidate: search.candidate,
+            guess,
+        }
+    }
+}
+
+// The boundary of a place, in 10^-6.
+fn yield_near(place: u32) -> i64 {
+    10 * i64::from(place) - 50_015
+}

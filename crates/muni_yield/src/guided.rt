@@ -1,0 +1,148 @@
+//! A search that knows verdicts without a question.
+
+ghost use Rattle.std.specs.Prelude.{◌≡◌, ◌<◌, ◌≤◌, false, IfSome};
+ghost use Rattle.muni_yield.specs.Bracket as bracket;
+ghost use Rattle.muni_yield.specs.Known.{IsGuided, guided_start};
+ghost use Rattle.muni_yield.specs.Places.{place_verdict};
+
+use crate::laws::searches_are_in_order;
+use crate::place::boundary_at;
+use crate::{Bracket, Window, guess};
+use muni_dec::Price;
+use muni_multi::{Discount, Encloser, Verdict};
+use muni_terms::Flows;
+
+/// A bracket, and the verdicts that are known.
+///
+/// If the verdict on the bracket's next question is known, its halving asks at another place, where
+/// an answer tells more.
+#[derive(Clone, Copy, Debug, PartialEq, Eq, Default)]
+pub struct GuidedSearch {
+    bracket: Bracket,
+    window: Window,
+}
+
+impl GuidedSearch {
+    /// The search before its first question, for two payments or more.
+    pub fn start(flows: Flows, price: Price) -> GuidedSearch
+        requires many { 2 ≤ flows.n }
+        requires price { 0 < price }
+        ensures { result ≡ guided_start flows price }
+    {
+        let window = Window::first(&flows, price);
+        GuidedSearch {
+            bracket: Bracket::start(flows, price),
+            window,
+        }
+    }
+
+    /// The two yields, as the answers to the questions leave them.
+    pub fn bracket(&self) -> &Bracket
+        ensures { result.now ≡ self.now.bracket }
+    {
+        &self.bracket
+    }
+
+    /// The verdicts that are known.
+    pub fn window(&self) -> &Window
+        ensures { result.now ≡ self.now.window }
+    {
+        &self.window
+    }
+
+    /// Halves a search that is not settled, with one call of the encloser at most: at the bracket's
+    /// next question, or if that is known at the place `aim`. No discount is computed if the one at
+    /// hand is that of the place.
+    pub fn halve<E: Encloser>(&mut self, encloser: &E, aim: u32, kept: Option<&Discount>)
+        requires open { bracket.is_settled self.old.bracket ≡ false }
+        requires known { IsGuided (place_verdict (E.ends encloser.now)) self.old }
+        requires aim { (1 ≤ aim) × (aim ≤ 105_002) }
+        ensures halved { self.new.bracket
+            ≡ bracket.halved (place_verdict (E.ends encloser.now)) self.old.bracket }
+        ensures known { IsGuided (place_verdict (E.ends encloser.now)) self.new }
+    {
+        let verdict = self.answer(encloser, aim, kept);
+        self.bracket.halve_known(verdict);
+    }
+
+    /// The discount of the place at which the next halving asks, if it does.
+    pub fn discount(&self, aim: u32) -> Option<Discount>
+        requires open { bracket.is_settled self.now.bracket ≡ false }
+        requires aim { (1 ≤ aim) × (aim ≤ 105_002) }
+    {
+        let place = self.place(aim)?;
+        Some(Discount::at(boundary_at(place), self.bracket.flows().a()))
+    }
+
+    /// A rough yield, in 10^-6.
+    pub fn rough_yield(&self) -> i64 {
+        guess::rough_yield(self.bracket.flows(), self.bracket.price())
+    }
+
+    /// A guess at the highest place that is reached, from a yield in 10^-6.
+    pub fn guess(&self, from: i64) -> u32 {
+        guess::place_near(self.bracket.flows(), self.bracket.price(), from)
+    }
+
+    fn place(&self, aim: u32) -> Option<u32>
+        requires open { bracket.is_settled self.now.bracket ≡ false }
+        requires aim { (1 ≤ aim) × (aim ≤ 105_002) }
+        ensures range { IfSome result (λ place. (1 ≤ place) × (place ≤ 105_002)) }
+    {
+        let question = self.bracket.question();
+        if self.window.verdict_at(question).is_none() {
+            Some(question)
+        } else if self.window.is_open_at(aim) {
+            Some(aim)
+        } else {
+            None
+        }
+    }
+
+    // The verdict on the bracket's next question.
+    fn answer<E: Encloser>(&mut self, encloser: &E, aim: u32, kept: Option<&Discount>) -> Verdict
+        requires open { bracket.is_settled self.old.bracket ≡ false }
+        requires known { IsGuided (place_verdict (E.ends encloser.now)) self.old }
+        requires aim { (1 ≤ aim) × (aim ≤ 105_002) }
+        ensures verdict { result ≡ place_verdict (E.ends encloser.now) self.old.bracket.series
+            self.old.bracket.price (bracket.question self.old.bracket) }
+        ensures bracket { self.new.bracket ≡ self.old.bracket }
+        ensures known { IsGuided (place_verdict (E.ends encloser.now)) self.new }
+    {
+        let question = self.bracket.question();
+        match self.window.verdict_at(question) {
+            Some(verdict) => {
+                self.leap(encloser, aim, kept);
+                verdict
+            }
+            None => self.ask(encloser, question, kept),
+        }
+    }
+
+    fn leap<E: Encloser>(&mut self, encloser: &E, aim: u32, kept: Option<&Discount>)
+        requires known { IsGuided (place_verdict (E.ends encloser.now)) self.old }
+        requires aim { (1 ≤ aim) × (aim ≤ 105_002) }
+        ensures bracket { self.new.bracket ≡ self.old.bracket }
+        ensures known { IsGuided (place_verdict (E.ends encloser.now)) self.new }
+    {
+        if self.window.is_open_at(aim) {
+            let _verdict = self.ask(encloser, aim, kept);
+        }
+    }
+
+    // What is told at a place, of which the window learns.
+    fn ask<E: Encloser>(&mut self, encloser: &E, place: u32, kept: Option<&Discount>) -> Verdict
+        requires known { IsGuided (place_verdict (E.ends encloser.now)) self.old }
+        requires some { 1 ≤ place }
+        requires most { place ≤ 105_002 }
+        ensures verdict { result ≡ place_verdict (E.ends encloser.now)
+            self.old.bracket.series self.old.bracket.price place }
+        ensures bracket { self.new.bracket ≡ self.old.bracket }
+        ensures known { IsGuided (place_verdict (E.ends encloser.now)) self.new }
+    {
+        searches_are_in_order(&self.bracket);
+        let reading = self.bracket.read(encloser, place, kept);
+        self.window.learn(place, reading);
+        reading.verdict
+    }
+}
