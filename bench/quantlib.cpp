@@ -3,8 +3,8 @@
 //     g++ -O2 -o quantlib bench/quantlib.cpp -lQuantLib
 //     ./quantlib COUNT SEED bonds|legs
 //
-// `bonds` makes a bond up to each redemption, as users do; `legs` cuts the payments of one bond and solves by
-// Brent, which is the fastest way that was found. Figures are doubles, printed as the rule prints.
+// `bonds` makes a bond for each redemption, as users do. `legs` cuts the payments of one bond and solves with
+// Brent's method, which is the fastest way that was found. Figures are doubles, printed as the rule prints.
 #include <algorithm>
 #include <chrono>
 #include <cstdint>

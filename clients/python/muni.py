@@ -228,7 +228,7 @@ class Refused(Error):
 
 
 class UnknownIssue(Refused):
-    """1"""
+    """Refusal 1: no issue of this CUSIP is kept."""
 
     number = 1
     means = "no issue of this CUSIP is kept"
@@ -236,7 +236,7 @@ class UnknownIssue(Refused):
 
 
 class UnknownTrade(Refused):
-    """2"""
+    """Refusal 2: the desk keeps no trade of this reference."""
 
     number = 2
     means = "the desk keeps no trade of this reference"
@@ -244,7 +244,7 @@ class UnknownTrade(Refused):
 
 
 class Conflict(Refused):
-    """3. `version` is the number that is kept, or None of an issue."""
+    """Refusal 3: other contents are kept. `version` is the number that is kept, or None for an issue."""
 
     number = 3
     means = ("this CUSIP, or this number of the trade, is kept with other contents or by another act; what is sent "
@@ -259,7 +259,7 @@ class Conflict(Refused):
 
 
 class BadTerms(Refused):
-    """4. `fault` is the number of the test that fails, and `call` the day of the call at fault, if it is one."""
+    """Refusal 4: the terms fail a test. `fault` is its number, `call` the day of the call at fault, if it is one."""
 
     number = 4
     means = "the terms fail a test, so the desk cannot price the issue"
@@ -276,7 +276,7 @@ class BadTerms(Refused):
 
 
 class SettleOutside(Refused):
-    """5"""
+    """Refusal 5: the settlement is before the dated date, or not before maturity."""
 
     number = 5
     means = "the settlement is before the dated date, or not before maturity"
@@ -284,7 +284,7 @@ class SettleOutside(Refused):
 
 
 class GivenOutOfRange(Refused):
-    """6. `rest` is below, above or price below zero."""
+    """Refusal 6: what is given is out of range. `rest` is below, above or price below zero."""
 
     number = 6
     means = ("what is given, or a price with its commission, lies below or above its range, or the price at this yield "
@@ -293,7 +293,7 @@ class GivenOutOfRange(Refused):
 
 
 class YieldBelow(Refused):
-    """7. `rest` is the day of the redemption that decides."""
+    """Refusal 7: the yield is too low to print. `rest` is the day of the redemption that decides."""
 
     number = 7
     means = "up to this redemption so little is earned at the price that no yield is printed"
@@ -301,7 +301,7 @@ class YieldBelow(Refused):
 
 
 class YieldAbove(Refused):
-    """8"""
+    """Refusal 8: every yield is above all that are printed."""
 
     number = 8
     means = "at the price every yield is above all that are printed"
@@ -309,7 +309,7 @@ class YieldAbove(Refused):
 
 
 class NoTime(Refused):
-    """9. `rest` is the day of the redemption."""
+    """Refusal 9: no day is left up to the redemption. `rest` is the day of the redemption."""
 
     number = 9
     means = "the day count leaves no day up to this redemption, so there is no yield"
@@ -317,7 +317,7 @@ class NoTime(Refused):
 
 
 class Undecided(Refused):
-    """10. `rest` is the day of the redemption and the boundary."""
+    """Refusal 10: two printed figures are possible. `rest` is the day of the redemption and the boundary."""
 
     number = 10
     means = ("at a yield, the exact price lies on the boundary that is named or within 10^-9 dollars of it; at a "
@@ -327,7 +327,7 @@ class Undecided(Refused):
 
 
 class Canceled(Refused):
-    """11"""
+    """Refusal 11: the trade is canceled."""
 
     number = 11
     means = "the trade is canceled, and nothing follows a cancel"
@@ -335,7 +335,7 @@ class Canceled(Refused):
 
 
 class WrongNumber(Refused):
-    """12. `next` is the number that the desk takes."""
+    """Refusal 12: the number of the version is wrong. `next` is the number that the desk takes."""
 
     number = 12
     means = "the number is neither one that is kept nor the next one"
@@ -347,7 +347,7 @@ class WrongNumber(Refused):
 
 
 class VersionsFull(Refused):
-    """13"""
+    """Refusal 13: the trade has 99 versions."""
 
     number = 13
     means = "the trade has 99 versions"
@@ -355,7 +355,7 @@ class VersionsFull(Refused):
 
 
 class DeskFull(Refused):
-    """14"""
+    """Refusal 14: the desk has 100,000 trades."""
 
     number = 14
     means = "the desk has 100,000 trades"
@@ -363,7 +363,7 @@ class DeskFull(Refused):
 
 
 class WrongBasis(Refused):
-    """15"""
+    """Refusal 15: this kind of issue does not take what is given."""
 
     number = 15
     means = ("a rate for any issue but a discounted note, a yield for one, or a commission beside a yield or a rate")
