@@ -22,7 +22,7 @@ use muni_edge::Faults;
 use muni_keep::{KeepFault, Keeper};
 use muni_msg::{DeskName, Key, Line, Reference, Version};
 use muni_terms::Issue;
-use sqlite::{Alter, Connection, File, FileStore};
+use sqlite::{Alter, Connection};
 use std::alloc::Global;
 
 /// A keeper over a database, whose file no other process can open meanwhile. It does not tell what it
@@ -33,36 +33,37 @@ use std::alloc::Global;
 #[derive(Drop)]
 pub struct SqlKeeper<S: Alter + Drop> {
     database: Connection<S>,
+    is_changed: bool,
     trades: TradeCounts,
     faults: Faults,
 }
 
 impl<S: Alter + Drop> SqlKeeper<S> {
-    pub(crate) fn new(alloc: Global, database: Connection<S>) -> SqlKeeper<S>
+    /// A keeper over a database, which was changed already or was not.
+    pub(crate) fn new(alloc: Global, database: Connection<S>, is_changed: bool) -> SqlKeeper<S>
+        ensures database { result.database ≡ database }
         ensures faults { result.faults ≡ 0 }
         ensures counts { result.trades ≡ [] }
     {
         SqlKeeper {
             database,
+            is_changed,
             trades: TradeCounts::new(alloc),
             faults: Faults::none(),
         }
     }
-}
 
-impl SqlKeeper<FileStore<File>> {
-    /// Closes the file, and gives the count of faults. Where the log cannot be copied into the file
-    /// it stays beside it, and nothing that was kept is lost.
-    pub(crate) fn close(self) -> Faults
-        ensures { result ≡ self.faults }
+    /// The database, whether it was changed, and the count of faults.
+    pub(crate) fn into_parts(self) -> (Connection<S>, bool, Faults)
+        ensures { result.2 ≡ self.faults }
     {
         let SqlKeeper {
             database,
+            is_changed,
             faults,
             ..
         } = self;
-        let _ = database.close();
-        faults
+        (database, is_changed, faults)
     }
 }
 
@@ -89,6 +90,7 @@ impl<S: Alter + Drop> Keeper for SqlKeeper<S> {
         ensures counts { self.new.trades ≡ self.old.trades }
         ensures counted { CountsFailure result self.old.faults self.new.faults }
     {
+        self.is_changed = true;
         let put = insert_issue(&mut self.database, issue);
         counted(&mut self.faults, put)
     }
@@ -120,6 +122,7 @@ impl<S: Alter + Drop> Keeper for SqlKeeper<S> {
             ≡ after_put key.now.desk number (is_ok result) self.old.trades }
         ensures counted { CountsFailure result self.old.faults self.new.faults }
     {
+        self.is_changed = true;
         let put = insert_version(&mut self.database, key, number, version);
         self.trades.note_put(&key.desk, number, put.is_ok());
         counted(&mut self.faults, put)
