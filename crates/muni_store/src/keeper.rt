@@ -7,7 +7,7 @@ ghost use Rattle.muni_store_rows.specs.Version as versions;
 ghost use Rattle.muni_store.specs.Counts.{count_of, with_count, after_put};
 ghost use Rattle.muni_store.specs.Faults.{CountsFailure};
 ghost use Rattle.muni_store.specs.Page.{IsPage};
-ghost use Rattle.muni_store.specs.Ran.{Ran};
+ghost use Rattle.muni_store.specs.Ran.{Ran, NotRun, Asked};
 ghost use Rattle.muni_store.specs.Rows as rows;
 ghost use Rattle.muni_store.specs.Statements as spec;
 
@@ -77,6 +77,8 @@ impl<S: Alter + Drop> Keeper for SqlKeeper<S> {
     fn issue(&mut self, cusip: &[u8; 9]) -> Result<Option<Issue>, KeepFault>
         ensures read { IfOk result (rows.Reads rows.issue_in (state S.Store self.old.database)
             (state S.Store self.new.database) spec.select_issue (spec.cusip_values cusip.now)) }
+        ensures asked { Asked (state S.Store self.old.database) (state S.Store self.new.database)
+            spec.select_issue (spec.cusip_values cusip.now) }
         ensures counts { self.new.trades ≡ self.old.trades }
         ensures counted { CountsFailure result self.old.faults self.new.faults }
     {
@@ -87,6 +89,7 @@ impl<S: Alter + Drop> Keeper for SqlKeeper<S> {
     fn put_issue(&mut self, issue: &Issue) -> Result<(), KeepFault>
         ensures ran { OnOk result (Ran (state S.Store self.old.database) (state S.Store self.new.database)
             spec.insert_issue (spec.issue_values (issues.columns_of issue.now))) }
+        ensures undone { OnErr result (NotRun (state S.Store) self.old.database self.new.database) }
         ensures counts { self.new.trades ≡ self.old.trades }
         ensures counted { CountsFailure result self.old.faults self.new.faults }
     {
@@ -98,6 +101,8 @@ impl<S: Alter + Drop> Keeper for SqlKeeper<S> {
     fn version(&mut self, key: &Key, number: u32) -> Result<Option<Version>, KeepFault>
         ensures read { IfOk result (rows.Reads rows.version_in (state S.Store self.old.database)
             (state S.Store self.new.database) spec.select_version (spec.numbered_key_values key.now number)) }
+        ensures asked { Asked (state S.Store self.old.database) (state S.Store self.new.database)
+            spec.select_version (spec.numbered_key_values key.now number) }
         ensures counts { self.new.trades ≡ self.old.trades }
         ensures counted { CountsFailure result self.old.faults self.new.faults }
     {
@@ -108,6 +113,8 @@ impl<S: Alter + Drop> Keeper for SqlKeeper<S> {
     fn last(&mut self, key: &Key) -> Result<Option<(u32, Version)>, KeepFault>
         ensures read { IfOk result (rows.Reads rows.last_in (state S.Store self.old.database)
             (state S.Store self.new.database) spec.select_last (spec.key_values key.now)) }
+        ensures asked { Asked (state S.Store self.old.database) (state S.Store self.new.database)
+            spec.select_last (spec.key_values key.now) }
         ensures counts { self.new.trades ≡ self.old.trades }
         ensures counted { CountsFailure result self.old.faults self.new.faults }
     {
@@ -118,6 +125,7 @@ impl<S: Alter + Drop> Keeper for SqlKeeper<S> {
     fn put_version(&mut self, key: &Key, number: u32, version: &Version) -> Result<(), KeepFault>
         ensures ran { OnOk result (Ran (state S.Store self.old.database) (state S.Store self.new.database)
             spec.insert_version (spec.version_values (versions.columns_of key.now number version.now))) }
+        ensures undone { OnErr result (NotRun (state S.Store) self.old.database self.new.database) }
         ensures counts { self.new.trades
             ≡ after_put key.now.desk number (is_ok result) self.old.trades }
         ensures counted { CountsFailure result self.old.faults self.new.faults }
@@ -137,6 +145,9 @@ impl<S: Alter + Drop> Keeper for SqlKeeper<S> {
         ensures read { count_of desk.now self.old.trades ≡ None
             → IfOk result (λ count. rows.Reads rows.count_in (state S.Store self.old.database)
             (state S.Store self.new.database) spec.count_trades (spec.desk_values desk.now) (Some count)) }
+        ensures asked { count_of desk.now self.old.trades ≡ None
+            → Asked (state S.Store self.old.database) (state S.Store self.new.database) spec.count_trades
+            (spec.desk_values desk.now) }
         ensures counts { IfOk result (λ count. (self.new.trades ≡ self.old.trades)
             ⊎ (self.new.trades ≡ with_count desk.now count self.old.trades)) }
         ensures refused { OnErr result (self.new.trades ≡ self.old.trades) }

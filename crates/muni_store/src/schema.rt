@@ -1,11 +1,11 @@
 //! The tables of a store.
 
-ghost use Rattle.std.specs.Prelude.{◌≡◌, Ok, Err, IfOk, IfErr, OnOk};
+ghost use Rattle.std.specs.Prelude.{◌≡◌, Ok, Err, IfOk, IfErr, OnOk, OnErr};
 ghost use Rattle.sqlite.specs.declared.error.Error.{Error as Failure};
 ghost use Rattle.sqlite.specs.Held.{state};
 ghost use Rattle.sqlite.specs.Values.{bound};
 ghost use Rattle.muni_store.specs.Faults.{fault_in};
-ghost use Rattle.muni_store.specs.Ran.{Ran, Found, answer_of};
+ghost use Rattle.muni_store.specs.Ran.{Ran, Found, NotRun, Asked, answer_of};
 
 use crate::fault::StoreFault;
 use crate::rows::number_at;
@@ -167,6 +167,8 @@ pub(crate) fn first_row<S: Alter>(
 ) -> Result<Option<Row>, StoreFault>
     ensures found { IfOk result (Found (state S.Store database.old) (state S.Store database.new)
         query.now (bound params.now)) }
+    ensures asked { Asked (state S.Store database.old) (state S.Store database.new) query.now
+        (bound params.now) }
 {
     if_found(database.query_row(query, params))
 }
@@ -179,6 +181,7 @@ pub(crate) fn write<S: Alter>(
 ) -> Result<(), StoreFault>
     ensures ran { OnOk result (Ran (state S.Store database.old) (state S.Store database.new)
         statement.now (bound params.now)) }
+    ensures undone { OnErr result (NotRun (state S.Store) database.old database.new) }
 {
     are_texts(params)?;
     let _ = answered(database.execute(statement, params))?;

@@ -1,12 +1,12 @@
 //! The statements on the tables.
 
-ghost use Rattle.std.specs.Prelude.{◌≡◌, Some, IfOk, OnOk};
+ghost use Rattle.std.specs.Prelude.{◌≡◌, Some, IfOk, OnOk, OnErr};
 ghost use Rattle.sqlite.specs.Held.{state};
 ghost use Rattle.sqlite.specs.State.{HasCleanDisk, Shown};
 ghost use Rattle.sqlite.specs.Values.{bound};
 ghost use Rattle.muni_store_rows.specs.Issue as issues;
 ghost use Rattle.muni_store_rows.specs.Version as versions;
-ghost use Rattle.muni_store.specs.Ran.{Ran};
+ghost use Rattle.muni_store.specs.Ran.{Ran, NotRun, Asked};
 ghost use Rattle.muni_store.specs.Rows as rows;
 ghost use Rattle.muni_store.specs.Statements as spec;
 
@@ -26,6 +26,8 @@ pub(crate) fn find_issue<S: Alter>(
 ) -> Result<Option<Issue>, StoreFault>
     ensures found { IfOk result (rows.Reads rows.issue_in (state S.Store database.old)
         (state S.Store database.new) spec.select_issue (spec.cusip_values cusip.now)) }
+    ensures asked { Asked (state S.Store database.old) (state S.Store database.new) spec.select_issue
+        (spec.cusip_values cusip.now) }
 {
     let row = first_row(
         database,
@@ -46,6 +48,7 @@ pub(crate) fn insert_issue<S: Alter>(
 ) -> Result<(), StoreFault>
     ensures ran { OnOk result (Ran (state S.Store database.old) (state S.Store database.new)
         spec.insert_issue (spec.issue_values (issues.columns_of issue.now))) }
+    ensures undone { OnErr result (NotRun (state S.Store) database.old database.new) }
 {
     let columns = issue_columns(issue);
     let values = issue_values(&columns);
@@ -100,6 +103,8 @@ pub(crate) fn find_version<S: Alter>(
 ) -> Result<Option<Version>, StoreFault>
     ensures found { IfOk result (rows.Reads rows.version_in (state S.Store database.old)
         (state S.Store database.new) spec.select_version (spec.numbered_key_values key.now number)) }
+    ensures asked { Asked (state S.Store database.old) (state S.Store database.new) spec.select_version
+        (spec.numbered_key_values key.now number) }
 {
     let row = first_row(
         database,
@@ -124,6 +129,8 @@ pub(crate) fn find_last<S: Alter>(
 ) -> Result<Option<(u32, Version)>, StoreFault>
     ensures found { IfOk result (rows.Reads rows.last_in (state S.Store database.old)
         (state S.Store database.new) spec.select_last (spec.key_values key.now)) }
+    ensures asked { Asked (state S.Store database.old) (state S.Store database.new) spec.select_last
+        (spec.key_values key.now) }
 {
     let row = first_row(
         database,
@@ -150,6 +157,7 @@ pub(crate) fn insert_version<S: Alter>(
 ) -> Result<(), StoreFault>
     ensures ran { OnOk result (Ran (state S.Store database.old) (state S.Store database.new)
         spec.insert_version (spec.version_values (versions.columns_of key.now number version.now))) }
+    ensures undone { OnErr result (NotRun (state S.Store) database.old database.new) }
 {
     let written = WrittenVersion::new(key, number, version);
     let row = written.row();
@@ -199,6 +207,8 @@ pub(crate) fn count_trades<S: Alter>(
 ) -> Result<u32, StoreFault>
     ensures found { IfOk result (λ count. rows.Reads rows.count_in (state S.Store database.old)
         (state S.Store database.new) spec.count_trades (spec.desk_values desk.now) (Some count)) }
+    ensures asked { Asked (state S.Store database.old) (state S.Store database.new) spec.count_trades
+        (spec.desk_values desk.now) }
 {
     let row = first_row(
         database,
