@@ -1,4 +1,5 @@
 pub mod Counts
+pub mod Kinds
 pub mod Page
 pub mod Ran
 pub mod Rows

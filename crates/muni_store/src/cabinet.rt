@@ -1,24 +1,22 @@
 //! A cabinet of files.
 
-ghost use Rattle.std.specs.Prelude.{◌≡◌, None, IfOk, option_map};
+ghost use Rattle.std.specs.Prelude.{◌≡◌, None, option_map};
 
 use crate::faults::counted;
 use crate::keeper::SqlKeeper;
-use crate::moving::move_old_rows;
-use crate::schema::{answered, make_tables, text};
+use crate::store_file::StoreFile;
 use muni_edge::Faults;
 use muni_keep::{Cabinet, KeepFault};
-use sqlite::{Alter, Connection, Error, File, FileStore};
-use std::alloc::Global;
+use sqlite::{File, FileStore};
 
 /// A cabinet whose stores are files, by their paths. It does not tell what they hold.
 ///
-/// The tables are made where a file has none, and a file that another process has open is refused at
-/// once.
+/// The tables are made where a file has none. A file that another process has open is refused at once, and
+/// so is one that is no store, which stays as it was.
 #[derive(Drop)]
 pub struct SqlCabinet<'a> {
     rt: &'a HostRuntime,
-    lent: Option<Vec<u8>>,
+    lent: Option<StoreFile<'a>>,
     faults: Faults,
 }
 
@@ -42,38 +40,21 @@ impl<'a> Cabinet for SqlCabinet<'a> {
 
     ghost faults = { λ cabinet. cabinet.faults };
 
-    ghost out = { λ cabinet. option_map (λ name. (name.items, 0)) cabinet.lent };
+    ghost out = { λ cabinet. option_map (λ file. (file.path.items, 0)) cabinet.lent };
 
     fn fetch(&mut self, name: &[u8]) -> Result<SqlKeeper<FileStore<File>>, KeepFault> {
-        let lent = name.to_vec(self.rt.alloc())?;
-        let keeper = counted(&mut self.faults, open(self.rt, name))?;
-        self.lent = Some(lent);
+        let mut file = StoreFile::new(self.rt, name.to_vec(self.rt.alloc())?);
+        let keeper = counted(&mut self.faults, file.open())?;
+        self.lent = Some(file);
         Ok(keeper)
     }
 
     fn give_back(&mut self, keeper: SqlKeeper<FileStore<File>>) {
-        self.faults.add(&keeper.close());
+        let (database, is_changed, faults) = keeper.into_parts();
+        self.faults.add(&faults);
+        if let Some(file) = &self.lent {
+            file.close(database, is_changed);
+        }
         self.lent = None;
     }
-}
-
-// The keeper of the store in a file, which is made where there is none.
-fn open(rt: &HostRuntime, name: &[u8]) -> Result<SqlKeeper<FileStore<File>>, KeepFault>
-    ensures { IfOk result (λ keeper. keeper.faults ≡ 0) }
-{
-    let path = text(name)?;
-    keeper_over(rt.alloc(), Connection::open(rt, path))
-}
-
-// A keeper over what was opened. The tables are made, and what older ones have is moved.
-fn keeper_over<S: Alter + Drop>(
-    alloc: Global,
-    opened: Result<Connection<S>, Error>,
-) -> Result<SqlKeeper<S>, KeepFault>
-    ensures { IfOk result (λ keeper. keeper.faults ≡ 0) }
-{
-    let mut database = answered(opened)?;
-    make_tables(&mut database)?;
-    move_old_rows(&mut database)?;
-    Ok(SqlKeeper::new(alloc, database))
 }

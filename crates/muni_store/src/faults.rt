@@ -1,18 +1,21 @@
 //! Which refusals are counted.
 
-ghost use Rattle.std.specs.Prelude.{◌≡◌};
-ghost use Rattle.muni_store.specs.Faults.{CountsFailure};
+ghost use Rattle.std.specs.Prelude.{◌≡◌, Ok, IfOk};
+ghost use Rattle.muni_store.specs.Faults.{CountsFailure, kept};
 
+use crate::fault::StoreFault;
 use muni_edge::Faults;
 use muni_keep::KeepFault;
 
-/// Counts a failure. Out of memory is none.
-pub(crate) fn counted<T>(faults: &mut Faults, answer: Result<T, KeepFault>) -> Result<T, KeepFault>
-    ensures same { result ≡ answer }
+/// What a keeper answers, and counts: a failure, and no want of memory.
+pub(crate) fn counted<T>(faults: &mut Faults, answer: Result<T, StoreFault>) -> Result<T, KeepFault>
+    ensures value { IfOk result (λ value. answer ≡ Ok value) }
+    ensures same { result ≡ kept answer }
     ensures counted { CountsFailure result faults.old faults.new }
 {
     match answer {
-        Err(KeepFault::Failed) => Err(faults.fail().into()),
-        other => other,
+        Ok(value) => Ok(value),
+        Err(StoreFault::NoMemory) => Err(KeepFault::NoMemory),
+        Err(StoreFault::Failed | StoreFault::Shut) => Err(faults.fail().into()),
     }
 }

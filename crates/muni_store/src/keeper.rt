@@ -7,7 +7,7 @@ ghost use Rattle.muni_store_rows.specs.Version as versions;
 ghost use Rattle.muni_store.specs.Counts.{count_of, with_count, after_put};
 ghost use Rattle.muni_store.specs.Faults.{CountsFailure};
 ghost use Rattle.muni_store.specs.Page.{IsPage};
-ghost use Rattle.muni_store.specs.Ran.{Ran};
+ghost use Rattle.muni_store.specs.Ran.{Ran, NotRun, Asked};
 ghost use Rattle.muni_store.specs.Rows as rows;
 ghost use Rattle.muni_store.specs.Statements as spec;
 
@@ -22,7 +22,7 @@ use muni_edge::Faults;
 use muni_keep::{KeepFault, Keeper};
 use muni_msg::{DeskName, Key, Line, Reference, Version};
 use muni_terms::Issue;
-use sqlite::{Alter, Connection, File, FileStore};
+use sqlite::{Alter, Connection};
 use std::alloc::Global;
 
 /// A keeper over a database, whose file no other process can open meanwhile. It does not tell what it
@@ -33,36 +33,37 @@ use std::alloc::Global;
 #[derive(Drop)]
 pub struct SqlKeeper<S: Alter + Drop> {
     database: Connection<S>,
+    is_changed: bool,
     trades: TradeCounts,
     faults: Faults,
 }
 
 impl<S: Alter + Drop> SqlKeeper<S> {
-    pub(crate) fn new(alloc: Global, database: Connection<S>) -> SqlKeeper<S>
+    /// A keeper over a database, which was changed already or was not.
+    pub(crate) fn new(alloc: Global, database: Connection<S>, is_changed: bool) -> SqlKeeper<S>
+        ensures database { result.database ≡ database }
         ensures faults { result.faults ≡ 0 }
         ensures counts { result.trades ≡ [] }
     {
         SqlKeeper {
             database,
+            is_changed,
             trades: TradeCounts::new(alloc),
             faults: Faults::none(),
         }
     }
-}
 
-impl SqlKeeper<FileStore<File>> {
-    /// Closes the file, and gives the count of faults. Where the log cannot be copied into the file
-    /// it stays beside it, and nothing that was kept is lost.
-    pub(crate) fn close(self) -> Faults
-        ensures { result ≡ self.faults }
+    /// The database, whether it was changed, and the count of faults.
+    pub(crate) fn into_parts(self) -> (Connection<S>, bool, Faults)
+        ensures { result.2 ≡ self.faults }
     {
         let SqlKeeper {
             database,
+            is_changed,
             faults,
             ..
         } = self;
-        let _ = database.close();
-        faults
+        (database, is_changed, faults)
     }
 }
 
@@ -76,6 +77,8 @@ impl<S: Alter + Drop> Keeper for SqlKeeper<S> {
     fn issue(&mut self, cusip: &[u8; 9]) -> Result<Option<Issue>, KeepFault>
         ensures read { IfOk result (rows.Reads rows.issue_in (state S.Store self.old.database)
             (state S.Store self.new.database) spec.select_issue (spec.cusip_values cusip.now)) }
+        ensures asked { Asked (state S.Store self.old.database) (state S.Store self.new.database)
+            spec.select_issue (spec.cusip_values cusip.now) }
         ensures counts { self.new.trades ≡ self.old.trades }
         ensures counted { CountsFailure result self.old.faults self.new.faults }
     {
@@ -86,9 +89,11 @@ impl<S: Alter + Drop> Keeper for SqlKeeper<S> {
     fn put_issue(&mut self, issue: &Issue) -> Result<(), KeepFault>
         ensures ran { OnOk result (Ran (state S.Store self.old.database) (state S.Store self.new.database)
             spec.insert_issue (spec.issue_values (issues.columns_of issue.now))) }
+        ensures undone { OnErr result (NotRun (state S.Store) self.old.database self.new.database) }
         ensures counts { self.new.trades ≡ self.old.trades }
         ensures counted { CountsFailure result self.old.faults self.new.faults }
     {
+        self.is_changed = true;
         let put = insert_issue(&mut self.database, issue);
         counted(&mut self.faults, put)
     }
@@ -96,6 +101,8 @@ impl<S: Alter + Drop> Keeper for SqlKeeper<S> {
     fn version(&mut self, key: &Key, number: u32) -> Result<Option<Version>, KeepFault>
         ensures read { IfOk result (rows.Reads rows.version_in (state S.Store self.old.database)
             (state S.Store self.new.database) spec.select_version (spec.numbered_key_values key.now number)) }
+        ensures asked { Asked (state S.Store self.old.database) (state S.Store self.new.database)
+            spec.select_version (spec.numbered_key_values key.now number) }
         ensures counts { self.new.trades ≡ self.old.trades }
         ensures counted { CountsFailure result self.old.faults self.new.faults }
     {
@@ -106,6 +113,8 @@ impl<S: Alter + Drop> Keeper for SqlKeeper<S> {
     fn last(&mut self, key: &Key) -> Result<Option<(u32, Version)>, KeepFault>
         ensures read { IfOk result (rows.Reads rows.last_in (state S.Store self.old.database)
             (state S.Store self.new.database) spec.select_last (spec.key_values key.now)) }
+        ensures asked { Asked (state S.Store self.old.database) (state S.Store self.new.database)
+            spec.select_last (spec.key_values key.now) }
         ensures counts { self.new.trades ≡ self.old.trades }
         ensures counted { CountsFailure result self.old.faults self.new.faults }
     {
@@ -116,10 +125,12 @@ impl<S: Alter + Drop> Keeper for SqlKeeper<S> {
     fn put_version(&mut self, key: &Key, number: u32, version: &Version) -> Result<(), KeepFault>
         ensures ran { OnOk result (Ran (state S.Store self.old.database) (state S.Store self.new.database)
             spec.insert_version (spec.version_values (versions.columns_of key.now number version.now))) }
+        ensures undone { OnErr result (NotRun (state S.Store) self.old.database self.new.database) }
         ensures counts { self.new.trades
             ≡ after_put key.now.desk number (is_ok result) self.old.trades }
         ensures counted { CountsFailure result self.old.faults self.new.faults }
     {
+        self.is_changed = true;
         let put = insert_version(&mut self.database, key, number, version);
         self.trades.note_put(&key.desk, number, put.is_ok());
         counted(&mut self.faults, put)
@@ -134,6 +145,9 @@ impl<S: Alter + Drop> Keeper for SqlKeeper<S> {
         ensures read { count_of desk.now self.old.trades ≡ None
             → IfOk result (λ count. rows.Reads rows.count_in (state S.Store self.old.database)
             (state S.Store self.new.database) spec.count_trades (spec.desk_values desk.now) (Some count)) }
+        ensures asked { count_of desk.now self.old.trades ≡ None
+            → Asked (state S.Store self.old.database) (state S.Store self.new.database) spec.count_trades
+            (spec.desk_values desk.now) }
         ensures counts { IfOk result (λ count. (self.new.trades ≡ self.old.trades)
             ⊎ (self.new.trades ≡ with_count desk.now count self.old.trades)) }
         ensures refused { OnErr result (self.new.trades ≡ self.old.trades) }

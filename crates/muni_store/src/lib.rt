@@ -2,14 +2,17 @@
 #![tactic(auto)]
 
 mod cabinet;
+mod fault;
 mod faults;
 mod keeper;
 pub mod laws;
+mod look;
 mod moving;
 mod page;
 mod rows;
 mod schema;
 mod statements;
+mod store_file;
 mod trade_counts;
 
 pub use cabinet::SqlCabinet;

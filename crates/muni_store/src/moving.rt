@@ -1,44 +1,41 @@
 //! The rows of the tables that had no columns for a basis and a commission, moved to those that have.
 
+use crate::fault::StoreFault;
 use crate::rows::{is_old_trade, number_at, text_at};
-use crate::schema::{answered, has_table, if_found};
-use muni_keep::KeepFault;
+use crate::schema::{Table, answered, first_row, has_table, if_found};
 use muni_store_rows::issue_1;
 use sqlite::types::ValueRef;
 use sqlite::{Alter, Connection, Row, Transaction, params};
 
-#[derive(Clone, Copy)]
-enum OldTable {
-    Issues,
-    Versions,
+/// Moves the rows of the old tables, where the file has them, in one transaction a table, and tells
+/// whether there were any. Where a row is not that of a checked value, its table stays as it was.
+pub(crate) fn move_old_rows<S: Alter>(database: &mut Connection<S>) -> Result<bool, StoreFault> {
+    let issues = move_table(database, Table::OldIssues)?;
+    let versions = move_table(database, Table::OldVersions)?;
+    Ok(issues || versions)
 }
 
-/// Moves the rows of the old tables, where the file has them, in one transaction a table. Where a row
-/// is not that of a checked value, its table stays as it was.
-pub(crate) fn move_old_rows<S: Alter>(database: &mut Connection<S>) -> Result<(), KeepFault> {
-    if has_table(database, "issues")? {
-        move_table(database, OldTable::Issues)?;
+fn move_table<S: Alter>(database: &mut Connection<S>, table: Table) -> Result<bool, StoreFault> {
+    if !has_table(database, table)?
+        || first_row(database, table.first_row(), params![])?.is_none()
+    {
+        return Ok(false);
     }
-    if has_table(database, "versions")? {
-        move_table(database, OldTable::Versions)?;
-    }
-    Ok(())
-}
-
-fn move_table<S: Alter>(database: &mut Connection<S>, table: OldTable) -> Result<(), KeepFault> {
     if !database.is_autocommit() {
-        return Err(KeepFault::Failed);
+        return Err(StoreFault::Failed);
     }
     let mut moving = database.transaction();
     move_rows(&mut moving, table)?;
-    answered(moving.commit())
+    answered(moving.commit())?;
+    Ok(true)
 }
 
-fn move_rows<S: Alter>(moving: &mut Transaction<'_, S>, table: OldTable) -> Result<(), KeepFault> {
+fn move_rows<S: Alter>(moving: &mut Transaction<'_, S>, table: Table) -> Result<(), StoreFault> {
     for _ in 0..u64::MAX {
         let moved = match table {
-            OldTable::Issues => move_issue(moving)?,
-            OldTable::Versions => move_version(moving)?,
+            Table::OldIssues => move_issue(moving)?,
+            Table::OldVersions => move_version(moving)?,
+            Table::Issues | Table::Versions => false,
         };
         if !moved {
             break;
@@ -48,16 +45,13 @@ fn move_rows<S: Alter>(moving: &mut Transaction<'_, S>, table: OldTable) -> Resu
 }
 
 // Moves an issue, if one is left.
-fn move_issue<S: Alter>(moving: &mut Transaction<'_, S>) -> Result<bool, KeepFault> {
-    let row = first_row(
-        moving,
-        "SELECT cusip, name, kind, dated, first, maturity, coupon, calls FROM issues LIMIT 1",
-    )?;
+fn move_issue<S: Alter>(moving: &mut Transaction<'_, S>) -> Result<bool, StoreFault> {
+    let row = if_found(moving.query_row(Table::OldIssues.first_row(), params![]))?;
     let Some(row) = row else {
         return Ok(false);
     };
     if !is_issue(&row)? {
-        return Err(KeepFault::Failed);
+        return Err(StoreFault::Failed);
     }
     let cusip = text_at(&row, 0)?;
     write(
@@ -75,7 +69,7 @@ fn move_issue<S: Alter>(moving: &mut Transaction<'_, S>) -> Result<bool, KeepFau
     Ok(true)
 }
 
-fn is_issue(row: &Row) -> Result<bool, KeepFault> {
+fn is_issue(row: &Row) -> Result<bool, StoreFault> {
     let issue = issue_1(
         text_at(row, 0)?,
         text_at(row, 1)?,
@@ -90,17 +84,13 @@ fn is_issue(row: &Row) -> Result<bool, KeepFault> {
 }
 
 // Moves a version of a trade, if one is left.
-fn move_version<S: Alter>(moving: &mut Transaction<'_, S>) -> Result<bool, KeepFault> {
-    let row = first_row(
-        moving,
-        "SELECT desk, reference, number, act, cusip, side, par, settle, basis, value, price, yld,
-         redemption, at_price, label, days, principal, accrued, total FROM versions LIMIT 1",
-    )?;
+fn move_version<S: Alter>(moving: &mut Transaction<'_, S>) -> Result<bool, StoreFault> {
+    let row = if_found(moving.query_row(Table::OldVersions.first_row(), params![]))?;
     let Some(row) = row else {
         return Ok(false);
     };
     if !is_old_trade(&row)? {
-        return Err(KeepFault::Failed);
+        return Err(StoreFault::Failed);
     }
     let key = params![text_at(&row, 0)?, text_at(&row, 1)?, number_at(&row, 2)?];
     write(
@@ -120,18 +110,11 @@ fn move_version<S: Alter>(moving: &mut Transaction<'_, S>) -> Result<bool, KeepF
     Ok(true)
 }
 
-fn first_row<S: Alter>(
-    moving: &mut Transaction<'_, S>,
-    query: &str,
-) -> Result<Option<Row>, KeepFault> {
-    if_found(moving.query_row(query, params![]))
-}
-
 fn write<S: Alter>(
     moving: &mut Transaction<'_, S>,
     statement: &str,
     params: &[ValueRef<'_>],
-) -> Result<(), KeepFault> {
+) -> Result<(), StoreFault> {
     let _ = answered(moving.execute(statement, params))?;
     Ok(())
 }

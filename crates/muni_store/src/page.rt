@@ -4,10 +4,10 @@ ghost use Rattle.std.specs.Prelude.{IfOk};
 ghost use Rattle.sqlite.specs.Held.{state};
 ghost use Rattle.muni_store.specs.Page as spec;
 
+use crate::fault::StoreFault;
 use crate::rows::read_reference;
 use crate::statements::{find_last, references_after};
 use arrayvec::ArrayVec;
-use muni_keep::KeepFault;
 use muni_msg::{DeskName, Key, Line, Reference};
 use sqlite::{Alter, Connection, Row};
 
@@ -17,7 +17,7 @@ pub(crate) fn read_page<S: Alter>(
     database: &mut Connection<S>,
     desk: &DeskName,
     after: &Option<Reference>,
-) -> Result<ArrayVec<Line, 50>, KeepFault>
+) -> Result<ArrayVec<Line, 50>, StoreFault>
     ensures found { IfOk result (λ lines. spec.IsPage (state S.Store) desk.now after.now
         database.old database.new lines.items) }
 {
@@ -26,7 +26,7 @@ pub(crate) fn read_page<S: Alter>(
     for row in rows.as_slice() {
         let line = read_line(database, desk, row)?;
         let Ok(()) = lines.try_push(line) else {
-            return Err(KeepFault::Failed);
+            return Err(StoreFault::Failed);
         };
     }
     Ok(lines)
@@ -37,7 +37,7 @@ fn read_line<S: Alter>(
     database: &mut Connection<S>,
     desk: &DeskName,
     row: &Row,
-) -> Result<Line, KeepFault>
+) -> Result<Line, StoreFault>
     ensures found { IfOk result (λ line. spec.IsLine desk.now (state S.Store database.old)
         (state S.Store database.new) row.now line) }
 {
@@ -51,6 +51,6 @@ fn read_line<S: Alter>(
             number,
             version,
         }),
-        None => Err(KeepFault::Failed),
+        None => Err(StoreFault::Failed),
     }
 }

@@ -3,8 +3,8 @@
 ghost use Rattle.std.specs.Prelude.{◌≡◌, Some, IfOk};
 ghost use Rattle.muni_store.specs.Rows as rows;
 
+use crate::fault::StoreFault;
 use crate::schema::text;
-use muni_keep::KeepFault;
 use muni_msg::{Key, Reference, Version};
 use muni_store_rows::{AskedRow, FigureRow, TradeRow, issue_2};
 use muni_terms::Issue;
@@ -12,27 +12,27 @@ use sqlite::Row;
 use sqlite::types::ValueRef;
 
 /// The text in a column.
-pub(crate) fn text_at(row: &Row, at: usize) -> Result<&str, KeepFault>
+pub(crate) fn text_at(row: &Row, at: usize) -> Result<&str, StoreFault>
     ensures { IfOk result (λ text. text.now ≡ rows.text_in row.now at) }
 {
     match row.get_ref(at) {
         Ok(ValueRef::Text(bytes)) => text(bytes),
-        _ => Err(KeepFault::Failed),
+        _ => Err(StoreFault::Failed),
     }
 }
 
 /// The number in a column.
-pub(crate) fn number_at(row: &Row, at: usize) -> Result<i64, KeepFault>
+pub(crate) fn number_at(row: &Row, at: usize) -> Result<i64, StoreFault>
     ensures { IfOk result (λ number. number ≡ rows.number_in row.now at) }
 {
     match row.get_ref(at) {
         Ok(ValueRef::Int(number)) => Ok(number),
-        _ => Err(KeepFault::Failed),
+        _ => Err(StoreFault::Failed),
     }
 }
 
 /// The issue in a row.
-pub(crate) fn read_issue(row: &Row) -> Result<Issue, KeepFault>
+pub(crate) fn read_issue(row: &Row) -> Result<Issue, StoreFault>
     ensures { IfOk result (λ issue. rows.issue_in row.now ≡ Some issue) }
 {
     let issue = issue_2(
@@ -46,28 +46,28 @@ pub(crate) fn read_issue(row: &Row) -> Result<Issue, KeepFault>
         text_at(row, 7)?,
         number_at(row, 8)?,
     );
-    issue.ok_or(KeepFault::Failed)
+    issue.ok_or(StoreFault::Failed)
 }
 
 #[tactic(auto, unfolding(muni_store_rows::specs::Codes::count))]
-pub(crate) fn read_count(row: &Row) -> Result<u32, KeepFault>
+pub(crate) fn read_count(row: &Row) -> Result<u32, StoreFault>
     ensures { IfOk result (λ count. rows.count_in row.now ≡ Some count) }
 {
     Ok(u32::try_from(number_at(row, 0)?).unwrap_or(u32::MAX))
 }
 
 /// The reference in the first column of a row.
-pub(crate) fn read_reference(row: &Row) -> Result<Reference, KeepFault>
+pub(crate) fn read_reference(row: &Row) -> Result<Reference, StoreFault>
     ensures { IfOk result (λ reference. rows.reference_in row.now ≡ Some reference) }
 {
     match Reference::read(text_at(row, 0)?.as_bytes()) {
         Ok(reference) => Ok(reference),
-        Err(_) => Err(KeepFault::Failed),
+        Err(_) => Err(StoreFault::Failed),
     }
 }
 
 /// The columns of a version in a row, with a fee and a commission.
-fn trade_row<'a>(row: &'a Row, fee: i64, commission: i64) -> Result<TradeRow<'a>, KeepFault>
+fn trade_row<'a>(row: &'a Row, fee: i64, commission: i64) -> Result<TradeRow<'a>, StoreFault>
     ensures { IfOk result (λ columns. columns ≡ rows.trade_columns row.now fee commission) }
 {
     Ok(TradeRow {
@@ -80,7 +80,7 @@ fn trade_row<'a>(row: &'a Row, fee: i64, commission: i64) -> Result<TradeRow<'a>
     })
 }
 
-fn asked_row<'a>(row: &'a Row, fee: i64) -> Result<AskedRow<'a>, KeepFault>
+fn asked_row<'a>(row: &'a Row, fee: i64) -> Result<AskedRow<'a>, StoreFault>
     ensures { IfOk result (λ columns. columns ≡ rows.asked_columns row.now fee) }
 {
     Ok(AskedRow {
@@ -94,7 +94,7 @@ fn asked_row<'a>(row: &'a Row, fee: i64) -> Result<AskedRow<'a>, KeepFault>
     })
 }
 
-fn figure_row<'a>(row: &'a Row, commission: i64) -> Result<FigureRow<'a>, KeepFault>
+fn figure_row<'a>(row: &'a Row, commission: i64) -> Result<FigureRow<'a>, StoreFault>
     ensures { IfOk result (λ columns. columns ≡ rows.figure_columns row.now commission) }
 {
     Ok(FigureRow {
@@ -112,15 +112,15 @@ fn figure_row<'a>(row: &'a Row, commission: i64) -> Result<FigureRow<'a>, KeepFa
 }
 
 /// The trade, the number and the version in a row.
-pub(crate) fn read_trade(row: &Row) -> Result<(Key, u32, Version), KeepFault>
+pub(crate) fn read_trade(row: &Row) -> Result<(Key, u32, Version), StoreFault>
     ensures { IfOk result (λ trade. rows.trade_in row.now ≡ Some trade) }
 {
     let columns = trade_row(row, number_at(row, 19)?, number_at(row, 20)?)?;
-    columns.trade().ok_or(KeepFault::Failed)
+    columns.trade().ok_or(StoreFault::Failed)
 }
 
 /// Whether a row that has no columns for a fee and a commission is that of a version.
-pub(crate) fn is_old_trade(row: &Row) -> Result<bool, KeepFault>
+pub(crate) fn is_old_trade(row: &Row) -> Result<bool, StoreFault>
     ensures { IfOk result (λ is. is ≡ rows.is_old_trade row.now) }
 {
     Ok(trade_row(row, 0, 0)?.trade().is_some())

@@ -1,14 +1,16 @@
 //! The tables of a store.
 
-ghost use Rattle.std.specs.Prelude.{◌≡◌, ◌↔◌, IfOk, OnOk};
+ghost use Rattle.std.specs.Prelude.{◌≡◌, Ok, Err, IfOk, IfErr, OnOk, OnErr};
+ghost use Rattle.sqlite.specs.declared.error.Error.{Error as Failure};
 ghost use Rattle.sqlite.specs.Held.{state};
 ghost use Rattle.sqlite.specs.Values.{bound};
-ghost use Rattle.muni_store.specs.Ran.{Ran, Found, answer_of};
+ghost use Rattle.muni_store.specs.Faults.{fault_in};
+ghost use Rattle.muni_store.specs.Ran.{Ran, Found, NotRun, Asked, answer_of};
 
+use crate::fault::StoreFault;
 use crate::rows::number_at;
-use muni_keep::KeepFault;
 use sqlite::types::ValueRef;
-use sqlite::{Alter, Connection, Error, ErrorCode, Row, params};
+use sqlite::{Alter, Connection, Error, Row, params};
 
 const ISSUES: &str = "CREATE TABLE issues_2 (
   cusip TEXT NOT NULL,
@@ -48,33 +50,109 @@ const VERSIONS: &str = "CREATE TABLE versions_2 (
   PRIMARY KEY (desk, reference, number)
 ) STRICT";
 
-/// Makes the tables where the file has none.
-pub(crate) fn make_tables<S: Alter>(database: &mut Connection<S>) -> Result<(), KeepFault> {
-    make_table(database, "issues_2", ISSUES)?;
-    make_table(database, "versions_2", VERSIONS)
+/// A table of a store: of today, or of those that had no columns for a basis and a commission.
+#[derive(Clone, Copy)]
+pub(crate) enum Table {
+    Issues,
+    Versions,
+    OldIssues,
+    OldVersions,
+}
+
+impl Table {
+    fn name(self) -> &'static str {
+        match self {
+            Table::Issues => "issues_2",
+            Table::Versions => "versions_2",
+            Table::OldIssues => "issues",
+            Table::OldVersions => "versions",
+        }
+    }
+
+    /// Finds a row, by the names of all columns.
+    pub(crate) fn first_row(self) -> &'static str {
+        match self {
+            Table::Issues => {
+                "SELECT cusip, name, kind, dated, first, maturity, coupon, calls, basis \
+                 FROM issues_2 LIMIT 1"
+            }
+            Table::Versions => {
+                "SELECT desk, reference, number, act, cusip, side, par, settle, basis, value, price, \
+                 yld, redemption, at_price, label, days, principal, accrued, total, fee, commission \
+                 FROM versions_2 LIMIT 1"
+            }
+            Table::OldIssues => {
+                "SELECT cusip, name, kind, dated, first, maturity, coupon, calls FROM issues LIMIT 1"
+            }
+            Table::OldVersions => {
+                "SELECT desk, reference, number, act, cusip, side, par, settle, basis, value, price, \
+                 yld, redemption, at_price, label, days, principal, accrued, total \
+                 FROM versions LIMIT 1"
+            }
+        }
+    }
+}
+
+/// Refuses a database that is no store, before anything is written to it: one that lists something and
+/// no table of a store, or such a table with other columns.
+pub(crate) fn check_tables<S: Alter>(database: &mut Connection<S>) -> Result<(), StoreFault> {
+    let issues = has_columns(database, Table::Issues)?;
+    let versions = has_columns(database, Table::Versions)?;
+    let old_issues = has_columns(database, Table::OldIssues)?;
+    let old_versions = has_columns(database, Table::OldVersions)?;
+    if issues || versions || old_issues || old_versions || !lists_any(database)? {
+        return Ok(());
+    }
+    Err(StoreFault::Failed)
+}
+
+/// Whether the file has this table. One of its name with other columns is refused.
+fn has_columns<S: Alter>(database: &mut Connection<S>, table: Table) -> Result<bool, StoreFault> {
+    if !has_table(database, table)? {
+        return Ok(false);
+    }
+    let _ = answered(database.prepare(table.first_row()))?;
+    Ok(true)
+}
+
+fn lists_any<S: Alter>(database: &mut Connection<S>) -> Result<bool, StoreFault> {
+    let row = first_row(database, "SELECT COUNT(*) FROM sqlite_schema", params![])?;
+    counts_some(row)
+}
+
+/// Makes the tables where the file has none, and tells whether it has made one.
+pub(crate) fn make_tables<S: Alter>(database: &mut Connection<S>) -> Result<bool, StoreFault> {
+    let issues = make_table(database, Table::Issues, ISSUES)?;
+    let versions = make_table(database, Table::Versions, VERSIONS)?;
+    Ok(issues || versions)
 }
 
 fn make_table<S: Alter>(
     database: &mut Connection<S>,
-    name: &str,
+    table: Table,
     statement: &str,
-) -> Result<(), KeepFault> {
-    if has_table(database, name)? {
-        return Ok(());
+) -> Result<bool, StoreFault> {
+    if has_table(database, table)? {
+        return Ok(false);
     }
-    write(database, statement, params![])
+    write(database, statement, params![])?;
+    Ok(true)
 }
 
 /// Whether the file has a table of this name.
 pub(crate) fn has_table<S: Alter>(
     database: &mut Connection<S>,
-    name: &str,
-) -> Result<bool, KeepFault> {
+    table: Table,
+) -> Result<bool, StoreFault> {
     let row = first_row(
         database,
         "SELECT COUNT(*) FROM sqlite_schema WHERE type = 'table' AND name = ?1",
-        params![name],
+        params![table.name()],
     )?;
+    counts_some(row)
+}
+
+fn counts_some(row: Option<Row>) -> Result<bool, StoreFault> {
     match row {
         Some(row) => Ok(number_at(&row, 0)? > 0),
         None => Ok(false),
@@ -86,9 +164,11 @@ pub(crate) fn first_row<S: Alter>(
     database: &mut Connection<S>,
     query: &str,
     params: &[ValueRef<'_>],
-) -> Result<Option<Row>, KeepFault>
+) -> Result<Option<Row>, StoreFault>
     ensures found { IfOk result (Found (state S.Store database.old) (state S.Store database.new)
         query.now (bound params.now)) }
+    ensures asked { Asked (state S.Store database.old) (state S.Store database.new) query.now
+        (bound params.now) }
 {
     if_found(database.query_row(query, params))
 }
@@ -98,16 +178,17 @@ pub(crate) fn write<S: Alter>(
     database: &mut Connection<S>,
     statement: &str,
     params: &[ValueRef<'_>],
-) -> Result<(), KeepFault>
+) -> Result<(), StoreFault>
     ensures ran { OnOk result (Ran (state S.Store database.old) (state S.Store database.new)
         statement.now (bound params.now)) }
+    ensures undone { OnErr result (NotRun (state S.Store) database.old database.new) }
 {
     are_texts(params)?;
     let _ = answered(database.execute(statement, params))?;
     Ok(())
 }
 
-fn are_texts(values: &[ValueRef<'_>]) -> Result<(), KeepFault> {
+fn are_texts(values: &[ValueRef<'_>]) -> Result<(), StoreFault> {
     for value in values {
         if let ValueRef::Text(bytes) = value {
             text(bytes)?;
@@ -117,42 +198,34 @@ fn are_texts(values: &[ValueRef<'_>]) -> Result<(), KeepFault> {
 }
 
 /// The row that a query found, if it found one.
-pub(crate) fn if_found(row: Result<Row, Error>) -> Result<Option<Row>, KeepFault>
-    ensures { IfOk result (λ found. row ≡ answer_of found) }
+pub(crate) fn if_found(row: Result<Row, Error>) -> Result<Option<Row>, StoreFault>
+    ensures found { IfOk result (λ found. row ≡ answer_of found) }
+    ensures fault { IfErr result (λ fault. (error : Failure) × (row ≡ Err error) × (fault ≡ fault_in error)) }
 {
     match row {
         Ok(row) => Ok(Some(row)),
         Err(Error::QueryReturnedNoRows) => Ok(None),
-        Err(error) => Err(fault_of(error)),
+        Err(error) => Err(error.into()),
     }
 }
 
 /// What `sqlite` answered, or the fault of its refusal.
-pub(crate) fn answered<T>(answer: Result<T, Error>) -> Result<T, KeepFault>
-    ensures { IfOk result (λ value. answer ≡ Ok value) }
+pub(crate) fn answered<T>(answer: Result<T, Error>) -> Result<T, StoreFault>
+    ensures value { IfOk result (λ value. answer ≡ Ok value) }
+    ensures fault { IfErr result (λ fault. (error : Failure) × (answer ≡ Err error) × (fault ≡ fault_in error)) }
 {
     match answer {
         Ok(value) => Ok(value),
-        Err(error) => Err(fault_of(error)),
+        Err(error) => Err(error.into()),
     }
 }
 
 /// Bytes as a text. The store keeps texts alone.
-pub(crate) fn text(bytes: &[u8]) -> Result<&str, KeepFault>
+pub(crate) fn text(bytes: &[u8]) -> Result<&str, StoreFault>
     ensures { IfOk result (λ text. text.now ≡ bytes.now) }
 {
     match std::str::from_utf8(bytes) {
         Ok(text) => Ok(text),
-        Err(_) => Err(KeepFault::Failed),
-    }
-}
-
-/// The fault of a call that `sqlite` refused.
-pub(crate) fn fault_of(error: Error) -> KeepFault
-    ensures { (result ≡ KeepFault.NoMemory) ↔ (error ≡ Error.SqliteFailure ErrorCode.OutOfMemory) }
-{
-    match error {
-        Error::SqliteFailure(ErrorCode::OutOfMemory) => KeepFault::NoMemory,
-        _ => KeepFault::Failed,
+        Err(_) => Err(StoreFault::Failed),
     }
 }

@@ -1,18 +1,18 @@
 //! The statements on the tables.
 
-ghost use Rattle.std.specs.Prelude.{◌≡◌, Some, IfOk, OnOk};
+ghost use Rattle.std.specs.Prelude.{◌≡◌, Some, IfOk, OnOk, OnErr};
 ghost use Rattle.sqlite.specs.Held.{state};
 ghost use Rattle.sqlite.specs.State.{HasCleanDisk, Shown};
 ghost use Rattle.sqlite.specs.Values.{bound};
 ghost use Rattle.muni_store_rows.specs.Issue as issues;
 ghost use Rattle.muni_store_rows.specs.Version as versions;
-ghost use Rattle.muni_store.specs.Ran.{Ran};
+ghost use Rattle.muni_store.specs.Ran.{Ran, NotRun, Asked};
 ghost use Rattle.muni_store.specs.Rows as rows;
 ghost use Rattle.muni_store.specs.Statements as spec;
 
+use crate::fault::StoreFault;
 use crate::rows::{read_count, read_issue, read_trade};
 use crate::schema::{answered, first_row, write};
-use muni_keep::KeepFault;
 use muni_msg::{DeskName, Key, Reference, Version};
 use muni_store_rows::{IssueColumns, TradeRow, WrittenVersion, issue_columns};
 use muni_terms::Issue;
@@ -23,9 +23,11 @@ use sqlite::{Alter, Connection, Row};
 pub(crate) fn find_issue<S: Alter>(
     database: &mut Connection<S>,
     cusip: &[u8; 9],
-) -> Result<Option<Issue>, KeepFault>
+) -> Result<Option<Issue>, StoreFault>
     ensures found { IfOk result (rows.Reads rows.issue_in (state S.Store database.old)
         (state S.Store database.new) spec.select_issue (spec.cusip_values cusip.now)) }
+    ensures asked { Asked (state S.Store database.old) (state S.Store database.new) spec.select_issue
+        (spec.cusip_values cusip.now) }
 {
     let row = first_row(
         database,
@@ -43,9 +45,10 @@ pub(crate) fn find_issue<S: Alter>(
 pub(crate) fn insert_issue<S: Alter>(
     database: &mut Connection<S>,
     issue: &Issue,
-) -> Result<(), KeepFault>
+) -> Result<(), StoreFault>
     ensures ran { OnOk result (Ran (state S.Store database.old) (state S.Store database.new)
         spec.insert_issue (spec.issue_values (issues.columns_of issue.now))) }
+    ensures undone { OnErr result (NotRun (state S.Store) database.old database.new) }
 {
     let columns = issue_columns(issue);
     let values = issue_values(&columns);
@@ -97,9 +100,11 @@ pub(crate) fn find_version<S: Alter>(
     database: &mut Connection<S>,
     key: &Key,
     number: u32,
-) -> Result<Option<Version>, KeepFault>
+) -> Result<Option<Version>, StoreFault>
     ensures found { IfOk result (rows.Reads rows.version_in (state S.Store database.old)
         (state S.Store database.new) spec.select_version (spec.numbered_key_values key.now number)) }
+    ensures asked { Asked (state S.Store database.old) (state S.Store database.new) spec.select_version
+        (spec.numbered_key_values key.now number) }
 {
     let row = first_row(
         database,
@@ -121,9 +126,11 @@ pub(crate) fn find_version<S: Alter>(
 pub(crate) fn find_last<S: Alter>(
     database: &mut Connection<S>,
     key: &Key,
-) -> Result<Option<(u32, Version)>, KeepFault>
+) -> Result<Option<(u32, Version)>, StoreFault>
     ensures found { IfOk result (rows.Reads rows.last_in (state S.Store database.old)
         (state S.Store database.new) spec.select_last (spec.key_values key.now)) }
+    ensures asked { Asked (state S.Store database.old) (state S.Store database.new) spec.select_last
+        (spec.key_values key.now) }
 {
     let row = first_row(
         database,
@@ -147,9 +154,10 @@ pub(crate) fn insert_version<S: Alter>(
     key: &Key,
     number: u32,
     version: &Version,
-) -> Result<(), KeepFault>
+) -> Result<(), StoreFault>
     ensures ran { OnOk result (Ran (state S.Store database.old) (state S.Store database.new)
         spec.insert_version (spec.version_values (versions.columns_of key.now number version.now))) }
+    ensures undone { OnErr result (NotRun (state S.Store) database.old database.new) }
 {
     let written = WrittenVersion::new(key, number, version);
     let row = written.row();
@@ -196,9 +204,11 @@ fn version_values<'a>(row: &'a TradeRow<'a>) -> [ValueRef<'a>; 21]
 pub(crate) fn count_trades<S: Alter>(
     database: &mut Connection<S>,
     desk: &DeskName,
-) -> Result<u32, KeepFault>
+) -> Result<u32, StoreFault>
     ensures found { IfOk result (λ count. rows.Reads rows.count_in (state S.Store database.old)
         (state S.Store database.new) spec.count_trades (spec.desk_values desk.now) (Some count)) }
+    ensures asked { Asked (state S.Store database.old) (state S.Store database.new) spec.count_trades
+        (spec.desk_values desk.now) }
 {
     let row = first_row(
         database,
@@ -207,7 +217,7 @@ pub(crate) fn count_trades<S: Alter>(
     )?;
     match row {
         Some(row) => Ok(read_count(&row)?),
-        None => Err(KeepFault::Failed),
+        None => Err(StoreFault::Failed),
     }
 }
 
@@ -216,7 +226,7 @@ pub(crate) fn references_after<S: Alter>(
     database: &mut Connection<S>,
     desk: &DeskName,
     after: &Option<Reference>,
-) -> Result<Vec<Row>, KeepFault>
+) -> Result<Vec<Row>, StoreFault>
     ensures found { IfOk result (λ found. HasCleanDisk (state S.Store database.new)
         → Shown spec.select_references (spec.page_values desk.now after.now)
         (state S.Store database.old) (state S.Store database.new) found.items) }

@@ -1,4 +1,4 @@
-//! Laws of the columns: what is written in them is read from them again.
+//! Laws of the columns: what is written in them is read from them again, and nothing else is read.
 //!
 //! A body here reads values only to know the ranges of their types.
 
@@ -8,6 +8,7 @@ ghost use Rattle.muni_days.specs.Day.{civil, day_text};
 ghost use Rattle.muni_msg.specs.Codes.{act_code, given_code, given_units, label_code, side_code};
 ghost use Rattle.muni_msg.specs.Fields.{day_in};
 ghost use Rattle.muni_store_rows.specs.Codes as codes;
+ghost use Rattle.muni_store_rows.specs.Laws.{ReadsIssuesAsWritten, ReadsVersionsAsWritten};
 ghost use Rattle.muni_store_rows.specs.Issue as issues;
 ghost use Rattle.muni_store_rows.specs.Version as versions;
 
@@ -27,6 +28,11 @@ pub fn issues_are_read_again(issue: &Issue)
     let _calls = row.calls.as_slice();
 }
 
+/// A law: columns that are read as an issue are those in which it is written.
+pub fn issues_are_read_as_written()
+    ensures { ReadsIssuesAsWritten }
+{}
+
 fn nine_characters(cusip: &[u8; 9])
     ensures { length cusip.now ≡ 9 }
 {}
@@ -44,6 +50,11 @@ pub fn versions_are_read_again(key: &Key, number: u32, version: &Version)
     asked_is_read_again(&version.terms.asked);
     figures_are_read_again(&version.figures);
 }
+
+/// A law: columns that are read as a version of a trade are those in which it is written.
+pub fn versions_are_read_as_written()
+    ensures { ReadsVersionsAsWritten }
+{}
 
 #[tactic(auto, using(crate::proofs::NameLemmas::name_again), unfolding(crate::specs::Version::key_of))]
 fn key_is_read_again(key: &Key)

@@ -8,4 +8,5 @@ returns-in_ok-read_issue-in-Some g c = record {
     found = rw c.in-Some.is at c.in_ok-row.ensures.found;
     is = ap Some c.in_ok-read_issue-in-Some.ensures;
   };
+  asked = c.first_row.ensures.asked;
 }

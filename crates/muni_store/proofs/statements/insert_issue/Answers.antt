@@ -3,4 +3,4 @@ use Rattle.muni_store.specs.Statements.{issue_values}
 use Rattle.muni_store.proofs.statements.insert_issue.Goals as goal
 
 pub returns : goal.returns
-returns g c = record { ran = rw (c.issue_values-values.ensures ∙ ap issue_values c.issue_columns-columns.ensures) at c.write.ensures.ran }
+returns g c = record { ran = rw (c.issue_values-values.ensures ∙ ap issue_values c.issue_columns-columns.ensures) at c.write.ensures.ran; undone = c.write.ensures.undone }
