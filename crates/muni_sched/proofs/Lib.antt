@@ -14,6 +14,9 @@ pub mod OneAnswerLemmas
 pub mod OneExactLemmas
 pub mod OneRightLemmas
 pub mod RoundLemmas
+pub mod BetweenLemmas
 pub mod SearchLemmas
+pub mod OverLemmas
 pub mod StartLemmas
+pub mod LevelLemmas
 pub mod CountLemmas

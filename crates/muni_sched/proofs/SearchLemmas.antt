@@ -1,127 +1,33 @@
--- What the searches keep from round to round, and that they find the lowest of all outcomes.
-use Rattle.std.proofs.Common.{◌≡◌, ◌≢◌, ◌<◌, ◌≤◌, ◌+◌, ◌-◌, ℕ, List, [], ◌∷◌, Bool, true, false, not, ◌&&◌, All, length, map, slice_set, get_or, Option, Some, None, refl, ap, sym, subst, inl, inr, ⊎_elim, arith, ◌∙◌, ◌⊎◌, ℤ, pos, negsuc, ◌<ℤ◌, ◌≤ℤ◌}
-use Rattle.std.specs.Prelude.{if◌then◌else◌, nat_le, nat_lt, min, ◌==◌, unwrap_or, ⊤}
+-- What the searches keep from round to round.
+use Rattle.std.proofs.Common.{◌≡◌, ◌≢◌, ◌<◌, ◌≤◌, ◌+◌, ◌-◌, ℕ, List, [], ◌∷◌, Bool, true, false, not, ◌&&◌, All, length, slice_set, get_or, Option, Some, None, refl, ap, sym, subst, inl, inr, ⊎_elim, arith, ◌∙◌, ◌⊎◌, ℤ, pos, negsuc, ◌<ℤ◌, ◌≤ℤ◌}
+use Rattle.std.specs.Prelude.{if◌then◌else◌, nat_le, nat_lt, min, ◌==◌, ⊤}
 use Rattle.std.specs.Int.{int_min}
 use Rattle.std.specs.List.{filter, AllZip}
-use Rattle.std.proofs.lemmas.Bool.{cases_lt, cases_eq, eqb-true, and_parts, leb-true, ltb-false}
-use Rattle.std.proofs.lemmas.Bool.Decides.{nat_tests}
+use Rattle.std.proofs.lemmas.Bool.{cases_lt, cases_eq, and_parts, leb-true, ltb-false}
 use Rattle.std.proofs.lemmas.Int.{ints, clamps}
-use Rattle.std.proofs.lemmas.List.{length-map, get_or_default, get_or_past, get_or-map, get_or-set_same, get_or-set_other}
+use Rattle.std.proofs.lemmas.List.{get_or-set_same, get_or-set_other}
 use Rattle.std.proofs.lemmas.List.Elements.{All-head, All-tail, All-cons, All-nil, All-filter, filter_passes}
 use Rattle.std.proofs.lemmas.Slice.Zip.{AllZip-long}
 use Rattle.std.proofs.lemmas.List.Sums.{length-filter, count_by-le-length}
 use Rattle.muni_rule.specs.Payments.{PaymentSeries}
 use Rattle.muni_rule.specs.declared.verdict.Verdict.{Verdict}
-use Rattle.muni_rule.specs.declared.verdict.Verdict.TheVariants as verdict
 use Rattle.muni_yield.specs.Bracket.{YieldBracket, IsBracket, IsAnswered, is_settled, halved, run}
-use Rattle.muni_yield.specs.Known.{IsWindow, IsGuided}
+use Rattle.muni_yield.specs.Known.{IsGuided}
 use Rattle.muni_yield.specs.Places.{yield_at}
-use Rattle.muni_yield.specs.Settled.{printed_as, outcome_at, outcome_of}
-use Rattle.muni_yield.specs.declared.outcome.Outcome.TheVariants as found
-use Rattle.muni_yield.specs.declared.window.Window.{Window}
-use Rattle.muni_yield.proofs.BracketLemmas.{few-asked, settled-next, halved-next, halved-answered, run-settled, run-next}
-use Rattle.muni_yield.proofs.FinalLemmas.{run-out, run-held}
+use Rattle.muni_yield.specs.Settled.{outcome_of}
+use Rattle.muni_yield.proofs.BracketLemmas.{few-asked, halved-next, halved-answered, run-settled, run-next}
 use Rattle.muni_sched.specs.FigureKind.{Yield}
-use Rattle.muni_sched.specs.LowestFigure.{Lowest}
 use Rattle.muni_sched.specs.declared.outcome.CandidateOutcome.{CandidateOutcome}
 use Rattle.muni_sched.specs.declared.outcome.CandidateOutcome.TheVariants.{Print, Unsure, Below, Above, NoTime}
 use Rattle.muni_sched.specs.declared.search.OpenSearch.{OpenSearch}
 use Rattle.muni_sched.specs.declared.search.Search.{Search}
 use Rattle.muni_sched.specs.Figures.{IsOf}
-use Rattle.muni_sched.specs.Lowest as lowest
-use Rattle.muni_sched.specs.Ranks.{rank, decided_by, IsFirstOfLeastRank, IsRanked}
-use Rattle.muni_sched.specs.Search.{CanRefine, IsHalved, IsRound, noted, recorded, missed, missed_after, lower_of, ceiling_after, is_at_ceiling, is_passed, is_needed, outcomes_of}
+use Rattle.muni_sched.specs.Ranks.{rank}
+use Rattle.muni_sched.specs.Search.{CanRefine, IsHalved, IsRound, noted, recorded, missed, missed_after, lower_of, ceiling_after, is_at_ceiling, is_passed, is_needed}
 use Rattle.muni_sched.specs.YieldOutcome.{many_yield}
-use Rattle.muni_sched.proofs.IntLemmas.{int_eq-same, int_eq-other, equal_or_not, less_or_not}
+use Rattle.muni_sched.proofs.IntLemmas.{equal_or_not, less_or_not}
 use Rattle.muni_sched.proofs.RoundLemmas.{length-noted, length-recorded}
-
--- the outcome of candidate k, its rank, and what is known of it: past the last one it is known to be Above
-abbrev at : List CandidateOutcome → ℕ → CandidateOutcome
-at outcomes k = lowest.outcome_at outcomes k
-
-abbrev pub rank_of : CandidateOutcome → ℤ
-rank_of outcome = rank (negsuc 5000) outcome
-
-abbrev pub known_at : List (Option CandidateOutcome) → ℕ → Option CandidateOutcome
-known_at known k = get_or known k (Some Above)
-
--- ---- the rank of the outcome that a bracket comes to
--- it lies between the yields at two places
-pub record IsBetween (low high : ℕ) (outcome : CandidateOutcome) : Type 0 where
-  pub least : 1 ≤ low → yield_at low ≤ℤ rank_of outcome
-  pub most : high ≤ 105002 → rank_of outcome <ℤ yield_at high
-  pub of : IsOf Yield outcome
-
--- of the outcome at the end, where the two are neighbours
-record IsBeside (low : ℕ) (outcome : CandidateOutcome) : Type 0 where
-  from : 1 ≤ low → yield_at low ≤ℤ rank_of outcome
-  to : low < 105002 → rank_of outcome <ℤ yield_at (low + 1)
-  of : IsOf Yield outcome
-
-rank-unsure : (s : ℤ) → s ≢ negsuc 5000 → rank_of (Unsure s) ≡ s
-rank-unsure s other = rw (int_eq-other s (negsuc 5000) other) refl
-
-rank-least : (s : ℤ) → s ≡ negsuc 5000 → rank_of (Unsure s) ≡ negsuc 2147483646
-rank-least s same = rw (int_eq-same s (negsuc 5000) same) refl
-
-beside-unsure : (low : ℕ) → low ≤ 105002 → IsBeside low (Unsure (yield_at low))
-beside-unsure low most =
-    ⊎_elim
-    (λ (none : low < 1).
-    let own = rank-least (yield_at low) (omega (arith, ints, none)) in
-    record { from = λ some. absurd (omega (arith, none)); to = λ less. omega (arith, ints, own, none); of = (omega (arith, ints), omega (arith, ints, most)) })
-    (λ (some : 1 ≤ low).
-    let own = rank-unsure (yield_at low) (λ same. omega (arith, ints, same, some)) in
-    record { from = λ _. omega (arith, ints, own); to = λ _. omega (arith, ints, own); of = (omega (arith, ints), omega (arith, ints, most)) })
-    (cases_lt low 1)
-
-beside-printed : (low : ℕ) → low ≤ 105002 → IsBeside low (many_yield (printed_as low))
-beside-printed low most =
-    ⊎_elim
-    (λ (none : low < 1).
-    let zero_low : low ≡ 0 = omega arith in
-    rw zero_low (record { from = λ some. absurd (omega arith); to = λ less. omega (arith, ints); of = tt }))
-    (λ (some : 1 ≤ low). ⊎_elim
-    (λ (less : low < 105002).
-    let printed : printed_as low ≡ found.Print (yield_at low) = grind (arith, nat_tests) in
-    subst (λ outcome. IsBeside low (many_yield outcome)) (sym printed)
-    (record { from = λ _. omega (arith, ints); to = λ _. omega (arith, ints); of = (omega (arith, ints), omega (arith, ints, less)) }))
-    (λ (last : 105002 ≤ low).
-    let end : low ≡ 105002 = omega arith in
-    rw end (record { from = λ _. omega (arith, ints); to = λ less. absurd (omega arith); of = tt }))
-    (cases_lt low 105002))
-    (cases_lt low 1)
-
-beside : (low : ℕ) (said : Verdict) → low ≤ 105002 → IsBeside low (many_yield (outcome_at low said))
-beside low verdict.Unsure most = beside-unsure low most
-beside low verdict.Yes most = beside-printed low most
-beside low verdict.No most = beside-printed low most
-
-between-last : (low high : ℕ) (last : YieldBracket) → IsBracket last → is_settled last ≡ true → low ≤ last.low → last.high ≤ high → IsBetween low high (many_yield (outcome_of last))
-between-last low high last bracket settled from to =
-    let next = settled-next last settled in
-    let top = bracket.top in
-    let is = beside last.low last.at_high (omega (arith, next, top)) in
-    record {
-      least = λ some. let least = is.from (omega (arith, from, some)) in omega (arith, ints, from, least);
-      most = λ asked. let most = is.to (omega (arith, to, next, asked)) in omega (arith, ints, to, next, most);
-      of = is.of;
-    }
-
-pub between : (count : ℕ) (verdicts : PaymentSeries → ℕ → ℕ → Verdict) (bracket : YieldBracket) → IsBracket bracket → 19 ≤ count + bracket.halvings → IsBetween bracket.low bracket.high (many_yield (outcome_of (run count verdicts bracket)))
-between count verdicts bracket is enough =
-    let out = run-out count verdicts bracket is enough in
-    between-last bracket.low bracket.high (run count verdicts bracket) out.is out.settled out.low out.high
-
--- and within the places that are known
-within-window : (count : ℕ) (verdicts : PaymentSeries → ℕ → ℕ → Verdict) (bracket : YieldBracket) (window : Window) → IsBracket bracket → 19 ≤ count + bracket.halvings → IsAnswered (verdicts bracket.series bracket.price) bracket → IsWindow (verdicts bracket.series bracket.price) window
-    → IsBetween window.yes window.no (many_yield (outcome_of (run count verdicts bracket)))
-within-window count verdicts bracket window is enough answered known =
-    let out = run-out count verdicts bracket is enough in
-    let held = run-held count verdicts bracket window is enough answered known in
-    let next = settled-next (run count verdicts bracket) out.settled in
-    let no = held.no in
-    between-last window.yes window.no (run count verdicts bracket) out.is out.settled held.yes (omega (arith, next, no))
+use Rattle.muni_sched.proofs.BetweenLemmas.{at, rank_of, rank-unsure, rank-least, known_at, IsBetween, between, within-window}
 
 -- ---- what is kept
 -- a search after r rounds that comes to the outcome of its candidate
@@ -154,10 +60,10 @@ IsPast None r = ⊥
 IsPast (Some ceiling) r = ceiling ≤ℤ r
 
 -- or at a place that one is known not to reach, or above
-abbrev IsOver : ℕ → ℤ → Type 0
+abbrev pub IsOver : ℕ → ℤ → Type 0
 IsOver missed r = (missed ≤ 105002) × (yield_at missed ≤ℤ r)
 
-abbrev IsBehind : Option ℤ → ℕ → ℤ → Type 0
+abbrev pub IsBehind : Option ℤ → ℕ → ℤ → Type 0
 IsBehind ceiling missed r = IsPast ceiling r ⊎ IsOver missed r
 
 -- the rank of some candidate's outcome is below the ceiling, if there is one
@@ -529,129 +435,3 @@ not-over searches pending none = let over : (length searches == 0) ≡ true = rw
 
 pub round-few : (verdicts : PaymentSeries → ℕ → ℕ → Verdict) (finals : List CandidateOutcome) (r : ℕ) (search : Search) → IsRefined verdicts finals r search → (length search.searches.items == 0) ≡ false → r < 19
 round-few verdicts finals r search is pending = few-rounds verdicts finals r search.searches.items is.each (not-over search.searches.items pending)
-
--- ---- at the end
--- the outcomes that are told, where those that are not known stand as Above
-told-at : (known : List (Option CandidateOutcome)) (k : ℕ) → at (outcomes_of known) k ≡ unwrap_or (known_at known k) Above
-told-at known k =
-    ⊎_elim
-    (λ (inside : k < length known). get_or-map (λ outcome. unwrap_or outcome Above) known k (Some Above) Above inside)
-    (λ (past : length known ≤ k).
-    let long = length-map known (λ outcome. unwrap_or outcome Above) in
-    get_or_past (outcomes_of known) k Above (omega (arith, past, long)) ∙ sym (ap (λ (it : Option CandidateOutcome). unwrap_or it Above) (get_or_past known k (Some Above) past)))
-    (cases_lt k (length known))
-
-told-known : (known : List (Option CandidateOutcome)) (k : ℕ) (outcome : CandidateOutcome) → known_at known k ≡ Some outcome → at (outcomes_of known) k ≡ outcome
-told-known known k outcome is = told-at known k ∙ ap (λ (it : Option CandidateOutcome). unwrap_or it Above) is
-
-told-unknown : (known : List (Option CandidateOutcome)) (k : ℕ) → known_at known k ≡ None → at (outcomes_of known) k ≡ Above
-told-unknown known k is = told-at known k ∙ ap (λ (it : Option CandidateOutcome). unwrap_or it Above) is
-
--- each outcome is told, or decides nothing
-record IsDropped (finals : List CandidateOutcome) (search : Search) (k : ℕ) : Type 0 where
-  told : at (outcomes_of search.known.items) k ≡ Above
-  past : IsBehind search.ceiling search.missed (rank_of (at finals k))
-
-abbrev IsDecided : (finals : List CandidateOutcome) (search : Search) → ℕ → Type 0
-IsDecided finals search k = (at (outcomes_of search.known.items) k ≡ at finals k) ⊎ IsDropped finals search k
-
-over-decided : (verdicts : PaymentSeries → ℕ → ℕ → Verdict) (finals : List CandidateOutcome) (r : ℕ) (search : Search) → IsRefined verdicts finals r search → search.searches.items ≡ [] → (k : ℕ) → IsDecided finals search k
-over-decided verdicts finals r search is none k =
-    ⊎_elim
-    (λ (right : known_at search.known.items k ≡ Some (at finals k)). inl (told-known search.known.items k (at finals k) right))
-    (λ (left : (known_at search.known.items k ≡ None) × (IsBehind search.ceiling search.missed (rank_of (at finals k)) ⊎ IsSearchedFor search.searches.items k)). ⊎_elim
-    (λ (past : IsBehind search.ceiling search.missed (rank_of (at finals k))). inr (record { told = told-unknown search.known.items k left.0; past = past }))
-    (λ (has : IsSearchedFor search.searches.items k). absurd (subst (λ searches. IsSearchedFor searches k) none has))
-    left.1)
-    (is.covered k)
-
--- The first of least rank among the outcomes that are told is so among all. A candidate that holds the
--- ceiling is told, so that the least rank is below the ceiling, and each that was dropped is not.
-abbrev IsToldOrBehind : (finals told : List CandidateOutcome) (ceiling : Option ℤ) (missed : ℕ) → ℕ → Type 0
-IsToldOrBehind finals told ceiling missed j = (at told j ≡ at finals j) ⊎ IsBehind ceiling missed (rank_of (at finals j))
-
-below-past : (finals told : List CandidateOutcome) (ceiling : Option ℤ) (missed c k : ℕ) → IsCeiling finals ceiling → IsMissedPlace finals missed → ((j : ℕ) → IsToldOrBehind finals told ceiling missed j) → IsFirstOfLeastRank (negsuc 5000) told c → IsPast ceiling (rank_of (at finals k)) → rank_of (at told c) <ℤ rank_of (at finals k)
-below-past finals told None missed c k holder place decided first past = absurd past
-below-past finals told (Some ceiling) missed c k holder place decided first past =
-    let holds = holder.1 in
-    ⊎_elim
-    (λ (right : at told holder.0 ≡ at finals holder.0). let least = first.none_lower holder.0 in omega (arith, ints, least, ap rank_of right, holds, past))
-    (λ (behind : IsBehind (Some ceiling) missed (rank_of (at finals holder.0))). ⊎_elim
-    (λ (never : ceiling ≤ℤ rank_of (at finals holder.0)). absurd (omega (arith, ints, never, holds)))
-    (λ (over : IsOver missed (rank_of (at finals holder.0))).
-    let other = place.holder over.0 in
-    let misses = other.1 in
-    let from = over.1 in
-    ⊎_elim
-    (λ (right : at told other.0 ≡ at finals other.0). let least = first.none_lower other.0 in omega (arith, ints, least, ap rank_of right, misses, from, holds, past))
-    (λ (too : IsBehind (Some ceiling) missed (rank_of (at finals other.0))). ⊎_elim
-    (λ (never : ceiling ≤ℤ rank_of (at finals other.0)). absurd (omega (arith, ints, never, misses, from, holds)))
-    (λ (never : IsOver missed (rank_of (at finals other.0))). let at_least = never.1 in absurd (omega (arith, ints, at_least, misses)))
-    too)
-    (decided other.0))
-    behind)
-    (decided holder.0)
-
-below-behind : (finals told : List CandidateOutcome) (ceiling : Option ℤ) (missed c k : ℕ) → IsCeiling finals ceiling → IsMissedPlace finals missed → ((j : ℕ) → IsToldOrBehind finals told ceiling missed j) → IsFirstOfLeastRank (negsuc 5000) told c → IsBehind ceiling missed (rank_of (at finals k)) → rank_of (at told c) <ℤ rank_of (at finals k)
-below-behind finals told ceiling missed c k holder place decided first behind =
-    ⊎_elim
-    (λ (past : IsPast ceiling (rank_of (at finals k))). below-past finals told ceiling missed c k holder place decided first past)
-    (λ (over : IsOver missed (rank_of (at finals k))).
-    let other = place.holder over.0 in
-    let misses = other.1 in
-    let from = over.1 in
-    ⊎_elim
-    (λ (right : at told other.0 ≡ at finals other.0). let least = first.none_lower other.0 in omega (arith, ints, least, ap rank_of right, misses, from))
-    (λ (too : IsBehind ceiling missed (rank_of (at finals other.0))). ⊎_elim
-    (λ (past : IsPast ceiling (rank_of (at finals other.0))). let less = below-past finals told ceiling missed c other.0 holder place decided first past in omega (arith, ints, less, misses, from))
-    (λ (never : IsOver missed (rank_of (at finals other.0))). let at_least = never.1 in absurd (omega (arith, ints, at_least, misses)))
-    too)
-    (decided other.0))
-    behind
-
-first-of_all : (finals : List CandidateOutcome) (search : Search) (c : ℕ) → ((k : ℕ) → IsOf Yield (at finals k)) → IsCeiling finals search.ceiling → IsMissedPlace finals search.missed → ((k : ℕ) → IsDecided finals search k) → IsFirstOfLeastRank (negsuc 5000) (outcomes_of search.known.items) c
-    → IsFirstOfLeastRank (negsuc 5000) finals c × (at (outcomes_of search.known.items) c ≡ at finals c)
-first-of_all finals search c of holder place decided first =
-    let told = outcomes_of search.known.items in
-    let below : (k : ℕ) → IsDropped finals search k → rank_of (at told c) <ℤ rank_of (at finals k) =
-    λ k dropped. below-behind finals told search.ceiling search.missed c k holder place
-    (λ j. ⊎_elim (λ (right : at told j ≡ at finals j). inl right) (λ (it : IsDropped finals search j). inr it.past) (decided j)) first dropped.past in
-    let here : at told c ≡ at finals c =
-    ⊎_elim
-    (λ (right : at told c ≡ at finals c). right)
-    (λ (dropped : IsDropped finals search c). absurd (omega (arith, ints, below c dropped, ap rank_of dropped.told, rank-most (at finals c) (of c))))
-    (decided c) in (
-      record {
-        none_lower = λ k. ⊎_elim
-            (λ (right : at told k ≡ at finals k). let least = first.none_lower k in omega (arith, ints, least, ap rank_of right, ap rank_of here))
-            (λ (dropped : IsDropped finals search k). omega (arith, ints, below k dropped, ap rank_of here))
-            (decided k);
-        higher_before = λ k before. ⊎_elim
-            (λ (right : at told k ≡ at finals k). let least = first.higher_before k before in omega (arith, ints, least, ap rank_of right, ap rank_of here))
-            (λ (dropped : IsDropped finals search k). omega (arith, ints, below k dropped, ap rank_of here))
-            (decided k);
-      },
-      here,
-    )
-
-pub ranked-of_all : (verdicts : PaymentSeries → ℕ → ℕ → Verdict) (finals : List CandidateOutcome) (r : ℕ) (search : Search) (answer : Lowest) → IsRefined verdicts finals r search → search.searches.items ≡ [] → IsRanked (negsuc 5000) (outcomes_of search.known.items) answer → IsRanked (negsuc 5000) finals answer
-ranked-of_all verdicts finals r search answer is none ranked =
-    let decided = over-decided verdicts finals r search is none in
-    let first = first-of_all finals search ranked.candidate is.of is.ceiling_is is.missed_is decided ranked.first in
-    record {
-      candidate = ranked.candidate;
-      first = first.0;
-      decides = subst (λ outcome. answer ≡ decided_by outcome ranked.candidate) first.1 ranked.decides;
-    }
-
--- what is told is of a yield
-pub told-of : (verdicts : PaymentSeries → ℕ → ℕ → Verdict) (finals : List CandidateOutcome) (r : ℕ) (search : Search) → IsRefined verdicts finals r search → All (IsOf Yield) (outcomes_of search.known.items)
-told-of verdicts finals r search is = λ k d inside. subst (IsOf Yield) (get_or_default (outcomes_of search.known.items) k Above d inside)
-    (⊎_elim
-    (λ (right : known_at search.known.items k ≡ Some (at finals k)). subst (IsOf Yield) (sym (told-known search.known.items k (at finals k) right)) (is.of k))
-    (λ (left : (known_at search.known.items k ≡ None) × (IsBehind search.ceiling search.missed (rank_of (at finals k)) ⊎ IsSearchedFor search.searches.items k)). subst (IsOf Yield) (sym (told-unknown search.known.items k left.0)) tt)
-    (is.covered k))
-
-pub over-none : (searches : List OpenSearch) → (length searches == 0) ≡ true → searches ≡ []
-over-none [] over = refl
-over-none (one ∷ rest) over = let none : length (one ∷ rest) ≡ 0 = eqb-true (length (one ∷ rest)) 0 over in absurd (omega (arith, none))

@@ -1,6 +1,6 @@
 -- What the searches keep holds before the first round, and after each.
-use Rattle.std.proofs.Common.{◌≡◌, ◌<◌, ◌≤◌, ◌+◌, ◌-◌, ℕ, zero, suc, List, [], ◌∷◌, All, true, false, length, Option, Some, None, refl, ap, sym, subst, inl, inr, ⊎_elim, arith, ◌∙◌, ◌⊎◌, ℤ}
-use Rattle.std.specs.Prelude.{unwrap_or, if◌then◌else◌}
+use Rattle.std.proofs.Common.{◌≡◌, ◌<◌, ◌≤◌, ◌+◌, ℕ, zero, suc, List, [], ◌∷◌, All, true, length, Option, Some, None, refl, ap, sym, subst, inl, inr, ⊎_elim, arith, ◌∙◌, ◌⊎◌, ℤ}
+use Rattle.std.specs.Prelude.{unwrap_or}
 use Rattle.std.specs.List.{AllZip}
 use Rattle.std.proofs.lemmas.Int.{ints}
 use Rattle.std.proofs.lemmas.List.{get_or_default}
@@ -29,7 +29,9 @@ use Rattle.muni_sched.specs.SearchedOut.{AreSearchedOut}
 use Rattle.muni_sched.specs.Shape.{IsPriceable}
 use Rattle.muni_sched.specs.ToCome.{ToCome, many, one, to_come_of}
 use Rattle.muni_sched.specs.YieldOutcome.{final, IsYieldOutcomeFor, IsYieldOutcome, IsKnownFor, IsKnownFirst}
-use Rattle.muni_sched.proofs.SearchLemmas.{rank_of, known_at, IsRunning, IsSearchedFor, IsCeiling, IsMissedPlace, IsRefined, between, lower-ceiling, refined-keeps, ranked-of_all, over-none, told-of}
+use Rattle.muni_sched.proofs.BetweenLemmas.{rank_of, known_at, between}
+use Rattle.muni_sched.proofs.SearchLemmas.{IsRunning, IsSearchedFor, IsCeiling, IsMissedPlace, IsRefined, lower-ceiling, refined-keeps}
+use Rattle.muni_sched.proofs.OverLemmas.{ranked-of_all, over-none, told-of}
 
 abbrev at : List CandidateOutcome → ℕ → CandidateOutcome
 at outcomes k = lowest.outcome_at outcomes k

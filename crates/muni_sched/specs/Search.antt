@@ -5,7 +5,7 @@ use Rattle.std.specs.List.{filter, AllZip}
 use Rattle.muni_rule.specs.Payments.{PaymentSeries}
 use Rattle.muni_rule.specs.declared.verdict.Verdict.{Verdict}
 use Rattle.muni_yield.specs.Bracket.{YieldBracket, IsBracket, is_settled, halved}
-use Rattle.muni_yield.specs.Known.{IsWindow, IsGuided, guided_start}
+use Rattle.muni_yield.specs.Known.{IsGuided, guided_start}
 use Rattle.muni_yield.specs.Places.{yield_at}
 use Rattle.muni_yield.specs.Settled.{outcome_of}
 use Rattle.muni_sched.specs.declared.candidate.Candidate.{Candidate}

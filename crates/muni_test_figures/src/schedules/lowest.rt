@@ -179,13 +179,13 @@ fn forty_calls() -> Result<ArrayVec<Candidate, 41>, Fail>
 const UNCALLED: &str =
     "periodic dated=2023-01-01 first=2023-07-01 maturity=2045-01-01 coupon=5 settle=2024-01-01";
 
-// A price, and how many questions and rounds it takes, computed outside. At 100 all candidates have
-// the same yield; at the others their yields part early, and one after the other the questions are
-// over 750.
+// A price, and how often a search is halved and in how many rounds, computed outside. At 100 all
+// candidates have the same yield. At the others the first round drops all but one, and if none were
+// dropped it would be over 750 times.
 const FORTY_CALLS: [(&str, u32, u32); 3] = [
     ("price=100", 779, 19),
-    ("price=104", 258, 18),
-    ("price=97", 424, 19),
+    ("price=104", 58, 18),
+    ("price=97", 59, 19),
 ];
 
 fn gate_at_first() -> CountingGate {
@@ -202,8 +202,8 @@ fn encloser_at_first() -> CountingEncloser {
     }
 }
 
-// How many questions and rounds a search takes, and how often a round fell or the encloser was
-// called more often than the gate was told.
+// How many halvings and rounds a search takes, how often a round fell, and if the encloser was called
+// more often than the gate was told.
 fn counts<R: Threads + Sync>(
     rt: &R,
     list: &ArrayVec<Candidate, 41>,

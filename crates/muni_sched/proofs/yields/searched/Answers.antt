@@ -12,7 +12,8 @@ use Rattle.muni_sched.specs.YieldOutcome.{IsYieldOutcome}
 use Rattle.muni_yield.proofs.KnownLemmas.{first-window}
 use Rattle.muni_sched.proofs.AllSoundLemmas.{lowest-answer}
 use Rattle.muni_sched.proofs.RankLemmas.{ranked_lowest, ranked_of}
-use Rattle.muni_sched.proofs.SearchLemmas.{round-few, over-none}
+use Rattle.muni_sched.proofs.SearchLemmas.{round-few}
+use Rattle.muni_sched.proofs.OverLemmas.{over-none}
 use Rattle.muni_sched.specs.Rounds.{brackets_from, rounds}
 use Rattle.muni_sched.proofs.CountLemmas.{counted-first, counted-next, counted-last}
 use Rattle.muni_sched.proofs.StartLemmas.{AreFirstKnown, started-final, next-final, searched-out}

@@ -1,8 +1,8 @@
 use Rattle.std.proofs.Common.{List, ◌≡◌, ◌∙◌, refl, sym, subst, ap, All, length, ◌<◌}
-use Rattle.std.specs.List.{refill, filter, AllZip}
+use Rattle.std.specs.List.{refill, AllZip}
 use Rattle.muni_yield.specs.Places.{place_verdict}
 use Rattle.muni_sched.specs.declared.search.OpenSearch.{OpenSearch}
-use Rattle.muni_sched.specs.Search.{IsSearch, IsHalved, is_needed, ceiling_after, missed_after, recorded}
+use Rattle.muni_sched.specs.Search.{IsSearch, IsHalved, ceiling_after, missed_after}
 use Rattle.muni_sched.proofs.RoundLemmas.{halved-now, halved-searches, halved-candidates, pending-searches, recorded-now}
 use Rattle.muni_sched.proofs.search.Search.refine.Given as given
 use Rattle.muni_sched.proofs.search.Search.refine.Goals.{After-as_slice-searches}
