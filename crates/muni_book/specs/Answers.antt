@@ -117,7 +117,7 @@ IsFoundAtYield ends y list found =
     (low : LowAnswer) × IsLowestAnswer ends (at_yield y) list low
     × (Some found ≡ found_at_yield y list low)
 
--- at a given price, of which the net price counts in full
+-- at a given price; the net price counts in full
 abbrev pub IsFoundAtPrice : (ends : PaymentSeries → ℤ → WorthEnds) → ℕ → ℕ → List Candidate
     → Result PriceAndYield Refusal → Type 0
 IsFoundAtPrice ends price net list found =

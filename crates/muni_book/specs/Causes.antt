@@ -1,5 +1,5 @@
--- Why a command is refused. A cause says what stands against a command, and that nothing before it in this order
--- does: the terms of an issue; a trade that is not kept; other contents under the same CUSIP or number; a canceled
+-- Why a command is refused. A cause says what is wrong with a command, and that nothing before it in this order
+-- is: the terms of an issue; a trade that is not kept; other contents under the same CUSIP or number; a canceled
 -- trade; its 99 versions; a number that is not the next one; an issue that is not kept; a full desk; and at last
 -- the figures.
 use Rattle.std.specs.Prelude.{◌≡◌, ◌≢◌, ◌⊎◌, ℕ, ◌+◌, ◌-◌, ◌^◌, ◌≤◌, ◌<◌, ⊤, min, List, Option, Some, None, Ok, Err}
@@ -74,7 +74,7 @@ HasRoom (command.Confirm key) count = ⊤
 HasRoom (command.Quote asked) count = ⊤
 HasRoom (command.List desk after) count = ⊤
 
--- The CUSIP of the issue that a command needs, if nothing stands against it before: that of its terms if they
+-- The CUSIP of the issue that a command needs, if nothing is wrong before that: that of its terms if they
 -- are new, and that of the last version for a cancel and a confirmation.
 abbrev pub NeedsIssue : Tables → Command → List ℕ → Type 0
 NeedsIssue tables (command.AddIssue row) cusip = ⊥
@@ -138,7 +138,7 @@ pub record IsQuote (tables : Tables) (asked : Command) (issue : IssueRow) (what 
   pub command : asked ≡ command.Quote what
   pub issue_is : issue_at tables what.cusip ≡ Some issue
 
--- The figures that it asks for are refused, and nothing else stands against it: a quote, a new trade, or a
+-- The figures that it asks for are refused, and nothing else is wrong: a quote, a new trade, or a
 -- correction.
 abbrev pub HasNoFigures : Pricing → Tables → Command → Refusal → Type 0
 HasNoFigures Prices tables asked why =

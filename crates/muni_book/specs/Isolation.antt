@@ -1,4 +1,4 @@
--- What one desk is told does not depend on what others keep.
+-- What one desk is answered does not depend on what others keep.
 use Rattle.std.specs.Prelude.{◌≡◌, ℕ, Bool, true, if◌then◌else◌, List, [], ◌∷◌, Option, Some, None}
 use Rattle.std.specs.List.{filter}
 use Rattle.std.specs.Ordering.{eq_by_cmp}

@@ -37,7 +37,7 @@ AcceptedCommandsActOnce = (ends : Ends) → CommandsActOnce (IsRightAnswer ends)
 abbrev pub NothingKeptIsLost : Type 0
 NothingKeptIsLost = (ends : Ends) → RunsKeep (IsRightAnswer ends)
 
--- what a desk is told does not depend on what others keep
+-- what a desk is answered does not depend on what others keep
 abbrev pub EachDeskIsIsolated : Type 0
 EachDeskIsIsolated = (ends : Ends) → DesksAreIsolated (IsRightAnswer ends)
 

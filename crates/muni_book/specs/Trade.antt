@@ -27,7 +27,7 @@ is_wrong_basis kind (AtPrice price) fee = false
 is_wrong_basis kind (AtRate rate) fee = not (is_discount kind) || nat_lt 0 fee
 
 -- The net price, in 10^-6 dollars: what a buyer pays with the commission, and what it leaves to a
--- seller, which is nothing where the commission is the price or more.
+-- seller, which is nothing if the commission is the price or more.
 abbrev pub net_price : Side → ℕ → ℕ → ℕ
 net_price Buy price fee = price + 1000 * fee
 net_price Sell price fee = price - 1000 * fee

@@ -3,8 +3,8 @@
 use crate::Workers;
 
 /// What computes the figures of trades: threads, how many of them may work at once, the encloser that
-/// prices payments, and the gate that is told when a candidate is begun.
-// How many threads work and when the gate is told is only tested.
+/// prices payments, and the gate that is called when a candidate is begun.
+// How many threads work and when the gate is called is only tested.
 #[derive(Drop)]
 pub struct Calculator<'a, R, E, G> {
     pub rt: &'a R,

@@ -45,8 +45,8 @@ pub fn nothing_kept_is_lost()
     ensures { NothingKeptIsLost }
 {}
 
-/// A law of the definitions: with equal issues and equal trades of one desk, a run tells that desk
-/// the same over all tables, whatever other desks keep and send.
+/// A law of the definitions: with equal issues and equal trades of one desk, a run gives that desk
+/// the same replies, whatever other desks keep and send.
 pub fn each_desk_is_isolated()
     ensures { EachDeskIsIsolated }
 {}
@@ -66,7 +66,7 @@ pub fn each_entry_has_its_reason()
 {}
 
 /// A law of the definitions: a refusal comes exactly if it has its cause and none that comes before
-/// it, or if nothing stands against the command but that the figures which it asks for are refused so.
+/// it, or if nothing is wrong with the command and the figures that it asks for are refused so.
 /// A conflict has the issue or the version that is kept, which is not what was sent.
 pub fn each_refusal_has_its_cause()
     ensures { EachRefusalHasItsCause }

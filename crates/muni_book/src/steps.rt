@@ -20,9 +20,9 @@ use std::thread::Threads;
 
 /// Applies one command: answers it, and keeps at most one issue or one version more for it.
 ///
-/// Nothing is kept for a command that is refused, nor where the keeper fails or has no memory. What is
-/// answered is said of a keeper that exposes its tables; of any other the code alone shows it, also that
-/// the issue of a version is unknown where the keeper does not give it.
+/// Nothing is kept for a command that is refused, nor if the keeper fails or is out of memory. The
+/// contract says what is answered for a keeper that exposes its tables. For any other keeper only the
+/// code shows it.
 // Up to `workers` threads, from 1 to 16, look for the yields (tested).
 pub fn apply<R: Threads + Sync, K: Keeper, E: Encloser + Sync, G: Gate + Sync>(
     rt: &R,
@@ -34,7 +34,7 @@ pub fn apply<R: Threads + Sync, K: Keeper, E: Encloser + Sync, G: Gate + Sync>(
 ) -> Result<Reply, BookFault>
     requires { (1 ≤ workers) × (workers ≤ 16) }
 
-    // Where the keeper tells its tables, a reply and the tables after it are those of one step.
+    // If the keeper exposes its tables, a reply and the tables after it are those of one step.
     ensures step { IfOk result (λ reply. IfSome (K.tables keeper.old) (λ t.
         StepsTo (IsRightAnswer (E.ends encloser.now)) t command.now reply (K.tables keeper.new))) }
     ensures refused { IfOk result (λ reply. IsRefusal reply → K.tables keeper.new ≡ K.tables keeper.old) }

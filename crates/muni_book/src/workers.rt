@@ -26,7 +26,7 @@ impl Workers {
     /// A worker alone.
     pub const ONE: Workers = Workers { count: 1 };
 
-    /// So many workers, from 1 to 16.
+    /// A number of workers, from 1 to 16.
     pub fn new(count: u32) -> Workers
         requires { (1 ≤ count) × (count ≤ 16) }
         ensures { result ≡ count }

@@ -20,7 +20,7 @@ abbrev pub KeepsVersion : IssueRow → Key → ℕ → Version → Option Tables
 KeepsVersion issue key number version old new reply =
     (reply ≡ Confirmed issue key number version) × (new ≡ option_map (with_version key version) old)
 
--- the reply to a plan, and the tables that are told after it
+-- the reply to a plan, and the tables that are exposed after it
 abbrev pub IsCarriedOut : Pricing → Plan → Tables → Reply → Option Tables → Type 0
 IsCarriedOut Prices plan old reply told =
     (entry : Option Entry) × IsOutcome Prices plan (record { reply = reply; entry = entry })

@@ -91,7 +91,7 @@ abbrev pub issue_plan : Issues → Result IssueRow TermsFault → Plan
 issue_plan issues (Ok issue) = checked_issue_plan issues issue
 issue_plan issues (Err fault) = refused (refusal.BadTerms fault)
 
--- ---- A trade is entered once, as version 1, where its desk has room.
+-- ---- A trade is entered once, as version 1, if its desk has room.
 abbrev pub is_full : Trades Version → Bool
 is_full own = nat_le 100_000 (len own)
 
@@ -117,7 +117,7 @@ is_canceled Entered = false
 is_canceled Corrected = false
 is_canceled Canceled = true
 
--- a number that is not the next one; the next one is told as far as 32 bits count
+-- a number that is not the next one; the next one is named as far as 32 bits count
 abbrev pub number_refusal : ℕ → ℕ → Option Refusal
 number_refusal count number =
     if number == count + 1 then None

@@ -70,7 +70,7 @@ IsReasonFor Prices tables asked issue key number version =
     ⊎ IsCorrection tables asked issue key number version.act version.terms)
     × Prices issue version.terms.asked (Ok version.figures))
 
--- An entry has its reason, and the reply tells it. Where there is none, a command that is accepted has
+-- An entry has its reason, and the reply has it. If there is no entry, a command that is accepted has
 -- been kept before.
 abbrev pub IsReasoned : Pricing → Tables → Command → Reply → Option Entry → Type 0
 IsReasoned Prices tables asked reply None =

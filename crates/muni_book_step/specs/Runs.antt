@@ -6,7 +6,7 @@ use Rattle.muni_msg.specs.declared.command.Reply.TheVariants.{Added, Quoted, Lis
 use Rattle.muni_keep.specs.Tables.{Tables}
 use Rattle.muni_book_step.specs.Step.{Pricing, Entry, IsStepOver, after}
 
--- a step from tables to those that are told after it
+-- a step from tables to those that are exposed after it
 abbrev pub StepsTo : Pricing → Tables → Command → Reply → Option Tables → Type 0
 StepsTo Prices old command reply told =
     (entry : Option Entry) × IsStepOver Prices old command (record { reply = reply; entry = entry })
@@ -21,7 +21,7 @@ Runs Prices old (command ∷ commands) (reply ∷ replies) new =
 Runs Prices old [] (reply ∷ replies) new = ⊥
 Runs Prices old (command ∷ commands) [] new = ⊥
 
--- a run to the tables that are told after it
+-- a run to the tables that are exposed after it
 abbrev pub RunsTo : Pricing → Tables → List Command → List Reply → Option Tables → Type 0
 RunsTo Prices old commands replies told =
     (new : Tables) × (told ≡ Some new) × Runs Prices old commands replies new

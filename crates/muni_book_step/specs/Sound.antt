@@ -22,11 +22,11 @@ pub record IsRightVersion (AreRight : Rightness) (issues : Issues) (version : Ve
   pub kept : issue_of issues version.terms ≡ Some issue
   pub right : AreRight issue version.terms.asked version.figures
 
--- A version behind another corrects it, or cancels it with the same terms and figures.
+-- A version after another corrects it, or cancels it with the same terms and figures.
 abbrev pub Follows : Version → Version → Type 0
 Follows before version = (version.act ≡ Corrected) ⊎ (version ≡ cancel_of before)
 
--- Versions behind another. Nothing stands behind a cancel.
+-- Versions after another. Nothing follows a cancel.
 abbrev pub AreFollowing : Version → List Version → Type 0
 AreFollowing before [] = ⊤
 AreFollowing before (version ∷ rest) =

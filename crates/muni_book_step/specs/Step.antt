@@ -48,7 +48,7 @@ abbrev pub kept : IssueRow → Key → ℕ → Version → Outcome
 kept issue key number version =
     record { reply = Confirmed issue key number version; entry = Some (NewVersion key version) }
 
--- a version is kept with the figures of its terms, where they have some
+-- a version is kept with the figures of its terms, if they have some
 abbrev pub priced : IssueRow → Key → ℕ → Act → Terms → Result Figures Refusal → Outcome
 priced issue key number act terms (Ok figures) =
     kept issue key number (record { act = act; terms = terms; figures = figures })

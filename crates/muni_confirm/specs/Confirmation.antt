@@ -42,12 +42,12 @@ trade_lines act number key =
 unfoldable pub par_line : Asked → List ℕ
 par_line asked = line (side_text asked.side ∷ decimal asked.par ∷ [])
 
--- of which issue
+-- the issue
 unfoldable pub name_lines : IssueRow → List ℕ
 name_lines issue =
     line (codes "CUSIP" ∷ issue.cusip ∷ []) ++ line (codes "ISSUE" ∷ issue.name.items ∷ [])
 
--- the day count of the issue, where it is not 30/360
+-- the day count of the issue, if it is not 30/360
 abbrev pub basis_line : Basis → List ℕ
 basis_line Thirty360 = []
 basis_line Actual365 = line (codes "BASIS" ∷ codes "ACTUAL/365" ∷ [])

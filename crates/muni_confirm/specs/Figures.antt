@@ -22,13 +22,13 @@ yield_source (AtYield yld) = codes "GIVEN"
 yield_source (AtPrice price) = codes "COMPUTED"
 yield_source (AtRate rate) = codes "COMPUTED"
 
--- a discount rate has a line where it was given
+-- a discount rate has a line if it was given
 abbrev pub rate_line : Given → List ℕ
 rate_line (AtYield yld) = []
 rate_line (AtPrice price) = []
 rate_line (AtRate rate) = line (codes "RATE" ∷ signed_text 4 rate ∷ codes "GIVEN" ∷ [])
 
--- the price, the yield, and the rate where it was given
+-- the price, the yield, and the rate if it was given
 unfoldable pub price_lines : Figures → Given → List ℕ
 price_lines figures given =
     line (codes "PRICE" ∷ decimal_text 3 figures.price ∷ price_source given ∷ [])

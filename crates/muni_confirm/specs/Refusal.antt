@@ -1,4 +1,4 @@
--- The line that tells a refusal.
+-- The line of a refusal.
 use Rattle.std.specs.Prelude.{ℕ, List, [], ◌∷◌, ◌++◌, codes, decimal}
 use Rattle.muni_dec.specs.Decimal.{decimal_text, signed_text}
 use Rattle.muni_days.specs.Day.{civil, day_text}
@@ -21,7 +21,7 @@ abbrev pub kept_parts : Kept → List (List ℕ)
 kept_parts (Issue issue) = codes "issue" ∷ []
 kept_parts (Version number version) = codes "version" ∷ decimal number ∷ []
 
--- the day of a call, where a call is at fault
+-- the day of a call, if a call is at fault
 abbrev pub fault_day : TermsFault → List (List ℕ)
 fault_day BadCusip = []
 fault_day BadOrder = []
@@ -50,7 +50,7 @@ abbrev pub boundary_parts : Boundary → List (List ℕ)
 boundary_parts (Price price) = codes "price" ∷ decimal_text 3 price ∷ []
 boundary_parts (Yield yld) = codes "yield" ∷ signed_text 4 yld ∷ []
 
--- what is told behind the name
+-- what follows the name
 abbrev pub detail : Refusal → List (List ℕ)
 detail UnknownIssue = []
 detail UnknownTrade = []
@@ -72,7 +72,7 @@ detail WrongBasis = []
 abbrev pub name_text : ℕ → List ℕ
 name_text number = codes "REFUSED" ++ behind_blanks (decimal number ∷ name_of number ∷ [])
 
--- the line of a refusal: its number, its name and what is told behind it
+-- the line of a refusal: its number, its name and what follows it
 abbrev pub refusal_text : Refusal → List ℕ
 refusal_text refusal =
     line (codes "REFUSED" ∷ decimal (number_of refusal) ∷ name_of (number_of refusal)

@@ -127,7 +127,7 @@ fn push_days_line(text: &mut ArrayVec<u8, 512>, days: i32)
 
 /// Replaces the text by the lines of the figures, each with its line end: the price, the yield, a
 /// given discount rate, the disclosed redemption, the days of accrued interest, and the money. The
-/// commission has a line where the fee is above 0.
+/// commission has a line if the fee is above 0.
 ///
 /// A price or a yield is shown with three decimals, a rate with four, a redemption price with six,
 /// and money in dollars with two.

@@ -117,7 +117,7 @@ fn push_name(text: &mut ArrayVec<u8, 128>, number: u32)
 /// Replaces the text by the line of the refusal, with its line end: its number, its name, and what
 /// the refusal carries.
 ///
-/// A version and the next number are whole numbers, and a fault of the terms is told by its number.
+/// A version and the next number are whole numbers, and a fault of the terms is given by its number.
 /// Days are as `2024-02-29`.
 pub fn refusal_line(refusal: &Refusal, text: &mut ArrayVec<u8, 128>)
     ensures items { text.new.items ≡ refusal_text refusal.now }

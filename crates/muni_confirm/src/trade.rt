@@ -96,7 +96,7 @@ fn push_basis_line(text: &mut ArrayVec<u8, 1024>, basis: Basis)
 /// Replaces the text by the confirmation of a version of a trade, which has this number, in the
 /// issue that it is of.
 ///
-/// Its first line tells whether the version entered, corrected or canceled the trade. Then stand the
+/// Its first line says whether the version entered, corrected or canceled the trade. Then come the
 /// desk, the reference, the par that was bought or sold, the terms of the issue, the settlement, and
 /// the lines of the figures, each with its line end.
 pub fn confirmation(

@@ -40,7 +40,7 @@ reading_of None = Err Form
 reading_of (Some date) =
     ok_or (if_day (record { year = date.0; month = date.1; day = date.2 })) NoSuchDay
 
--- what a text says: a day, or that it has no such form, or that there is no such day
+-- what a text says: a day, or that it is not of the form, or that it is no day
 abbrev pub day_reading : List ℕ → Result Day DayFault
 day_reading text = reading_of (numbers_reading text)
 

@@ -34,15 +34,15 @@ pub record IsFormed (text : List ℕ) : Type 0 where
   pub day : date.day < 100
   pub bytes : text ≡ day_text date
 
--- a text is read as a day exactly where it is that day's ten bytes
+-- a text is read as a day exactly if it is that day's ten bytes
 abbrev pub ReadsDays : Type 0
 ReadsDays = (text : List ℕ) (day : Day) → (day_reading text ≡ Ok day) ↔ (text ≡ day_text (civil day))
 
--- it is refused for its form exactly where it is not of that form
+-- it is refused for its form exactly if it is not of that form
 abbrev pub RefusesOtherForms : Type 0
 RefusesOtherForms = (text : List ℕ) → (day_reading text ≡ Err Form) ↔ (¬ (IsFormed text))
 
--- and for the calendar exactly where it is of that form and the text of no day
+-- and for the calendar exactly if it is of that form and the text of no day
 abbrev pub RefusesOtherDates : Type 0
 RefusesOtherDates =
     (text : List ℕ)

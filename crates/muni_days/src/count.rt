@@ -10,7 +10,7 @@ use muni_rule::Basis;
 
 /// The days from one day to another by a basis: those of 30/360, or those of the calendar.
 ///
-/// The first day is counted and the last is not. The count is negative where the last is earlier.
+/// The first day is counted and the last is not. The count is negative if the last is earlier.
 pub fn days_by(basis: Basis, first: Day, last: Day) -> i32
     ensures { result ≡ rule.days_by basis (civil first) (civil last) }
 {
@@ -30,8 +30,8 @@ fn civil_days(first: Day, last: Day) -> i32
 /// The days from one day to another, with months of 30 days and years of 360 (MSRB Rule G-33(e)).
 ///
 /// This is 30/360 US, also called bond basis: a 31st begins a count as a 30th, and ends it as a 30th
-/// where it began on a 30th or a 31st. The end of February has no rule of its own, and it is not
-/// 30E/360. The first day is counted and the last is not. The count is negative where the last is
+/// if it began on a 30th or a 31st. The end of February has no rule of its own, and it is not
+/// 30E/360. The first day is counted and the last is not. The count is negative if the last is
 /// earlier.
 pub fn days360(first: Day, last: Day) -> i32
     ensures { result ≡ rule.days360 (civil first) (civil last) }

@@ -29,7 +29,7 @@ pub enum DayFault {
     /// The text is not four digits, a dash, two digits, a dash and two digits.
     #[error("not a day of the form YYYY-MM-DD")]
     Form,
-    /// There is no such day from 1900-01-01 to 2199-12-31.
+    /// It is no day from 1900-01-01 to 2199-12-31.
     #[error("no such day from 1900-01-01 to 2199-12-31")]
     NoSuchDay,
 }

@@ -10,10 +10,10 @@ pub fn days_are_their_dates()
     ensures order { DaysAreInOrder }
 {}
 
-/// A law: a text is read as a day exactly where it is the ten bytes of that day.
+/// A law: a text is read as a day exactly if it is the ten bytes of that day.
 ///
-/// Any other text is refused by the fault of the form where it is not four digits, a dash, two
-/// digits, a dash and two digits, and else since there is no such day.
+/// Any other text is refused. If it is not four digits, a dash, two digits, a dash and two digits,
+/// the fault is that of the form, and otherwise that it is no day.
 pub fn days_are_read_as_they_are_written()
     ensures days { ReadsDays }
     ensures form { RefusesOtherForms }

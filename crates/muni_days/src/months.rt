@@ -6,10 +6,10 @@ ghost use Rattle.muni_days.specs.Day.{civil, if_day};
 
 use crate::Day;
 
-/// The same day of the month so many months later, or earlier where the number is negative.
+/// The same day of the month a number of months later, or earlier if the number is negative.
 ///
-/// The day of the month is 28 at most, and the months are 1,200 at most either way. None where
-/// that day is outside the desk's range.
+/// The day of the month is 28 at most, and the months are 1,200 at most either way. None if that
+/// day is outside the desk's range.
 pub fn months_on(date: Day, months: i32) -> Option<Day>
     requires day { (civil date).day ≤ 28 }
     requires months { (negsuc 1199 ≤ℤ months) × (months ≤ℤ pos 1200) }

@@ -1,4 +1,4 @@
--- What is read, where numbers past a limit are not told apart.
+-- What is read, if numbers past a limit are all one.
 use Rattle.std.specs.Prelude.{ℕ, suc, min, Result, Ok, Err, ℤ, pos, negsuc, neg_ℤ}
 use Rattle.muni_dec.specs.declared.fault.DecFault.{DecFault}
 

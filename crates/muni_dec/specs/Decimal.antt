@@ -15,7 +15,7 @@ abbrev pub whole_reading : ℕ → List ℕ → Result ℕ DecFault
 whole_reading places text =
     if are_digits text then Ok (number text * 10 ^ places) else Err (NotADigit (digits_end text))
 
--- a whole part, and the text behind its point, which stands at a place of its own
+-- a whole part, and the text after its point, which has a place of its own
 abbrev pub fraction_reading : ℕ → List ℕ → List ℕ → ℕ → Result ℕ DecFault
 fraction_reading places whole fraction at =
     if nat_lt places (digits_end fraction) then Err (TooManyDecimals (at + places))
@@ -40,13 +40,13 @@ reading places text =
 abbrev pub digits_reading : List ℕ → Result ℕ DecFault
 digits_reading text = if length text == 0 then Err Empty else whole_reading 0 text
 
--- where a fault stands, if it has a place
+-- the place of a fault, if it has one
 abbrev pub place_of : DecFault → ℕ
 place_of (NotADigit at) = at
 place_of (TooManyDecimals at) = at
 place_of _ = 0
 
--- what stands behind a minus sign, with places counted from the sign; behind it a digit is due
+-- what follows a minus sign, with places counted from the sign; a digit has to come next
 abbrev pub behind_sign : Result ℕ DecFault → Result ℤ DecFault
 behind_sign (Ok units) = Ok (neg_ℤ (pos units))
 behind_sign (Err Empty) = Err (NotADigit 1)

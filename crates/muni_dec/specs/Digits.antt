@@ -8,7 +8,7 @@ use Rattle.std.specs.Str.Parse.{digits_value}
 abbrev pub are_digits : List ℕ → Bool
 are_digits text = nat_lt 0 (length text) && list_all is_ascii_digit text
 
--- the place of the first byte that is no digit, or the length where there is none
+-- the place of the first byte that is no digit, or the length if there is none
 abbrev pub digits_end : List ℕ → ℕ
 digits_end text = position_or_len (λ b. not (is_ascii_digit b)) text
 

@@ -1,4 +1,4 @@
--- Where a text leaves its format, in the format's own words. `IsText` tells the texts of the format.
+-- Where a text leaves its format, in the format's own words. `IsText` is about the texts of the format.
 use Rattle.std.specs.Prelude.{◌≡◌, ◌≢◌, ℕ, ◌+◌, ◌≤◌, ◌↔◌, List, [], take, Ok, Err, ℤ}
 use Rattle.std.specs.Str.Parse.{IsNumeral, digits_value}
 use Rattle.muni_dec.specs.Decimal.{reading, signed_reading, digits_reading}
@@ -6,14 +6,14 @@ use Rattle.muni_dec.specs.Grammar.{WritesDecimal, WritesSigned}
 use Rattle.muni_dec.specs.declared.fault.DecFault.{DecFault}
 use Rattle.muni_dec.specs.declared.fault.DecFault.TheVariants.{Empty, NotADigit, TooManyDecimals}
 
--- Some text of the format has the first so many bytes of this one. Where this one has fewer, it is
+-- Some text of the format has the first so many bytes of this one. If this one has fewer, it is
 -- that text.
 pub record GoesOn (IsText : List ℕ → Type 0) (text : List ℕ) (count : ℕ) : Type 0 where
   pub other : List ℕ
   pub valid : IsText other
   pub same : take count other ≡ take count text
 
--- The first place whose byte continues no text of the format. Behind the last byte, the text ends
+-- The first place whose byte continues no text of the format. After the last byte, the text ends
 -- where no text of the format does.
 pub record LeavesAt (IsText : List ℕ → Type 0) (text : List ℕ) (place : ℕ) : Type 0 where
   pub before : GoesOn IsText text place
@@ -27,7 +27,7 @@ IsDecimal places text = (units : ℕ) × WritesDecimal places text units
 abbrev pub IsSignedDecimal : ℕ → List ℕ → Type 0
 IsSignedDecimal places text = (units : ℤ) × WritesSigned places text units
 
--- Each fault comes exactly where it says. `IsLonger` tells the texts of the format that has one
+-- Each fault comes exactly where it says. `IsLonger` is about the texts of the format that has one
 -- place more: there a decimal too many would be right, and another byte would not.
 pub record TellsFaults (IsText IsLonger : List ℕ → Type 0) (text : List ℕ) (Is : DecFault → Type 0) : Type 0 where
   pub empty : Is Empty ↔ (text ≡ [])

@@ -3,12 +3,12 @@ use Rattle.std.specs.Prelude.{◌≡◌, ℕ, ◌+◌, ◌-◌, ◌*◌, ◌^◌
 use Rattle.std.specs.Str.Parse.{IsNumeral, digits_value}
 use Rattle.muni_dec.specs.Decimal.{reading, signed_reading}
 
--- a decimal without its sign: the digits before the point, and those behind it, if there is one
+-- a decimal without its sign: the digits before the point, and those after it, if there is one
 pub record Magnitude : Type 0 where
   pub whole : List ℕ
   pub fraction : Option (List ℕ)
 
--- a point and the digits behind it
+-- a point and the digits after it
 abbrev pub fraction_bytes : Option (List ℕ) → List ℕ
 fraction_bytes None = []
 fraction_bytes (Some digits) = 46 ∷ digits
@@ -22,12 +22,12 @@ abbrev pub IsFraction : ℕ → Option (List ℕ) → Type 0
 IsFraction places None = ⊤
 IsFraction places (Some digits) = IsNumeral 10 digits × (length digits ≤ places)
 
--- the digits before the point are one or more, those behind it one or more and at most so many
+-- the digits before the point are one or more, those after it one or more and at most so many
 pub record IsMagnitude (places : ℕ) (m : Magnitude) : Type 0 where
   pub whole : IsNumeral 10 m.whole
   pub fraction : IsFraction places m.fraction
 
--- what the digits behind the point write, in units of the last of so many places
+-- what the digits after the point write, in units of the last of so many places
 abbrev pub fraction_units : ℕ → Option (List ℕ) → ℕ
 fraction_units places None = 0
 fraction_units places (Some digits) = digits_value 10 digits * 10 ^ (places - length digits)

@@ -2,7 +2,7 @@
 use Rattle.std.specs.Prelude.{◌≡◌, ℕ, ◌^◌, ◌<◌, ◌≤◌, ◌↔◌, List, ◌++◌, length, replicate, decimal, Some}
 use Rattle.muni_dec.specs.Digits.{number_reading}
 
--- the text is the number in decimal digits, behind any zeros, in at most so many digits in all
+-- the text is the number in decimal digits, after any zeros, in at most so many digits in all
 pub record WritesNumber (most_digits : ℕ) (text : List ℕ) (number : ℕ) : Type 0 where
   pub zeros : ℕ
   pub bytes : text ≡ replicate zeros 48 ++ decimal number

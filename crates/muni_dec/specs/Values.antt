@@ -96,7 +96,7 @@ if_printed_yield units = if is_none (side_of one_period_prints units) then Some 
 abbrev pub printed_yield_text : ℤ → List ℕ
 printed_yield_text units = signed_text 3 units
 
--- a par: whole dollars from 1 to 1,000,000,000, where a point is a byte that does not belong
+-- a par: whole dollars from 1 to 1,000,000,000; a point does not belong in it
 abbrev pub if_par : ℕ → Option ℕ
 if_par units = if_amount 1 1_000_000_000 units
 

@@ -11,7 +11,7 @@ use crate::decimal::{push_decimal, read_decimal};
 use arrayvec::ArrayVec;
 use std::marker::Model;
 
-/// A decimal with so many places, from the least to the greatest number of units of the last place.
+/// A decimal with a number of places, from the least to the greatest number of units of the last place.
 #[derive(Clone, Copy, Debug, PartialEq, Eq, PartialOrd, Ord)]
 pub struct Amount<const PLACES: usize, const LEAST: u64, const GREATEST: u64> {
     units: u64,
@@ -48,7 +48,7 @@ impl<const PLACES: usize, const LEAST: u64, const GREATEST: u64> Model
 }
 
 impl<const PLACES: usize, const LEAST: u64, const GREATEST: u64> Amount<PLACES, LEAST, GREATEST> {
-    /// The decimal of so many units.
+    /// The decimal of a number of units.
     pub fn new(units: u64) -> Self
         requires { IsAmount LEAST GREATEST units }
         ensures { result ≡ units }
@@ -56,7 +56,7 @@ impl<const PLACES: usize, const LEAST: u64, const GREATEST: u64> Amount<PLACES, 
         Amount { units }
     }
 
-    // The decimal of so many units, if they lie in its range.
+    // The decimal of a number of units, if they lie in its range.
     fn in_range(units: u64) -> Option<Self>
         ensures { result ≡ if_amount LEAST GREATEST units }
     {
@@ -106,7 +106,7 @@ impl Price {
         Price::read_places(text)
     }
 
-    /// The price of so many units, from 0 to 999,999,999.
+    /// The price of a number of units, from 0 to 999,999,999.
     pub fn of(units: u64) -> Option<Price>
         ensures { result ≡ if_price units }
     {
@@ -123,7 +123,7 @@ impl Price {
 }
 
 impl Price3 {
-    /// The printed price of so many units.
+    /// The printed price of a number of units.
     pub fn of(units: u64) -> Option<Price3>
         ensures { result ≡ if_printed_price units }
     {
@@ -148,7 +148,7 @@ impl Coupon {
         Coupon::read_places(text)
     }
 
-    /// The coupon of so many units, from 0 to 300,000,000.
+    /// The coupon of a number of units, from 0 to 300,000,000.
     pub fn of(units: u64) -> Option<Coupon>
         ensures { result ≡ if_coupon units }
     {
@@ -176,7 +176,7 @@ impl Fee {
         Fee::read_places(text)
     }
 
-    /// The commission of so many units, from 0 to 10,000.
+    /// The commission of a number of units, from 0 to 10,000.
     pub fn of(units: u64) -> Option<Fee>
         ensures { result ≡ if_fee units }
     {
@@ -196,7 +196,7 @@ impl Cents {
     /// No money.
     pub const ZERO: Cents = Amount { units: 0 };
 
-    /// The amount of so many cents.
+    /// The amount of a number of cents.
     pub fn of(units: u64) -> Option<Cents>
         ensures { result ≡ if_money units }
     {
@@ -219,7 +219,7 @@ impl Cents {
         Cents::new(self.units + other.units)
     }
 
-    /// What is left where another amount is taken off.
+    /// What is left after another amount is taken off.
     pub fn minus(self, other: Cents) -> Cents
         requires { other ≤ self }
         ensures { result ≡ self - other }

@@ -66,7 +66,7 @@ fn read_with_point(text: &[u8], point: usize, places: usize) -> Result<u64, DecF
     }
 }
 
-/// What a text of digits alone says, or the digits' [`LIMIT`] where that is greater.
+/// What a text of digits alone says, or the digits' [`LIMIT`] if that is greater.
 pub fn read_whole(text: &[u8]) -> Result<u64, DecFault>
     ensures { result ≡ capped LIMIT (digits_reading text.now) }
 {
@@ -76,8 +76,8 @@ pub fn read_whole(text: &[u8]) -> Result<u64, DecFault>
     read_without_point(text, 0)
 }
 
-/// What a decimal without a sign says in units of the last of so many places, or the digits'
-/// [`LIMIT`] where that is greater.
+/// What a decimal without a sign says in units of the last place, or the digits' [`LIMIT`] if that
+/// is greater.
 #[tactic(auto, unfolding(crate::specs::Decimal::reading))]
 pub fn read_decimal(text: &[u8], places: usize) -> Result<u64, DecFault>
     requires { places ≤ 7 }

@@ -7,10 +7,10 @@ ghost use Rattle.muni_dec.specs.Digits.{are_digits, digits_end, number, number_r
 use arrayvec::ArrayVec;
 use itoa::Buffer;
 
-/// The greatest number of a decimal that is told apart. It lies past every range of a decimal.
+/// The greatest number of a decimal that is read exactly. It lies past every range of a decimal.
 pub(crate) const LIMIT: u64 = 100_000_000_000;
 
-/// The number that a text writes in at most so many digits, where it lies in a range.
+/// The number that a text writes in a limited number of digits, if it lies in a range.
 pub fn read_number(text: &[u8], most_digits: usize, least: u64, greatest: u64) -> Option<u64>
     ensures value { result ≡ number_reading most_digits least greatest text.now }
     ensures range { IfSome result (λ number. (least ≤ number) × (number ≤ greatest)) }
@@ -26,7 +26,7 @@ pub fn read_number(text: &[u8], most_digits: usize, least: u64, greatest: u64) -
     }
 }
 
-/// The number that a run of digits writes, or [`LIMIT`] where it is greater.
+/// The number that a run of digits writes, or [`LIMIT`] if it is greater.
 ///
 /// Another text is refused with the place of the first byte that is no digit, or with its length.
 pub(crate) fn read_digits(text: &[u8]) -> Result<u64, usize>
@@ -42,7 +42,7 @@ pub(crate) fn read_digits(text: &[u8]) -> Result<u64, usize>
     }
 }
 
-// The number that a run of digits writes, or a limit where it is greater.
+// The number that a run of digits writes, or a limit if it is greater.
 fn read_up_to(text: &[u8], limit: u128) -> Result<u128, usize>
     requires { limit ≤ 2 ^ 64 }
     ensures { MatchResult result
@@ -74,7 +74,7 @@ pub(crate) fn push_digits(text: &mut ArrayVec<u8, 32>, number: u64)
     let _ = text.try_extend_from_slice(buffer.format(number).as_bytes());
 }
 
-/// Appends the last so many digits of a number, with the zeros before it.
+/// Appends the last digits of a number, with the zeros before it.
 pub fn push_last_digits(text: &mut ArrayVec<u8, 32>, number: u64, count: usize)
     requires { array_vec_len text.old + count ≤ 32 }
     ensures items { text.new.items ≡ text.old.items ++ last_digits count number }

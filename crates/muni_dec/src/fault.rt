@@ -11,7 +11,7 @@ pub enum DecFault {
     /// No decimal goes on with the byte at this place, or the text ends here too early.
     #[error("unexpected byte or end at {at}")]
     NotADigit { at: usize },
-    /// The first decimal too many stands here, and all before it is right.
+    /// The first decimal too many is here, and all before it is right.
     #[error("too many decimals at {at}")]
     TooManyDecimals { at: usize },
     /// The text is a decimal whose value is outside the range.

@@ -14,8 +14,7 @@ pub fn reads_the_format()
     ensures numbers { ReadsNumbers }
 {}
 
-/// Each fault comes exactly where it says: at the first place whose byte continues no text of the
-/// format.
+/// Each fault names the first place whose byte continues no text of the format.
 pub fn faults_are_where_the_format_is_left()
     ensures unsigned { TellsDecimalFaults }
     ensures signed { TellsSignedFaults }

@@ -37,7 +37,7 @@ impl Par {
         Par::of(read_whole(text)?).ok_or(DecFault::OutOfRange)
     }
 
-    /// The par of so many dollars, from 1 to 1,000,000,000.
+    /// The par of a number of dollars, from 1 to 1,000,000,000.
     pub fn of(units: u64) -> Option<Par>
         ensures { result ≡ if_par units }
     {
@@ -47,7 +47,7 @@ impl Par {
         }
     }
 
-    /// The par of so many dollars.
+    /// The par of a number of dollars.
     pub fn new(units: u64) -> Par
         requires { IsAmount 1 1_000_000_000 units }
         ensures { result ≡ units }

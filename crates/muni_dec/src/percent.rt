@@ -11,8 +11,8 @@ use crate::decimal::{push_signed, read_signed};
 use arrayvec::ArrayVec;
 use std::marker::Model;
 
-/// A percentage with so many places, from so many units of the last place below zero to the
-/// greatest number of units.
+/// A percentage with a number of places, from the least number of units of the last place, which is
+/// below zero, to the greatest.
 #[derive(Clone, Copy, Debug, PartialEq, Eq, PartialOrd, Ord)]
 pub struct Percent<const PLACES: usize, const BELOW: u32, const GREATEST: u32> {
     units: i64,
@@ -43,7 +43,7 @@ impl<const PLACES: usize, const BELOW: u32, const GREATEST: u32> Model
 }
 
 impl<const PLACES: usize, const BELOW: u32, const GREATEST: u32> Percent<PLACES, BELOW, GREATEST> {
-    /// The percentage of so many units.
+    /// The percentage of a number of units.
     pub fn new(units: i64) -> Self
         requires { IsPercent BELOW GREATEST units }
         ensures { result ≡ units }
@@ -69,7 +69,7 @@ impl<const PLACES: usize, const BELOW: u32, const GREATEST: u32> Percent<PLACES,
         push_signed(text, self.units, PLACES);
     }
 
-    // The percentage of so many units, if they lie in its range.
+    // The percentage of a number of units, if they lie in its range.
     fn in_range(units: i64) -> Option<Self>
         ensures { result ≡ if_percent BELOW GREATEST units }
     {
@@ -97,7 +97,7 @@ impl Yield {
         Yield::read_places(text)
     }
 
-    /// The yield of so many units, from -999,999 to 9,999,999.
+    /// The yield of a number of units, from -999,999 to 9,999,999.
     pub fn of(units: i64) -> Option<Yield>
         ensures { result ≡ if_yield units }
     {
@@ -114,7 +114,7 @@ impl Yield {
 }
 
 impl Yield3 {
-    /// The printed yield of so many units, from -90,000 to 999,999.
+    /// The printed yield of a number of units, from -90,000 to 999,999.
     pub fn of(units: i64) -> Option<Yield3>
         ensures { result ≡ if_printed_yield units }
     {

@@ -26,7 +26,7 @@ pub fn push_part<const ROOM: usize>(text: &mut ArrayVec<u8, ROOM>, part: &[u8])
     push(text, part);
 }
 
-/// Appends a blank and a whole number, which has a minus sign where it is below zero.
+/// Appends a blank and a whole number, which has a minus sign if it is below zero.
 pub fn push_number<I: Integer, const ROOM: usize>(text: &mut ArrayVec<u8, ROOM>, number: I)
     requires { array_vec_len text.old + I.MAX_STR_LEN + 1 ≤ ROOM }
     ensures items { text.new.items ≡ text.old.items ++ behind_blanks (I.text number ∷ []) }

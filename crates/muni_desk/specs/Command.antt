@@ -8,7 +8,7 @@ use Rattle.muni_desk.specs.QuoteOptions.{quote_of}
 use Rattle.muni_desk.specs.StoreOptions.{import_of, confirm_of, serve_of, positions_of, mark_of}
 use Rattle.muni_desk.specs.declared.command.CommandLine.{CommandLine}
 
--- the command over a store of that name, and of the words behind it
+-- the command over a store of that name, and of the words after it
 abbrev pub over_store_of : List ℕ → List (List ℕ) → Option CommandLine
 over_store_of name words =
     if bytes_eq name (codes "import") then import_of words
@@ -17,7 +17,7 @@ over_store_of name words =
     else (if bytes_eq name (codes "positions") then positions_of words
     else (if bytes_eq name (codes "mark") then mark_of words else None))))
 
--- the command of words: the first is its name, and those behind it say what it is asked for
+-- the command of words: the first is its name, and those after it say what it is asked for
 abbrev pub command_of : List (List ℕ) → Option CommandLine
 command_of [] = None
 command_of (name ∷ words) =

@@ -25,7 +25,7 @@ pub record Says {O : Type 0} (sink : Sink.Ghosts O) (IsRight : Answer → Type 0
   pub tells : is_some (sink.bytes new) ≡ is_some (sink.bytes old)
   pub faults : TellsFaults status (sink.faults old) (sink.faults new)
 
--- what the command does, if `told` tells of each link of the door
+-- what the command does, if `told` is what each link of the door exposes
 abbrev pub Does : {I O C K D L : Type 0} → Source.Ghosts I → Sink.Ghosts O → Cabinet.Ghosts C K → Door.Ghosts D L → (ends : PaymentSeries → ℤ → WorthEnds) → (told : L → Traffic) → DeskCommand → Status → (old new : Lent I O C) → (before after : D) → Type 0
 Does source sink cabinet door ends told (QuoteOne request) status old new before after = Says sink (IsAnswer ends (QuoteOne request)) status old.output new.output
 Does source sink cabinet door ends told (Quote request) status old new before after = Says sink (IsAnswer ends (Quote request)) status old.output new.output
@@ -39,9 +39,9 @@ Does source sink cabinet door ends told (Mark store) status old new before after
 Does source sink cabinet door ends told (Drill request) status old new before after = Says sink (IsAnswer ends (Drill request)) status old.output new.output
 Does source sink cabinet door ends told Help status old new before after = Says sink (IsAnswer ends Help) status old.output new.output
 
--- What stays as it is, of whether the input, the output, the cabinet and the door do: an object that the
--- command does not name, one that it has not come to where the input is not read whole or the store fails,
--- and the output where nothing is confirmed, listed or marked for a fault of the store.
+-- Which of the input, the output, the cabinet and the door stay as they are: an object that the
+-- command does not name, one that it has not come to if the input is not read whole or the store fails,
+-- and the output if nothing is confirmed, listed or marked for a fault of the store.
 abbrev pub Spares : DeskCommand → Status → (input output cabinet door : Type 0) → Type 0
 Spares (QuoteOne request) status input output cabinet door = input × cabinet × door
 Spares (Quote request) status input output cabinet door = input × cabinet × door

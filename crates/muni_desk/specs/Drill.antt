@@ -33,12 +33,12 @@ abbrev pub IsSummary : (ends : PaymentSeries → ℤ → WorthEnds) → DrillReq
 IsSummary ends request text =
     (book : List Answered) × IsBook ends request.seed request.count book × (text ≡ summary_text book)
 
--- the earlier trades, and behind them the one at a place
+-- the earlier trades, and after them the one at a place
 abbrev pub IsFollowed : (ends : PaymentSeries → ℤ → WorthEnds) → (seed place : ℕ) → (earlier part : List Answered) → Type 0
 IsFollowed ends seed place earlier part =
     (last : Answered) × IsDrilled ends seed place last × (part ≡ earlier ++ last ∷ [])
 
--- those of the first so many trades that stand at the chosen places, each with the right answer to it
+-- those of the first so many trades that are at the chosen places, each with the right answer to it
 abbrev pub IsPart : (ends : PaymentSeries → ℤ → WorthEnds) → (chosen : ℕ → Bool) → (seed count : ℕ) → List Answered → Type 0
 IsPart ends chosen seed zero part = part ≡ []
 IsPart ends chosen seed (suc count) part =

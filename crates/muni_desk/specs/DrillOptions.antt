@@ -5,7 +5,7 @@ use Rattle.muni_desk.specs.Words.{◌>>=◌, are_options, value_of}
 use Rattle.muni_desk.specs.declared.command.DeskCommand.TheVariants.{Drill}
 use Rattle.muni_desk.specs.declared.command.CommandLine.{CommandLine}
 
--- all options, each of which stands once
+-- all options, each once
 abbrev pub options : List (List ℕ)
 options = codes "--count=" ∷ codes "--seed=" ∷ codes "--workers=" ∷ []
 

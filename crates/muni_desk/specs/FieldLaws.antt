@@ -17,7 +17,7 @@ with_blanks [] = []
 with_blanks (text ∷ []) = text
 with_blanks (text ∷ next ∷ texts) = text ++ 32 ∷ with_blanks (next ∷ texts)
 
--- calls, of which there are 40 at most: each is a text without a blank, and one blank is between two
+-- calls, at most 40: each is a text without a blank, and one blank is between two
 pub record SaysCallsInField (text : List ℕ) (calls : List Call) : Type 0 where
   pub texts : List (List ℕ)
   pub some : texts ≢ []

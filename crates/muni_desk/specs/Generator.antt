@@ -47,7 +47,7 @@ call_at place = record {
   price = max (102_000_000 - 250_000 * place) par_price;
 }
 
--- a call, where it is before maturity
+-- a call, if it is before maturity
 abbrev pub if_before : Civil → Redemption → List Redemption
 if_before maturity call = cond (is_before call.date maturity) (call ∷ []) []
 

@@ -3,7 +3,7 @@ use Rattle.std.specs.Prelude.{ℕ, List, [], ◌∷◌, ◌++◌, codes, Option,
 use Rattle.muni_desk.specs.declared.command.DeskCommand.TheVariants.{Help}
 use Rattle.muni_desk.specs.declared.command.CommandLine.{CommandLine}
 
--- what words ask for behind the name of the command: there are none
+-- what words ask for after the name of the command: there are none
 abbrev pub help_of : List (List ℕ) → Option CommandLine
 help_of [] = Some (record { command = Help; workers = 1 })
 help_of (word ∷ words) = None

@@ -35,7 +35,7 @@ values_reading coupon next settlement redemption yld = do
     workers = 1;
   })
 
--- what words ask for behind the name of the command: they are the five values, in order
+-- what words ask for after the name of the command: they are the five values, in order
 abbrev pub quote_one_of : List (List ℕ) → Option CommandLine
 quote_one_of words =
     if length words == 5

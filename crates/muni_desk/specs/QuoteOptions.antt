@@ -19,7 +19,7 @@ use Rattle.muni_desk.specs.Words.{◌>>=◌, are_options, value_of, values_of}
 use Rattle.muni_desk.specs.declared.command.DeskCommand.TheVariants.{Quote}
 use Rattle.muni_desk.specs.declared.command.CommandLine.{CommandLine}
 
--- the options that may stand once
+-- the options that may be given once
 abbrev pub single_options : List (List ℕ)
 single_options =
     codes "--kind=" ∷ codes "--dated=" ∷ codes "--first=" ∷ codes "--maturity="
@@ -34,7 +34,7 @@ options = codes "--call=" ∷ single_options
 abbrev pub date_of : List ℕ → List (List ℕ) → Option Day
 date_of name words = value_of name words >>= λ text. day_in text
 
--- days are counted by 30/360 where no option says otherwise, and a note alone may say so
+-- days are counted by 30/360 if no option says otherwise, and a note alone may say so
 abbrev pub bond_day_count : Option (List ℕ) → Option Basis
 bond_day_count (Some text) = None
 bond_day_count None = Some Thirty360
@@ -49,14 +49,14 @@ day_count_of Zero text = bond_day_count text
 day_count_of AtRedemption text = note_day_count text
 day_count_of Discount text = note_day_count text
 
--- the coupon, which is given exactly where there is interest
+-- the coupon, which is given exactly if there is interest
 abbrev pub coupon_of : Bool → Option (List ℕ) → Option ℕ
 coupon_of true (Some text) = result_ok (coupon_reading text)
 coupon_of true None = None
 coupon_of false (Some text) = None
 coupon_of false None = Some 0
 
--- texts as calls, where each reads as one
+-- texts as calls, if each reads as one
 abbrev pub calls_reading : List (List ℕ) → Option (List Call)
 calls_reading [] = Some []
 calls_reading (text ∷ texts) = do
@@ -64,13 +64,13 @@ calls_reading (text ∷ texts) = do
   calls ← calls_reading texts
   Some (call ∷ calls)
 
--- the calls in the order in which they stand, of which there may be 40
+-- the calls in their order, at most 40
 abbrev pub calls_of : List (List ℕ) → Option (List Call)
 calls_of words =
     if nat_le (length (values_of (codes "--call=") words)) 40
     then calls_reading (values_of (codes "--call=") words) else None
 
--- the par, which is 100 where none is given
+-- the par, which is 100 if none is given
 abbrev pub par_of : Option (List ℕ) → Option ℕ
 par_of (Some text) = result_ok (par_reading text)
 par_of None = Some 100
@@ -87,7 +87,7 @@ given_of words =
     one_given (value_of (codes "--yield=") words) (value_of (codes "--price=") words)
     (value_of (codes "--rate=") words)
 
--- from 1 to 16 workers, and one where no number is given
+-- from 1 to 16 workers, and one if no number is given
 abbrev pub workers_in : Option (List ℕ) → Option ℕ
 workers_in (Some text) = number_reading 20 1 16 text
 workers_in None = Some 1

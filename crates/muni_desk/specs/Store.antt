@@ -22,7 +22,7 @@ use Rattle.muni_desk_serve.specs.Serving.{ServedStore}
 use Rattle.muni_desk.specs.Status.{of_answered, of_done, of_served}
 use Rattle.muni_desk.specs.declared.status.Status.{Status}
 
--- the status is that of a result, of which this holds
+-- the status is that of a result, and this holds of the result
 abbrev pub EndsAs : {R : Type 0} → (R → Status) → Status → (R → Type 0) → Type 0
 EndsAs {R} status_of status Holds = (result : R) × (status ≡ status_of result) × Holds result
 

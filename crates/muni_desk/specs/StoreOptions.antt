@@ -12,7 +12,7 @@ use Rattle.muni_desk.specs.Words.{◌>>=◌, are_options, value_of}
 use Rattle.muni_desk.specs.declared.command.DeskCommand.TheVariants.{Import, Confirm, Serve, Positions, Mark}
 use Rattle.muni_desk.specs.declared.command.CommandLine.{CommandLine}
 
--- all options, each of which stands once at most
+-- all options, each at most once
 abbrev pub import_options : List (List ℕ)
 import_options = codes "--store=" ∷ codes "--workers=" ∷ codes "--positions=" ∷ []
 

@@ -32,7 +32,7 @@ use Rattle.muni_desk.specs.declared.quote_one.QuoteOneRequest.{QuoteOneRequest}
 use Rattle.muni_desk.specs.declared.request.QuoteRequest.{QuoteRequest}
 
 -- ---- one option
--- a word is the option of a name: the name, and behind it a value that is not empty
+-- a word is the option of a name: the name, and after it a value that is not empty
 pub record IsOption (name text : List ℕ) : Type 0 where
   pub value : List ℕ
   pub joined : text ≡ name ++ value
@@ -44,34 +44,34 @@ pub record IsKnown (names : List (List ℕ)) (text : List ℕ) : Type 0 where
   pub listed : Contains names name
   pub is_its : IsOption name text
 
--- the option of a name stands at one place at most
+-- the option of a name is at one place at most
 abbrev pub IsSingle : List (List ℕ) → List ℕ → Type 0
 IsSingle words name =
     (i j : ℕ) → i < length words → j < length words
     → IsOption name (word words i) → IsOption name (word words j) → i ≡ j
 
--- an option with this value stands among words
+-- an option with this value is among words
 pub record Says (words : List (List ℕ)) (name value : List ℕ) : Type 0 where
   pub among : Contains words (name ++ value)
   pub not_empty : value ≢ []
 
--- an option stands among words, and its value is read so
+-- an option is among words, and its value is read so
 pub record Reads (words : List (List ℕ)) (name : List ℕ) (IsRead : List ℕ → Type 0)
     : Type 0 where
   pub text : List ℕ
   pub stands : Says words name text
   pub is_read : IsRead text
 
--- an option stands nowhere among words
+-- an option is nowhere among words
 abbrev pub Lacks : List (List ℕ) → List ℕ → Type 0
 Lacks words name = (value : List ℕ) → ¬ (Says words name value)
 
--- where the option stands, its value is read so, and else this holds
+-- if the option is there, its value is read so, and else this holds
 abbrev pub ReadsOr : List (List ℕ) → List ℕ → (List ℕ → Type 0) → Type 0 → Type 0
 ReadsOr words name IsRead IsElse = Reads words name IsRead ⊎ (Lacks words name × IsElse)
 
 -- ---- the options of `quote`
--- the kind, and the first interest date exactly where it is `periodic`
+-- the kind, and the first interest date exactly if it is `periodic`
 abbrev pub SaysKind : List (List ℕ) → Kind → Type 0
 SaysKind words (Periodic first) =
     Says words (codes "--kind=") (codes "periodic")
@@ -94,7 +94,7 @@ SaysDays words Zero basis = Lacks words (codes "--days=") × (basis ≡ Thirty36
 SaysDays words AtRedemption basis = SaysNoteDays words basis
 SaysDays words Discount basis = SaysNoteDays words basis
 
--- the coupon, exactly where securities of the kind pay interest
+-- the coupon, exactly if securities of the kind pay interest
 abbrev pub SaysCoupon : List (List ℕ) → Kind → ℕ → Type 0
 SaysCoupon words (Periodic first) coupon =
     Reads words (codes "--coupon=") (λ text. coupon_reading text ≡ Ok coupon)
@@ -111,8 +111,8 @@ pub record IsCall (text : List ℕ) (call : Call) : Type 0 where
   pub is_date : day_reading date ≡ Ok call.date
   pub is_price : price_reading price ≡ Ok call.price
 
--- the calls, of which there are 40 at most: the words of their option, in the order in which they
--- stand, are its name with each of these texts, and each text says the call in its place
+-- the calls, at most 40: the words of their option, in their order,
+-- are its name with each of these texts, and each text says the call in its place
 pub record SaysCalls (words : List (List ℕ)) (calls : List Call) : Type 0 where
   pub texts : List (List ℕ)
   pub in_order :
@@ -144,7 +144,7 @@ pub record SaysTerms (words : List (List ℕ)) (row : IssueRow) : Type 0 where
   pub cusip : row.cusip ≡ codes "000000000"
   pub name : row.name.items ≡ codes "QUOTE"
 
--- what is asked for of it, for a buyer and without a commission: the par is 100 where none is given
+-- what is asked for of it, for a buyer and without a commission: the par is 100 if none is given
 pub record SaysAsked (words : List (List ℕ)) (asked : Asked) : Type 0 where
   pub par :
       ReadsOr words (codes "--par=") (λ text. par_reading text ≡ Ok asked.par) (asked.par ≡ 100)
@@ -154,7 +154,7 @@ pub record SaysAsked (words : List (List ℕ)) (asked : Asked) : Type 0 where
   pub side : asked.side ≡ Buy
   pub fee : asked.fee ≡ 0
 
--- words behind `quote`: from 1 to 16 workers, and one where no number is given
+-- words after `quote`: from 1 to 16 workers, and one if no number is given
 pub record IsQuote (words : List (List ℕ)) (request : QuoteRequest) (workers : ℕ) : Type 0 where
   pub known : All (IsKnown options) words
   pub single : All (IsSingle words) single_options
@@ -165,7 +165,7 @@ pub record IsQuote (words : List (List ℕ)) (request : QuoteRequest) (workers :
       (workers ≡ 1)
 
 -- ---- the options of the commands over a store
--- the name of a store: at most 200 bytes, none of which is a blank or below it, or above 126
+-- the name of a store: at most 200 bytes, each above a blank and at most 126
 pub record SaysStore (words : List (List ℕ)) (store : ArrayVec ℕ) : Type 0 where
   pub stands : Says words (codes "--store=") store.items
   pub few : length store.items ≤ 200
@@ -177,8 +177,8 @@ SaysPositions words None = Lacks words (codes "--positions=")
 SaysPositions words (Some desk) =
     Reads words (codes "--positions=") (λ text. name_reading is_desk_letter 16 text ≡ Ok desk)
 
--- words behind `import`: a store, the desk whose positions are asked for, if any, and from 1 to 16
--- workers, and one where no number is given
+-- words after `import`: a store, the desk whose positions are asked for, if any, and from 1 to 16
+-- workers, and one if no number is given
 pub record IsImport (words : List (List ℕ)) (store : ArrayVec ℕ) (listed : Option (List ℕ)) (workers : ℕ) : Type 0 where
   pub known : All (IsKnown import_options) words
   pub single : All (IsSingle words) import_options
@@ -188,7 +188,7 @@ pub record IsImport (words : List (List ℕ)) (store : ArrayVec ℕ) (listed : O
       ReadsOr words (codes "--workers=") (λ text. number_reading 20 1 16 text ≡ Some workers)
       (workers ≡ 1)
 
--- words behind `confirm`: a store, a desk and the reference of a trade
+-- words after `confirm`: a store, a desk and the reference of a trade
 pub record IsConfirm (words : List (List ℕ)) (store : ArrayVec ℕ) (key : Key) : Type 0 where
   pub known : All (IsKnown confirm_options) words
   pub single : All (IsSingle words) confirm_options
@@ -199,8 +199,8 @@ pub record IsConfirm (words : List (List ℕ)) (store : ArrayVec ℕ) (key : Key
       Reads words (codes "--ref=")
       (λ text. name_reading is_ascii_alphanumeric 20 text ≡ Ok key.reference)
 
--- words behind `serve`: a store, a port from 1 to 65,535, from 1 to 1,000,000 connections, and from 1 to
--- 16 workers, and one where no number is given
+-- words after `serve`: a store, a port from 1 to 65,535, from 1 to 1,000,000 connections, and from 1 to
+-- 16 workers, and one if no number is given
 pub record IsServe (words : List (List ℕ)) (store : ArrayVec ℕ) (port connections workers : ℕ) : Type 0 where
   pub known : All (IsKnown serve_options) words
   pub single : All (IsSingle words) serve_options
@@ -214,7 +214,7 @@ pub record IsServe (words : List (List ℕ)) (store : ArrayVec ℕ) (port connec
       ReadsOr words (codes "--workers=") (λ text. number_reading 20 1 16 text ≡ Some workers)
       (workers ≡ 1)
 
--- words behind `positions`: a store and a desk
+-- words after `positions`: a store and a desk
 pub record IsPositions (words : List (List ℕ)) (store : ArrayVec ℕ) (desk : List ℕ) : Type 0 where
   pub known : All (IsKnown positions_options) words
   pub single : All (IsSingle words) positions_options
@@ -222,14 +222,14 @@ pub record IsPositions (words : List (List ℕ)) (store : ArrayVec ℕ) (desk : 
   pub desk_named :
       Reads words (codes "--desk=") (λ text. name_reading is_desk_letter 16 text ≡ Ok desk)
 
--- words behind `mark`: a store
+-- words after `mark`: a store
 pub record IsMark (words : List (List ℕ)) (store : ArrayVec ℕ) : Type 0 where
   pub known : All (IsKnown mark_options) words
   pub single : All (IsSingle words) mark_options
   pub named : SaysStore words store
 
 -- ---- the options of `drill`
--- words behind `drill`: up to 1,000 trades, a seed below 2^64, and from 1 to 16 workers
+-- words after `drill`: up to 1,000 trades, a seed below 2^64, and from 1 to 16 workers
 pub record IsDrill (words : List (List ℕ)) (request : DrillRequest) (workers : ℕ) : Type 0 where
   pub known : All (IsKnown drill.options) words
   pub single : All (IsSingle words) drill.options
@@ -242,7 +242,7 @@ pub record IsDrill (words : List (List ℕ)) (request : DrillRequest) (workers :
       Reads words (codes "--workers=") (λ text. number_reading 20 1 16 text ≡ Some workers)
 
 -- ---- the words of `quote-one`
--- five words behind `quote-one`, in their order; the next interest date has a day that every month
+-- five words after `quote-one`, in their order; the next interest date has a day that every month
 -- has, and is not before 1902
 pub record IsQuoteOne (words : List (List ℕ)) (request : QuoteOneRequest) : Type 0 where
   pub five : length words ≡ 5
@@ -255,7 +255,7 @@ pub record IsQuoteOne (words : List (List ℕ)) (request : QuoteOneRequest) : Ty
   pub year_at_least : 1902 ≤ request.next.year
 
 -- ---- the command line
--- the first word names the command, and those behind it say what is asked of it
+-- the first word names the command, and those after it say what is asked of it
 abbrev pub IsSaid : List (List ℕ) → DeskCommand → ℕ → Type 0
 IsSaid [] command workers = ⊥
 IsSaid (name ∷ words) (QuoteOne request) workers =
@@ -280,13 +280,13 @@ IsSaid (name ∷ words) Help workers =
 abbrev pub IsCommandLine : List (List ℕ) → CommandLine → Type 0
 IsCommandLine words line = IsSaid words line.command line.workers
 
--- words are read as a command line exactly where they say it
+-- words are read as a command line exactly if they say it
 abbrev pub ReadsCommandLines : Type 0
 ReadsCommandLines =
     (words : List (List ℕ)) (line : CommandLine)
     → (command_of words ≡ Some line) ↔ IsCommandLine words line
 
--- and refused exactly where they say none
+-- and refused exactly if they say none
 abbrev pub RefusesOtherWords : Type 0
 RefusesOtherWords =
     (words : List (List ℕ))

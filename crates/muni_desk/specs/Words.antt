@@ -19,7 +19,7 @@ is_option name word = starts_with nat_eq word name && nat_lt (length name) (leng
 abbrev pub value_in : List ℕ → List ℕ → Option (List ℕ)
 value_in name word = if is_option name word then Some (drop (length name) word) else None
 
--- how often an option stands among words
+-- how often an option is among words
 abbrev pub count_of : List ℕ → List (List ℕ) → ℕ
 count_of name words = count_by (is_option name) words
 
@@ -27,7 +27,7 @@ count_of name words = count_by (is_option name) words
 abbrev pub are_known : List (List ℕ) → List (List ℕ) → Bool
 are_known names words = list_all (λ word. list_any (λ name. is_option name word) names) words
 
--- the option of each of these names stands once at most
+-- the option of each of these names is there once at most
 abbrev pub are_single : List (List ℕ) → List (List ℕ) → Bool
 are_single names words = list_all (λ name. nat_le (count_of name words) 1) names
 
@@ -38,6 +38,6 @@ are_options names single words = are_known names words && are_single single word
 abbrev pub value_of : List ℕ → List (List ℕ) → Option (List ℕ)
 value_of name words = find (is_option name) words >>= value_in name
 
--- the values of all options of a name, in the order in which they stand
+-- the values of all options of a name, in their order
 abbrev pub values_of : List ℕ → List (List ℕ) → List (List ℕ)
 values_of name words = filter_map (value_in name) words

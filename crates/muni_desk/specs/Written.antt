@@ -6,7 +6,7 @@ use Rattle.muni_desk.specs.declared.status.Answer.{Answer}
 use Rattle.muni_desk.specs.declared.status.Status.{Status}
 use Rattle.muni_desk.specs.declared.status.Status.TheVariants.{WriteFault}
 
--- An answer was written, where the output tells its bytes, and the status is its own. Or the output failed,
+-- An answer was written, if the output exposes its bytes, and the status is its own. Or the output failed,
 -- and holds a front part of it.
 pub record WritesAnswer (IsRight : Answer → Type 0) (status : Status) (before now : Option (List ℕ)) : Type 0 where
   pub answer : Answer
@@ -14,7 +14,7 @@ pub record WritesAnswer (IsRight : Answer → Type 0) (status : Status) (before 
   pub written : ((status ≡ answer.status) × HasWritten before now answer.text.items)
       ⊎ ((status ≡ WriteFault) × HasWrittenPart before now answer.text.items)
 
--- The output failed exactly where the status says so: its count of faults rose, and elsewhere it is what it
+-- The output failed exactly if the status says so: its count of faults rose, and otherwise it is what it
 -- was.
 pub record TellsFaults (status : Status) (before now : ℕ) : Type 0 where
   pub failed : status ≡ WriteFault → Rose before now

@@ -21,8 +21,7 @@ pub enum DeskCommand {
     /// The figures of a security.
     Quote(QuoteRequest),
     /// To apply the rows of the input to the tables of a store, and to list the positions of a desk
-    /// behind them where one is named. A name of a store has 1 to 200 printing bytes, none of which is
-    /// a blank.
+    /// after them if one is named. A name of a store has 1 to 200 printing bytes, and no blank.
     Import {
         store: ArrayVec<u8, 200>,
         listed: Option<DeskName>,
@@ -41,7 +40,7 @@ pub enum DeskCommand {
     Mark {
         store: ArrayVec<u8, 200>,
     },
-    /// To serve so many connections that come in by a port, over the tables of a store.
+    /// To serve a number of connections that come in by a port, over the tables of a store.
     Serve {
         store: ArrayVec<u8, 200>,
         port: u16,
@@ -60,7 +59,7 @@ pub struct CommandLine {
     pub workers: Workers,
 }
 
-/// The command that words name: its name, and behind it what it is asked for.
+/// The command that words name: its name, and then its options.
 pub fn read(words: &[String]) -> Option<CommandLine>
     ensures { result ≡ spec.command_of (map string_bytes words.now) }
 {

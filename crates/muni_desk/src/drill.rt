@@ -20,7 +20,7 @@ use std::thread;
 use std::thread::Threads;
 use sums::Sums;
 
-/// The summary of the answers to the trades of a book, each of which is traded at a given price.
+/// The summary of the answers to the trades of a book. Each trade is at a given price.
 pub fn summary_of<R: Threads + Sync, E: Encloser + Sync, G: Gate + Sync>(
     calculator: &Calculator<'_, R, E, G>,
     request: DrillRequest,

@@ -18,7 +18,7 @@ positions --store --desk\n\
 mark --store\n\
 help\n";
 
-/// What words ask for, where there are none.
+/// What is asked for if there are no words.
 pub fn read_help(words: &[String]) -> Option<CommandLine>
     ensures { result ≡ spec.help_of (map string_bytes words.now) }
 {

@@ -28,12 +28,12 @@ use std::thread::Threads;
 /// to redemption. `quote` and options in any order give the figures of a security, whose worth with more
 /// than six months left comes from the encloser. `drill` and options in any order price a generated book
 /// of trades, and give the sums. `import` applies the rows of the input to the tables of a store, and
-/// writes a line on each, and behind them the positions of a desk where one is named. `confirm` writes
-/// the confirmation of a trade that a store keeps. `serve` answers the requests of connections that come
-/// in by a door. `positions` writes what a desk holds of each security, and `mark` what the rows of a
-/// portfolio are worth. `help` names the commands. Memory is taken by the commands over a store alone.
-// Yields are looked for by as many threads as the words name workers, and the gate is told when they
-// begin (tested).
+/// writes a line on each, and then the positions of a desk if one is named. `confirm` writes the
+/// confirmation of a trade that a store keeps. `serve` answers the requests of connections that come in
+/// by a door. `positions` writes what a desk holds of each security, and `mark` what the rows of a
+/// portfolio are worth. `help` names the commands. Only the commands over a store allocate memory.
+// As many threads look for yields as the words name workers, and the gate is called when they begin
+// (tested).
 pub fn desk<
     R: Threads + Sync,
     I: Source,
@@ -60,7 +60,7 @@ pub fn desk<
     ensures untouched { result ≡ Status.Usage
         → (input.new ≡ input.old) × (output.new ≡ output.old) × (cabinet.new ≡ cabinet.old) × (door.new ≡ door.old) }
 
-    // Those that are a command do what it says, where the objects tell what they hold.
+    // Words that are a command do what it says, if the objects expose what they hold.
     ensures does { IfSome (command_of (map string_bytes words.now)) (λ line.
         Does I.Source O.Sink C.Cabinet D.Door (E.ends encloser.now)
         (traffic D.L.left D.L.bytes D.L.Source.faults D.L.Sink.faults) line.command result

@@ -31,7 +31,7 @@ pub struct QuoteOneRequest {
     pub yld: Yield,
 }
 
-/// What words ask for, where they are COUPON, NEXT, SETTLE, REDEMPTION and YIELD.
+/// What words ask for, if they are COUPON, NEXT, SETTLE, REDEMPTION and YIELD.
 pub fn read_quote_one(words: &[String]) -> Option<CommandLine>
     ensures { result ≡ spec.quote_one_of (map string_bytes words.now) }
 {

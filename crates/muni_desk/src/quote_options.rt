@@ -43,12 +43,12 @@ const WORKERS: &[u8] = b"--workers=";
 
 const DAYS: &[u8] = b"--days=";
 
-// All but the first stand once at most.
+// Each but the first is given once at most.
 const NAMES: [&[u8]; 13] = [
     CALL, KIND, DATED, FIRST, MATURITY, COUPON, SETTLE, PAR, YIELD, PRICE, RATE, WORKERS, DAYS,
 ];
 
-/// What words ask for, where they are options of `quote`, in any order.
+/// What words ask for, if they are options of `quote`, in any order.
 pub fn read_quote(words: &[String]) -> Option<CommandLine>
     ensures { result ≡ spec.quote_of (map string_bytes words.now) }
 {
@@ -130,7 +130,7 @@ fn pays_interest(kind: Kind) -> bool
     }
 }
 
-// A coupon is given exactly where there is interest.
+// A coupon is given exactly if there is interest.
 fn read_coupon(has_interest: bool, text: Option<&[u8]>) -> Option<Coupon>
     ensures { result ≡ spec.coupon_of has_interest (option_map (λ t. t.now) text.entry) }
 {

@@ -21,7 +21,7 @@ pub struct QuoteRequest {
     pub asked: Asked,
 }
 
-/// A name of at most 60 bytes, as it stands in the terms.
+/// A name of at most 60 bytes, as it is in the terms.
 pub fn issue_name(text: &[u8]) -> ArrayVec<u8, 60>
     requires { length text.now ≤ 60 }
     ensures { result.items ≡ text.now }

@@ -10,7 +10,7 @@ use Rattle.muni_desk_import.specs.declared.confirmations.Answered.{Answered}
 use Rattle.muni_desk_import.specs.declared.fault.Fault.{Fault}
 use Rattle.muni_desk_import.specs.declared.fault.Fault.TheVariants.{Read, Write, Store, NoMemory, TooLarge}
 
--- The answer, of which a first part may be written if the output fails. Before a fault of the store, and
+-- The answer, or a first part of it if the output fails. Before a fault of the store, and
 -- if memory runs out, nothing is written.
 abbrev pub Confirmed : {O C K : Type 0} → Sink.Ghosts O → Cabinet.Ghosts C K → (store : List ℕ) → Key → Result Answered Fault → (before after : O) (old new : C) → Type 0
 Confirmed sink cabinet store key (Ok answered) before after old new =

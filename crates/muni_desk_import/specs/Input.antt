@@ -12,7 +12,7 @@ IsNotTooLarge Failed = ⊤
 IsNotTooLarge TooLarge = ⊥
 IsNotTooLarge NoMemory = ⊤
 
--- A read that failed is counted and told; after any other outcome none has failed.
+-- A read that failed is counted and reported; after any other outcome none has failed.
 abbrev pub CountsReads : {T : Type 0} → Result T InputFault → ℕ → ℕ → Type 0
 CountsReads (Ok value) before now = now ≡ before
 CountsReads (Err Failed) before now = Rose before now

@@ -1,4 +1,4 @@
--- What an import does with the positions of a desk behind its report.
+-- What an import does with the positions of a desk after its report.
 use Rattle.std.specs.Prelude.{◌⊎◌, ℕ, List, Option, IfSome}
 use Rattle.muni_edge.specs.Sink.{HasWritten, HasWrittenPart}
 use Rattle.muni_keep.specs.Tables.{Tables}

@@ -9,7 +9,7 @@ use Rattle.muni_position.specs.Positions.{last_versions, positions_of}
 abbrev pub positions_text : List ℕ → Tables → List ℕ
 positions_text desk tables = position_lines (positions_of (last_versions desk tables))
 
--- the trades of a desk may be more than are summed, or are not told
+-- the trades of a desk may be more than are summed, or are not exposed
 abbrev pub MayNotSum : List ℕ → Option Tables → Type 0
 MayNotSum desk None = ⊤
 MayNotSum desk (Some tables) = HasTooMany desk tables

@@ -19,7 +19,7 @@ pub record Connection (L : Type 0) : Type 0 where
   pub back : L
   pub came : Served
 
--- what a connection tells of itself before and after it is served, and what came of it
+-- what a connection exposes before and after it is served, and what came of it
 pub record Exchange : Type 0 where
   pub before : Traffic
   pub after : Traffic
@@ -33,8 +33,8 @@ exchange told connection =
       came = connection.came;
     }
 
--- Each connection is served from the tables that the one before it left. So many faults of the keeper
--- their answers tell of.
+-- Each connection is served from the tables that the one before it left. The number is that of the
+-- faults of the keeper that their answers report.
 unfoldable pub AreServed : Pricing → Option Tables → List Exchange → Option Tables → ℕ → Type 0
 AreServed Prices old [] new faults = (new ≡ old) × (faults ≡ 0)
 AreServed Prices old (first ∷ others) new faults =
@@ -42,7 +42,7 @@ AreServed Prices old (first ∷ others) new faults =
     × Serves Prices old first.before first.came mid first.after one
     × AreServed Prices mid others new more
 
--- none of them ended for want of memory
+-- none of them ended because memory ran out
 abbrev pub NoneWanted : {L : Type 0} → List (Connection L) → Type 0
 NoneWanted connections = All (λ c. c.came ≢ served.NoMemory) connections
 
@@ -60,7 +60,7 @@ pub record AreHandedBack {L : Type 0} (connections : List (Connection L)) (door 
 abbrev pub AreAll : {L : Type 0} → List (Connection L) → ℕ → DoorState L → Type 0
 AreAll connections most after = (length connections ≡ most) ⊎ (after.waiting ≡ [])
 
--- what the end of a run tells of its connections
+-- what the end of a run says of its connections
 abbrev pub Ends : {L : Type 0} → Outcome → List (Connection L) → ℕ → DoorState L → Type 0
 Ends (Ok done) connections most after = NoneWanted connections × AreAll connections most after
 Ends (Err fault.Store) connections most after = connections ≡ []
@@ -69,7 +69,7 @@ Ends (Err fault.NoMemory) connections most after =
     (connections ≡ []) ⊎ (SomeWanted connections × AreAll connections most after)
 
 -- Connections of a door were served, at most so many, from tables to tables; a count rose by the faults
--- that their answers tell of.
+-- that their answers report.
 pub record WereServed {L : Type 0} (Prices : Pricing) (told : L → Traffic) (connections : List (Connection L)) (most : ℕ) (door after : DoorState L) (old new : Option Tables) (before now : ℕ) : Type 0 where
   pub handed : AreHandedBack connections door after
   pub few : length connections ≤ most
@@ -86,7 +86,7 @@ pub record IsRun {L : Type 0} (Prices : Pricing) (told : L → Traffic) (port mo
   pub bound : (connections ≡ []) ⊎ (after.port ≡ Some port)
   pub ends : Ends end connections most after
 
--- The tables of a run over a store: those that the store opens with and closes with, where it tells them.
+-- The tables of a run over a store: those that the store opens with and closes with, if it exposes them.
 pub record IsRunOver {L : Type 0} (Prices : Pricing) (told : L → Traffic) (port most : ℕ) (door : DoorState L) (state : Option (DoorState L)) (opening closing : Option Tables) (before now : ℕ) (end : Outcome) : Type 0 where
   pub first : Option Tables
   pub last : Option Tables

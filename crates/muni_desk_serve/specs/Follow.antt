@@ -37,7 +37,7 @@ pub record HasBadAnswer (exchange : Exchange) : Type 0 where
   pub asks : Asks exchange.before (Faulty kind)
   pub answer : HasAnswer exchange (bad_answer kind)
 
--- If it has an answer, this is to a bad request or tells that the store failed.
+-- If it has an answer, this is to a bad request or says that the store failed.
 abbrev pub HasNoReply : Exchange → Type 0
 HasNoReply exchange =
     (status : ℕ) → WasAnswered exchange status
@@ -59,7 +59,7 @@ pub record HasCome (exchange : Exchange) (command : Command) : Type 0 where
   pub exposed : exchange.before.left ≡ Some bytes
   pub asks : HeadAsks bytes (Whole command)
 
--- the answer to it has this reply, unless it tells that the store failed
+-- the answer to it has this reply, unless it says that the store failed
 abbrev pub IsReplied : Exchange → Reply → Type 0
 IsReplied exchange reply =
     (status : ℕ) → WasAnswered exchange status → status ≢ 503 → HasAnswer exchange (reply_answer reply)

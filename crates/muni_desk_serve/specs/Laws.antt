@@ -34,8 +34,8 @@ IsAnswerTo Prices (Faulty kind) old link came new after =
 IsAnswerTo Prices Short old link came new after =
     (came ≡ served.Gone) × (after.written ≡ link.written) × (new ≡ old)
 
--- Where no count rises, bytes that begin with a head within the limits get the answer to what they ask
--- for, or memory was wanting.
+-- If no count rises, bytes that begin with a head within the limits get the answer to what they ask
+-- for, or memory ran out.
 abbrev pub RequestsAreAnswered : Pricing → Type 0
 RequestsAreAnswered Prices =
     (old new : Option Tables) (before now : ℕ) (link after : Traffic) (came : Served) (bytes : List ℕ) (reading : Reading)

@@ -17,7 +17,7 @@ use Rattle.muni_desk_serve.specs.Answer.{Answer, reply_answer, bad_answer, unava
 use Rattle.muni_desk_serve.specs.declared.served.Served.{Served}
 use Rattle.muni_desk_serve.specs.declared.served.Served.TheVariants as served
 
--- what a connection tells of itself: the bytes to be taken, those that are written, and how often takes
+-- what a connection exposes: the bytes to be taken, those that are written, and how often takes
 -- and puts have failed
 pub record Traffic : Type 0 where
   pub left : Option (List ℕ)
@@ -25,7 +25,7 @@ pub record Traffic : Type 0 where
   pub take_faults : ℕ
   pub put_faults : ℕ
 
--- the same, by what is told of connections of a type
+-- the same, by what connections of a type expose
 abbrev pub traffic : {L : Type 0} → (L → Option (List ℕ)) → (L → Option (List ℕ)) → (L → ℕ) → (L → ℕ) → L → Traffic
 traffic left written take_faults put_faults link =
     record {
@@ -35,7 +35,7 @@ traffic left written take_faults put_faults link =
       put_faults = put_faults link;
     }
 
--- where the bytes to be taken are told, they are read so
+-- if the bytes to be taken are exposed, they are read so
 abbrev pub Asks : Traffic → Reading → Type 0
 Asks link reading = IfSome link.left (λ bytes. Reads bytes reading)
 
@@ -64,14 +64,14 @@ pub record IsUnavailable (old : Option Tables) (link : Traffic) (answer : Answer
   pub tables : new ≡ old
   pub one : faults ≡ 1
 
--- an answer that is due, with the tables after it; and how many faults of the keeper it tells of
+-- an answer that is due, with the tables after it; and how many faults of the keeper it reports
 abbrev pub IsDue : Pricing → Option Tables → Traffic → Answer → Option Tables → ℕ → Type 0
 IsDue Prices old link answer new faults =
     IsReply Prices old link answer new faults
     ⊎ IsBad old link answer new faults
     ⊎ IsUnavailable old link answer new faults
 
--- nothing is written, no tables change, and no fault of the keeper is told
+-- nothing is written, no tables change, and no fault of the keeper is reported
 pub record IsUnanswered (old : Option Tables) (link : Traffic) (new : Option Tables) (after : Traffic) (faults : ℕ) : Type 0 where
   pub written : after.written ≡ link.written
   pub tables : new ≡ old
@@ -85,7 +85,7 @@ IsCutOff Prices old link new after faults =
     × HasWrittenPart link.written after.written answer.bytes)
 
 -- One connection: the tables and the connection before it, what came of it, and both after it. The
--- number tells how many faults of the keeper its answer tells of, one or none.
+-- number says how many faults of the keeper its answer reports, one or none.
 abbrev pub Serves : Pricing → Option Tables → Traffic → Served → Option Tables → Traffic → ℕ → Type 0
 Serves Prices old link (served.Answered status) new after faults =
     (answer : Answer) × IsDue Prices old link answer new faults × (status ≡ answer.status)
@@ -95,11 +95,11 @@ Serves Prices old link served.Gone new after faults =
 Serves Prices old link served.LinkFault new after faults = IsCutOff Prices old link new after faults
 Serves Prices old link served.NoMemory new after faults = IsUnanswered old link new after faults
 
--- a count rose by so much, or stands at the last value of its type
+-- a count rose by so much, or is at the last value of its type
 abbrev pub RoseBy : ℕ → ℕ → ℕ → Type 0
 RoseBy rise before now = min (before + rise) (2 ^ 64 - 1) ≤ now
 
--- a connection was served, and the keeper counted the faults that its answer tells of
+-- a connection was served, and the keeper counted the faults that its answer reports
 pub record WasServed (Prices : Pricing) (old : Option Tables) (before : ℕ) (link : Traffic) (answer : Served) (new : Option Tables) (now : ℕ) (after : Traffic) : Type 0 where
   pub faults : ℕ
   pub serves : Serves Prices old link answer new after faults
@@ -117,7 +117,7 @@ CountsLink served.NoMemory takes takes_now puts puts_now = (takes_now ≡ takes)
 abbrev pub is_bad_status : ℕ → Bool
 is_bad_status status = list_any (λ bad. bad == status) (400 ∷ 405 ∷ 411 ∷ 413 ∷ 431 ∷ [])
 
--- What an answer leaves of a keeper and of a connection, whatever they expose: a fault that it tells of is
+-- What an answer leaves of a keeper and of a connection, whatever they expose: a fault that it reports is
 -- counted, and what is no command has not come to the keeper.
 pub record LeavesCounted {K L : Type 0} (keeps : keeper.Ghosts K) (takes : source.Ghosts L) (puts : sink.Ghosts L) (came : Served) (old new : K) (before after : L) : Type 0 where
   pub unavailable : came ≡ served.Answered 503 → Rose (keeps.faults old) (keeps.faults new)

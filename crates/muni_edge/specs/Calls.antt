@@ -28,7 +28,7 @@ is_listed calls = list_any (λ number. number == calls.made) calls.failing
 abbrev pub after_fault : CallState → CallState
 after_fault calls = record calls { faults = one_more calls.faults }
 
--- one more call was made, and counted as a fault where it was listed
+-- one more call was made, and counted as a fault if it was listed
 abbrev pub after_call : CallState → CallState
 after_call calls =
     record calls {

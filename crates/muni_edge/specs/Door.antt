@@ -1,4 +1,4 @@
--- What a door tells.
+-- What a door exposes.
 use Rattle.std.specs.Prelude.{ℕ, ◌+◌, ◌-◌, List, [], ◌∷◌, ◌++◌, drop, Option, Some, None}
 
 -- the port that it is bound to, the links that wait and those that are served, and how many are out
@@ -12,7 +12,7 @@ pub record DoorState (L : Type 0) : Type 0 where
 abbrev pub bound_to : {L : Type 0} → ℕ → DoorState L → DoorState L
 bound_to port door = record door { port = Some port }
 
--- where a link was given, the first that waited is out, and all else is as it was
+-- if a link was given, the first that waited is out, and all else is as it was
 abbrev pub after_accept : {L : Type 0} → Option L → DoorState L → DoorState L
 after_accept None door = door
 after_accept (Some link) door = record door { waiting = drop 1 door.waiting; out = door.out + 1 }

@@ -1,7 +1,7 @@
 -- Counts of faults.
 use Rattle.std.specs.Prelude.{◌≡◌, ◌≤◌, ◌+◌, ◌-◌, ◌^◌, ℕ, min, Result, OnOk, OnErr}
 
--- A count of faults rose, or stands at the last value of its type.
+-- A count of faults rose, or is at the last value of its type.
 abbrev pub Rose : ℕ → ℕ → Type 0
 Rose before now = min (before + 1) (2 ^ 64 - 1) ≤ now
 

@@ -4,7 +4,7 @@ use Rattle.muni_edge.specs.Calls.{CallState, none_made}
 use Rattle.muni_edge.specs.MemLink.{LinkState}
 use Rattle.muni_edge.specs.Door.{DoorState}
 
--- what the door tells, and the calls of `bind` and `accept`
+-- what the door exposes, and the calls of `bind` and `accept`
 pub record MemDoorState : Type 0 where
   pub door : DoorState LinkState
   pub calls : CallState

@@ -26,7 +26,7 @@ bytes_after sink piece =
     if is_listed sink.calls then sink.bytes
     else sink.bytes ++ take (sink.room - length sink.bytes) piece
 
--- the calls after a put of so many bytes: one fault was counted where it failed
+-- the calls after a put of so many bytes: one fault was counted if it failed
 abbrev pub calls_after : SinkState → ℕ → CallState
 calls_after sink count =
     record sink.calls {

@@ -1,4 +1,4 @@
--- What a piece adds to a writer, and what reads take from a reader, where the bytes are known.
+-- What a piece adds to a writer, and what reads take from a reader, if the bytes are known.
 use Rattle.std.specs.Prelude.{ℕ, ◌≤◌, List, Option, Result, length, take, OnOk, OnErr}
 use Rattle.std.specs.Io.KnownBytes.{Appends, Consumes}
 

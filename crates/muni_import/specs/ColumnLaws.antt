@@ -18,7 +18,7 @@ use Rattle.muni_import.specs.declared.row.RowName.TheVariants.{Issue, Trade, Cor
 abbrev pub is_day : List ℕ → Bool
 is_day text = is_ok (day_reading text)
 
--- a first interest date: a day where the kind is periodic, and empty for the other kinds
+-- a first interest date: a day if the kind is periodic, and empty for the other kinds
 abbrev pub is_first_date : List ℕ → List ℕ → Bool
 is_first_date kind text =
     if bytes_eq kind (codes "periodic") then is_day text else length text == 0
@@ -27,11 +27,11 @@ is_first_date kind text =
 abbrev pub pays_none : List ℕ → Bool
 pays_none kind = bytes_eq kind (codes "zero") || bytes_eq kind (codes "discount")
 
--- a coupon, which may be empty where no interest is paid
+-- a coupon, which may be empty if no interest is paid
 abbrev pub is_coupon : List ℕ → List ℕ → Bool
 is_coupon kind text = is_ok (coupon_reading text) || (pays_none kind && (length text == 0))
 
--- a price where the basis is a price, and else a yield or a rate, which are written alike
+-- a price if the basis is a price, and else a yield or a rate, which are written alike
 abbrev pub is_value : List ℕ → List ℕ → Bool
 is_value basis text =
     if bytes_eq basis (codes "price") then is_ok (price_reading text)
@@ -93,7 +93,7 @@ pub record IsCounted (name : RowName) (fields : List (List ℕ)) : Type 0 where
   pub named : name_of (field 1 fields) ≡ Some name
   pub counted : has_count name (length fields) ≡ true
 
--- a column behind the name does not read
+-- a column after the name does not read
 pub record IsBad (name : RowName) (fields : List (List ℕ)) (column : ℕ) : Type 0 where
   pub behind_name : 2 ≤ column
   pub does_not_read : slice_get (columns_of name fields) (column - 2) ≡ Some false
@@ -103,13 +103,13 @@ pub record IsLeastBad (name : RowName) (fields : List (List ℕ)) (column : ℕ)
   pub bad : IsBad name fields column
   pub least : (other : ℕ) → IsBad name fields other → column ≤ other
 
--- where the first field is no name, column 1 is told
+-- if the first field is no name, column 1 is reported
 abbrev pub NameIsFirst : Type 0
 NameIsFirst =
     (fields : List (List ℕ))
     → name_of (field 1 fields) ≡ None → row_of fields ≡ Err (BadField 1)
 
--- else, where a row has another number of fields than its name asks for, that is told
+-- else, if a row has another number of fields than its name asks for, that is reported
 abbrev pub CountIsSecond : Type 0
 CountIsSecond =
     (name : RowName) (fields : List (List ℕ)) → name_of (field 1 fields) ≡ Some name
@@ -121,7 +121,7 @@ LeastIsTold =
     (name : RowName) (fields : List (List ℕ)) (column : ℕ) → IsCounted name fields
     → (row_of fields ≡ Err (BadField column)) ↔ IsLeastBad name fields column
 
--- and a row is a command exactly where each of its columns reads
+-- and a row is a command exactly if each of its columns reads
 abbrev pub OthersAreCommands : Type 0
 OthersAreCommands =
     (name : RowName) (fields : List (List ℕ)) → IsCounted name fields

@@ -33,7 +33,7 @@ abbrev pub ◌>>=◌ : {A B : Type 0} → Result A RowFault → (A → Result B 
 abbrev pub Row : Type 0
 Row = Result Command RowFault
 
--- the field of a column; behind the last one each is empty
+-- the field of a column; after the last one each is empty
 abbrev pub field : ℕ → List (List ℕ) → List ℕ
 field column fields = unwrap_or (field_at fields (column - 1)) []
 
@@ -57,7 +57,7 @@ abbrev pub is_basis : List ℕ → Bool
 is_basis text =
     bytes_eq text (codes "yield") || (bytes_eq text (codes "price") || bytes_eq text (codes "rate"))
 
--- a basis, and in the column behind it a value
+-- a basis, and in the column after it a value
 abbrev pub given_in : ℕ → List (List ℕ) → Result Given RowFault
 given_in column fields =
     if is_basis (field column fields)

@@ -20,7 +20,7 @@ TextsHaveRows = (text : List ℕ) → AreRows text (rows_of text)
 abbrev pub TextsHaveNoOtherRows : Type 0
 TextsHaveNoOtherRows = (text : List ℕ) (rows : List Row) → AreRows text rows → rows ≡ rows_of text
 
--- behind a name and so many fields, an empty last field may be left out
+-- after a name and so many fields, an empty last field may be left out
 abbrev pub LastMayBeLeftOut : List ℕ → ℕ → Type 0
 LastMayBeLeftOut name count =
     (fields : List (List ℕ)) → length fields ≡ count → row_of (name ∷ fields ++ [] ∷ []) ≡ row_of (name ∷ fields)

@@ -12,7 +12,7 @@ rows_from state bytes = map row_of (records_from default_config (length bytes + 
 unfoldable pub rows_of : List ℕ → List Row
 rows_of text = map row_of (records default_config (strip_bom text))
 
--- the first of the rows that are left, if there is one, and those behind it
+-- the first of the rows that are left, if there is one, and those after it
 pub record IsNext (left : List Row) (next : Option Row) (behind : Option (List Row)) : Type 0 where
   pub first : next ≡ slice_get left 0
   pub rest : behind ≡ Some (drop 1 left)

@@ -10,7 +10,7 @@ use Rattle.muni_journal_record.specs.Body.{body_of, put_of}
 use Rattle.muni_journal_record.specs.declared.put.Put.{Put}
 use Rattle.muni_journal.specs.Puts.{put_on, after}
 
--- the gate behind some slots, and the tables to which these lead
+-- the gate after some slots, and the tables to which these lead
 pub record Place : Type 0 where
   pub gate : ℕ
   pub tables : Tables
@@ -32,7 +32,7 @@ abbrev pub put_at : List ℕ → ℕ → Option Put
 put_at bytes place =
     if is_length (number_at bytes place) then put_of (bytes_at bytes (place + 4) (number_at bytes place)) else None
 
--- behind the open slot at a place, where it holds a record that reads and a put that meets its condition
+-- after the open slot at a place, if it holds a record that reads and a put that meets its condition
 unfoldable pub behind_slot : List ℕ → Place → Option Place
 behind_slot bytes at =
     option_map (λ tables. record { gate = at.gate + 5 + number_at bytes (at.gate + 1); tables = tables })
@@ -65,6 +65,6 @@ IsNoJournal bytes = (e : Place) → journal_of bytes ≡ Some e → 2 ^ 40 < e.g
 unfoldable pub piece_of : Put → List ℕ
 piece_of put = four (length (body_of put)) ++ (body_of put ++ 0 ∷ [])
 
--- the place behind the slot of a put
+-- the place after the slot of a put
 abbrev pub place_with : Place → Put → Place
 place_with at put = record { gate = at.gate + 5 + length (body_of put); tables = after at.tables put }

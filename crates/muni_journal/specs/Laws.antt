@@ -37,7 +37,7 @@ pub record IsJournalOf (bytes : List ℕ) (tables : Tables) : Type 0 where
   pub slots : StandsAt 0 (slots_of puts) bytes
   pub closed : byte_at bytes (length (slots_of puts)) ≢ 1
 
--- Puts that lead from empty tables to these, written as slots with 0 behind them, stand for these tables,
+-- Puts that lead from empty tables to these, written as slots with 0 after them, stand for these tables,
 -- whatever follows.
 abbrev pub WhatIsWrittenStands : Type 0
 WhatIsWrittenStands =

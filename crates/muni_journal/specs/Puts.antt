@@ -15,6 +15,6 @@ abbrev pub after : Tables → Put → Tables
 after tables (Issue row) = with_issue row tables
 after tables (Version key number version) = with_version key version tables
 
--- the same, where its condition holds
+-- the same, if its condition holds
 abbrev pub put_on : Tables → Put → Option Tables
 put_on tables put = if is_next tables put then Some (after tables put) else None

@@ -11,7 +11,7 @@ abbrev pub off_shelf : Option (List ℕ) → Option (List ℕ × Tables) → Opt
 off_shelf (Some name) held = Some (name, no_tables)
 off_shelf None held = held
 
--- where the disk of a name tells what it reads as, it tells the tables for which that stands; of the
+-- If the disk of a name exposes what it reads as, the cabinet exposes the tables for which that stands, and of the
 -- disk that is off its shelf the others
 abbrev pub told_of : Option (List ℕ × Tables) → (List ℕ → Option (List ℕ)) → List ℕ → Option Tables
 told_of None disks name = option_and_then tables_of (disks name)

@@ -32,8 +32,8 @@ struct Unreleased<D: Disk> {
     held: Held<D>,
 }
 
-/// Lends keepers over the journals of a shelf, one at a time. Where the disk of a name tells what it
-/// reads as, and that stands for tables, it tells these.
+/// Lends keepers over the journals of a shelf, one at a time. If the disk of a name exposes what it
+/// reads as, and that stands for tables, the cabinet exposes these.
 ///
 /// A keeper that comes back with a failed put that cannot be taken back is held, and the next fetch of
 /// its name lends it again. A fetch of another name first tries to let it go.
@@ -77,7 +77,7 @@ fn release<S: Shelf>(shelf: &mut S, held: Held<S::D>) -> Result<(), Unreleased<S
 }
 
 impl<S: Shelf> JournalCabinet<S> {
-    /// A cabinet over a shelf of which no disk is out.
+    /// A cabinet over a shelf with no disk out.
     pub fn new(alloc: Global, shelf: S) -> JournalCabinet<S>
         requires { S.out shelf ≡ None }
         ensures shelf { result.shelf ≡ shelf }

@@ -77,7 +77,7 @@ fn body_at<D: Disk>(disk: &mut D, place: u64, count: usize) -> Result<Option<Put
     Ok(put_of(&room[..count]))
 }
 
-/// Puts what the open slot at a gate holds, and gives the gate behind it.
+/// Puts what the open slot at a gate holds, and gives the gate after it.
 #[tactic(auto, unfolding(crate::specs::Journal::behind_slot))]
 fn next_gate<D: Disk>(disk: &mut D, gate: u64, kept: &mut MemTables) -> Result<u64, FetchFault>
     requires { gate ≤ 2 ^ 40 }
@@ -131,7 +131,7 @@ pub(crate) fn read_slots<D: Disk>(disk: &mut D, kept: &mut MemTables) -> Result<
     ensures found { IfOk result (λ gate. IfRead (D.bytes disk.old)
         (λ c. spec.journal_of c ≡ Some (record { gate = gate; tables = kept.new }))) }
     ensures room { IfOk result (λ gate. gate ≤ 2 ^ 40) }
-    // It is no journal only where the disk stands for no tables, or its slots end past the limit.
+    // It is no journal only if the disk stands for no tables, or its slots end past the limit.
     ensures none { result ≡ Err FetchFault.NotAJournal → IfRead (D.bytes disk.old) spec.IsNoJournal }
     ensures keeps { KeepsBytes D.Disk (FetchFault.Disk DiskFault.Failed) result disk.old disk.new }
     ensures stops { StopsLeave D.clock D.since disk.old disk.new (D.image disk.old) }

@@ -65,8 +65,8 @@ impl<D: Disk> JournalKeeper<D> {
         Ok(())
     }
 
-    /// Puts where nothing is in doubt. Where the tables find no memory the put is in doubt too, though
-    /// the disk has it.
+    /// Puts while nothing is in doubt. If the tables find no memory the put is in doubt too, though the
+    /// disk has it.
     fn add(&mut self, put: &Put, piece: &[u8]) -> Result<(), DiskFault>
         requires at_rest { self.old.in_doubt ≡ None }
         requires next { is_next self.old.kept put.now ≡ true }

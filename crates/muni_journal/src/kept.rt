@@ -30,7 +30,7 @@ fn next_number(kept: &MemTables, key: &Key) -> u64
     }
 }
 
-/// Puts what meets its condition, and tells whether it did.
+/// Puts what meets its condition, and says whether it did.
 pub(crate) fn put_next(kept: &mut MemTables, put: &Put) -> Result<bool, AllocError>
     ensures put { result ≡ Ok true → spec.put_on kept.old put.now ≡ Some kept.new }
     ensures refused { result ≡ Ok false → spec.put_on kept.old put.now ≡ None }

@@ -35,7 +35,7 @@ pub fn open<D: Disk + Drop>(alloc: Global, disk: D) -> Result<JournalKeeper<D>, 
     ensures settled { IfOk result (λ keeper. keeper.in_doubt ≡ None) }
     ensures uncounted { IfOk result (λ keeper. keeper.faults ≡ 0) }
 
-    // It is no journal only where the disk stands for no tables, or its slots end past the limit.
+    // It is no journal only if the disk stands for no tables, or its slots end past the limit.
     ensures none { IfErr result (λ unfetched. unfetched.fault ≡ FetchFault.NotAJournal
         → IfRead (D.bytes disk) IsNoJournal) }
     ensures failed { IfErr result (λ unfetched. unfetched.fault ≡ FetchFault.Disk DiskFault.Failed
@@ -67,7 +67,7 @@ pub fn open<D: Disk + Drop>(alloc: Global, disk: D) -> Result<JournalKeeper<D>, 
 }
 
 impl<D: Disk> JournalKeeper<D> {
-    /// Its disk, which stands for its tables where no put is in doubt.
+    /// Its disk, which stands for its tables if no put is in doubt.
     pub fn disk(&self) -> &D
         ensures disk { result.now ≡ self.now.disk }
         ensures stands { self.now.in_doubt ≡ None → HasTables (D.bytes self.now.disk) self.now.kept }
@@ -75,7 +75,7 @@ impl<D: Disk> JournalKeeper<D> {
         &self.disk
     }
 
-    /// Its disk, which then stands for its tables, where no put is in doubt or the one that is can be
+    /// Its disk, which then stands for its tables, if no put is in doubt or the one that is can be
     /// taken back.
     pub(crate) fn into_disk(self) -> Result<D, Unsettled<D>>
         ensures stands { IfOk result (λ disk. HasTables (D.bytes disk) self.kept) }

@@ -5,7 +5,7 @@ use Rattle.muni_journal_disk.specs.Bytes.{byte_at, IsSameOutside}
 use Rattle.muni_journal_disk.specs.declared.fault.DiskFault.{DiskFault}
 use Rattle.muni_journal_disk.specs.declared.fault.DiskFault.TheVariants.{Failed}
 
--- The disk reads as these bytes, with any number of 0 behind them. A disk that does not tell reads
+-- The disk reads as these bytes, with any number of 0 after them. A disk that does not tell reads
 -- as none.
 abbrev pub ReadsAs : Option (List ℕ) → List ℕ → Type 0
 ReadsAs None image = ⊥

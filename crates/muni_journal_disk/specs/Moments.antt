@@ -19,7 +19,7 @@ at_present first past c = (
   (λ now. record { back = 0; since = omega arith; was = now }),
 )
 
--- what the disk reads as is an image, where it is as synced at every place that is not unsure
+-- what the disk reads as is an image, if it is as synced at every place that is not unsure
 pub is_present : (first bytes : List ℕ) (past : List MadeCall) → ((i : ℕ) → is_unsure past i ≡ false → byte_at bytes i ≡ byte_at (synced_bytes first past) i)
     → (c : List ℕ) → ReadsAs (Some bytes) c → IsImage first past c
 is_present first bytes past sure c reads = record { each = λ i certain. reads i ∙ sure i certain }

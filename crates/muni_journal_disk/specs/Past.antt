@@ -38,7 +38,7 @@ synced_bytes first (call ∷ past) = synced_after call call.step (synced_bytes f
 pub record IsImage (first : List ℕ) (past : List MadeCall) (image : List ℕ) : Type 0 where
   pub each : (i : ℕ) → is_unsure past i ≡ false → byte_at image i ≡ byte_at (synced_bytes first past) i
 
--- so many bytes of a piece, or all where it has fewer
+-- so many bytes of a piece, or all if it has fewer
 abbrev pub kept_in : ℕ → Piece → ℕ
 kept_in kept piece = min kept (length piece.bytes.items)
 

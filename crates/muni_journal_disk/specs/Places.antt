@@ -10,13 +10,13 @@ use Rattle.muni_journal_disk.specs.declared.mem_shelf.Place.{Place}
 abbrev pub has_place : List Place → List ℕ → Bool
 has_place places name = list_any (λ (place : Place). pointwise nat_eq place.name.items name) places
 
--- the disk of a name, where it has one that is not out
+-- the disk of a name, if it has one that is not out
 abbrev pub disk_under : List Place → List ℕ → Option MemDisk
 disk_under [] name = None
 disk_under (place ∷ places) name =
     if pointwise nat_eq place.name.items name then place.disk else disk_under places name
 
--- what a disk reads as, and nothing where there is none
+-- what a disk reads as, and nothing if there is none
 abbrev pub bytes_of : Option MemDisk → List ℕ
 bytes_of None = []
 bytes_of (Some disk) = disk.bytes.items

@@ -23,7 +23,7 @@ pub fn overlaid(
     Ok(next)
 }
 
-/// The bytes, with 0 behind them up to a length.
+/// The bytes, followed by 0 up to a length.
 fn padded(alloc: Global, bytes: &[u8], len: usize) -> Result<Vec<u8>, AllocError>
     ensures same { IfOk result (λ next. (i : ℕ) → byte_at next.items i ≡ byte_at bytes.now i) }
     ensures long { IfOk result (λ next. len ≤ length next.items) }

@@ -8,9 +8,9 @@ ghost use Rattle.muni_journal_disk.specs.Frames.{Keeps, IsSame, TakesTime};
 use crate::fault::DiskFault;
 
 /// What a journal is kept on: bytes, with 0 at every place past their end. A write can be lost until
-/// the next sync. A disk tells what it reads as after a call exactly where it told that before.
+/// the next sync. A disk exposes what it reads as either at every call or at none.
 pub trait Disk {
-    /// What it reads as, where it tells that.
+    /// What it reads as, if it exposes that.
     ghost bytes: { Self → Option (List ℕ) };
 
     /// What a stop at this moment may leave. Each such list of bytes is an image of the disk.
@@ -34,8 +34,8 @@ pub trait Disk {
         ensures keeps { Keeps bytes image faults DiskFault.Failed result self.old self.new }
         ensures time { TakesTime clock since image self.old self.new };
 
-    /// Writes a piece at a place. Until the next sync a stop may leave any bytes there, also where
-    /// the write is refused.
+    /// Writes a piece at a place. Until the next sync a stop may leave any bytes there, also if the
+    /// write is refused.
     fn write(&mut self, place: u64, piece: &[u8]) -> Result<(), DiskFault>
         requires { place + length piece.now < 2 ^ 41 }
 
@@ -48,7 +48,7 @@ pub trait Disk {
         ensures same { IsSame bytes faults DiskFault.Failed result self.old self.new }
         ensures time { TakesTime clock since image self.old self.new };
 
-    /// Sees that what was written stays: where it succeeds, a stop leaves what the disk reads as.
+    /// Sees that what was written stays: after a success, a stop leaves what the disk reads as.
     fn sync(&mut self) -> Result<(), DiskFault>
         ensures only { OnOk result ((c : List ℕ) → image self.new c → ReadsAs (bytes self.old) c) }
         ensures keeps { Keeps bytes image faults DiskFault.Failed result self.old self.new }

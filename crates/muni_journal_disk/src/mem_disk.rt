@@ -32,7 +32,7 @@ pub struct MemDisk {
     ghost sure: { (i : ℕ) → is_unsure past.items i ≡ false → byte_at bytes.items i ≡ byte_at (synced_bytes first.items past.items) i },
 }
 
-/// The bytes that a stop within a call leaves, where so many bytes of its piece were written.
+/// The bytes that a stop within a call leaves, after a number of bytes of its piece were written.
 fn stopped(alloc: Global, call: &MadeCall, kept: usize) -> Result<Vec<u8>, AllocError>
     ensures { IfOk result
         (λ bytes. IsStopped call.now.before.items kept bytes.items call.now.step) }
@@ -73,9 +73,9 @@ impl MemDisk {
         self.past.len()
     }
 
-    /// The disk that a stop within the call of a number leaves, where so many bytes of what that
-    /// call was to write were written, or all where it had fewer. Where no call has that number it
-    /// is the disk as it is now. No call of it fails.
+    /// The disk that a stop within the call of a number leaves, after the first `kept` bytes of what
+    /// that call was to write were written, or all if it had fewer. If no call has that number it is
+    /// the disk as it is now. No call of it fails.
     pub fn after_stop(&self, number: usize, kept: usize) -> Result<MemDisk, DiskFault>
         ensures stopped { IfOk result (λ disk. number < length self.now.past.items
             → IfSome (call_of self.now.past.items number)

@@ -29,7 +29,7 @@ pub struct MemShelf {
     ghost placed: { ForSome out (λ name. has_place places.items name.items ≡ true) },
 }
 
-/// Exchanges a disk with the one in the place of a name, and tells whether the name has a place.
+/// Exchanges a disk with the one in the place of a name, and says whether the name has a place.
 fn exchange(places: &mut [Place], name: &[u8], disk: &mut Option<MemDisk>) -> bool
     ensures there { result ≡ has_place places.old name.now }
     ensures places { (other : List ℕ) → has_place places.new other ≡ has_place places.old other }
@@ -51,7 +51,7 @@ fn exchange(places: &mut [Place], name: &[u8], disk: &mut Option<MemDisk>) -> bo
     exchange(rest, name, disk)
 }
 
-/// Takes the disk out of the place of a name, which is made where the name has none yet.
+/// Takes the disk out of the place of a name, which is made if the name has none yet.
 fn take_out(
     alloc: Global,
     places: &mut Vec<Place>,

@@ -11,11 +11,11 @@ use crate::fault::DiskFault;
 pub trait Shelf {
     type D: Disk + Drop;
 
-    /// What the disk under a name reads as, where it tells that. Of the disk that is out it tells some
-    /// bytes or other.
+    /// What the disk under a name reads as, if it exposes that. For the disk that is out these are
+    /// unspecified.
     ghost told: { Self → List ℕ → Option (List ℕ) };
 
-    /// How often the disk under a name has failed. It is told where the disk tells what it reads as.
+    /// How often the disk under a name has failed. It is exposed if the disk exposes what it reads as.
     ghost disk_faults: { Self → List ℕ → ℕ };
 
     /// The moment of the disk under a name, and what a stop at some moment since the one of a number may

@@ -7,7 +7,7 @@ use muni_journal_disk::{Disk, DiskFault};
 use std::fs::File;
 use std::os::unix::fs::FileExt;
 
-/// A disk over a file. It tells nothing of what the file holds.
+/// A disk over a file. It does not expose what the file holds.
 #[derive(Drop)]
 pub struct FileDisk {
     file: File,

@@ -47,7 +47,7 @@ fn look_at(rt: &HostRuntime, path: &str, file: &File) -> io::Result<()> {
 }
 
 impl<'a> FileShelf<'a> {
-    /// A shelf of which no disk is out.
+    /// A shelf with no disk out.
     pub fn new(rt: &'a HostRuntime) -> FileShelf<'a>
         ensures none_out { result.out ≡ None }
         ensures uncounted { result.faults ≡ 0 }

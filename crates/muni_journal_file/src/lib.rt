@@ -1,4 +1,4 @@
-//! Journals in files: a disk over a file, and a shelf over the files of a folder. They tell no bytes.
+//! Journals in files: a disk over a file, and a shelf over the files of a folder. They expose no bytes.
 #![tactic(auto)]
 
 mod file_disk;

@@ -12,7 +12,7 @@ unfoldable pub body_of : Put → List ℕ
 body_of (Issue row) = 1 ∷ row_bytes row
 body_of (Version key number version) = 2 ∷ version_bytes key number version
 
--- what bytes are read as, whatever stands behind it
+-- what bytes are read as, whatever follows
 abbrev pub begun_of : List ℕ → Option Put
 begun_of [] = None
 begun_of (kind ∷ rest) =

@@ -55,7 +55,7 @@ name_of text = if nat_le (length text) 60 then Some text else None
 abbrev pub few_calls_of : ℕ → List ℕ → Option (List Call)
 few_calls_of count bytes = if nat_le count 40 then calls_of count bytes else None
 
--- the dates of an issue, and the coupon and the calls behind their number
+-- the dates of an issue, and the coupon and the calls after their number
 abbrev pub dates_bytes : IssueRow → List ℕ
 dates_bytes row = day_bytes row.dated ++ (first_bytes row.kind ++ day_bytes row.maturity)
 

@@ -71,7 +71,7 @@ pub(crate) fn push_day(body: &mut Body, day: Day)
     push_byte(body, day.day() as u8);
 }
 
-/// A text behind its length.
+/// A length, and then a text.
 pub(crate) fn push_text(body: &mut Body, text: &[u8])
     requires room { array_vec_len body.old + 1 + length text.now ≤ 1_024 }
     requires short { length text.now < 2 ^ 8 }
@@ -82,7 +82,7 @@ pub(crate) fn push_text(body: &mut Body, text: &[u8])
     push(body, text);
 }
 
-/// So many bytes, and the rest.
+/// The first bytes, and the rest.
 pub(crate) fn front(bytes: &[u8], count: usize) -> Option<(&[u8], &[u8])>
     ensures found { option_map (λ found. (found.0.now, found.1.now)) result ≡ words.front count bytes.now }
     ensures long { IfSome result (λ found. length found.0.now ≡ count) }
@@ -169,7 +169,7 @@ pub(crate) fn day_of(bytes: &[u8]) -> Option<Day>
     Day::of(u64::from(year), u64::from(bytes[2]), u64::from(bytes[3]))
 }
 
-/// A text behind its length.
+/// A length, and then a text.
 pub(crate) fn text_front(bytes: &[u8]) -> Option<(&[u8], &[u8])>
     ensures { option_map (λ found. (found.0.now, found.1.now)) result ≡ spec.text_front bytes.now }
 {

@@ -2,8 +2,8 @@
 
 ghost use Rattle.muni_journal_record.specs.Laws.{WhatIsWrittenIsRead, OnePutHasOneBody};
 
-/// What was written is read, and what is read was written so: one put has one body, and bytes that
-/// go on behind a body are none.
+/// What was written is read, and what is read was written so: one put has one body, and a body with
+/// more bytes after it is none.
 pub fn bodies_are_puts()
     ensures read { WhatIsWrittenIsRead }
     ensures one { OnePutHasOneBody }

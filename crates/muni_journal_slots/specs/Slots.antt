@@ -2,7 +2,7 @@
 use Rattle.std.specs.Prelude.{◌≡◌, ◌≢◌, ◌⊎◌, ℕ, ◌+◌, List}
 use Rattle.muni_journal_disk.specs.Bytes.{byte_at, StandsAt, IsSameBefore, IsSameOutside}
 
--- nothing before the gate has changed, and the gate is closed or the whole piece stands behind it
+-- nothing before the gate has changed, and the gate is closed or the whole piece follows it
 pub record IsStep (gate : ℕ) (piece old new : List ℕ) : Type 0 where
   pub before : IsSameBefore gate old new
   pub whole : (byte_at new gate ≢ 1) ⊎ StandsAt (gate + 1) piece new
@@ -11,12 +11,12 @@ pub record IsStep (gate : ℕ) (piece old new : List ℕ) : Type 0 where
 abbrev pub IsUnopened : ℕ → List ℕ → List ℕ → Type 0
 IsUnopened gate old new = IsSameBefore (gate + 1) old new
 
--- nothing before the gate has changed, the piece stands behind it, and the gate holds any byte
+-- nothing before the gate has changed, the piece follows it, and the gate holds any byte
 pub record IsDoubtful (gate : ℕ) (piece old new : List ℕ) : Type 0 where
   pub before : IsSameBefore gate old new
   pub behind : StandsAt (gate + 1) piece new
 
--- nothing before the gate has changed, the gate is open, and the piece stands behind it
+-- nothing before the gate has changed, the gate is open, and the piece follows it
 pub record IsPut (gate : ℕ) (piece old new : List ℕ) : Type 0 where
   pub before : IsSameBefore gate old new
   pub is_open : byte_at new gate ≡ 1

@@ -1,4 +1,4 @@
-//! Slots on a disk: each is a gate byte and what stands behind it, and counts where its gate is open.
+//! Slots on a disk: each is a gate byte and what comes after it, and counts if its gate is open.
 #![tactic(auto)]
 
 mod slots;

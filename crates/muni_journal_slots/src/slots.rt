@@ -1,4 +1,4 @@
-//! Puts a piece behind a closed gate and opens the gate, so that a stop leaves the slot whole or not
+//! Puts a piece after a closed gate and opens the gate, so that a stop leaves the slot whole or not
 //! at all.
 
 ghost use Rattle.std.specs.Prelude.{◌≢◌, ◌<◌, ◌+◌, ◌^◌, length, OnOk, IsErrOf};
@@ -29,7 +29,7 @@ pub enum SlotFault {
     InDoubt(DiskFault),
 }
 
-/// Puts a piece behind the closed gate at the place `gate`, and then opens the gate.
+/// Puts a piece after the closed gate at the place `gate`, and then opens the gate.
 ///
 /// The piece is to end with the closed gate of the next slot. Two writes and two syncs.
 pub fn put_slot<D: Disk>(disk: &mut D, gate: u64, piece: &[u8]) -> Result<(), SlotFault>

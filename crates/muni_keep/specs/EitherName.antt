@@ -6,7 +6,7 @@ use Rattle.std.specs.Cmp.Lexicographic.{pointwise}
 abbrev pub prefix : List ℕ
 prefix = 106 ∷ 111 ∷ 117 ∷ 114 ∷ 110 ∷ 97 ∷ 108 ∷ 58 ∷ []
 
--- what stands behind `journal:`, if a name begins so
+-- what follows `journal:`, if a name begins so
 abbrev pub journal_name : List ℕ → Option (List ℕ)
 journal_name name = if pointwise nat_eq (take 8 name) prefix then Some (drop 8 name) else None
 

@@ -32,7 +32,7 @@ abbrev pub new_cabinet : List (List ℕ × KeeperState) → List ℕ → Cabinet
 new_cabinet keepers failing =
     record { keepers = from_entries keepers; out = None; calls = none_made failing }
 
--- the keeper of a name, which is new where there is none yet
+-- the keeper of a name, which is new if there is none yet
 abbrev pub keeper_at : Keepers → List ℕ → KeeperState
 keeper_at keepers name = unwrap_or (get keepers name) (new_keeper [])
 

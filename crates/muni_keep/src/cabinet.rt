@@ -12,8 +12,8 @@ use crate::keeper::Keeper;
 pub trait Cabinet {
     type K: Keeper;
 
-    /// The tables under a name, where it tells them. Of the name whose keeper is out it tells some
-    /// tables or other.
+    /// The tables under a name, if it exposes them. For the name whose keeper is out they are
+    /// unspecified.
     ghost told: { Self → List ℕ → Option Tables };
 
     /// How often it has failed.

@@ -32,7 +32,7 @@ impl<A: Cabinet, B: Cabinet> Either<A, B> {
     }
 }
 
-/// What stands behind `journal:`, if a name begins so.
+/// What follows `journal:`, if a name begins so.
 fn journal_name(name: &[u8]) -> Option<&[u8]>
     ensures { option_map (λ rest. rest.now) result ≡ spec.journal_name name.now }
 {

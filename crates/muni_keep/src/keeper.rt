@@ -10,9 +10,9 @@ use arrayvec::ArrayVec;
 use muni_msg::{DeskName, Key, Line, Reference, Version};
 use muni_terms::Issue;
 
-/// What keeps the tables of the desk. It tells them after a call exactly where it told them before.
+/// What keeps the tables of the desk. It exposes them either at every call or at none.
 pub trait Keeper {
-    /// The issues and the trades that it keeps, where it tells them.
+    /// The issues and the trades that it keeps, if it exposes them.
     ghost tables: { Self → Option Tables };
 
     /// How often it has failed.
@@ -48,13 +48,13 @@ pub trait Keeper {
 
         ensures edits { Edits tables faults lent_as (with_version key.now version.now) result self.old self.new };
 
-    /// How many trades of a desk are kept, or 4,294,967,295 where there are more.
+    /// How many trades of a desk are kept, or 4,294,967,295 if there are more.
     fn trades(&mut self, desk: &DeskName) -> Result<u32, KeepFault>
         ensures found { Found (tables self.old) result (λ t. trade_count t desk.now) }
         ensures reads { Reads tables faults lent_as result self.old self.new };
 
-    /// The first 50 trades of a desk after a reference, or the first of all where none is given, in
-    /// the order of their references. Each has its last version.
+    /// The first 50 trades of a desk after a reference, or the first of all if none is given, in the
+    /// order of their references. Each has its last version.
     fn page(
         &mut self,
         desk: &DeskName,

@@ -52,7 +52,7 @@ impl Keepers {
         Ok(self.keepers.insert(name, keeper)?)
     }
 
-    /// Takes the keeper of a name, which is new where there is none yet, and leaves a new one in its
+    /// Takes the keeper of a name, or a new one if there is none yet, and leaves a new one in its
     /// place.
     fn take(&mut self, alloc: Global, name: StoreName) -> Result<MemKeeper, NoMemory>
         ensures keeper { IfOk result (λ keeper. keeper ≡ keeper_at self.old name) }

@@ -10,7 +10,7 @@ use arrayvec::ArrayVec;
 use muni_msg::{DeskName, Line, Reference, Version};
 use std::collections::btree_map::Range;
 
-/// The first 50 trades of a desk after a reference, or the first of all where none is given.
+/// The first 50 trades of a desk after a reference, or the first of all if none is given.
 pub(crate) fn page(
     desks: &Desks<Version>,
     desk: &DeskName,

@@ -67,7 +67,7 @@ impl<V: Copy + Drop> Trades<V> {
         self.trades.get(reference)
     }
 
-    /// The trades after a reference, or all where none is given, in the order of their references.
+    /// The trades after a reference, or all if none is given, in the order of their references.
     pub(crate) fn past(&self, after: &Option<Reference>) -> Range<'_, Reference, Trade<V>>
         ensures { result ≡ spec.trades_past after.now self.now }
     {

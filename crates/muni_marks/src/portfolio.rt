@@ -35,8 +35,8 @@ use std::thread::Threads;
 /// The greatest number of bytes of a portfolio.
 pub const LIMIT: usize = 1_048_576;
 
-/// Marks each row of a portfolio by the issues that a store keeps, and writes a line on each and the
-/// total behind them.
+/// Marks each row of a portfolio by the issues that a store keeps, and writes a line on each and then
+/// the total.
 ///
 /// The input is read whole before the store is fetched, and each CUSIP is asked for once. Nothing is
 /// written before all rows are marked.
@@ -127,7 +127,7 @@ fn fetch_issues<C: Cabinet>(
     issues
 }
 
-// The issues that rows name, of which each is asked for once.
+// The issues that rows name. Each is asked for once.
 fn kept_issues<K: Keeper>(
     alloc: Global,
     keeper: &mut K,
@@ -147,7 +147,7 @@ fn kept_issues<K: Keeper>(
     Ok(issues)
 }
 
-// What is kept under a CUSIP, which is asked for where it is not known yet.
+// What is kept under a CUSIP, which is asked for if it is not known yet.
 fn ask<K: Keeper>(
     keeper: &mut K,
     cusip: &[u8; 9],

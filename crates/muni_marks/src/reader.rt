@@ -13,8 +13,8 @@ use muni_import::columns::{field, in_column};
 use muni_msg::{Asked, Given, Side, read_cusip};
 use std::alloc::Global;
 
-/// Reads all rows of a portfolio: what each asks for, or why it is no row. Want of memory is the only
-/// refusal.
+/// Reads all rows of a portfolio: what each asks for, or why it is no row. It fails only if memory
+/// runs out.
 ///
 /// A row has four fields: a CUSIP, a par, a settlement and a yield. It has no name.
 pub fn read_marks(alloc: Global, text: &[u8]) -> Result<Vec<Result<Asked, RowFault>>, NoMemory>

@@ -14,7 +14,7 @@ cut_at_blanks [] = [] ∷ []
 cut_at_blanks (byte ∷ text) =
     if byte == 32 then [] ∷ cut_at_blanks text else in_front byte (cut_at_blanks text)
 
--- what stands behind a blank, cut, if there is one
+-- what follows a blank, cut, if there is one
 abbrev pub cut_behind : Option (List ℕ) → List (List ℕ)
 cut_behind None = []
 cut_behind (Some text) = cut_at_blanks text

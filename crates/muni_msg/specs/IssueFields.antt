@@ -19,12 +19,12 @@ issue_name_reading text =
     if nat_le 1 (length text) && nat_le (length text) 60 then Some (record { items = text })
     else None
 
--- a coupon, which may be left out where no interest is paid
+-- a coupon, which may be left out if no interest is paid
 abbrev pub coupon_by : Bool → List ℕ → Option ℕ
 coupon_by pays text =
     if not pays && (length text == 0) then Some 0 else result_ok (coupon_reading text)
 
--- texts as calls, where each of them reads as one
+-- texts as calls, if each of them reads as one
 abbrev pub calls_reading : List (List ℕ) → Option (List Call)
 calls_reading [] = Some []
 calls_reading (text ∷ texts) = do

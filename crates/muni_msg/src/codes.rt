@@ -135,7 +135,7 @@ impl Given {
         }
     }
 
-    /// What is given by a number and so many units, if they name anything.
+    /// What is given by a number and an amount in units, if they name anything.
     pub fn of_code(code: u8, units: i64) -> Option<Given>
         ensures { result ≡ spec.given_of_code code units }
     {

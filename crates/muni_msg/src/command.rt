@@ -8,7 +8,7 @@ use crate::{Asked, DeskName, Figures, Reference, Refusal, Terms, Version};
 use arrayvec::ArrayVec;
 use muni_terms::{Issue, IssueRow};
 
-/// Which trade of which desk.
+/// A trade of a desk.
 #[derive(Debug, Drop)]
 pub struct Key {
     pub desk: DeskName,
@@ -42,7 +42,7 @@ pub enum Command {
     },
     /// For figures, with nothing kept.
     Quote(Asked),
-    /// For the trades of a desk, after a reference where one is given.
+    /// For the trades of a desk, after a reference if one is given.
     List {
         desk: DeskName,
         after: Option<Reference>,

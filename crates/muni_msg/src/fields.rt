@@ -12,7 +12,7 @@ use muni_terms::{Call, Kind};
 
 /// The kind of security that a text names: `periodic`, `zero`, `at-redemption` or `discount`.
 ///
-/// The text of the first interest date stands exactly beside `periodic`.
+/// A first interest date is given exactly if the kind is `periodic`.
 pub fn read_kind(text: &[u8], first: Option<&[u8]>) -> Option<Kind>
     ensures { result ≡ spec.kind_reading text.now (option_map (λ f. f.now) first.entry) }
 {

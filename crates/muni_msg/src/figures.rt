@@ -4,7 +4,7 @@ use muni_days::Day;
 use muni_dec::{Cents, Price, Price3, Yield3};
 use muni_terms::Label;
 
-/// What a confirmation prints of a trade, for par of the trade where it is money.
+/// What a confirmation prints of a trade. Money is for the par of the trade.
 #[derive(Clone, Copy, Debug, PartialEq, Eq)]
 pub struct Figures {
     /// The dollar price per 100 of par, computed or as given.

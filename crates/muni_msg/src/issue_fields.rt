@@ -37,8 +37,8 @@ pub fn read_issue_name(text: &[u8]) -> Option<ArrayVec<u8, 60>>
     ArrayVec::try_from(text).ok()
 }
 
-/// The coupon that a text names, in dollars per 100 of par and year. An empty text is 0 where the
-/// kind pays no interest.
+/// The coupon that a text names, in dollars per 100 of par and year. An empty text is 0 if the kind
+/// pays no interest.
 pub fn read_coupon(kind: Kind, text: &[u8]) -> Option<Coupon>
     ensures { result ≡ spec.coupon_by (terms.pays_interest kind) text.now }
 {

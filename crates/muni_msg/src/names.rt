@@ -40,7 +40,7 @@ impl NameFault {
     }
 }
 
-/// At most so many bytes, in the order of lists of bytes.
+/// A limited number of bytes, in the order of lists of bytes.
 #[derive(Debug, Drop)]
 struct Letters<const MOST: usize> {
     bytes: ArrayVec<u8, MOST>,

@@ -21,7 +21,7 @@ pub struct Version {
     pub figures: Figures,
 }
 
-/// What is kept already where something else was sent.
+/// What is kept already if something else was sent.
 #[derive(Drop)]
 pub enum Kept {
     Issue(Issue),

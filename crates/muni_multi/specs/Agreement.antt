@@ -14,7 +14,7 @@ pub record HoldOneWorth (series : PaymentSeries) (y : ℤ) (one other : WorthEnd
   pub one_holds : HoldsWorth (to_come series) y one
   pub other_holds : HoldsWorth (to_come series) y other
 
--- where the one tells Yes of a price the other does not tell No
+-- if one says Yes of a price the other does not say No
 pub record NeverContradict (series : PaymentSeries) (y : ℤ) (one other : WorthEnds) (price : ℕ) : Type 0 where
   pub at_least : at_least_verdict (ends_of series y one) (360_000 * price + series.accrued) ≡ Yes
       → ¬ (at_least_verdict (ends_of series y other) (360_000 * price + series.accrued) ≡ No)

@@ -10,7 +10,7 @@ use Rattle.muni_multi.specs.LastStep.{discount_low, discount_high, settled_low, 
 abbrev pub scaled_end : ℕ → ℕ → ℕ → ℕ
 scaled_end carry amount factor = (amount * factor + carry) / 2 ^ 60
 
--- twice as many payments as those of an end, where there are m in all
+-- twice as many payments as those of an end, if there are m in all
 abbrev pub doubled_end : ℕ → ℕ → ℕ → ℕ → ℕ
 doubled_end carry factor m half = half + scaled_end carry half (power_end carry factor (m / 2))
 
@@ -20,7 +20,7 @@ level_from_half carry amount factor m half =
     if nat_eq (m % 2) 0 then doubled_end carry factor m half
     else scaled_end carry (doubled_end carry factor m half) factor + 4096 * amount
 
--- m payments of an amount, half a year apart, on the day of the first, where m has at most f + 1
+-- m payments of an amount, half a year apart, on the day of the first, if m has at most f + 1
 -- binary places
 unfoldable pub level_by : ℕ → ℕ → ℕ → ℕ → ℕ → ℕ
 level_by carry amount factor zero m = 4096 * amount

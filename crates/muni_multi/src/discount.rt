@@ -38,8 +38,8 @@ impl Model for Discount {
 }
 
 impl Discount {
-    /// The factors of a yield in 10^-6, from -50,005 to 1,000,005, so many days of an interest
-    /// period of 180 after it began.
+    /// The factors of a yield in 10^-6, from -50,005 to 1,000,005, on a day of an interest period of
+    /// 180 days, counted from its beginning.
     pub fn at(y: i32, a: u32) -> Discount
         requires y { IsManyPeriodsBoundary y }
         requires a { a ≤ 180 }

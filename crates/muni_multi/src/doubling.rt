@@ -61,7 +61,7 @@ fn paid_sum(flows: &Flows, discount: Span, after: u32) -> Worth
     level.scale(discount).add(of(flows.first())).add(redeemed)
 }
 
-// So many payments of an amount, half a year apart, on the day of the first, and the factor of as
+// A number of payments of an amount, half a year apart, on the day of the first, and the factor of as
 // many half-years.
 fn level_sum(amount: u64, discount: Span, count: u32) -> (Worth, Span)
     requires amount { amount ≤ 5_400_000_000_000 }

@@ -23,7 +23,7 @@ pub trait Encloser {
         requires y { IsManyPeriodsBoundary y }
         ensures { enclosure_ends result.lo result.hi ≡ ends self.now flows.now y };
 
-    /// The same ends, where the discount factors on the day of the settlement are known.
+    /// The same ends, if the discount factors on the day of the settlement are known.
     fn pv_at(&self, flows: &Flows, discount: &Discount) -> Worth
         requires many { 2 ≤ flows.now.n }
         requires days { discount.now.a ≡ flows.now.a }
@@ -43,8 +43,8 @@ pub trait Encloser {
         → IsNarrow (ends e series y) };
 }
 
-/// A law of the definitions: two enclosures of one worth never contradict each other. Where one
-/// tells that the price reaches another price, or is more, the other does not tell that it is not.
+/// A law of the definitions: two enclosures of one worth never contradict each other. If one says
+/// that the price reaches another price, or is more, the other does not say that it is not.
 pub fn enclosures_agree()
     ensures { EnclosuresAgree }
 {}

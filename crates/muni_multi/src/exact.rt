@@ -93,7 +93,7 @@ fn is_short(flows: &Flows) -> bool
     (flows.a() == 0 || flows.a() == 180) && flows.n() <= 3
 }
 
-// The worth on an interest date, where half a year more is discounted on the day that begins one.
+// The worth on an interest date. On the day that begins a period half a year more is discounted.
 fn short_worth(flows: &Flows, divisor: u64) -> Ends
     requires many { 2 ≤ flows.now.n }
     requires few { flows.now.n ≤ 3 }

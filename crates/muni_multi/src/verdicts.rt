@@ -15,7 +15,7 @@ use muni_dec::Price;
 use muni_rule::Verdict;
 use muni_terms::Flows;
 
-/// What the ends of a worth tell of a price.
+/// What the ends of a worth say of a price.
 #[derive(Clone, Copy, Debug, PartialEq, Eq)]
 pub struct Reading {
     pub verdict: Verdict,
@@ -28,7 +28,7 @@ pub struct Reading {
 /// (MSRB Rule G-33(b)(i)). Two payments or more are to come.
 ///
 /// An exact case is decided by whole numbers, and any other by the ends of the enclosure. `Unsure`
-/// comes only where the exact price is within 10^-9 dollars of the price.
+/// comes only if the exact price is within 10^-9 dollars of the price.
 pub fn at_least<E: Encloser>(encloser: &E, flows: &Flows, y: i32, price: Price) -> Verdict
     requires many { 2 ≤ flows.now.n }
     requires y { IsManyPeriodsBoundary y }
@@ -59,7 +59,7 @@ pub fn more<E: Encloser>(encloser: &E, flows: &Flows, y: i32, price: Price) -> V
     more_at(encloser, flows, &Discount::at(y, flows.a()), price).verdict
 }
 
-/// What `at_least` tells at the yield of a discount on the day of the settlement.
+/// What `at_least` says at the yield of a discount on the day of the settlement.
 pub fn at_least_at<E: Encloser>(
     encloser: &E,
     flows: &Flows,
@@ -80,7 +80,7 @@ pub fn at_least_at<E: Encloser>(
     told(&ends, dirty, at_least_between(&ends, dirty))
 }
 
-/// What `more` tells at the yield of a discount on the day of the settlement.
+/// What `more` says at the yield of a discount on the day of the settlement.
 pub fn more_at<E: Encloser>(
     encloser: &E,
     flows: &Flows,

@@ -11,7 +11,7 @@ use Rattle.muni_position.specs.Positions.{last_versions}
 use Rattle.muni_position.specs.declared.holding.Holding.{Holding}
 use Rattle.muni_position.specs.declared.change.Change.{Change}
 
--- the CUSIP that a trade named before a version, or that of the version where it is the first
+-- the CUSIP that a trade named before a version, or that of the version if it is the first
 abbrev pub named_before : Option (ℕ × Version) → Version → List ℕ
 named_before None version = version.terms.asked.cusip
 named_before (Some last) version = last.1.terms.asked.cusip

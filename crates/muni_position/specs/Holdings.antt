@@ -18,7 +18,7 @@ use Rattle.muni_position.specs.declared.holding.Holding.{Holding}
 abbrev pub Holdings : Type 0
 Holdings = BTreeMap (List ℕ) Holding
 
--- what is kept of a CUSIP; where none is, it is nothing
+-- what is kept of a CUSIP; if none is, it is nothing
 abbrev pub kept : Holdings → List ℕ → Holding
 kept holdings cusip = unwrap_or (tree.get by_bytes holdings cusip) nothing
 
@@ -30,7 +30,7 @@ AreInRange holdings = (cusip : List ℕ) → IsInRange (kept holdings cusip)
 abbrev pub AreOf : List Version → Holdings → Type 0
 AreOf versions holdings = (cusip : List ℕ) → kept holdings cusip ≡ holding_of cusip versions
 
--- where a desk is watched and the tables are told, they are those of its trades
+-- if a desk is watched and the tables are exposed, they are those of its trades
 abbrev pub AreRight : Option (List ℕ) → Option Tables → Holdings → Type 0
 AreRight watched told holdings =
     (desk : List ℕ) (tables : Tables) → watched ≡ Some desk → told ≡ Some tables → AreOf (last_versions desk tables) holdings

@@ -8,12 +8,12 @@ use Rattle.muni_keep.specs.Trades.{by_bytes}
 use Rattle.muni_position.specs.Positions.{position_of, positions_of}
 use Rattle.muni_position.specs.declared.position.Position.{Position}
 
--- a position, where any trade of it stands
+-- a position, if any trade of it is live
 abbrev pub if_live : Position → Option Position
 if_live position = if nat_lt 0 position.live then Some position else None
 
 -- positions stand in the order of their CUSIPs, each once; and a CUSIP is among them, with its position,
--- exactly where a trade of it stands
+-- exactly if a trade of it is live
 pub record AreThoseHeld (versions : List Version) (positions : List (List ℕ × Position)) : Type 0 where
   pub rising : IsStrictlySortedBy by_bytes (keys_of positions)
   pub held : (cusip : List ℕ) → lookup (is_at (by_bytes cusip)) positions ≡ if_live (position_of cusip versions)

@@ -23,7 +23,7 @@ is_live Entered = true
 is_live Corrected = true
 is_live Canceled = false
 
--- a version counts for a CUSIP where its trade stands and names it
+-- a version counts for a CUSIP if its trade is live and names it
 abbrev pub counts : List ℕ → Version → Bool
 counts cusip version = is_live version.act && eq_by_cmp by_bytes version.terms.asked.cusip cusip
 

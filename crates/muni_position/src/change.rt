@@ -25,7 +25,7 @@ pub(crate) struct Change {
 }
 
 impl Change {
-    /// The change by the next version of a trade, where each sum stays in its range.
+    /// The change by the next version of a trade, if each sum stays in its range.
     pub(crate) fn of(
         holdings: &Holdings,
         last: &Option<(u32, Version)>,
@@ -57,7 +57,7 @@ impl Change {
         make_room(holdings, &self.cusip)
     }
 
-    /// Makes it, where there is room for it.
+    /// Makes it. There has to be room for it.
     pub(crate) fn make(&self, holdings: &mut Holdings)
         requires before { IsSome (tree.get by_bytes holdings.old self.now.before) }
         requires cusip { IsSome (tree.get by_bytes holdings.old self.now.cusip) }
@@ -79,7 +79,7 @@ fn named_before(last: &Option<(u32, Version)>, version: &Version) -> [u8; 9]
     }
 }
 
-// The holding of a CUSIP after the next version of a trade, where each sum stays in its range.
+// The holding of a CUSIP after the next version of a trade, if each sum stays in its range.
 fn moved_at(
     holdings: &Holdings,
     cusip: &[u8; 9],

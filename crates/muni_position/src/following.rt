@@ -16,14 +16,14 @@ use muni_terms::Issue;
 /// A keeper, and the holdings of a desk that follow its puts. A version for which they have no room is
 /// put all the same, and no desk is watched from then on.
 ///
-/// It fails only where the keeper inside fails.
+/// It fails only if the keeper inside fails.
 #[derive(Drop)]
 pub struct Following<K: Keeper> {
     positioned: Positioned<K>,
     ghost none: { positioned.faults ≡ 0 },
 }
 
-/// A keeper whose puts are followed, of which none may have been refused for want of room.
+/// A keeper whose puts are followed. None of them may have been refused for lack of room.
 pub fn follow<K: Keeper>(positioned: Positioned<K>) -> Following<K>
     requires { positioned.faults ≡ 0 }
     ensures { result.positioned ≡ positioned }
@@ -71,7 +71,7 @@ impl<K: Keeper> Keeper for Following<K> {
         ensures edits { EditsTables ⟦<Following<K> as Keeper>⟧ (with_version key.now version.now) result
             self.old self.new }
 
-        // The watch ends only where the desk has no room.
+        // The watch ends only if the desk has no room.
         ensures watch { self.new.positioned.desk ≢ self.old.positioned.desk
             → IfSome (K.tables self.old.positioned.inner) (λ t. HasNoRoomFor self.old.positioned.desk key.now version.now t) }
     {

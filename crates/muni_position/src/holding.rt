@@ -12,7 +12,7 @@ use muni_msg::{Act, Side, Version};
 /// As many trades as a desk may have.
 pub(crate) const MOST_TRADES: u32 = 100_000;
 
-/// What is summed of one security over the trades that stand.
+/// The sums of one security over the live trades.
 #[derive(Clone, Copy, Debug)]
 pub(crate) struct Holding {
     pub live: u32,
@@ -25,7 +25,7 @@ pub(crate) struct Holding {
 }
 
 impl Holding {
-    /// No trade stands.
+    /// No trade is live.
     pub(crate) fn nothing() -> Holding
         ensures value { result ≡ spec.nothing }
         ensures range { IsInRange result }
@@ -83,7 +83,7 @@ impl Holding {
         }
     }
 
-    /// The holding with one share more and another less, where that is one.
+    /// The holding with one share more and another less, if that is one.
     pub(crate) fn moved(&self, more: &Holding, less: &Holding) -> Option<Holding>
         requires range { IsInRange self.now }
         requires more { IsInRange more.now }

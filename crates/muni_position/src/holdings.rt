@@ -13,7 +13,7 @@ use std::collections::BTreeMap;
 /// Holdings by CUSIP.
 pub(crate) type Holdings = BTreeMap<[u8; 9], Holding>;
 
-/// The holding of a CUSIP, which is nothing where none is kept.
+/// The holding of a CUSIP, which is nothing if none is kept.
 pub(crate) fn kept(holdings: &Holdings, cusip: &[u8; 9]) -> Holding
     ensures { result ≡ spec.kept holdings.now cusip.now }
 {

@@ -2,8 +2,8 @@
 
 ghost use Rattle.muni_position.specs.Laws.{PositionsAreThoseHeld};
 
-/// Positions stand in the order of their CUSIPs, each once. A CUSIP is among them, with its position,
-/// exactly where a trade of it stands.
+/// Positions are in the order of their CUSIPs, each once. A CUSIP is among them, with its position,
+/// exactly if a trade of it is live.
 pub fn positions_are_those_held()
     ensures { PositionsAreThoseHeld }
 {}

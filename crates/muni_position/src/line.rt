@@ -14,7 +14,7 @@ use muni_dec::text::{push, push_number};
 
 /// Replaces the text by the line of a position, with its line end.
 ///
-/// The CUSIP, how many trades stand, the par that was bought, that was sold and that is left, all in
+/// The CUSIP, how many trades are live, the par that was bought, that was sold and that is left, all in
 /// dollars, and the money in dollars with two decimals. What is below zero has a minus sign.
 #[tactic(auto, unfolding(crate::specs::Line::position_line))]
 pub fn position_line(cusip: &[u8; 9], position: &Position, text: &mut ArrayVec<u8, 256>)

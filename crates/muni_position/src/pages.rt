@@ -14,7 +14,7 @@ use muni_msg::{DeskName, Line, Version};
 use std::alloc::{AllocError, Global};
 use std::collections::BTreeMap;
 
-/// The holdings over the trades of a desk. `None` where it has more than 100,000.
+/// The holdings over the trades of a desk. `None` if it has more than 100,000.
 pub(crate) fn sum_desk<K: Keeper>(
     alloc: Global,
     keeper: &mut K,

@@ -1,9 +1,9 @@
 //! What a desk holds of a security.
 
-/// What a desk holds of a security, over its trades that stand: all but the canceled ones.
+/// What a desk holds of a security, over its live trades: all but the canceled ones.
 #[derive(Clone, Copy, Debug, PartialEq, Eq)]
 pub struct Position {
-    /// How many trades stand.
+    /// How many trades are live.
     pub live: u32,
     /// The par that was bought, in dollars.
     pub bought: u64,

@@ -76,7 +76,7 @@ impl<K: Keeper> Positioned<K> {
         ensures refused { OnErr result (self.new.desk ≡ None) }
         ensures reads { OnlyReads ⟦<Positioned<K> as Keeper>⟧ result self.old self.new }
 
-        // Its own count rises only where the desk has too many trades, and then it is refused.
+        // Its own count rises only if the desk has too many trades, and then the watch is refused.
         ensures own { IfSome (K.tables self.old.inner) (λ t. HasFew desk.now t → self.new.faults ≡ self.old.faults) }
         ensures few { OnOk result (IfSome (K.tables self.old.inner) (λ t. HasFew desk.now t)) }
         ensures kept { OnOk result (self.new.faults ≡ self.old.faults) }
@@ -104,7 +104,7 @@ impl<K: Keeper> Positioned<K> {
     pub fn position(&self, cusip: &[u8; 9]) -> Position
         requires { IsSome self.now.desk }
 
-        // Where the keeper tells its tables, it is the sum over them as they are now.
+        // If the keeper exposes its tables, it is the sum over them as they are now.
         ensures { IfSome self.now.desk (λ desk. IfSome (K.tables self.now.inner)
             (λ t. result ≡ position_of cusip.now (last_versions desk t))) }
     {
@@ -209,7 +209,7 @@ impl<K: Keeper> Keeper for Positioned<K> {
         ensures desk { self.new.desk ≡ self.old.desk }
         ensures totals { OnErr result ((cusip : List ℕ) → kept self.new.holdings cusip ≡ kept self.old.holdings cusip) }
 
-        // Its own count rises only where the desk that is watched has no room, and then nothing is put.
+        // Its own count rises only if the desk that is watched has no room, and then nothing is put.
         ensures own { self.new.faults ≢ self.old.faults
             → IfSome (K.tables self.old.inner) (λ t. HasNoRoomFor self.old.desk key.now version.now t) }
         ensures room { OnOk result
@@ -247,7 +247,7 @@ impl<K: Keeper> Positioned<K> {
     ghost use Rattle.muni_position.specs.Holdings.{is_watched};
     ghost use Rattle.muni_position.specs.Watching.{KeepsWatch};
 
-    /// Puts the next version of a trade and changes the totals by it, where they have room for it.
+    /// Puts the next version of a trade and changes the totals by it, if they have room for it.
     pub(crate) fn put(&mut self, key: &Key, number: u32, version: &Version) -> Result<(), PutFault>
         requires { IfSome (K.tables self.old.inner) (λ t. number ≡ next_number (trade_at t key.now)) }
 
@@ -259,7 +259,7 @@ impl<K: Keeper> Positioned<K> {
         ensures watch { KeepsWatch self.old self.new }
         ensures totals { OnErr result ((cusip : List ℕ) → kept self.new.holdings cusip ≡ kept self.old.holdings cusip) }
 
-        // Where the tables are told, it has no room exactly where the desk that is watched has none.
+        // If the tables are exposed, there is no room exactly if the desk that is watched has none.
         ensures no_room { result ≡ Err PutFault.NoRoom
             → IfSome (K.tables self.old.inner) (λ t. HasNoRoomFor self.old.desk key.now version.now t) }
         ensures room { OnOk result

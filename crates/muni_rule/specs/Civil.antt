@@ -35,7 +35,7 @@ month_index date = date.year * 12 + (date.month - 1)
 abbrev pub day_in_month : ℕ → ℕ → Civil
 day_in_month index day = record { year = index / 12; month = index % 12 + 1; day = day }
 
--- the same day of the month so many months later, or earlier where the number is negative
+-- the same day of the month so many months later, or earlier if the number is negative
 abbrev pub months_on : Civil → ℤ → Civil
 months_on date months = day_in_month (unsigned_abs (pos (month_index date) +ℤ months)) date.day
 

@@ -16,7 +16,7 @@ character_value character =
 abbrev pub digit_sum : ℕ → ℕ
 digit_sum n = n / 10 + n % 10
 
--- the digits of all values in a sum, where each second value is doubled first; places count from 0
+-- the digits of all values in a sum, if each second value is doubled first; places count from 0
 abbrev pub check_sum : ℕ → List ℕ → ℕ
 check_sum place [] = 0
 check_sum place (character ∷ rest) =

@@ -9,7 +9,7 @@ use Rattle.muni_rule.specs.declared.basis.Basis.TheVariants.{Thirty360, Actual36
 abbrev pub first_counted : ℕ → ℕ
 first_counted first = if first == 31 then 30 else first
 
--- the day that ends a count: the 31st counts as the 30th where the count begins on a 30th or a 31st
+-- the day that ends a count: the 31st counts as the 30th if the count begins on a 30th or a 31st
 abbrev pub last_counted : ℕ → ℕ → ℕ
 last_counted first last = if (last == 31) && ((first == 30) || (first == 31)) then 30 else last
 

@@ -25,7 +25,7 @@ pub record IsShort (series : PaymentSeries) : Type 0 where
   pub date : IsOnInterestDate series
   pub few : series.n ≤ 3
 
--- one of the three: a yield of zero, where the price is the sum of the payments less the accrued
+-- one of the three: a yield of zero, if the price is the sum of the payments less the accrued
 -- interest, a par bond on an interest date, or at most three periods on an interest date
 abbrev pub IsExactCase : PaymentSeries → ℤ → Type 0
 IsExactCase series y = (y ≡ pos 0) ⊎ (IsParBond series y ⊎ IsShort series)

@@ -1,4 +1,4 @@
--- The comparison of many periods in the rule's own words, where it needs no root, and the exact cases.
+-- The comparison of many periods in the rule's own words, if it needs no root, and the exact cases.
 use Rattle.std.specs.Prelude.{◌≡◌, ℕ, ◌+◌, ◌-◌, ◌*◌, ◌^◌, ◌<◌, ◌≤◌, ◌↔◌, true, length, ℤ, pos, ◌+ℤ◌, ◌*ℤ◌, ◌≤ℤ◌, ◌<ℤ◌}
 use Rattle.muni_rule.specs.Payments.{PaymentSeries, IsSeries, payment_at}
 use Rattle.muni_rule.specs.ManyPeriods.{PeriodicPayments, to_come, discount_divisor, sum_to, whole_sum, AtLeast, More}

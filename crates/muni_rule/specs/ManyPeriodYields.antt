@@ -7,7 +7,7 @@ use Rattle.muni_rule.specs.Outcomes.{HasOneOutcome}
 use Rattle.muni_rule.specs.Payments.{PaymentSeries, IsSeries}
 use Rattle.muni_rule.specs.PrintedYield.{Falls, IsPrintedYield, TruncatesYieldTo}
 
--- Where two payments or more are to come, the price falls as the yield rises.
+-- If two payments or more are to come, the price falls as the yield rises.
 abbrev pub ManyPeriodsPriceFalls : Type 0
 ManyPeriodsPriceFalls =
     (series : PaymentSeries) (amount : ℤ) → IsSeries series → 2 ≤ series.n

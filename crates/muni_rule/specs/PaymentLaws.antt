@@ -47,7 +47,7 @@ ZeroSeriesIsPayments =
     → zero_series maturity settlement redemption price ≡ Some series
     → payments_of series ≡ zero_payments maturity settlement redemption price
 
--- the interest in the payment at place k, where the first skip places have none
+-- the interest in the payment at place k, if the first skip places have none
 abbrev pub interest_at_place : ℕ → ℕ → ℕ → ℕ → ℕ
 interest_at_place skip first regular k =
     if nat_lt k skip then 0 else (if nat_eq k skip then first else regular)

@@ -22,7 +22,7 @@ at_maturity maturity = record { date = maturity; price = par_price }
 abbrev pub calls_after : Civil → List Redemption → List Redemption
 calls_after settlement calls = filter (λ call. is_before settlement call.date) calls
 
--- and the maturity behind them
+-- and the maturity after them
 abbrev pub redemptions_after : Civil → List Redemption → Civil → List Redemption
 redemptions_after settlement calls maturity =
     calls_after settlement calls ++ at_maturity maturity ∷ []

@@ -42,6 +42,6 @@ pub record IsRightAbove (exact : ℕ → ExactOutcome) : Type 0 where
 pub record IsRightNoTime (exact : ℕ → ExactOutcome) (c : ℕ) : Type 0 where
   pub first : IsFirst (λ k. exact k ≡ no_time) c
 
--- it may be left undecided whether candidate c reaches the figure t where that is in doubt
+-- it may be left undecided whether candidate c reaches the figure t if that is in doubt
 pub record IsRightUndecided (IsDoubtful : ℕ → ℤ → Type 0) (t : ℤ) (c : ℕ) : Type 0 where
   pub doubtful : IsDoubtful c t

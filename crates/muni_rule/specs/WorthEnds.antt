@@ -1,5 +1,5 @@
 -- Two ends between which the worth of the payments to come (MSRB Rule G-33(b)(i)) lies, at the
--- settlement and with the accrued interest. The worth itself, where it is known, is ends that are equal.
+-- settlement and with the accrued interest. The worth itself, if it is known, is ends that are equal.
 use Rattle.std.specs.Prelude.{ℕ, ◌+◌, ◌-◌, ◌*◌, ◌^◌, ◌<◌, ◌≤◌, nat_eq, if◌then◌else◌, Option, Some, None, unwrap_or, ℤ}
 use Rattle.muni_rule.specs.Payments.{PaymentSeries, payment_at}
 use Rattle.muni_rule.specs.ManyPeriods.{PeriodicPayments, discount_divisor, sum_to, discounted_sum, asked_power, worth_power}

@@ -1,8 +1,8 @@
 //! The rules of the trade as definitions, which the contracts of the other crates cite.
 //!
-//! They stand in `specs/`, one file a subject, over plain numbers: a date is three numbers, an amount
-//! a whole number of 1/(B * 10^9) dollars per 100 of par, where B is the 360 or 365 days of a year. Of
-//! the program's types they know three, which stand here: a basis of day counts, a verdict on a
+//! They are in `specs/`, one file a subject, over plain numbers: a date is three numbers, an amount a
+//! whole number of 1/(B * 10^9) dollars per 100 of par, where B is the 360 or 365 days of a year. Of
+//! the program's types they know the three that are here: a basis of day counts, a verdict on a
 //! comparison and a range of yields.
 #![tactic(auto)]
 

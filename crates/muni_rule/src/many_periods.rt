@@ -15,8 +15,8 @@ pub fn the_price_is_the_rules_fraction()
     ensures par_bond { ParBondIsRedemption }
 {}
 
-/// The numbers of a series tell whether one of the three exact cases applies, and there verdicts are
-/// read off the exact worth.
+/// The numbers of a series show whether one of the three exact cases applies. In these cases verdicts
+/// are read off the exact worth.
 pub fn exact_cases_are_the_rules()
     ensures numbers { NumbersTellExactCases }
     ensures coupon { ParYieldIsCoupon }

@@ -6,7 +6,7 @@ ghost use Rattle.muni_rule.specs.QuasiDateLaws.{QuasiDatesAreAll, QuasiDatesRise
 /// multiples of six months from the anchor, each after the one before it. For an anchor from the 1st
 /// to the 28th, as an issue has it, each of them is a day of the calendar.
 ///
-/// The test by day and month tells of each date of these years whether the list holds it.
+/// The test by day and month says of each date of these years whether the list holds it.
 pub fn quasi_dates_are_all_half_years()
     ensures all { QuasiDatesAreAll }
     ensures rising { QuasiDatesRise }

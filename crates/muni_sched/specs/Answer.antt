@@ -86,7 +86,7 @@ IsDecided (Below date) = ⊤
 IsDecided Above = ⊤
 IsDecided (NoTime date) = ⊤
 
--- where no candidate is in doubt at any figure, the answer is not undecided
+-- if no candidate is in doubt at any figure, the answer is not undecided
 abbrev pub IsDecidedWithoutDoubt : GivenFigure → List Candidate → LowAnswer → Type 0
 IsDecidedWithoutDoubt given list answer =
     ((c : ℕ) (t : ℤ) → ¬ (IsInDoubt given list c t)) → IsDecided answer
@@ -115,7 +115,7 @@ NamesFigure Price n answer = NamesPrice n answer
 NamesFigure Yield n answer = NamesYield n answer
 
 -- The answer to what is asked of candidates: it is the rule's over what the ends tell of them,
--- right by their exact outcomes, undecided only in doubt, and decided where none is in doubt.
+-- right by their exact outcomes, undecided only in doubt, and decided if none is in doubt.
 pub record IsLowestAnswer
     (ends : PaymentSeries → ℤ → WorthEnds) (given : GivenFigure) (list : List Candidate)
     (answer : LowAnswer) : Type 0 where

@@ -32,7 +32,7 @@ label_at price = if price == par_price then label.ParOption else label.Call
 abbrev pub call_label : Redemption → Label
 call_label call = label_at call.price
 
--- the redemptions of an issue after a settlement, and their labels: those of the calls, and behind
+-- the redemptions of an issue after a settlement, and their labels: those of the calls, and after
 -- them that of the maturity
 abbrev pub redemptions_of : IssueRow → Day → List Redemption
 redemptions_of row settlement =

@@ -29,7 +29,7 @@ boundary_of Price t = boundary.Price (unsigned_abs t)
 boundary_of Yield t = boundary.Yield (boundary t)
 
 -- The outcomes that a candidate may have: a price is at most 100,000 dollars, and a yield at most
--- 999.999 percent, and about 100 where it may be unsure.
+-- 999.999 percent, and about 100 if it may be unsure.
 abbrev pub IsOf : FigureKind → CandidateOutcome → Type 0
 IsOf Price (Print t) = (pos 0 ≤ℤ t) × (t ≤ℤ pos 100_000_000)
 IsOf Price (Unsure s) = (least_unsure Price ≤ℤ s) × (s ≤ℤ pos 99_999_999)

@@ -38,7 +38,7 @@ UndecidedIsUnsure =
     (least s : ℤ) (c : ℕ) (outcomes : List CandidateOutcome)
     → IsLowest least outcomes (Undecided s c) → outcome_at outcomes c ≡ Unsure s
 
--- where no candidate is in doubt at any figure, the answer over sound outcomes is not undecided
+-- if no candidate is in doubt at any figure, the answer over sound outcomes is not undecided
 abbrev pub NoDoubtIsDecided : Type 0
 NoDoubtIsDecided =
     (given : GivenFigure) (list : List Candidate) (exact : ℕ → ExactOutcome) (outcomes : List CandidateOutcome)

@@ -8,7 +8,7 @@ use Rattle.muni_sched.specs.LowestFigure as lowest
 use Rattle.muni_sched.specs.Lowest.{outcome_at}
 
 -- The order in which outcomes decide: a figure is its own rank, and the others come before all
--- figures or after them. An unsure outcome goes with those below where it is at `least`, and with
+-- figures or after them. An unsure outcome goes with those below if it is at `least`, and with
 -- its figure elsewhere.
 abbrev pub rank : ℤ → CandidateOutcome → ℤ
 rank least NoTime = negsuc 2_147_483_647

@@ -8,7 +8,7 @@ use Rattle.muni_sched.specs.LowestFigure.{Lowest}
 use Rattle.muni_sched.specs.LowestFigure as lowest
 use Rattle.muni_sched.specs.Lowest.{outcome_at}
 
--- A candidate is unsure at s where it is in doubt whether it reaches the next figure. It does reach
+-- A candidate is unsure at s if it is in doubt whether it reaches the next figure. It does reach
 -- s, but for the least s.
 pub record IsSoundUnsure
     (least : ℤ) (IsDoubtful : ℤ → Type 0) (s : ℤ) (exact : ExactOutcome) : Type 0 where

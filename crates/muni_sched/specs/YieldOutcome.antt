@@ -22,7 +22,7 @@ many_yield (found.Unsure lower) = Unsure lower
 many_yield found.Below = Below
 many_yield found.Above = Above
 
--- where it is unsure, it is from -5.001 to 100.001 percent
+-- if it is unsure, it is from -5.001 to 100.001 percent
 abbrev pub IsSearched : search.Outcome → Type 0
 IsSearched (found.Unsure lower) = (negsuc 5_000 ≤ℤ lower) × (lower ≤ℤ pos 100_001)
 IsSearched (found.Print t) = ⊤

@@ -1,5 +1,5 @@
-//! Where the searches of a round ask if they know the answer to their own question. Nothing rests
-//! on it.
+//! The place at which the searches of a round ask if they know the answer to their own question.
+//! Nothing rests on it.
 
 ghost use Rattle.std.specs.Prelude.{◌≤◌};
 

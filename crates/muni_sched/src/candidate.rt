@@ -8,7 +8,7 @@ use muni_terms::{Flows, Label};
 /// How a redemption is priced (MSRB Rule G-33).
 #[derive(Clone, Copy, Debug, PartialEq, Eq)]
 pub enum Shape {
-    /// By the payments up to it, of which two or more are to come.
+    /// By the payments up to it. Two or more are to come.
     Many(Flows),
     /// By the one payment to come, with six months or less to redemption.
     One(Single),

@@ -9,12 +9,12 @@ use muni_dec::Yield;
 use muni_rule::YieldRange;
 use std::cmp::Ordering;
 
-/// None exactly where a yield may be given for every redemption candidate, and else the side on
+/// None exactly if a yield may be given for every redemption candidate, and otherwise the side on
 /// which it leaves the range of the first that excludes it.
 ///
 /// A yield is from -5 to 100 percent with more than six months to redemption, from -90 to 999.999
 /// percent with six months or less, and from -45 to 999.999 percent with interest at redemption.
-/// For a discounted note a rate stands in its place, from 0 to 30 percent.
+/// For a discounted note it is a rate, from 0 to 30 percent.
 pub fn out_of_range(list: &[Candidate], y: Yield) -> Option<Ordering>
     ensures inside { (result ≡ None) ↔ All (IsGivenFor y) list.now }
     ensures first { result ≡ spec.side_of_first y list.now }

@@ -93,11 +93,11 @@ pub(crate) struct Search {
     ceiling: Option<i32>,
     /// The least place that a search knows not to be reached, or 105,003.
     missed: u32,
-    /// Where the next round asks if an answer is known.
+    /// The place at which the next round asks if an answer is known.
     aim: Aim,
 }
 
-/// What all searches are told in a round.
+/// What all searches of a round have in common.
 #[derive(Clone, Copy)]
 struct Round {
     number: u32,
@@ -127,7 +127,7 @@ impl Search {
     }
 
     /// The outcomes, once nothing is left to ask. A candidate whose outcome is not known cannot be
-    /// the lowest, and stands as above all figures.
+    /// the lowest, and counts as above all figures.
     pub(crate) fn outcomes(&self) -> ArrayVec<CandidateOutcome, 41>
         ensures { result.items ≡ outcomes_of self.now.known.items }
     {
@@ -145,7 +145,7 @@ impl Search {
         self.searches.as_slice().is_empty()
     }
 
-    // What all searches are told in a round. Most ask at one place in it, so one discount serves
+    // What all searches of a round have in common. Most ask at one place in it, so one discount serves
     // them. A search that asks at another one computes its own.
     fn round(&self, number: u32) -> Round
         requires { All IsPending self.now.searches.items }

@@ -27,7 +27,7 @@ use std::thread::Threads;
 ///
 /// The searches for the yields go by rounds, which `steps` counts.
 // In each, up to `workers` threads, from 1 to 16, ask one question of each search that is still
-// needed, and tell the gate before it (tested). Each question calls the encloser at most once
+// needed, and call the gate before it (tested). Each question calls the encloser at most once
 // (tested).
 pub fn lowest_yield<R: Threads + Sync, E: Encloser + Sync, G: Gate + Sync, L: Ledger>(
     rt: &R,
@@ -146,7 +146,7 @@ fn decided_yield(
     }
 }
 
-// Where the yields begin that are printed as the next one after so many thousandths.
+// Where the yields begin that are printed as the next one after a number of thousandths.
 fn boundary_above(thousandths: i32) -> Yield
     requires { IsOf kind.Yield (Unsure thousandths) }
     ensures { result ≡ boundary (thousandths +ℤ pos 1) }

@@ -40,7 +40,7 @@ abbrev pub PrintsWithin : YieldRange → SimpleYield → Type 0
 PrintsWithin range (Print t) = IsWithin range t
 PrintsWithin range _ = ⊤
 
--- One answer is right and no other, so each comes exactly where its case applies.
+-- One answer is right and no other, so each comes exactly if its case applies.
 abbrev pub AnswersOneYield : Type 0
 AnswersOneYield =
     (least : ℤ) (payment : SinglePayment) (price : ℤ) (answer other : SimpleYield)

@@ -17,7 +17,7 @@ use muni_rule::Basis;
 const LEAST_RETURN: u64 = 45_000;
 
 /// The dollar price at a discount rate from 0 to 30 percent (MSRB Rule G-33(c)(i)): par less the rate
-/// for so many days of a year, truncated. Days are 0 to 720, by the basis from settlement to maturity.
+/// for the days of a year, truncated. Days are 0 to 720, by the basis from settlement to maturity.
 pub fn rate_price(rate: Yield, days: i32, basis: Basis) -> Price3
     requires rate { IsDiscountRate rate }
     requires days { (pos 0 ≤ℤ days) × (days ≤ℤ pos 720) }
@@ -28,9 +28,9 @@ pub fn rate_price(rate: Yield, days: i32, basis: Basis) -> Price3
 }
 
 /// The return on the price at a discount rate (MSRB Rule G-33(c)(ii)), which is taken before it is
-/// truncated: a simple return over so many days by the basis, from 0 to 720.
+/// truncated: a simple return over the days by the basis, from 0 to 720.
 ///
-/// Where a day is left, it lies in the printed range of -45 to 999.999 percent.
+/// If a day is left, it lies in the printed range of -45 to 999.999 percent.
 pub fn rate_return(rate: Yield, days: i32, basis: Basis) -> SimpleYield
     requires rate { IsDiscountRate rate }
     requires days { (pos 0 ≤ℤ days) × (days ≤ℤ pos 720) }

@@ -37,7 +37,7 @@ pub fn single_price(single: &Single, shape: Shape1, y: Yield) -> SimplePrice
     }
 }
 
-// None where the exact price is below zero.
+// None if the exact price is below zero.
 fn thousandths_reached(single: &Single, shape: Shape1, y: Yield) -> Option<u64>
     requires single { IsSingle shape single.now }
     requires y { IsGivenYield shape y }

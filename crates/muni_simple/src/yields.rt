@@ -119,8 +119,8 @@ fn shown_from_below(y: u64, least: u64) -> SimpleYield
     SimpleYield::Print(Yield3::new(-(magnitude as i64)))
 }
 
-/// A law of the definitions: an answer that the contracts allow is the only one, so that each of the
-/// four comes exactly where its case applies.
+/// A law of the definitions: an answer that the contracts allow is the only one. The four answers
+/// exclude each other.
 pub fn one_yield_is_answered()
     ensures { AnswersOneYield }
 {}

@@ -7,13 +7,13 @@ use Rattle.std.specs.Prelude.{ℕ, suc, zero, ◌+◌, ◌-◌, ◌*◌, ◌/◌
 abbrev pub product_end : ℕ → ℕ → ℕ → ℕ
 product_end carry a b = min ((a * b + carry) / 2 ^ 60) (2 ^ 64 - 1)
 
--- a power from the power of half its exponent: that one's square, and where the exponent is odd
+-- a power from the power of half its exponent: that one's square, and if the exponent is odd
 -- the square times the base
 abbrev pub power_from_half : (ℕ → ℕ → ℕ) → ℕ → ℕ → ℕ → ℕ
 power_from_half times x k half =
     if nat_eq (k % 2) 0 then times half half else times (times half half) x
 
--- a power by squaring, where the exponent has at most f + 1 binary places
+-- a power by squaring, if the exponent has at most f + 1 binary places
 unfoldable pub power_by : (ℕ → ℕ → ℕ) → ℕ → ℕ → ℕ → ℕ
 power_by times x zero k = x
 power_by times x (suc f) k =

@@ -3,7 +3,7 @@
 use Rattle.std.specs.Prelude.{ℕ, Bool, suc, zero, ◌+◌, ◌-◌, ◌^◌, ◌<◌, ◌≤◌, nat_le, if◌then◌else◌}
 use Rattle.muni_span.specs.Powers.{power_end}
 
--- the greatest number up to n that passes a test, and 0 where none does
+-- the greatest number up to n that passes a test, and 0 if none does
 unfoldable pub greatest_where : (ℕ → Bool) → ℕ → ℕ
 greatest_where test zero = zero
 greatest_where test (suc n) = if test (suc n) then suc n else greatest_where test n

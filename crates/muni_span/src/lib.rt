@@ -1,4 +1,4 @@
-//! Enclosures: pairs of whole ends that an exact value stands between, each end rounded outward.
+//! Enclosures: pairs of whole ends that an exact value lies between, each end rounded outward.
 #![tactic(auto)]
 
 pub mod root;

@@ -1,4 +1,4 @@
-//! The 180th root. No end is kept but where a power certifies it.
+//! The 180th root. Each end that is kept is certified by a power.
 
 ghost use Rattle.std.specs.Prelude.{◌≡◌, ℕ, ◌+◌, ◌-◌, ◌*◌, ◌^◌, ◌<◌, ◌≤◌, pos, negsuc, ◌≤ℤ◌};
 ghost use Rattle.muni_span.specs.Fractions.{IsAtMost};
@@ -61,8 +61,8 @@ pub fn root180(v: Span) -> Span
     Span::new(lo, below_hi + 1)
 }
 
-/// The greatest number with a power of at most `v`: a guess or the number before it, where two
-/// powers certify that, and else by halving the widest bracket.
+/// The greatest number with a power of at most `v`: a guess or the number before it, if two powers
+/// certify that, and otherwise by halving the widest bracket.
 fn end_near(rounding: Rounding, v: u64, excess: i64) -> u64
     requires { IsBracket (carry_of rounding) v LEAST_ROOT GREATEST_ROOT }
     ensures value { result ≡ root_end (carry_of rounding) v }
@@ -152,7 +152,7 @@ fn part(divisor: u32) -> i64
     (WHOLE / divisor as u128) as i64
 }
 
-/// The product of two numbers, of which one is in units of 2^-64.
+/// The product of two numbers. One is in units of 2^-64.
 fn scaled(a: i64, b: i64) -> i64 {
     ((a as i128).wrapping_mul(b as i128) >> 64) as i64
 }

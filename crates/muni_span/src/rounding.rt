@@ -26,7 +26,7 @@ impl Rounding {
         }
     }
 
-    /// The product of two fractions in units of 2^-60, and the greatest `u64` where it is more.
+    /// The product of two fractions in units of 2^-60, or the greatest `u64` if it is more.
     fn product(self, a: u64, b: u64) -> u64
         ensures { result ≡ product_end (carry_of self) a b }
     {

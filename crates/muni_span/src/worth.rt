@@ -67,7 +67,7 @@ impl Worth {
         ensures lo { result.lo ≡ self.lo + other.lo }
         ensures hi { result.hi ≡ self.hi + other.hi }
 
-        // Sums of fractions; their powers have no such law.
+        // Sums of fractions. Their powers have no law of this kind.
         ensures encloses { (n d m e : ℕ) → HoldsPower 4096 self.lo self.hi 1 n d →
             HoldsPower 4096 other.lo other.hi 1 m e →
             HoldsPower 4096 result.lo result.hi 1 (n * e + m * d) (d * e) }

@@ -1,4 +1,4 @@
--- What was done to the database of a store between two states. It is said where the disk is clean: where
+-- What was done to the database of a store between two states. It is said if the disk is clean: where
 -- it has returned so far what was written to it.
 use Rattle.std.specs.Prelude.{◌≡◌, ◌⊎◌, ℕ, List, Option, Some, None, Result, Ok, Err}
 use Rattle.sqlite.specs.declared.types.Value.{Value}

@@ -98,7 +98,7 @@ version_in row = option_map (λ trade. trade.2) (trade_in row)
 abbrev pub last_in : List Value → Option (ℕ × Version)
 last_in row = option_map (λ trade. (trade.1, trade.2)) (trade_in row)
 
--- the count in a row, or the greatest of 32 bits where it is no such number
+-- the count in a row, or the greatest number of 32 bits if it is none of these
 abbrev pub count_in : List Value → Option ℕ
 count_in row = Some (unwrap_or (count (number_in row 0)) (2 ^ 32 - 1))
 

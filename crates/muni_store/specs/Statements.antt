@@ -59,7 +59,7 @@ desk_values desk = Text desk ∷ []
 abbrev pub select_references : List ℕ
 select_references = codes "SELECT reference FROM versions_2 WHERE desk = ?1 AND reference > ?2 AND number = 1 ORDER BY reference LIMIT 50"
 
--- the desk and the reference, or nothing where the first trades are asked for
+-- the desk and the reference, or nothing if the first trades are asked for
 abbrev pub page_values : List ℕ → Option (List ℕ) → List Value
 page_values desk after = Text desk ∷ Text (unwrap_or after []) ∷ []
 

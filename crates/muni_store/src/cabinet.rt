@@ -9,10 +9,10 @@ use muni_edge::Faults;
 use muni_keep::{Cabinet, KeepFault};
 use sqlite::{File, FileStore};
 
-/// A cabinet whose stores are files, by their paths. It does not tell what they hold.
+/// A cabinet whose stores are files, by their paths. It does not expose what they hold.
 ///
-/// The tables are made where a file has none. A file that another process has open is refused at once, and
-/// so is one that is no store, which stays as it was.
+/// The tables are made if a file has none. A file that another process has open is refused at once, and so
+/// is one that is no store, which stays as it was.
 #[derive(Drop)]
 pub struct SqlCabinet<'a> {
     rt: &'a HostRuntime,

@@ -7,7 +7,7 @@ use crate::fault::StoreFault;
 use muni_edge::Faults;
 use muni_keep::KeepFault;
 
-/// What a keeper answers, and counts: a failure, and no want of memory.
+/// What a keeper answers. A failure is counted, and a lack of memory is not.
 pub(crate) fn counted<T>(faults: &mut Faults, answer: Result<T, StoreFault>) -> Result<T, KeepFault>
     ensures value { IfOk result (λ value. answer ≡ Ok value) }
     ensures same { result ≡ kept answer }

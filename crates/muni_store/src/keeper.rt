@@ -25,11 +25,11 @@ use muni_terms::Issue;
 use sqlite::{Alter, Connection};
 use std::alloc::Global;
 
-/// A keeper over a database, whose file no other process can open meanwhile. It does not tell what it
-/// keeps.
+/// A keeper over a database, whose file no other process can open meanwhile. It does not expose what
+/// it keeps.
 ///
-/// What a put answered `Ok` is on the disk. Every refusal of `sqlite` is a fault, save want of
-/// memory, and so is a row that is not that of a checked value.
+/// What a put answered `Ok` is on the disk. Every refusal of `sqlite` is a fault, except that memory
+/// ran out, and so is a row that is not that of a checked value.
 #[derive(Drop)]
 pub struct SqlKeeper<S: Alter + Drop> {
     database: Connection<S>,
@@ -141,7 +141,7 @@ impl<S: Alter + Drop> Keeper for SqlKeeper<S> {
         ensures kept { IfSome (count_of desk.now self.old.trades)
             (λ count. (result ≡ Ok count) × (self.new ≡ self.old)) }
 
-        // Otherwise the trades are counted, and the count is kept where there is memory for it.
+        // Otherwise the trades are counted, and the count is kept if there is memory for it.
         ensures read { count_of desk.now self.old.trades ≡ None
             → IfOk result (λ count. rows.Reads rows.count_in (state S.Store self.old.database)
             (state S.Store self.new.database) spec.count_trades (spec.desk_values desk.now) (Some count)) }

@@ -1,4 +1,4 @@
-//! What stands at the path of a store, before it is opened. Nothing is written here.
+//! What is at the path of a store, before it is opened. Nothing is written here.
 
 ghost use Rattle.std.specs.Prelude.{◌≡◌};
 ghost use Rattle.std.specs.List.{list_any};
@@ -17,12 +17,12 @@ use std::fs::{self, File};
 use std::io::ErrorKind;
 use std::os::unix::fs::FileExt;
 
-/// What stands at the path of a store.
+/// What is at the path of a store.
 #[derive(Drop)]
 pub enum Found {
     /// No file, an empty one, or one whose making was cut off.
     Nothing,
-    /// A store, and the path of its log where it has none yet.
+    /// A store, and the path of its log if it has none yet.
     Store(Option<String>),
 }
 
@@ -34,8 +34,8 @@ enum Kind {
     Other,
 }
 
-/// Looks what stands at a path. A file of another kind is refused, as is a database that lists
-/// something and no table of a store.
+/// Looks what is at a path. A file of another kind is refused, and so is a database that lists something
+/// and no table of a store.
 pub(crate) fn look_at(rt: &HostRuntime, path: &str) -> Result<Found, StoreFault> {
     let file = match fs::metadata(rt, path) {
         Ok(about) if about.is_file() => fs::canonicalize(rt, path)?,
@@ -113,7 +113,7 @@ fn read_catalog<D: Disk + Drop>(
     let Ok(pager) = Pager::new(alloc, files, size, Options::new(0)) else {
         return Err(StoreFault::NoMemory);
     };
-    // Pages end in sums where eight bytes of each are reserved.
+    // Pages end in sums if eight bytes of each are reserved.
     let Ok(mut unopened) = Unopened::with_sums(alloc, pager, &[], reserved == 0x0840_2020) else {
         return Err(StoreFault::NoMemory);
     };

@@ -7,8 +7,8 @@ use muni_store_rows::issue_1;
 use sqlite::types::ValueRef;
 use sqlite::{Alter, Connection, Row, Transaction, params};
 
-/// Moves the rows of the old tables, where the file has them, in one transaction a table, and tells
-/// whether there were any. Where a row is not that of a checked value, its table stays as it was.
+/// Moves the rows of the old tables, if the file has them, in one transaction a table, and says whether
+/// there were any. If a row is not that of a checked value, its table stays as it was.
 pub(crate) fn move_old_rows<S: Alter>(database: &mut Connection<S>) -> Result<bool, StoreFault> {
     let issues = move_table(database, Table::OldIssues)?;
     let versions = move_table(database, Table::OldVersions)?;

@@ -11,8 +11,8 @@ use arrayvec::ArrayVec;
 use muni_msg::{DeskName, Key, Line, Reference};
 use sqlite::{Alter, Connection, Row};
 
-/// The first 50 trades of a desk after a reference, or the first of all where none is given, each
-/// with its last version.
+/// The first 50 trades of a desk after a reference, or the first of all if none is given, each with
+/// its last version.
 pub(crate) fn read_page<S: Alter>(
     database: &mut Connection<S>,
     desk: &DeskName,

@@ -120,7 +120,7 @@ fn lists_any<S: Alter>(database: &mut Connection<S>) -> Result<bool, StoreFault>
     counts_some(row)
 }
 
-/// Makes the tables where the file has none, and tells whether it has made one.
+/// Makes the tables if the file has none, and says whether it has made one.
 pub(crate) fn make_tables<S: Alter>(database: &mut Connection<S>) -> Result<bool, StoreFault> {
     let issues = make_table(database, Table::Issues, ISSUES)?;
     let versions = make_table(database, Table::Versions, VERSIONS)?;

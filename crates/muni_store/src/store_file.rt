@@ -10,7 +10,7 @@ use crate::schema::{check_tables, make_tables, text};
 use sqlite::{Alter, Connection, File, FileStore, Unknown};
 use std::fs;
 
-/// A log of so many bytes holds nothing.
+/// A log of this length holds nothing.
 const EMPTY_LOG: u64 = 41;
 
 /// The file of a store, by its path.
@@ -18,7 +18,7 @@ const EMPTY_LOG: u64 = 41;
 pub struct StoreFile<'a> {
     rt: &'a HostRuntime,
     path: Vec<u8>,
-    // What stood there when it was opened.
+    // What was there when it was opened.
     found: Found,
 }
 
@@ -78,7 +78,7 @@ impl<'a> StoreFile<'a> {
     /// Closes the database. A file that was not changed is left as it is.
     pub(crate) fn close(&self, database: Connection<FileStore<File>>, is_changed: bool) {
         if is_changed {
-            // Where the log cannot be copied into the file it stays beside it, and nothing is lost.
+            // If the log cannot be copied into the file it stays beside it, and nothing is lost.
             let _ = database.close();
         } else {
             self.remove_new_log();
@@ -86,7 +86,7 @@ impl<'a> StoreFile<'a> {
     }
 }
 
-// Makes the tables that are missing, and moves what older ones have. It tells whether anything changed.
+// Makes the tables that are missing, and moves what older ones have. It says whether anything changed.
 fn prepare_tables<S: Alter>(database: &mut Connection<S>) -> Result<bool, StoreFault>
     ensures idle { OnOk result (database.new.in_transaction ≡ false) }
 {

@@ -42,8 +42,8 @@ impl TradeCounts {
         }
     }
 
-    /// Keeps the count of a desk. Where no memory is left for a new one it is counted again when it
-    /// is asked for.
+    /// Keeps the count of a desk. If there is no memory for a new one it is counted again when it is
+    /// asked for.
     pub(crate) fn keep(&mut self, desk: &DeskName, count: u32)
         ensures { (self.new ≡ spec.with_count desk.now count self.old)
             ⊎ ((self.new ≡ self.old) × (spec.count_of desk.now self.old ≡ None)) }

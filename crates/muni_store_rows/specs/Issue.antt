@@ -43,7 +43,7 @@ abbrev pub columns_1 : (cusip name : List ℕ) (kind : ℤ) (dated first maturit
 columns_1 cusip name kind dated first maturity coupon calls =
     columns_2 cusip name kind dated first maturity coupon calls (pos 0)
 
--- the first interest date, or nothing where there is none
+-- the first interest date, or nothing if there is none
 abbrev pub first_of : Kind → List ℕ
 first_of (Periodic first) = day_text (civil first)
 first_of Zero = []
@@ -64,7 +64,7 @@ columns_of row = record {
   basis = pos (basis_code row.basis);
 }
 
--- the kind of a number, which has a first interest date exactly where it is periodic
+-- the kind of a number, which has a first interest date exactly if it is periodic
 abbrev pub plain_kind : ℕ → Option Kind
 plain_kind code =
     if code == 1 then Some Zero

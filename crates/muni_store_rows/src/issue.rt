@@ -21,7 +21,7 @@ pub struct IssueColumns {
     /// 0 to 3: periodic, zero, interest at redemption, discount.
     pub kind: i64,
     pub dated: ArrayVec<u8, 32>,
-    /// The first interest date, or nothing where there is none.
+    /// The first interest date, or nothing if there is none.
     pub first: ArrayVec<u8, 32>,
     pub maturity: ArrayVec<u8, 32>,
     pub coupon: i64,
@@ -95,7 +95,7 @@ fn print_first(kind: Kind) -> ArrayVec<u8, 32>
     }
 }
 
-/// The issue with these columns, if there is one. There was no column for the basis where days were
+/// The issue with these columns, if there is one. There was no column for the basis when days were
 /// counted by 30/360 alone.
 pub fn issue_1(
     cusip: &str,

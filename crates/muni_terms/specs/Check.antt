@@ -44,7 +44,7 @@ pays_interest Zero = false
 pays_interest AtRedemption = true
 pays_interest Discount = false
 
--- there is a coupon exactly where there is interest
+-- there is a coupon exactly if there is interest
 abbrev pub has_coupon : IssueRow → Bool
 has_coupon row = if pays_interest row.kind then nat_lt 0 row.coupon else row.coupon == 0
 

@@ -29,7 +29,7 @@ fn character_value(character: u8) -> u32
     u32::from(value)
 }
 
-// What a character adds to the sum, where each second value is doubled.
+// What a character adds to the sum. Each second value is doubled.
 fn weight(character: u8, place: usize) -> u32
     requires { rule.is_cusip_character character ≡ true }
     ensures value { result

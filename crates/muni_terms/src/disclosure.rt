@@ -13,7 +13,7 @@ pub enum Label {
     Call,
 }
 
-/// A boundary between two printed figures, which an exact figure lies too near to be told from.
+/// A boundary between two printed figures that an exact figure is too near to be told apart from.
 #[derive(Clone, Copy, Debug, PartialEq, Eq)]
 pub enum Boundary {
     /// The least exact price that is printed as the higher of two.

@@ -56,8 +56,7 @@ impl Model for Flows {
 impl Default for Flows {
     ghost use Rattle.muni_terms.specs.Flows.{series};
 
-    /// An empty slot of a list: two payments without interest, of which the last is a redemption
-    /// at 100.
+    /// An empty slot of a list: two payments without interest, and with the last a redemption at 100.
     fn default() -> Flows
         ensures { result ≡ series 2 0 0 0 36_000_000_000_000 0 0 }
     {
@@ -92,7 +91,7 @@ impl Flows {
         self.skip
     }
 
-    /// The interest in the first payment behind those.
+    /// The interest in the first payment after those.
     pub fn first(&self) -> u64
         ensures value { result ≡ self.now.first }
         ensures range { result ≤ 10_800_000_000_000 }
@@ -192,8 +191,8 @@ fn redemption_amount(price: Price) -> u64
     360_000 * price.units()
 }
 
-/// The payments of an issue with coupons, of which the first pays the interest of all days of
-/// 30/360 since the dated date (SIA, Standard Securities Calculation Methods).
+/// The payments of an issue with coupons. The first pays the interest of all days of 30/360 since
+/// the dated date (SIA, Standard Securities Calculation Methods).
 pub fn coupon_flows(
     dated: Day,
     first: Day,

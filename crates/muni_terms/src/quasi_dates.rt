@@ -53,7 +53,7 @@ pub fn quasi_count(anchor: Day, start: Day, end: Day) -> u32
 
 /// The days from the last quasi-coupon date not after a settlement up to the settlement.
 ///
-/// They are 180, and not 0, on a 31st that stands before interest on a 1st.
+/// They are 180, and not 0, on a 31st that comes before interest on a 1st.
 pub fn days_into_period(anchor: Day, settlement: Day) -> u32
     requires day { (civil anchor).day ≤ 28 }
     requires year { 1901 ≤ (civil settlement).year }

@@ -53,7 +53,7 @@ pub struct IssueRow {
     /// The day from which interest accrues.
     pub dated: Day,
     pub maturity: Day,
-    /// The yearly coupon, which is 0 where no interest is paid.
+    /// The yearly coupon, which is 0 if no interest is paid.
     pub coupon: Coupon,
     /// The calls in order of date.
     pub calls: ArrayVec<Call, 40>,

@@ -73,7 +73,7 @@ fn is_count(first: &str, last: &str, wanted: &str) -> Option<bool> {
     Some(days360(day(first)?, day(last)?) == wanted.parse::<i32>().ok()?)
 }
 
-// What so many months later is.
+// What a number of months later is.
 fn later(from: &str, months: &str) -> Option<Text> {
     let from = day(from)?;
     let months = months.parse::<i32>().ok()?;

@@ -15,7 +15,7 @@ use std::test::Fail;
 
 type Text = ArrayVec<u8, 64>;
 
-// The number of a fault, and its place where it has one.
+// The number of a fault, and its place if it has one.
 fn fault_text(fault: DecFault) -> Text {
     let mut text = ArrayVec::new();
     push(&mut text, b"fault");
@@ -68,7 +68,7 @@ fn units_or_none(units: Option<u64>) -> Text {
     }
 }
 
-// What a call answers for the text behind it.
+// What a call answers for the text beside it.
 fn reading(call: &str, text: &[u8]) -> Option<Text> {
     match call {
         "coupon" => Some(units_or_fault(Coupon::read(text).map(|coupon| coupon.units()))),
@@ -109,7 +109,7 @@ fn signed(units: &str) -> Option<i64> {
     units.parse::<i64>().ok()
 }
 
-// The text of a value of a kind, or none where the units are outside its range.
+// The text of a value of a kind, or none if the units are outside its range.
 fn printed(kind: &str, units: &str) -> Option<ArrayVec<u8, 32>> {
     let mut text = ArrayVec::new();
     match kind {

@@ -150,7 +150,7 @@ fn are_same(one: &Asked, other: &Asked) -> bool {
     Terms { asked: *one } == Terms { asked: *other }
 }
 
-// The first number of a part whose change does not show, or 0 where the same differs.
+// The first number of a part whose change does not show, or 0 if the same differs.
 fn first_bad_part(asked: &Asked) -> Option<u32> {
     if !are_same(asked, asked) {
         return Some(0);

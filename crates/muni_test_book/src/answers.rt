@@ -89,7 +89,7 @@ fn push_list(text: &mut Vec<u8>, lines: &[Line]) -> Option<()> {
     text.push(b'\n').ok()
 }
 
-/// Pushes the line of a refusal or of a list, or what stands behind the place in the report of an import.
+/// Pushes the line of a refusal or of a list, or what comes after the place in the report of an import.
 fn push_answer(text: &mut Vec<u8>, reply: Reply) -> Option<()> {
     if let Reply::Refused(why) = &reply {
         let mut line = ArrayVec::new();
@@ -104,7 +104,7 @@ fn push_answer(text: &mut Vec<u8>, reply: Reply) -> Option<()> {
     text.extend_from_slice(line.strip_prefix(b"1,")?).ok()
 }
 
-/// What is answered to the rows of a text, a line each, where each of them is answered.
+/// What is answered to the rows of a text, a line each, if each of them is answered.
 pub fn said<R: Threads + Sync, K: Keeper>(
     rt: &R,
     alloc: Global,
@@ -138,8 +138,8 @@ pub fn is_said<R: Threads + Sync, K: Keeper>(
     }
 }
 
-/// How many rows failed at first and were answered so when they were sent again, where all the others
-/// are answered so at once.
+/// How many rows failed at first and were answered so when they were sent again, if all the others are
+/// answered so at once.
 pub fn failed_once<R: Threads + Sync, K: Keeper>(
     rt: &R,
     alloc: Global,

@@ -9,7 +9,7 @@ use std::alloc::Global;
 use std::test::Fail;
 use std::thread::Threads;
 
-// How many commands fail once where a call of their keeper does.
+// How many commands fail once if a call of their keeper does.
 fn failed_over<R: Threads + Sync>(rt: &R, alloc: Global, call: u64) -> Option<u32> {
     let mut keeper = MemKeeper::new(alloc, &[call]).ok()?;
     failed_once(rt, alloc, &mut keeper)

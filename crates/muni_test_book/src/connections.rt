@@ -1,4 +1,4 @@
-//! Connections of which some fail, and one that is cut, over keepers in memory.
+//! Connections, some of which fail, and one that is cut, over keepers in memory.
 
 mod exchange_cases;
 
@@ -50,7 +50,7 @@ const NOTHING: Failing = Failing {
     put: NEVER,
 };
 
-// A link on which the request of a case comes, of which these takes and puts fail.
+// A link on which the request of a case comes. These takes and puts of it fail.
 fn link(alloc: Global, line: &str, take: u64, put: u64) -> Result<MemLink, Fail> {
     let (request, _) = case(alloc, line)?;
     Ok(MemLink::new(alloc, &request, 9000, &[take], &[put])?)
@@ -78,7 +78,7 @@ pub fn door_of(alloc: Global, lines: [&str; 2]) -> Result<MemDoor, Fail> {
     Ok(MemDoor::new(alloc, links, &[])?)
 }
 
-/// How so many connections end over the store S.
+/// How a number of connections end over the store S.
 pub fn serve_at<R: Threads + Sync, C: Cabinet>(
     rt: &R,
     alloc: Global,
@@ -112,7 +112,7 @@ fn counts(alloc: Global, door: &MemDoor) -> Result<(usize, usize), Fail> {
     Ok((door.served().len(), bad))
 }
 
-// How so many connections end, with the counts.
+// How a number of connections end, with the counts.
 fn served<R: Threads + Sync, C: Cabinet>(
     rt: &R,
     alloc: Global,

@@ -14,7 +14,7 @@ use std::test::Fail;
 use std::thread::Threads;
 
 /// The bytes of a journal that keeps the issue, up to the length of the next entry. Before the body
-/// stand its gate and its length.
+/// are its gate and its length.
 const JOURNAL: &[u8] = b"\x01\x00\x00\x00\x34\
     \x01123456AA3\x16RIVERTON WATER 5S 2025\x00\x00\x07\xe4\x01\x01\x07\xe4\x07\x01\x07\xe9\x01\x01\
     \x02\xfa\xf0\x80\x00\
@@ -33,7 +33,7 @@ fn puts<K: Keeper>(keeper: &mut K, key: &Key) -> Option<u32> {
     }
 }
 
-/// An empty journal on a disk of which the calls of the listed numbers fail.
+/// An empty journal on a disk whose calls of the listed numbers fail.
 fn empty(alloc: Global, failing: &[u64]) -> Option<JournalKeeper<MemDisk>> {
     let disk = MemDisk::new(alloc, failing).ok()?;
     open(alloc, disk).ok()
@@ -97,7 +97,7 @@ fn entered<R: Threads + Sync>(rt: &R, alloc: Global) -> Option<(JournalKeeper<Me
     }
 }
 
-/// Whether so many puts are kept, and the trade sent again is confirmed.
+/// Whether a number of puts are kept, and the trade sent again is confirmed.
 fn keeps<R: Threads + Sync, K: Keeper>(
     rt: &R,
     alloc: Global,
@@ -166,8 +166,8 @@ fn a_trade_whose_gate_failed_is_unknown(rt: HostRuntime) -> Result<(), Fail> {
     Ok(())
 }
 
-/// Whether a stop within each call from a number on, with none or all of its piece written, leaves so
-/// many puts or one more, and a stop behind them all leaves those that are kept.
+/// Whether a stop within each call from a number on, with none or all of its piece written, leaves a
+/// number of puts or one more, and a stop after them all leaves those that are kept.
 fn leaves_or_more(
     alloc: Global,
     keeper: &mut JournalKeeper<MemDisk>,
@@ -187,8 +187,8 @@ fn leaves_or_more(
     left(alloc, keeper, key, calls, 0) == puts(keeper, key)
 }
 
-/// Whether the rows are answered so one after the other over a disk of which a call fails, each sent
-/// again where it is not answered, as one of them is; and no stop loses a put that was answered.
+/// Whether the rows are answered so one after the other over a disk with a call that fails, each sent
+/// again if it is not answered, as one of them is; and no stop loses a put that was answered.
 fn are_said_over<R: Threads + Sync>(rt: &R, alloc: Global, failing: u64) -> Option<bool> {
     let key = key("ALPHA", "T0001")?;
     let mut keeper = empty(alloc, &[failing])?;

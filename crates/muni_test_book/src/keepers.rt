@@ -40,7 +40,7 @@ fn make_calls<K: Keeper>(keeper: &mut K, issue: &Issue, key: &Key) -> Result<(),
     Ok(())
 }
 
-/// How the calls end over a keeper of which one fails, and how they do when they are made again.
+/// How the calls end over a keeper if one of them fails, and how they do when they are made again.
 fn twice(alloc: Global, call: u64) -> Result<(Result<(), KeepFault>, Result<(), KeepFault>), Fail> {
     let issue = worked_issue().ok_or("an issue")?;
     let key = key("ALPHA", "T0001").ok_or("a key")?;
@@ -63,7 +63,7 @@ fn each_call_of_a_keeper_fails_where_it_is_listed(rt: HostRuntime) -> Result<(),
     Ok(())
 }
 
-/// Whether the page behind T1 has each trade by its last version in the order of references.
+/// Whether the page after T1 has each trade by its last version in the order of references.
 fn has_its_page<K: Keeper>(keeper: &mut K) -> Result<bool, Fail> {
     for reference in ["T2", "T10", "T1", "T10"] {
         add_version(keeper, &key("ALPHA", reference).ok_or("a key")?)?;
@@ -104,7 +104,7 @@ fn lend_twice<C: Cabinet>(cabinet: &mut C, name: &[u8], key: &Key) -> Result<u32
     trades
 }
 
-/// What is counted in two stores, where the second fetch and the fifth call of the keeper of S fail.
+/// What is counted in two stores, if the second fetch and the fifth call of the keeper of S fail.
 fn counted<C: Cabinet>(cabinet: &mut C, key: &Key) -> [Result<u32, KeepFault>; 4]
     requires { C.out cabinet.old ≡ None }
 {

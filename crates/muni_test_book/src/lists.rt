@@ -14,7 +14,7 @@ use std::alloc::Global;
 use std::test::Fail;
 use std::thread::Threads;
 
-// How the positions of ALPHA in the store S end where a put of the output fails, and what they write.
+// How the positions of ALPHA in the store S end if a put of the output fails, and what they write.
 fn list<C: Cabinet>(
     alloc: Global,
     put: u64,
@@ -29,7 +29,7 @@ fn list<C: Cabinet>(
     Ok((end, output))
 }
 
-// Imports the rows. How a list of them then ends with nothing written, where one behind it is whole.
+// Imports the rows. How a list of them then ends with nothing written, if the one after it is whole.
 fn list_twice<R: Threads + Sync, C: Cabinet>(
     rt: &R,
     alloc: Global,
@@ -49,7 +49,7 @@ fn list_twice<R: Threads + Sync, C: Cabinet>(
     }
 }
 
-// The same over a cabinet of which a fetch fails, and a call of its keeper.
+// The same over a cabinet with a fetch that fails, and a call of its keeper.
 fn list_over<R: Threads + Sync>(
     rt: &R,
     alloc: Global,
@@ -102,8 +102,8 @@ fn import_listed<R: Threads + Sync, C: Cabinet>(
     Ok((end, output))
 }
 
-// How such an import ends where a call of the keeper fails, and how many bytes it writes of the report
-// and the lines behind it.
+// How this import ends if a call of the keeper fails, and how many bytes it writes of the report and
+// the lines after it.
 fn listed_over<R: Threads + Sync>(
     rt: &R,
     alloc: Global,
@@ -116,7 +116,7 @@ fn listed_over<R: Threads + Sync>(
     Ok((end, is_front.then_some(output.bytes().len())))
 }
 
-// One page is asked for before the first row, and none behind the last: the last call is the put of the
+// One page is asked for before the first row, and none after the last: the last call is the put of the
 // third row.
 #[test]
 fn the_lines_behind_a_report_take_no_call(rt: HostRuntime) -> Result<(), Fail> {

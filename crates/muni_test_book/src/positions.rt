@@ -1,4 +1,4 @@
-//! Positions after lists of puts, and where calls of the keeper inside fail.
+//! Positions after lists of puts, and if calls of the keeper inside fail.
 
 mod put_cases;
 
@@ -23,7 +23,7 @@ fn reference(text: &[u8]) -> Result<Reference, Fail> {
     Ok(Reference::read(text).ok().ok_or("a reference")?)
 }
 
-// A version of a trade, of which only what is summed matters.
+// A version of a trade. Only what is summed matters.
 fn version(act: Act, cusip: [u8; 9], side: Side, par: Par, total: Cents) -> Version {
     let empty = Version::default();
     let asked = Asked {
@@ -76,7 +76,7 @@ fn read_put(line: &str) -> Result<(Key, Version), Fail> {
     Ok((key, version(act, cusip, side, par, total)))
 }
 
-// The lines that `next` leads through, where each is that of `position`.
+// The lines that `next` leads through, if each is that of `position`.
 fn lines_by_next<K: Keeper>(alloc: Global, keeper: &Positioned<K>) -> Result<Vec<u8>, Fail>
     requires { IsSome keeper.now.desk }
 {
@@ -98,7 +98,7 @@ fn lines_by_next<K: Keeper>(alloc: Global, keeper: &Positioned<K>) -> Result<Vec
     Err(Fail::from("no end of CUSIPs"))
 }
 
-// The lines of the watched desk, which `next` tells too.
+// The lines of the watched desk, which `next` gives too.
 fn lines<K: Keeper>(alloc: Global, keeper: &Positioned<K>) -> Result<Vec<u8>, Fail> {
     let Some(_) = keeper.watched() else {
         return Err(Fail::from("no desk is watched"));
@@ -265,7 +265,7 @@ fn a_trade_for_which_there_is_no_room_is_refused(rt: HostRuntime) -> Result<(), 
     Ok(())
 }
 
-// The same where puts are followed. Whether the trade is put and ends the watch, and the desk can not be
+// The same if puts are followed. Whether the trade is put and ends the watch, and the desk cannot be
 // watched again.
 fn ends_the_watch<K: Keeper + Drop>(alloc: Global, inner: K) -> Result<bool, Fail> {
     let alpha = desk("ALPHA")?;

@@ -26,7 +26,7 @@ pub const REPORT: &str = "1,added,123456AA3
 /// What ALPHA then holds.
 pub const HELD: &str = "123456AA3 2 25000 10000 15000 15296.25\n";
 
-/// A cabinet with the empty store S, of which a fetch fails and a call of its keeper.
+/// A cabinet with the empty store S, with a fetch that fails and a call of its keeper.
 pub fn cabinet(alloc: Global, fetch: u64, call: u64) -> Result<MemCabinet, Fail>
     ensures { IfOk result (λ cabinet. cabinet.out ≡ None) }
 {

@@ -5,7 +5,7 @@ ghost use Rattle.muni_edge.specs.Faults.{CountsFaults};
 
 use muni_edge::{Failed, Link, MemLink, Sink, Source};
 
-/// A connection in memory that hands over at most so many bytes at a time.
+/// A connection in memory that hands over a limited number of bytes at a time.
 #[derive(Drop)]
 pub struct Pieces {
     link: MemLink,

@@ -31,7 +31,7 @@ fn flows_of(case: &str) -> Result<Flows, Fail>
     Ok(Sample::of(case).flows().ok_or("payments")?)
 }
 
-// The figure of an answer, after `?` where it is a boundary.
+// The figure of an answer, after `?` if it is a boundary.
 fn said(answer: &PriceAnswer) -> ArrayVec<u8, 32> {
     let mut figure = ArrayVec::new();
     let mut text = ArrayVec::new();

@@ -151,7 +151,7 @@ fn payments_are_those_computed_outside(rt: HostRuntime) {
     assert_eq!(rt; first_bad_payments(WITHOUT_COUPONS), (None, 8));
 }
 
-// The days that a note accrues, or none where it does not settle.
+// The days that a note accrues, or none if it does not settle.
 const NOTES: [(&str, Option<i32>); 4] = [
     (
         "at-redemption dated=2024-01-31 maturity=2025-01-01 coupon=4 settle=2024-07-31",

@@ -97,7 +97,7 @@ impl Encloser for Counting {
     ghost narrow = { λ _ series y is many within. horner-narrow series y is many within };
 }
 
-// Whether a case is answered as it says, after so many calls of the encloser at most.
+// Whether a case is answered as it says, after a limited number of calls of the encloser.
 fn is_right(case: &Sample<'_>, most: u32) -> Result<bool, Fail> {
     let counting = Counting {
         calls: Cell::new(0),

@@ -30,8 +30,8 @@ impl<'a> Sample<'a> {
         check(self.row()?).ok()
     }
 
-    /// The payments of the issue after `settle=`, up to its first call, or to its maturity where it
-    /// has none. Two or more are to come.
+    /// The payments of the issue after `settle=`, up to its first call, or to its maturity if it has
+    /// none. Two or more are to come.
     pub fn flows(&self) -> Option<Flows>
         ensures { IfSome result (λ flows. 2 ≤ flows.n) }
     {

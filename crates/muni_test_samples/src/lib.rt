@@ -1,12 +1,12 @@
 //! Issues, settlements and payments for the tests, from the lines of a table.
 //!
 //! A line is words with blanks between them. A line `base ..` is no case: its words go before those
-//! of each line behind it, up to the next `base`, which may have none. A line `# ..` is a comment. An
+//! of each line after it, up to the next `base`, which may have none. A line `# ..` is a comment. An
 //! issue is its kind (`periodic`, `zero`, `at-redemption` or `discount`), `dated=`, `first=`,
 //! `maturity=`, `coupon=` and `call=DATE:PRICE`, once for each call, and for a note of that basis
 //! `actual/365`; `settle=` is a settlement.
 //!
-//! Beside the tables stands the trade that is worked by hand.
+//! Beside the tables is the trade that is worked by hand.
 #![tactic(auto)]
 
 mod issue;

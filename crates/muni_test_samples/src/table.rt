@@ -52,13 +52,13 @@ impl<'a> Sample<'a> {
         }
     }
 
-    /// Whether a word stands among those of the case.
+    /// Whether a word is among those of the case.
     pub fn has(&self, word: &str) -> bool {
         has(self.base, word.as_bytes()) || has(self.line, word.as_bytes())
     }
 
-    /// What stands behind `name`, as `dated=`, in the first word that begins so, of the line or else
-    /// of its base.
+    /// What follows `name`, as `dated=`, in the first word that begins so, of the line or else of its
+    /// base.
     pub fn text(&self, name: &str) -> Option<&'a [u8]> {
         match value_in(self.line, name.as_bytes()) {
             Some(value) => Some(value),
@@ -71,7 +71,7 @@ impl<'a> Sample<'a> {
         [self.base, self.line]
     }
 
-    /// A whole number, with a minus sign where it is below zero.
+    /// A whole number, with a minus sign if it is below zero.
     pub fn number(&self, name: &str) -> Option<i64> {
         str::from_utf8(self.text(name)?).ok()?.parse::<i64>().ok()
     }

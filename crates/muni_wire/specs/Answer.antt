@@ -72,6 +72,6 @@ allowed bad.HeadTooLarge = []
 abbrev pub answer_to_bad : Bad → List ℕ
 answer_to_bad kind = status_answer (status_of_bad kind) (allowed kind)
 
--- the answer where the store has failed
+-- the answer if the store has failed
 abbrev pub unavailable : List ℕ
 unavailable = status_answer status.Unavailable []

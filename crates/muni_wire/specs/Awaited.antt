@@ -12,7 +12,7 @@ use Rattle.muni_wire.specs.declared.routes.Target.TheVariants as target
 use Rattle.muni_wire.specs.declared.head.Awaited.{Awaited}
 use Rattle.muni_wire.specs.declared.head.Awaited.TheVariants as plan
 
--- a body is to be read, where its length is told
+-- a body is to be read, if its length is given
 abbrev pub body_plan : Form → Result ℕ Bad → Awaited
 body_plan form (Ok size) = plan.Read form size
 body_plan form (Err fault) = plan.Refuse fault

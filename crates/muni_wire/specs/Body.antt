@@ -96,7 +96,7 @@ terms_in value = do
   asked ← asked_in side fee value
   Some (record { asked = asked })
 
--- a kind, with the first interest date where one stands there
+-- a kind, with the first interest date if there is one
 abbrev pub kind_with : List ℕ → Option Data → Option Kind
 kind_with text None = kind_reading text None
 kind_with text (Some first) = as_str first >>= λ date. kind_reading text (Some date)

@@ -35,7 +35,7 @@ body_limit = 65_536
 abbrev pub within_limit : ℕ → Result ℕ Bad
 within_limit size = if nat_le size body_limit then Ok size else Err bad.TooLarge
 
--- the length, where every Content-Length tells this number
+-- the length, if every Content-Length is this number
 abbrev pub agreed : Option ℕ → List FieldText → Result ℕ Bad
 agreed None fields = Err bad.BadRequest
 agreed (Some size) fields =

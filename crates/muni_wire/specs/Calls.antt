@@ -22,7 +22,7 @@ abbrev pub listed : Items → List Data
 listed no_items = []
 listed (item value items) = value ∷ listed items
 
--- values as calls, where each of them is one
+-- values as calls, if each of them is one
 unfoldable pub each_call : List Data → Option (List Call)
 each_call [] = Some []
 each_call (value ∷ values) = do
@@ -34,7 +34,7 @@ each_call (value ∷ values) = do
 abbrev pub few_calls : List Data → Option (List Call)
 few_calls values = if nat_le (length values) 40 then each_call values else None
 
--- none where they are left out
+-- none if they are left out
 abbrev pub calls_at : Option Data → Option (List Call)
 calls_at None = Some []
 calls_at (Some found) = as_array found >>= λ items. few_calls (listed items)

@@ -26,13 +26,13 @@ pub record TakesHead (old new : Option (List ℕ)) : Type 0 where
   pub few : length last ≤ piece_limit
   pub most : length (before ++ last) ≤ head_limit
 
--- how many bytes behind a head are awaited: those of its body
+-- how many bytes after a head are awaited: those of its body
 abbrev pub awaited_size : Awaited → ℕ
 awaited_size (plan.Refuse kind) = 0
 awaited_size (plan.Ask command) = 0
 awaited_size (plan.Read form size) = size
 
--- So many of these bytes go no further than a request. Behind a head come its body, or less than a
+-- So many of these bytes go no further than a request. After a head come its body, or less than a
 -- piece; without a head within the limits they are no more than a head has.
 pub record IsNoFurther (bytes : List ℕ) (count : ℕ) : Type 0 where
   pub head : (h : RequestHead) (rest : List ℕ) → HasHead bytes h rest

@@ -7,14 +7,14 @@ use Rattle.muni_edge.specs.declared.source.Source as source
 use Rattle.muni_wire.specs.declared.fault.WireFault.{WireFault}
 use Rattle.muni_wire.specs.declared.fault.WireFault.TheVariants as fault
 
--- the body is bad, or memory was wanting
+-- the body is bad, or memory ran out
 abbrev pub IsOfBody : WireFault → Type 0
 IsOfBody (fault.Bad kind) = ⊤
 IsOfBody fault.Gone = ⊥
 IsOfBody fault.LinkFault = ⊥
 IsOfBody fault.NoMemory = ⊤
 
--- a take failed, or memory was wanting
+-- a take failed, or memory ran out
 abbrev pub IsOfTake : WireFault → Type 0
 IsOfTake (fault.Bad kind) = ⊥
 IsOfTake fault.Gone = ⊥

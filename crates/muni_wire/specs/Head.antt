@@ -11,7 +11,7 @@ head_limit = 16_384
 abbrev pub field_limit : ℕ
 field_limit = 64
 
--- the bytes begin with this head, which is within the limits, and these come behind it
+-- the bytes begin with this head, which is within the limits, and these come after it
 pub record HasHead (bytes : List ℕ) (head : RequestHead) (rest : List ℕ) : Type 0 where
   pub reads : ReadsRequest bytes head rest
   pub short : length (print_request head) ≤ head_limit

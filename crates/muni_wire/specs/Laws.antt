@@ -34,7 +34,7 @@ answer_to (Whole command) = Ok command
 answer_to (Faulty kind) = Err (fault.Bad kind)
 answer_to Short = Err fault.Gone
 
--- the link failed, or memory was wanting
+-- the link failed, or memory ran out
 abbrev pub IsCutOff : Result Command WireFault → Type 0
 IsCutOff (Ok command) = ⊥
 IsCutOff (Err (fault.Bad kind)) = ⊥
@@ -42,7 +42,7 @@ IsCutOff (Err fault.Gone) = ⊥
 IsCutOff (Err fault.LinkFault) = ⊤
 IsCutOff (Err fault.NoMemory) = ⊤
 
--- where the bytes have one reading, it is answered, unless that was cut off
+-- if the bytes have one reading, it is answered, unless that was cut off
 pub record IsTheAnswer (bytes : List ℕ) (result : Result Command WireFault) : Type 0 where
   pub whole : (reading : Reading) → HeadAsks bytes reading
       → IsCutOff result ⊎ (result ≡ answer_to reading)

@@ -60,7 +60,7 @@ EachTradeIsConfirmed =
     (key : Key) → IsKey key
     → target_of (codes "/trades/" ++ (key.desk ++ 47 ∷ key.reference)) ≡ Some (target.Get (Confirm key))
 
--- the list of each desk is given under its path, from the start and behind each reference
+-- the list of each desk is given under its path, from the start and after each reference
 abbrev pub EachListIsGiven : Type 0
 EachListIsGiven =
     (desk : List ℕ) → IsName is_desk_letter 16 desk

@@ -23,14 +23,14 @@ abbrev pub of_body : Option Command → Reading
 of_body (Some command) = Whole command
 of_body None = Faulty bad.BadRequest
 
--- what comes of a plan with the bytes behind the head
+-- what comes of a plan with the bytes after the head
 abbrev pub carried_out : Awaited → List ℕ → Reading
 carried_out (plan.Refuse kind) rest = Faulty kind
 carried_out (plan.Ask command) rest = Whole command
 carried_out (plan.Read form size) rest =
     if nat_lt (length rest) size then Short else of_body (command_of form (take size rest))
 
--- the bytes begin with a head within the limits, and it asks for this with the bytes behind it
+-- the bytes begin with a head within the limits, and it asks for this with the bytes after it
 pub record HeadAsks (bytes : List ℕ) (reading : Reading) : Type 0 where
   pub head : RequestHead
   pub rest : List ℕ
@@ -45,7 +45,7 @@ Reads bytes reading =
     ⊎ (IsHeadTooLarge bytes × (reading ≡ Faulty bad.HeadTooLarge))
     ⊎ (EndsInHead bytes × (reading ≡ Short))
 
--- The bytes allow this answer. A fault of the link and want of memory say nothing of them.
+-- The bytes allow this answer. A fault of the link and a lack of memory say nothing of them.
 abbrev pub Allows : List ℕ → Result Command WireFault → Type 0
 Allows bytes (Ok command) = Reads bytes (Whole command)
 Allows bytes (Err (fault.Bad kind)) = Reads bytes (Faulty kind)

@@ -61,7 +61,7 @@ route_of_text path = option_map (λ found. found.value) (first routes path)
 unfoldable pub route_of : List ℕ → Option Route
 route_of path = if is_utf8 path then route_of_text path else None
 
--- what stands behind a prefix
+-- what follows a prefix
 abbrev pub behind : List ℕ → List ℕ → Option (List ℕ)
 behind prefix text =
     if bytes_eq (take (length prefix) text) prefix then Some (drop (length prefix) text) else None

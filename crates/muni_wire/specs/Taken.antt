@@ -1,4 +1,4 @@
--- What a head says of the bytes that were taken, whatever is left behind them.
+-- What a head says of the bytes that were taken, whatever is left after them.
 use Rattle.std.specs.Prelude.{◌≡◌, ◌≤◌, ◌==◌, ◌||◌, ℕ, List, Option, Bool, not, drop, length, ◌++◌, Result, Ok, Err, ⊤}
 use Rattle.std.specs.Io.KnownBytes.{IsAtEnd}
 use Rattle.std.specs.List.{list_any}
@@ -51,7 +51,7 @@ IsHeadOf head.More bytes left = EndsInHead bytes × IsAtEnd left
 IsHeadOf head.Never bytes left = (more : List ℕ) → IsNoHead (bytes ++ more)
 IsHeadOf head.TooLarge bytes left = (more : List ℕ) → IsHeadTooLarge (bytes ++ more)
 
--- the answer to a body of so many bytes, by all bytes behind the head
+-- the answer to a body of so many bytes, by all bytes after the head
 abbrev pub IsAnswerTo : Form → ℕ → List ℕ → Result Command WireFault → Type 0
 IsAnswerTo form size rest (Ok command) = Whole command ≡ carried_out (plan.Read form size) rest
 IsAnswerTo form size rest (Err (fault.Bad kind)) = Faulty kind ≡ carried_out (plan.Read form size) rest

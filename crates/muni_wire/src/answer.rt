@@ -32,7 +32,7 @@ pub fn write_reply<L: Link>(link: &mut L, reply: &Reply) -> Result<(), Failed>
     write(link, HttpStatus::of_reply(reply), b"", &text)
 }
 
-/// Answers a request that is no command: its status, and that with its phrase as the text. Where the
+/// Answers a request that is no command: its status, and that with its phrase as the text. If the
 /// method is not allowed, the answer names the one that is.
 ///
 /// After a failure the connection may hold a part of the answer.
@@ -96,7 +96,7 @@ fn write<L: Link>(
     link.put(&answer)
 }
 
-// The head of an answer whose text has so many bytes.
+// The head of an answer, with the length of its text.
 fn push_head(answer: &mut ArrayVec<u8, 8448>, status: HttpStatus, allow: &[u8], size: usize)
     requires empty { array_vec_len answer.old ≡ 0 }
     requires allow { length allow.now ≤ 13 }

@@ -242,7 +242,7 @@ fn calendar(value: &Value) -> Option<(Kind, Day, Day)>
     Some((kind, dated, maturity))
 }
 
-// A kind, beside which the first interest date stands where it is periodic.
+// A kind. A first interest date is given exactly if it is periodic.
 fn kind(value: &Value) -> Option<Kind>
     ensures { result ≡ spec.kind_in (view value.now) }
 {

@@ -11,7 +11,7 @@ use muni_dec::Price;
 use muni_terms::Call;
 use serde_json::Value;
 
-/// At most 40 calls, and none where the member is left out.
+/// At most 40 calls, and none if the member is left out.
 pub(crate) fn read_calls(value: &Value) -> Option<ArrayVec<Call, 40>>
     ensures { option_map (λ calls. calls.items) result ≡ spec.calls_in (view value.now) }
 {

@@ -8,13 +8,13 @@ pub enum Bad {
     /// The bytes are no request, or the body is none that its path takes.
     #[error("bad request")]
     BadRequest,
-    /// Nothing stands under the path.
+    /// The path is unknown.
     #[error("unknown path")]
     NotFound,
-    /// The path takes the other method: POST where `post` is set, else GET.
+    /// The path takes the other method: POST if `post` is set, else GET.
     #[error("the path takes the other method")]
     NotAllowed { post: bool },
-    /// The length of the body is not told.
+    /// The length of the body is missing.
     #[error("no length of the body")]
     LengthRequired,
     /// The body has more than 65,536 bytes.

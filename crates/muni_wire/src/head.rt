@@ -15,12 +15,12 @@ use httparse::{Error, Status};
 use matchit::Router;
 use muni_msg::Command;
 
-/// What is to be done about a request, as its head alone tells it.
+/// What is to be done about a request, by its head alone.
 #[derive(Drop)]
 pub(crate) enum Awaited {
     Refuse(Bad),
     Ask(Command),
-    /// A body of so many bytes is to be read.
+    /// A body of `size` bytes is to be read.
     Read { form: Form, size: usize },
 }
 
@@ -31,13 +31,13 @@ pub(crate) enum Head {
     Whole { end: usize, plan: Awaited },
     /// More is to come.
     More,
-    /// Nothing that could come makes a head of them.
+    /// No further bytes can complete these into a head.
     Never,
     TooLarge,
 }
 
 impl Head {
-    /// Whether no more is to be awaited, where the last take gave so many bytes.
+    /// Whether no more is to be awaited after a take that gave `count` bytes.
     pub(crate) fn is_settled(&self, count: usize) -> bool
         ensures settled { result ≡ true → self.now ≡ Head.More → count ≡ 0 }
         ensures open { result ≡ false → (self.now ≡ Head.More) × (0 < count) }
@@ -49,7 +49,7 @@ impl Head {
     }
 }
 
-/// Looks at what has come. The answer stands whatever comes after it.
+/// Looks at what has come. The answer stays right whatever comes after it.
 pub(crate) fn look(routes: &Router<Route>, bytes: &[u8]) -> Head
     requires routes { routes.now ≡ all_routes }
     requires limit { length bytes.now ≤ head_limit }

@@ -42,7 +42,7 @@ pub fn refusals_have_codes()
 
 /// Bodies are posted under the five paths of the desk. A trade is confirmed under `/trades/`, its
 /// desk, a slash and its reference, and under no other path. A list is given under `/lists/` and its
-/// desk, and goes on behind a reference where that stands behind a slash, and under no other path.
+/// desk, and goes on after a reference if a slash and that reference follow, and under no other path.
 /// Desk and reference are names.
 pub fn paths_lead_to_requests()
     ensures posted { BodiesArePosted }
@@ -52,7 +52,7 @@ pub fn paths_lead_to_requests()
 {}
 
 /// Each trade is confirmed under its path, and the list of each desk is given under its own and goes on
-/// behind each reference. A body is posted under the one path of its form.
+/// after each reference. A body is posted under the one path of its form.
 pub fn each_path_leads_to_its_request()
     ensures posted { BodiesHaveOnePath }
     ensures confirmed { EachTradeIsConfirmed }

@@ -1,4 +1,4 @@
-//! The length of a body, as the header fields tell it.
+//! The length of a body, by the header fields.
 
 ghost use Rattle.std.specs.Prelude.{◌≡◌, ◌≤◌, All, Some, IfOk, find, map, length, option_map};
 ghost use Rattle.std.specs.List.{list_any, list_all};
@@ -62,7 +62,7 @@ fn first<'b>(bytes: &'b [u8], fields: &[HeaderSpan], name: &[u8]) -> Option<&'b 
     None
 }
 
-// Whether every Content-Length tells this number.
+// Whether every Content-Length is this number.
 fn all_tell(bytes: &[u8], fields: &[HeaderSpan], size: u64) -> bool
     requires { All (IsHeaderWithin (length bytes.now)) fields.now }
     ensures { result
@@ -76,7 +76,7 @@ fn all_tell(bytes: &[u8], fields: &[HeaderSpan], size: u64) -> bool
     true
 }
 
-// Whether a field is no Content-Length, or tells this number.
+// Whether a field is no Content-Length, or is this number.
 fn may_stand_beside(bytes: &[u8], field: &HeaderSpan, size: u64) -> bool
     requires { IsHeaderWithin (length bytes.now) field.now }
     ensures { result ≡ spec.may_stand_beside size (header_bytes bytes.now field.now) }

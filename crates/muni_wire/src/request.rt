@@ -19,9 +19,9 @@ use muni_msg::Command;
 use std::alloc::Global;
 
 /// Reads one request of HTTP/1.0 or HTTP/1.1 (RFC 9112), by all bytes of the connection, however
-/// they come. Of bytes behind the request less than one piece may have been taken too.
+/// they come. Less than one piece of the bytes after the request may have been taken too.
 ///
-/// Where memory was wanting nothing is said of the bytes.
+/// If memory runs out nothing is said of the bytes.
 #[tactic(auto, using(crate::proofs::UniqueLemmas::told_answer))]
 pub fn read_request<L: Link>(alloc: Global, link: &mut L) -> Result<Command, WireFault>
     ensures allowed { IfSome (L.left link.old) (λ bytes. Allows bytes result) }
@@ -37,7 +37,7 @@ fn read_by_head<L: Link>(alloc: Global, link: &mut L) -> Result<Command, WireFau
     ensures no_further { ReadsNoFurther (L.left link.old) (L.left link.new) }
     ensures takes { TakesAndTells L.Source L.Sink result link.old link.new }
 {
-    // The routes agree with one another, so that memory alone can be wanting for them.
+    // The routes agree with one another, so that only memory can be missing for them.
     let Ok(routes) = routes(alloc) else {
         return Err(WireFault::NoMemory);
     };
@@ -54,7 +54,7 @@ fn read_by_head<L: Link>(alloc: Global, link: &mut L) -> Result<Command, WireFau
     }
 }
 
-// Reads the body behind a head that ends at a place of the bytes that were taken.
+// Reads the body after a head that ends at a place of the bytes that were taken.
 fn take_body<L: Link>(
     alloc: Global,
     link: &mut L,

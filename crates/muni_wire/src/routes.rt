@@ -19,7 +19,7 @@ pub(crate) enum Form {
     Quote,
 }
 
-/// What stands under a path.
+/// What is under a path.
 #[derive(Clone, Copy, Debug, PartialEq, Eq)]
 pub(crate) enum Route {
     /// A body is posted.
@@ -28,7 +28,7 @@ pub(crate) enum Route {
     Trade,
     /// The trades of a desk.
     List,
-    /// The trades of a desk behind a reference.
+    /// The trades of a desk after a reference.
     ListAfter,
 }
 
@@ -71,7 +71,7 @@ fn add_gets(routes: &mut Router<Route>) -> Result<(), InsertError>
     Ok(())
 }
 
-/// The path of a target: what stands before the first `?`.
+/// The path of a target: what comes before the first `?`.
 pub(crate) fn path_of(target: &[u8]) -> &[u8]
     ensures { result.now ≡ spec.path_of target.now }
 {

@@ -34,8 +34,8 @@ impl HttpStatus {
         }
     }
 
-    // What is unknown is not found, what stands against the book is a conflict, and all else that
-    // is refused cannot be processed.
+    // What is unknown is not found, what contradicts the book is a conflict, and all else that is
+    // refused cannot be processed.
     fn of_refusal(refusal: &Refusal) -> HttpStatus
         ensures { result ≡ spec.status_of_refusal refusal.now }
     {

@@ -47,9 +47,8 @@ pub(crate) fn read_head<L: Link>(
     unreachable!()
 }
 
-// Looks at what has come with the last so many bytes. A head ends with a line, so that more is to
-// come where no line has ended, and before it there may be empty lines: a head that comes byte by byte
-// is not looked at byte by byte.
+// Looks at what has come, if a line has ended in the last `count` bytes. A head ends with a line, and
+// empty lines may come before it. So a head that comes byte by byte is not looked at byte by byte.
 fn look_behind_lines(
     routes: &Router<Route>,
     bytes: &[u8],
@@ -92,7 +91,7 @@ fn has_text(bytes: &[u8]) -> bool
     bytes.iter().any(|b| !(*b == b'\r' || *b == b'\n'))
 }
 
-/// Takes until so many bytes are there, or none is left.
+/// Takes until there are `limit` bytes, or none is left.
 pub(crate) fn fill<L: Link>(
     link: &mut L,
     bytes: &mut Vec<u8>,
@@ -119,8 +118,8 @@ pub(crate) fn fill<L: Link>(
     unreachable!()
 }
 
-// Takes the next piece behind the bytes that are there, which become no more than a limit, and
-// returns how many it has. 0 is the end.
+// Takes the next piece after the bytes that are there, which become no more than a limit, and returns
+// how many it has. 0 is the end.
 fn take_more<L: Link>(link: &mut L, bytes: &mut Vec<u8>, limit: usize) -> Result<usize, WireFault>
     requires { vec_len bytes.old < limit }
 

@@ -63,7 +63,7 @@ answered Unsure place bracket = record {
   halvings = bracket.halvings + 1;
 }
 
--- one question, where the verdicts for each series, price and place are known
+-- one question, if the verdicts for each series, price and place are known
 abbrev pub halved : (PaymentSeries → ℕ → ℕ → Verdict) → YieldBracket → YieldBracket
 halved verdicts bracket =
     answered (verdicts bracket.series bracket.price (question bracket)) (question bracket) bracket

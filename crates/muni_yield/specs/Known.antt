@@ -44,7 +44,7 @@ learnt place reading window =
     if reading.clear then learnt_of reading.verdict place window else window
 
 -- At a yield of zero, which is above the boundary of place 5,001 and below that of the next one, the
--- price with the accrued interest is the sum of the payments. Where it is 10^-9 dollars away from the
+-- price with the accrued interest is the sum of the payments. If it is 10^-9 dollars away from the
 -- given one, all places on one side are known.
 abbrev pub window_of_sum : ℕ → ℕ → Window
 window_of_sum sum dirty =

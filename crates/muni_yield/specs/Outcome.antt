@@ -54,7 +54,7 @@ pub record IsPrintVerdict (said : ℤ → Verdict) (t : ℤ) : Type 0 where
   pub least : least_printed ≤ℤ t
   pub most : t ≤ℤ greatest_printed
 
--- the verdict above a yield is open, and the yield itself was answered by yes where it was asked
+-- the verdict above a yield is open, and the yield itself was answered by yes if it was asked
 pub record IsUnsureVerdict (said : ℤ → Verdict) (lower : ℤ) : Type 0 where
   pub unsure : said (lower +ℤ pos 1) ≡ verdict.Unsure
   pub reached : (lower ≡ negsuc 5_000) ⊎ (said lower ≡ verdict.Yes)

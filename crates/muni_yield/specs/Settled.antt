@@ -8,12 +8,12 @@ use Rattle.muni_yield.specs.Places.{yield_at}
 use Rattle.muni_yield.specs.declared.outcome.Outcome.{Outcome}
 use Rattle.muni_yield.specs.declared.outcome.Outcome.TheVariants.{Print, Below, Above, Unsure}
 
--- the outcome where the lower place is reached and the next one is not
+-- the outcome if the lower place is reached and the next one is not
 abbrev pub printed_as : ℕ → Outcome
 printed_as low =
     if low == 0 then Below else (if low == 105_002 then Above else Print (yield_at low))
 
--- and where the next one was answered so
+-- and if the next one was answered so
 abbrev pub outcome_at : ℕ → Verdict → Outcome
 outcome_at low verdict.Unsure = Unsure (yield_at low)
 outcome_at low verdict.Yes = printed_as low

@@ -17,8 +17,8 @@ use muni_multi::{Discount, Encloser, Reading, Verdict};
 use muni_terms::{Flows, flows_are_in_range};
 use std::marker::Model;
 
-/// The search for the yield at a price: two printed yields, of which the lower is reached, as far
-/// as it was asked for, and the higher is not.
+/// The search for the yield at a price: two printed yields. The lower is reached, as far as it was
+/// asked for, and the higher is not.
 ///
 /// Each halving asks one question, in this order: whether -5.000 is reached, whether 100.001 is,
 /// and then whether the middle is. After at most 19 of them the two are neighbours and the search
@@ -127,8 +127,8 @@ impl Bracket {
 
     /// Asks the next question of a search that is not settled.
     ///
-    /// Where it is answered by yes the lower yield is raised to the place that was asked, and else
-    /// the higher one is lowered to it.
+    /// If the answer is yes the lower yield is raised to the place that was asked, and otherwise the
+    /// higher one is lowered to it.
     pub fn halve<E: Encloser>(&mut self, encloser: &E)
         requires open { spec.is_settled self.old ≡ false }
         ensures halved { self.new
@@ -183,7 +183,7 @@ impl Bracket {
         self.answer(place, verdict);
     }
 
-    /// What is told of the price at a place.
+    /// The answer at a place.
     pub(crate) fn read<E: Encloser>(
         &self,
         encloser: &E,

@@ -128,7 +128,7 @@ impl Level {
         level
     }
 
-    // So many, from half as many.
+    // A number of payments, from half as many.
     fn doubled(self, half_year: i64, count: u32) -> Level {
         let half = i64::from(count / 2);
         let later = self.weighted.wrapping_add(half.wrapping_mul(self.count));
@@ -149,8 +149,8 @@ impl Level {
     }
 }
 
-// By how much an amount grows in so many days of half a year: a power of one and half the yield, by
-// its series.
+// By how much an amount grows in some days of half a year: a power of one and half the yield, by its
+// series.
 fn growth(y: i64, days: i64) -> i64 {
     let half_yield = y.wrapping_mul(ONE / 2_000_000);
     let exponent = days.wrapping_mul(ONE / 180);
@@ -173,7 +173,7 @@ fn part(number: i64, divisor: i64) -> i64 {
     if divisor > 0 { number / divisor } else { 0 }
 }
 
-// So many payments of an amount.
+// A number of payments of an amount.
 fn paid(amount: i64, count: i64) -> i64 {
     high(amount.wrapping_mul(1 << 16), count).wrapping_mul(1 << 8)
 }

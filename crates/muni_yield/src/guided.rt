@@ -14,8 +14,8 @@ use muni_terms::Flows;
 
 /// A bracket, and the verdicts that are known.
 ///
-/// If the verdict on the bracket's next question is known, its halving asks at another place, where
-/// an answer tells more.
+/// If the verdict on the bracket's next question is known, its halving asks at another place, at which
+/// an answer settles more.
 #[derive(Clone, Copy, Debug, PartialEq, Eq, Default)]
 pub struct GuidedSearch {
     bracket: Bracket,
@@ -130,7 +130,7 @@ impl GuidedSearch {
         }
     }
 
-    // What is told at a place, of which the window learns.
+    // The answer at a place, from which the window learns.
     fn ask<E: Encloser>(&mut self, encloser: &E, place: u32, kept: Option<&Discount>) -> Verdict
         requires known { IsGuided (place_verdict (E.ends encloser.now)) self.old }
         requires some { 1 ≤ place }

@@ -15,7 +15,7 @@ use std::sync::ledger::Ledger;
 
 /// The yield at a dollar price (MSRB Rule G-33(b)(ii)). Two payments or more are to come.
 ///
-/// `steps` counts one for each question, of which there are at most 19.
+/// `steps` counts one for each question. There are at most 19.
 // Each calls the encloser at most once (tested).
 pub fn printed_yield<E: Encloser, L: Ledger>(
     encloser: &E,

@@ -9,7 +9,7 @@ use muni_terms::Flows;
 
 /// Up to the place `yes` each verdict is Yes, and from the place `no` on each is No.
 ///
-/// The price falls as the yield rises. So a verdict that is clear at one place tells those on one
+/// The price falls as the yield rises. So a verdict that is clear at one place settles those on one
 /// side of it, whatever the ends of the worth are there.
 #[derive(Clone, Copy, Debug, PartialEq, Eq, Default)]
 pub struct Window {
@@ -18,7 +18,7 @@ pub struct Window {
 }
 
 impl Window {
-    // What the sum of the payments tells, which is their price at a yield of zero.
+    // What the sum of the payments settles, which is their price at a yield of zero.
     pub(crate) fn first(flows: &Flows, price: Price) -> Window
         ensures { result ≡ spec.window_first flows.now price }
     {

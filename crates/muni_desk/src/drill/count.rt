@@ -23,7 +23,7 @@ impl Model for DrillCount {
 }
 
 impl DrillCount {
-    /// So many trades, at most 1,000.
+    /// A number of trades, at most 1,000.
     pub fn new(trades: u64) -> DrillCount
         requires { trades ≤ 1_000 }
         ensures { result ≡ trades }

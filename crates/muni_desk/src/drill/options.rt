@@ -25,7 +25,7 @@ pub struct DrillRequest {
     pub count: DrillCount,
 }
 
-/// What words ask for, where they are options of `drill`, in any order.
+/// What words ask for, if they are options of `drill`, in any order.
 pub fn read_drill(words: &[String]) -> Option<CommandLine>
     ensures { result ≡ spec.drill_of (map string_bytes words.now) }
 {

@@ -3,7 +3,7 @@
 ghost use Rattle.muni_desk.specs.FieldLaws.{CallFieldsAreRead, FeeFieldsAreRead};
 ghost use Rattle.muni_desk.specs.WordLaws.{NamesAreApart, ReadsCommandLines, RefusesOtherWords};
 
-/// A law: words are read as a command line exactly where they say it in the words of its rule.
+/// A law: words are read as a command line exactly if they say it in the words of its rule.
 pub fn words_are_read_by_the_rule()
     ensures line { ReadsCommandLines }
     ensures refused { RefusesOtherWords }

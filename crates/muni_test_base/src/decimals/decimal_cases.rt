@@ -60,7 +60,7 @@ workers|1|units 1
 workers|16|units 16
 workers|17|none";
 
-/// A kind, units, and their text, or none where they are outside its range.
+/// A kind, units, and their text, or none if they are outside its range.
 pub const TEXTS: &str = "\
 coupon 300000000|30.0000000
 coupon 300000001|none

@@ -70,7 +70,7 @@ fn a_keeper_whose_failed_put_is_not_taken_back_is_lent_again(rt: HostRuntime) ->
     Ok(())
 }
 
-/// How many lines an import writes that fails, where one behind it is whole.
+/// How many lines an import writes that fails, if the one after it is whole.
 fn lines_written<R: Threads + Sync, C: Cabinet>(
     rt: &R,
     alloc: Global,

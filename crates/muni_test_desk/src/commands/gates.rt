@@ -39,7 +39,7 @@ pub fn answered<R: Threads + Sync>(
     written(alloc, &outcome.output)
 }
 
-// The most candidates that are started side by side, where so many are waited for.
+// The most candidates that are started side by side, if a number of them is waited for.
 fn side_by_side<R: Threads + Sync>(
     rt: &R,
     alloc: Global,
@@ -107,7 +107,7 @@ fn a_candidate_that_cannot_be_the_lowest_is_dropped(rt: HostRuntime) -> Result<(
     Ok(())
 }
 
-// Below par the maturity has the lower yield, and goes on where the call is dropped. None of four
+// Below par the maturity has the lower yield, and goes on while the call is dropped. None of four
 // candidates at a yield is an exact case.
 #[test]
 fn the_gate_and_the_encloser_are_asked_of_each_candidate(rt: HostRuntime) -> Result<(), Fail> {

@@ -1,4 +1,4 @@
-//! Commands over a store of which an object fails, and connections.
+//! Commands over a store while an object fails, and connections.
 
 use super::{Asked, Outcome, ask};
 use crate::commands::watch::Watch;
@@ -95,7 +95,7 @@ fn ask_twice<R: Threads + Sync>(
     Ok((before, after))
 }
 
-// How many lines of the report a text has, where it has no others.
+// How many lines of the report a text has, if it has no others.
 fn lines_of_the_report(text: &[u8]) -> Option<u32> {
     let mut count = 0u32;
     let mut rest = text;
@@ -164,7 +164,7 @@ fn a_keeper_that_fails_ends_an_import_before_its_row(rt: HostRuntime) -> Result<
     Ok(())
 }
 
-// The last status tells whether the first command has fetched the store.
+// The last status shows whether the first command has fetched the store.
 fn first_wrong_status<R: Threads + Sync>(rt: &R, alloc: Global) -> Result<Option<usize>, Fail> {
     for (place, (line, [takes, puts, fetches, calls], status, after)) in [
         (

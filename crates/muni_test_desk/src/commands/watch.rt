@@ -10,7 +10,7 @@ use muni_terms::Flows;
 use std::sync::atomic::{AtomicBool, AtomicU32, AtomicUsize, Ordering};
 
 /// Counts the starts, and the calls that it hands on to `Horner`. It holds each candidate at its first
-/// start until so many are held at once, or for its turns.
+/// start until a number of them are held at once, or for its turns.
 #[derive(Drop)]
 pub struct Watch {
     held: AtomicU32,
@@ -30,7 +30,7 @@ pub struct Watch {
 }
 
 impl Watch {
-    /// Waits for so many candidates, at most for so many turns.
+    /// Waits for a number of candidates, at most for a number of turns.
     pub fn new(wanted: u32, turns: u32) -> Watch {
         Watch {
             held: AtomicU32::new(0),

@@ -31,7 +31,7 @@ fn is_read<L: Link>(alloc: Global, link: &mut L) -> Result<bool, Fail> {
     }
 }
 
-// How many takes by pieces of so many bytes the trade needs: the first that may fail.
+// How many takes by pieces of a size the trade needs: the first that may fail.
 fn takes(alloc: Global, size: usize) -> Result<u64, Fail> {
     for take in 0..256u64 {
         let link = MemLink::new(alloc, TRADE, 0, &[take], &[])?;

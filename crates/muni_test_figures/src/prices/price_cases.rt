@@ -1,8 +1,8 @@
 //! Prices computed with exact rational arithmetic outside the program.
 //!
-//! A line `base` gives an issue to the lines behind it. These give the coupon, where there is one,
-//! a settlement, a yield, and the printed price, after `?` where it is the boundary that stays
-//! undecided; and a call, where the payments end with it.
+//! A line `base` gives an issue to the lines after it. These give the coupon, if there is one, a
+//! settlement, a yield, and the printed price, after `?` if it is the boundary that stays undecided;
+//! and a call, if the payments end with it.
 
 pub const CASES: &str = "\
 base periodic dated=2020-01-01 first=2020-07-01 maturity=2034-01-01

@@ -121,7 +121,7 @@ fn yield_for(list: &[Candidate], case: &Sample<'_>) -> Result<Yield, Fail>
     Ok(y)
 }
 
-// Counts the questions, and tells whether a question came after one of a later round.
+// Counts the questions, and says whether a question came after one of a later round.
 #[derive(Drop)]
 struct CountingGate {
     starts: AtomicU32,
@@ -203,7 +203,7 @@ fn encloser_at_first() -> CountingEncloser {
 }
 
 // How many halvings and rounds a search takes, how often a round fell, and if the encloser was called
-// more often than the gate was told.
+// more often than the gate.
 fn counts<R: Threads + Sync>(
     rt: &R,
     list: &ArrayVec<Candidate, 41>,

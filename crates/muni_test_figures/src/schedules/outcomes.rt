@@ -13,7 +13,7 @@ use std::str::SplitWhitespace;
 use std::test::Fail;
 
 // Outcomes in order of date, and the lowest of them by the rule, computed outside: thousandths of a
-// dollar, with `?` where they are unsure, and the candidate. The least that may be unsure is -1.
+// dollar, with `?` if they are unsure, and the candidate. The least that may be unsure is -1.
 const PRICES: &str = "\
 7 = 7 at 0
 7 7 = 7 at 0
@@ -38,7 +38,7 @@ below -1? = below at 0
 7 below below = below at 1
 below 6? = below at 0";
 
-// The same for thousandths of a percent, of which the least that may be unsure is -5,001.
+// The same for thousandths of a percent. The least that may be unsure is -5,001.
 const YIELDS: &str = "\
 = above
 above = above
@@ -130,7 +130,7 @@ fn yields(words: &str) -> Result<ArrayVec<CandidateOutcome, 8>, Fail>
     Ok(yields)
 }
 
-// The candidate, behind `at`.
+// The candidate, after `at`.
 fn candidate(words: &mut SplitWhitespace<'_>) -> Result<usize, Fail> {
     let _at = words.next();
     let word = words.next().ok_or("a candidate")?;

@@ -1,8 +1,8 @@
 //! Redemption candidates, computed with whole numbers outside the program.
 //!
 //! A line `base` gives an issue with its calls, a settlement, and how many candidates there are.
-//! Each line behind it gives one of these: its number from 0 in order of date, its date, its price,
-//! its label, and how it is priced: by `many` payments, of which there are n, with A, the accrued
+//! Each line after it gives one of these: its number from 0 in order of date, its date, its price,
+//! its label, and how it is priced: by `many` payments, with their number n, A, the accrued
 //! interest and the redemption; by `one` payment that is due, or that of a `note`, the accrued
 //! interest and the days left; or by the days of a `discounted` note.
 

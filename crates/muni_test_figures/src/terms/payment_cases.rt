@@ -1,6 +1,6 @@
 //! Payments up to maturity, computed with exact rational arithmetic outside the program.
 //!
-//! A line `base` gives an issue to the lines behind it. These give a settlement, the number of
+//! A line `base` gives an issue to the lines after it. These give a settlement, the number of
 //! payments, how many at the front are 0, the first and each regular interest, the accrued interest,
 //! and the days into the period.
 

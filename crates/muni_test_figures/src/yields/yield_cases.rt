@@ -1,9 +1,9 @@
 //! Yields at a price with more than six months left.
 //!
 //! They were computed outside the program, with whole numbers of unbounded size. A line `base` gives
-//! an issue to the lines behind it. These give the coupon, where there is one, a settlement, a call,
-//! where the payments end with it, the price that is given, and the answer in thousandths of a
-//! percent: the yield that it `prints`, or the lower of the two between which it is `unsure`, or
+//! an issue to the lines after it. These give the coupon, if there is one, a settlement, a call, if
+//! the payments end with it, the price that is given, and the answer in thousandths of a percent:
+//! the yield that it `prints`, or the lower of the two between which it is `unsure`, or
 //! `below`, or `above`.
 
 pub const CASES: &str = "\
@@ -324,7 +324,7 @@ coupon=3 settle=2024-06-28 price=42.769293 prints=8114
 base zero dated=2020-01-01 maturity=2025-07-01
 settle=2024-02-25 price=93.63483 prints=4932";
 
-/// Prices within 10^-9 dollars of a boundary and on none, as the ends of `Horner` tell them.
+/// Prices within 10^-9 dollars of a boundary and on none, as the ends of `Horner` decide them.
 ///
 /// Another encloser may leave others of them unsure.
 pub const NEAR_CASES: &str = "\
