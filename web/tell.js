@@ -42,7 +42,7 @@ export const FAULTS = {
     "another matures after it"],
   3: ["BadDay", "maturity", "a periodic issue's first interest date and a zero issue's maturity fall on a day from 1 " +
     "to 28, and a periodic issue matures on a quasi-coupon date"],
-  4: ["BadCoupon", "coupon", "there is a coupon above 0 exactly where there is interest"],
+  4: ["BadCoupon", "coupon", "there is a coupon above 0 exactly if there is interest"],
   11: ["BadBasis", "days", "a periodic or zero issue counts its days by 30/360"],
   5: ["FirstTooLong", "first", "the first interest of a periodic issue is for 360 days at most"],
   9: ["TooLong", "maturity", "a periodic or zero issue has 100 quasi-coupon dates at most after its dated date and " +
