@@ -195,8 +195,8 @@ def one_at_a_time(site: Site, tally: Tally) -> None:
             time.sleep(0.005)
     tally.check("all are answered", set(), entered.others())
     tally.check("trades are entered", True, len(entered) > 16)
-    # The desk may not have closed the one before yet.
-    tally.check("connections at the desk", True, 1 <= most <= 2)
+    # The desk may not have closed those before yet; without the queue all 16 are there.
+    tally.check("connections at the desk", True, 1 <= most <= 4)
 
 
 def restarts(site: Site, tally: Tally) -> None:
