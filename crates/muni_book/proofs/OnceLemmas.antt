@@ -89,7 +89,7 @@ again-confirmed t key number reply c = rw c.issue_kept (ap (λ r. Answer r) (sym
 again-sent : (t : Tables) (key : Key) (number : ℕ) (terms : Terms) (reply : Reply) (c : IsConfirmed t key number reply) → c.version.terms ≡ terms → sent_again t.issues key number terms c.version ≡ Answer reply
 again-sent t key number terms reply c equal = rw ((terms_decides c.version.terms terms).1 equal) (again-confirmed t key number reply c)
 
--- where a version is kept, there is a last one
+-- if a version is kept, there is a last one
 pub has-last : {V : Type 0} (trade : Option (History V)) (number : ℕ) (v : V) → option_and_then (λ history. version_in history number) trade ≡ Some v
     → (last : ℕ × V) × (option_map (λ history. (count history, history.last)) trade ≡ Some last)
 has-last None number v kept = absurd (let never : None ≡ Some v = kept in cc)

@@ -16,7 +16,7 @@ use Rattle.muni_keep.specs.History.{History, versions, count, version_in, next_n
 use Rattle.muni_keep.specs.Tables.{Tables, trade_at, version_at, last_at, with_version}
 use Rattle.muni_keep.specs.Trades.{by_bytes, Desks, own, put, put_own}
 
--- names are equal where their order says so
+-- names are equal if their order says so
 pub itself : (q : List ℕ) → eq_by_cmp by_bytes q q ≡ true
 itself q = (eq_by_cmp_equiv nat_list_cmp_total).refl q
 

@@ -90,7 +90,7 @@ less Less p = refl
 less Equal p = absurd p
 less Greater p = absurd p
 
--- what is found at the keys of a list is found there behind a lower key
+-- what is found at the keys of a list is found there after a lower key
 behind : {X : Type 0} (e : List ℕ × X) (all some : List (List ℕ × X)) → T (below_all by_bytes e.0 some) → All (λ f. find by_bytes f.0 all ≡ Some f.1) some → All (λ f. find by_bytes f.0 (e ∷ all) ≡ Some f.1) some
 behind e all [] lower found = All-nil (λ f. find by_bytes f.0 (e ∷ all) ≡ Some f.1)
 behind e all (f ∷ some) lower found =

@@ -23,7 +23,7 @@ pub none-kept : {V : Type 0} (trade : Option (History V)) → option_and_then (�
 none-kept None none = refl
 none-kept (Some history) none = absurd (has-first history.earlier history.last none)
 
--- the number behind the last one is the next one
+-- the number after the last one is the next one
 pub last-next : {V : Type 0} (trade : Option (History V)) (last : ℕ × V) → option_map (λ history. (count history, history.last)) trade ≡ Some last → last.0 + 1 ≡ next_number trade
 last-next {V} None last none = absurd (let never : None ≡ Some last = none in cc)
 last-next {V} (Some history) last is = sym (ap (λ found. option_map_or (λ (pair : ℕ × V). pair.0 + 1) found 0) is)

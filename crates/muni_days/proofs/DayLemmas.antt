@@ -34,7 +34,7 @@ same_place date other civil other_civil same =
 pub same_day : (day other : Day) → place_of day ≡ place_of other → day ≡ other
 same_day day other same = same_date day other (same_place (civil day) (civil other) (is_civil day) (is_civil other) same)
 
--- `==` on days tells whether they are one day
+-- `==` on days says whether they are one day
 pub day_decides : (day other : Day) → Decides (place_of day == place_of other) (day ≡ other)
 day_decides day other =
     Decides-like (place_of day == place_of other)

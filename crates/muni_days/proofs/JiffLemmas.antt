@@ -58,7 +58,7 @@ dates-apart first last from to is other =
     let ends = (is_civil last).day_from in
     rw (is.0, month, day, other.0, last_month, last_day) (epoch_days-apart (civil first) (civil last) starts ends)
 
--- so many days, in hours and back
+-- a number of days, in hours and back
 pub days-of_hours : (days nanos hours : ℤ) → nanos ≡ days *ℤ pos 86_400_000_000_000 → hours ≡ int_div nanos (pos 3_600_000_000_000) → int_div hours (pos 24) ≡ days
 days-of_hours days nanos hours is whole = omega (arith, ints)
 

@@ -128,7 +128,7 @@ is_formed text form =
       bytes = text-numbers text form;
     }
 
--- and the text of numbers with so many digits is of the form, and has these numbers
+-- and the text of numbers with as many digits is of the form, and has these numbers
 all_true : (a b c : Bool) → a ≡ true → b ≡ true → c ≡ true → a && (b && c) ≡ true
 all_true a b c is_a is_b is_c = rw (is_a, is_b, is_c) refl
 

@@ -6,7 +6,7 @@ use Rattle.std.specs.Char.{is_ascii_digit, digit_value}
 use Rattle.std.specs.Str.Parse.{digits_value_after}
 use Rattle.muni_dec.specs.Digits.{digits_end}
 
--- the element at a place, and those behind it
+-- the element at a place, and those after it
 rest_at : (text : List ℕ) (i : ℕ) → i < length text → drop i text ≡ get_or text i 0 ∷ drop (i + 1) text
 rest_at text i h = at_drop_more (λ ys. ys) text i 0 h
 

@@ -1,4 +1,4 @@
--- A fault stands at the first place whose byte continues no text of the format.
+-- A fault is at the first place whose byte continues no text of the format.
 use Rattle.std.proofs.Common.{◌≡◌, ◌≢◌, ℕ, zero, suc, ◌+◌, ◌*◌, ◌^◌, ◌<◌, ◌≤◌, ◌&&◌, ◌||◌, Bool, true, false, not, eqb, ltb, List, [], ◌∷◌, ◌++◌, length, take, drop, get_or, Option, Some, None, Ok, Err, refl, ap, sym, ◌∙◌, subst, append_assoc, append-nil, length-append, arith, inl, inr}
 use Rattle.std.proofs.lemmas.Bool.Decides.{nat_tests}
 use Rattle.std.proofs.lemmas.Bool.{cases_lt, cases_Bool}
@@ -113,7 +113,7 @@ decimal-bytes places text is =
     let fraction = fraction-bytes places m.fraction is.1.valid.fraction in
     ap (list_all is_decimal_byte) is.1.bytes ∙ (list_all-append is_decimal_byte m.whole (fraction_bytes m.fraction) ∙ rw (whole, fraction) refl)
 
--- ---- a byte that is no digit and no point, behind digits
+-- ---- a byte that is no digit and no point, after digits
 stray-byte : (places : ℕ) (digits : List ℕ) (c : ℕ) (rest : List ℕ) → list_all is_ascii_digit digits ≡ true → is_decimal_byte c ≡ false → LeavesAt (IsDecimal places) (digits ++ c ∷ rest) (length digits)
 stray-byte places digits c rest all stray = record {
   before = record {
@@ -165,7 +165,7 @@ point-first places rest = record {
       absurd (cc);
 }
 
--- ---- what stands behind a point
+-- ---- what comes after a point
 read-fraction : (places : ℕ) (whole fraction : List ℕ) → list_all is_ascii_digit whole ≡ true → IsDecimal places (whole ++ 46 ∷ fraction) → IsNumeral 10 fraction × (length fraction ≤ places)
 read-fraction places whole fraction all is =
     let text = whole ++ 46 ∷ fraction in
@@ -180,8 +180,8 @@ read-fraction places whole fraction all is =
     let few : length fraction ≤ places = subst (λ digits. length digits ≤ places) rest parts.1 in
     (numeral_is, few)
 
--- A decimal that agrees with a text as far as the m-th byte behind the point: its fraction begins as
--- that of the text does, and ends with it where that is shorter.
+-- A decimal that agrees with a text as far as the m-th byte after the point: its fraction begins as
+-- that of the text does, and ends with it if that is shorter.
 record GoesBehind (places : ℕ) (fraction : List ℕ) (m : ℕ) : Type 0 where
   rest : List ℕ
   numeral : IsNumeral 10 (take m fraction ++ rest)
@@ -223,11 +223,11 @@ point-last places whole some is = record {
       absurd (omega (arith, empty.0));
 }
 
--- a list with more behind it, and without
+-- a list with more after it, and without
 take-seam-whole : (xs ys : List ℕ) → take (length xs) xs ≡ take (length xs) (xs ++ ys)
 take-seam-whole xs ys = take-length xs ∙ sym (take-append_seam xs ys)
 
--- a byte behind the point that is no digit
+-- a byte after the point that is no digit
 stray-behind : (places : ℕ) (whole digits : List ℕ) (c : ℕ) (rest : List ℕ) → 1 ≤ places → length digits ≤ places → IsNumeral 10 whole → list_all is_ascii_digit digits ≡ true → is_ascii_digit c ≡ false → LeavesAt (IsDecimal places) (whole ++ 46 ∷ (digits ++ c ∷ rest)) (length whole + suc (length digits))
 stray-behind places whole [] c rest some few is all stray = record {
   before = record {
@@ -261,13 +261,13 @@ stray-behind places whole (d ∷ digits) c rest some few is all stray = record {
       absurd (cc);
 }
 
--- digits are a numeral where there is one
+-- digits are a numeral if there is one
 pub numeral-some : (digits : List ℕ) → 1 ≤ length digits → list_all is_ascii_digit digits ≡ true → IsNumeral 10 digits
 numeral-some digits some all =
     let nonempty : ltb 0 (length digits) ≡ true = grind (arith, nat_tests) in
     numeral digits (rw (nonempty, all) refl)
 
--- a digit behind all places that there are
+-- a digit after all places that there are
 excess-digit : (places : ℕ) (whole digits : List ℕ) (d : ℕ) (rest : List ℕ) → 1 ≤ places → length digits ≡ places → IsNumeral 10 whole → list_all is_ascii_digit digits ≡ true → LeavesAt (IsDecimal places) (whole ++ 46 ∷ (digits ++ d ∷ rest)) (length whole + suc places)
 excess-digit places whole digits d rest some full is all = record {
   before = record {
@@ -319,7 +319,7 @@ digit-at text n few =
     let not_stray = fails_before_first (λ b. not (is_ascii_digit b)) text n 0 few in
     grind (arith, nat_tests)
 
--- behind digits stands a byte that is none, or the text ends
+-- after digits comes a byte that is no digit, or the text ends
 stray-at : (text : List ℕ) → digits_end text < length text → is_ascii_digit (get_or text (digits_end text) 0) ≡ false
 stray-at text inside =
     let stray = passes_at_first (λ b. not (is_ascii_digit b)) text 0 inside in
@@ -361,7 +361,7 @@ leaves-before places text inside no_point =
     subst (λ t. LeavesAt (IsDecimal places) t n) (sym (cut text n inside))
     (subst (λ at. LeavesAt (IsDecimal places) (take n text ++ c ∷ drop (suc n) text) at) (cut-count text n inside) leaves)
 
--- digits behind a point, up to another byte or the end
+-- digits after a point, up to another byte or the end
 leaves-behind : (places : ℕ) (whole fraction : List ℕ) → 1 ≤ places → digits_end fraction ≤ places → are_digits fraction ≡ false → IsNumeral 10 whole → LeavesAt (IsDecimal places) (whole ++ 46 ∷ fraction) (length whole + 1 + digits_end fraction)
 leaves-behind places whole [] some few not_digits is =
     let at : length whole + 1 ≡ length whole + 1 + 0 = omega arith in
@@ -424,7 +424,7 @@ none-empty (d ∷ digits) all not_digits =
     let is : are_digits (d ∷ digits) ≡ true = rw (nonempty, all) refl in
     absurd (cc)
 
--- a whole part that is no number: no digit stands before the point, or a byte that is none
+-- a whole part that is no number: before the point is no digit, or a byte that is no digit
 leaves-whole : (places : ℕ) (text : List ℕ) → point_in text < length text → are_digits (take (point_in text) text) ≡ false → LeavesAt (IsDecimal places) text (digits_end (take (point_in text) text))
 leaves-whole places text inside not_digits =
     let p = point_in text in

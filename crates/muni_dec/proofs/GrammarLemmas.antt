@@ -17,7 +17,7 @@ pub both : (a b : Bool) → a && b ≡ true → (a ≡ true) × (b ≡ true)
 both true b h = (refl, h)
 both false b h = absurd (cc)
 
--- what was read tells which case it was
+-- what was read says which case it was
 pub chosen : {A E : Type 0} (test : Bool) (r : Result A E) (fault : E) (x : A) → cond test r (Err fault) ≡ Ok x → (test ≡ true) × (r ≡ Ok x)
 chosen true r fault x h = (refl, h)
 chosen false r fault x h = absurd (cc)
@@ -103,7 +103,7 @@ around_point text h =
     let P : ℕ → Type 0 = λ c. text ≡ take (point_in text) text ++ c ∷ drop (point_in text + 1) text in
     subst P point (split_at_first (λ b. eqb b 46) text 0 h)
 
--- what is read behind a point
+-- what is read after a point
 pub fraction_read : (places : ℕ) (whole fraction : List ℕ) (at units : ℕ) → fraction_reading places whole fraction at ≡ Ok units → IsNumeral 10 fraction × (length fraction ≤ places) × (units ≡ units_of places whole fraction)
 fraction_read places whole fraction at units h =
     let few = passed (ltb places (digits_end fraction)) _ _ _ h in
@@ -140,7 +140,7 @@ reading-written places text units h =
       | inr absent ↦ written_without_point places text units absent h
     ]
 
--- the text behind a whole part and a point
+-- the text after a whole part and a point
 pub drop-behind_point : (whole fraction : List ℕ) → drop (length whole + 1) (whole ++ 46 ∷ fraction) ≡ fraction
 drop-behind_point whole fraction =
     let n : length (whole ++ 46 ∷ []) ≡ length whole + 1 = simp length-append (omega arith) in

@@ -46,7 +46,7 @@ numeral-behind_zeros : (text : List ℕ) → IsNumeral 10 text → digits_value 
 numeral-behind_zeros [] h small = absurd (omega arith)
 numeral-behind_zeros (c ∷ text) h small = behind_zeros c text h.1 small
 
--- what was read tells that the test passed
+-- what was read says that the test passed
 found : {A : Type 0} (test : Bool) (x y : A) → cond test (Some x) None ≡ Some y → (test ≡ true) × (x ≡ y)
 found true x y h = (refl, cc)
 found false x y h = absurd (cc)

@@ -36,7 +36,7 @@ digits_value_after-more : (n d : ℕ) (digits : List ℕ) → digits_value_after
 digits_value_after-more n d [] = refl
 digits_value_after-more n d (c ∷ digits) = digits_value_after-more (n * 10 + digit_value c) d digits
 
--- with what stands before them they are the number
+-- with what comes before them they are the number
 value-last_digits : (count n : ℕ) → digits_value 10 (last_digits count n) + n / 10 ^ count * 10 ^ count ≡ n
 value-last_digits zero n = omega arith
 value-last_digits (suc count) n =

@@ -35,7 +35,7 @@ minus-signed places text is = (
   },
 )
 
--- a decimal behind a minus sign
+-- a decimal after a minus sign
 record IsBehindMinus (places : ℕ) (text : List ℕ) : Type 0 where
   rest : List ℕ
   bytes : text ≡ 45 ∷ rest
@@ -58,7 +58,7 @@ by-sign places text is false plain =
 parts : (places : ℕ) (text : List ℕ) → IsSignedDecimal places text → IsDecimal places text ⊎ IsBehindMinus places text
 parts places text is = by-sign places text is is.1.negative refl
 
--- ---- behind a minus sign
+-- ---- after a minus sign
 digit_no_minus : (d : ℕ) → is_ascii_digit d ≡ true → d ≡ 45 → ⊥
 digit_no_minus d digit minus = let other : is_ascii_digit 45 ≡ true = subst (λ b. is_ascii_digit b ≡ true) minus digit in cc
 
@@ -107,7 +107,7 @@ leaves-lower places at rest leaves = record {
 not_at_sign : (places : ℕ) (rest : List ℕ) → ¬ (LeavesAt (IsSignedDecimal places) (45 ∷ rest) 0)
 not_at_sign places rest leaves = leaves.not_here (raise places 0 rest (record { other = 48 ∷ []; valid = zero_decimal places; same = refl }))
 
--- what was read behind the sign
+-- what was read after the sign
 data Behind (r : Result ℕ DecFault) (place : ℕ) : Type 0 where
   at_end : r ≡ Err Empty → place ≡ 1 → Behind r place
   later : (at : ℕ) → r ≡ Err (NotADigit at) → place ≡ suc at → Behind r place
@@ -133,7 +133,7 @@ not_empty-behind (Err (NotADigit at)) e = cc
 not_empty-behind (Err (TooManyDecimals at)) e = cc
 not_empty-behind (Err OutOfRange) e = cc
 
--- what is refused behind the sign, by the text there
+-- what is refused after the sign, by the text there
 leaves-read : (places at : ℕ) (rest : List ℕ) → 1 ≤ places → LeavesAt (IsDecimal places) rest at → LeavesAt (IsDecimal (places + 1)) rest at → behind_sign (reading places rest) ≡ Err (NotADigit (suc at))
 leaves-read places at [] some leaves longer =
     let empty = (decimal_faults places [] some).empty.1 refl in

@@ -21,7 +21,7 @@ use Rattle.muni_desk.proofs.OptionalLemmas.{bind-some, some-bind, ok-some}
 digit-no_colon : (n : ℕ) → ((48 + n % 10) == 58) ≡ false
 digit-no_colon n = grind (arith, nat_tests)
 
--- so the first colon stands behind the date
+-- so the first colon comes after the date
 colon-place : (date : Civil) (price : List ℕ) → position (λ b. b == 58) (day_text date ++ 58 ∷ price) ≡ Some 10
 colon-place date price =
     let text = day_text date ++ 58 ∷ price in

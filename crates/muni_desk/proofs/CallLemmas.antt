@@ -15,7 +15,7 @@ abbrev pub with_more : List Call → Option (List Call) → Option (List Call)
 with_more calls None = None
 with_more calls (Some more) = Some (calls ++ more)
 
--- the word at a place, and those behind it
+-- the word at a place, and those after it
 rest-at : (words : List (String Global)) (place : ℕ) (word : String Global) → place < length words → word ≡ get_or words place word → drop place (map string_bytes words) ≡ string_bytes word ∷ drop (place + 1) (map string_bytes words)
 rest-at words place word inside is =
     drop-map string_bytes place words
@@ -23,7 +23,7 @@ rest-at words place word inside is =
     ∙ (λ i. string_bytes (sym is i) ∷ map string_bytes (drop (place + 1) words))
     ∙ ap (λ rest. string_bytes word ∷ rest) (sym (drop-map string_bytes (place + 1) words))
 
--- how often an option stands, and its values
+-- how often an option is given, and its values
 count-by : (name word : List ℕ) (words : List (List ℕ)) (test : Bool) (rest : ℕ) → rest ≡ length (values_of name words) → cond test 1 0 + rest ≡ length (cons_option (if test then Some (drop (length name) word) else None) (values_of name words))
 count-by name word words true rest same = omega arith
 count-by name word words false rest same = omega arith
@@ -56,7 +56,7 @@ calls-fault before text texts fault = rw fault refl
 pub calls-read : (calls : List Call) → with_more calls (calls_reading []) ≡ Some calls
 calls-read calls = ap Some (append-nil calls)
 
--- how many calls may stand
+-- how many calls there may be
 pub calls-few : (words : List (List ℕ)) → count_of (codes "--call=") words ≤ 40 → calls_of words ≡ calls_reading (values_of (codes "--call=") words)
 calls-few words few =
     let test : nat_le (length (values_of (codes "--call=") words)) 40 ≡ true = rw (← count-values (codes "--call=") words) (grind (arith, nat_tests)) in

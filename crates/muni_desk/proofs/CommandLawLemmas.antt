@@ -1,4 +1,4 @@
--- What the words behind the name of a command are read as, against the rule of the command line.
+-- What the words after the name of a command are read as, against the rule of the command line.
 use Rattle.std.proofs.Common.{◌≡◌, ℕ, ◌≤◌, inl, inr, Bool, true, false, List, [], ◌∷◌, ◌++◌, Option, Some, None, length, drop, map, refl, sym, ap, ◌∙◌, subst, arith, Result, Ok, ℤ}
 use Rattle.std.specs.Prelude.{All, codes, filter, if◌then◌else◌, nat_le, option_map, ◌==◌}
 use Rattle.std.specs.List.{AllZip}
@@ -224,7 +224,7 @@ calls-read [] (call ∷ calls) read = absurd read
 calls-read (text ∷ texts) [] read = absurd read
 calls-read (text ∷ texts) (call ∷ calls) read = some-bind (λ call. calls_reading texts >>= λ calls. Some (call ∷ calls)) (call_reading text) call (call ∷ calls) (call-read text call read.0) (some-bind (λ calls. Some (call ∷ calls)) (calls_reading texts) calls (call ∷ calls) (calls-read texts calls read.1) refl)
 
--- the values of an option in their order, and the words in which they stand
+-- the values of an option in their order, and the words that have them
 filter-here : (name text : List ℕ) (words : List (List ℕ)) → is_option name text ≡ true → filter (is_option name) (text ∷ words) ≡ text ∷ filter (is_option name) words
 filter-here name text words is = rw is refl
 
@@ -255,7 +255,7 @@ same-values name (x ∷ xs) (y ∷ ys) is =
     let tail : map (λ value. name ++ value) xs ≡ map (λ value. name ++ value) ys = cc in
     (λ i. append_cancel_left name x y head i ∷ same-values name xs ys tail i)
 
--- texts as calls, of which there may be 40
+-- texts as calls, at most 40 of them
 abbrev calls_from : List (List ℕ) → Option (List Call)
 calls_from texts = if nat_le (length texts) 40 then calls_reading texts else None
 

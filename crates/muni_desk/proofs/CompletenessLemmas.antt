@@ -83,7 +83,7 @@ not-large source most input (text, is, few) large =
     let many = subst (λ left. IfSome left (λ text. most < length text)) is large in
     absurd (omega (arith, few, many))
 
--- a fault of a store where positions are listed
+-- a fault of a store while positions are listed
 summed : {A : Type 0} (counted may_not : Type 0) → counted ⊎ may_not → ¬ counted → ¬ may_not → A
 summed counted may_not (inl rose) none can = absurd (none rose)
 summed counted may_not (inr not) none can = absurd (can not)

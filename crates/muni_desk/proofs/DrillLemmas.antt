@@ -152,7 +152,7 @@ small-join one other sums a b both = record {
   called = omega (arith, a.called, b.called, both.called, both.trades);
 }
 
--- the trades of the first so many workers, and those of the next one
+-- the trades of the first workers up to a number, and those of the next one
 abbrev pub is_among : (workers first place : ℕ) → Bool
 is_among workers first place = ltb (place % workers) first
 
@@ -198,7 +198,7 @@ parts-mixed ends workers worker seed (suc count) ones others a b =
           }
     ]
 
--- The sums of the first so many workers together.
+-- The sums of the first workers up to a number, together.
 pub joined-none : (ends : PaymentSeries → ℤ → WorthEnds) (workers seed count : ℕ) (sums : Sums) → AreSums [] sums → AreSmall sums → IsShare ends (is_among workers 0) seed count sums
 joined-none ends workers seed zero sums none small = share-none ends (is_among workers 0) seed sums none small
 joined-none ends workers seed (suc count) sums none small =

@@ -100,7 +100,7 @@ interest-early half_years few =
       day_to = omega arith;
     }
 
--- it is the one so many months on
+-- it is the one that number of months later
 pub months-later : (first : Civil) (months : ℤ) (half_years : ℕ) → first ≡ day_in_2020 7 1 → months ≡ pos (6 * half_years) → months_on first months ≡ interest_date half_years
 unfolding interest_date
 months-later first months half_years same so_many = λ i. months_on (same i) (so_many i)

@@ -20,7 +20,7 @@ use Rattle.muni_desk.specs.QuoteOne.{settles, accrued_days, payment_of, range_re
 use Rattle.muni_desk.specs.declared.quote_one.QuoteOneRequest.{QuoteOneRequest}
 use Rattle.muni_desk.proofs.PeriodLemmas.{accrued_days-within}
 
--- ---- where there is no early refusal
+-- ---- if there is no early refusal
 early-none : (settled : Bool) (y : ℤ) → (if settled then range_refusal y else Some SettleOutside) ≡ None → (settled ≡ true) × (range_refusal y ≡ None)
 early-none true y none = (refl, none)
 early-none false y none = absurd (let never : Some SettleOutside ≡ None = none in cc)

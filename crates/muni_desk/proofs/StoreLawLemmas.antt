@@ -1,4 +1,4 @@
--- What the words behind the names of the commands over a store and `help` are read as, against the rule of the command line.
+-- What the words after the names of the commands over a store and `help` are read as, against the rule of the command line.
 use Rattle.std.proofs.Common.{◌≡◌, ℕ, ◌≤◌, true, List, [], ◌∷◌, Option, Some, None, length, refl, ap, ◌∙◌, subst, arith}
 use Rattle.std.specs.Prelude.{All, codes, nat_le, option_map}
 use Rattle.std.specs.Bool.{Decides}

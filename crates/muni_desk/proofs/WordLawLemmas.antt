@@ -64,7 +64,7 @@ known-decides names text =
 knowns-decide : (names words : List (List ℕ)) → Decides (are_known names words) (All (IsKnown names) words)
 knowns-decide names words = Decides-by_and (λ text. list_any (λ name. is_option name text) names) (IsKnown names) (are_known names) (known-decides names) refl (λ _ _. refl) words
 
--- ---- how often a word stands
+-- ---- how often a word is given
 count-cons : (p : List ℕ → Bool) (text : List ℕ) (words : List (List ℕ)) → count_by p (text ∷ words) ≡ cond (p text) 1 0 + count_by p words
 count-cons p text words = sum_by-cons (λ x. cond (p x) 1 0) text words
 
@@ -168,7 +168,7 @@ none-passes name [] k none inside is = omega (arith, inside)
 none-passes name (text ∷ words) zero none inside is = absurd (none-some (drop (length name) text) (sym none ∙ value-here name text words is))
 none-passes name (text ∷ words) (suc k) none inside is = none-passes name words k (some-here name text words (is_option name text) refl none).1 (omega (arith, inside)) is
 
--- the place at which an option stands
+-- the place of an option
 says-at : (words : List (List ℕ)) (name value : List ℕ) → Says words name value → (k : ℕ) × (k < length words) × (word words k ≡ name ++ value)
 says-at words name value said =
     let at = said.among in

@@ -1,4 +1,4 @@
--- One row of an import behind others.
+-- One row of an import after others.
 use Rattle.std.proofs.Common.{◌≡◌, ◌≤◌, ◌+◌, ◌∙◌, ℕ, List, [], ◌∷◌, ◌++◌, length, take, Option, Some, None, Ok, Err, IfSome, refl, sym, ap, subst, arith}
 use Rattle.std.specs.List.{AllZip}
 use Rattle.std.proofs.lemmas.List.{append_assoc, append-nil, length-append}
@@ -28,7 +28,7 @@ imports-count Prices old [] (first ∷ said) new imports = absurd imports
 imports-count Prices old (first ∷ rows) [] new imports = absurd imports
 imports-count Prices old (first ∷ rows) (told ∷ said) new (next, here, later) = omega (arith, imports-count Prices next rows said new later)
 
--- tables are told after it
+-- tables are known after it
 came-told : (Prices : Pricing) (old : Tables) (row : Row) (said : Said) (now : Option Tables) → Came Prices old row said now → (new : Tables) × (now ≡ Some new)
 came-told Prices old (Ok command) (Ok reply) now (entry, step, told) = (after entry old, told)
 came-told Prices old (Ok command) (Err fault) now came = absurd came

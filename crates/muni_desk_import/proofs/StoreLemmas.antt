@@ -6,11 +6,11 @@ use lib.Pointwise.{pointwise}
 use Rattle.muni_keep.specs.Tables.{Tables}
 use Rattle.muni_msg.proofs.AskedLemmas.{numbers_decide}
 
--- what is told of names: before a keeper is lent, while it is out, and once it is back
+-- what is known of names: before a keeper is lent, while it is out, and once it is back
 abbrev Told : Type 0
 Told = List ℕ → Option Tables
 
--- what is told of one where something is told of another
+-- what is known of one if something is known of another
 as-told : (a b : Option Tables) → is_some b ≡ is_some a → a ≡ None → b ≡ None
 as-told a None same none = refl
 as-told a (Some t) same none = absurd (cc (same, none))
@@ -19,7 +19,7 @@ told-too : (a b : Option Tables) (t : Tables) → is_some b ≡ is_some a → a 
 told-too a None t same some = absurd (cc (same, some))
 told-too a (Some u) t same some = (u, refl)
 
--- The tables of the keeper are then those of its name, where that name was told.
+-- The tables of the keeper are then those of its name, if that name was known.
 pub given-back : (store : List ℕ) (lent_as : ℕ) (old mid new : Told) (out : Option (List ℕ × ℕ)) (kept : Option Tables) (t u : Tables)
     → old store ≡ Some t → is_some (mid store) ≡ is_some (old store) → out ≡ Some (store, lent_as)
     → IfSome out (λ lent. IfSome (mid lent.0) (λ _. IfSome kept (λ k. new lent.0 ≡ Some k)))
@@ -30,7 +30,7 @@ given-back store lent_as old mid new out kept t u told tells lent back is =
     let second = subst (λ m. IfSome m (λ _. IfSome kept (λ k. new store ≡ Some k))) there.1 first in
     subst (λ kept. IfSome kept (λ k. new store ≡ Some k)) is second
 
--- where the keeper's tables are those that it was lent with, nothing changes
+-- if the keeper's tables are those that it was lent with, nothing changes
 same-store : (store : List ℕ) (lent_as : ℕ) (old mid new : Told) (out : Option (List ℕ × ℕ)) (first kept told : Option Tables) → old store ≡ told
     → is_some (mid store) ≡ is_some (old store) → is_some (new store) ≡ is_some (mid store) → out ≡ Some (store, lent_as)
     → IfSome (old store) (λ t. first ≡ Some t) → kept ≡ first

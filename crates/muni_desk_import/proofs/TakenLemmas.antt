@@ -8,7 +8,7 @@ use Rattle.muni_desk_import.specs.Input.{CountsReads, IsNotTooLarge, ReadsAll}
 use Rattle.muni_desk_import.specs.declared.input.InputFault.{InputFault}
 use Rattle.muni_desk_import.specs.declared.input.InputFault.TheVariants.{Failed, TooLarge, NoMemory}
 
--- one piece behind another
+-- one piece after another
 pub taken-then : (a b c : Option (List ℕ)) (xs ys zs : List ℕ) → Consumes a b xs → Consumes b c ys → zs ≡ xs ++ ys → Consumes a c zs
 taken-then None b c xs ys zs first second is = tt
 taken-then (Some all) None c xs ys zs first second is = absurd first
@@ -28,7 +28,7 @@ taken-more n None new bytes taken many = tt
 taken-more n (Some all) None bytes taken many = absurd taken
 taken-more n (Some all) (Some rest) bytes taken many = omega (arith, many, ap length taken, length-append bytes rest)
 
--- nothing is read where one take more is refused
+-- nothing is read if one take more is refused
 pub none-read : {I V : Type 0} (source : Ghosts I) (limit : ℕ) (items : V → List ℕ) (r : Result ℕ InputFault) (fault : InputFault) (out : Result V InputFault) (first mid last : I) (bytes piece : List ℕ)
     → r ≡ Err fault → out ≡ Err fault → IfErr r IsNotTooLarge → Consumes (source.left first) (source.left mid) bytes → source.faults mid ≡ source.faults first
     → Consumes (source.left mid) (source.left last) piece → length bytes + length piece ≤ limit + 1

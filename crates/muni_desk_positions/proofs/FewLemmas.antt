@@ -111,7 +111,7 @@ room-imports P desk old new (row ∷ rows) [] is few = absurd is
 room-imports P desk old new (row ∷ rows) (said ∷ more) is few =
     room-imports P desk is.0 new rows more is.2 (room-came P desk old is.0 row said is.1 few)
 
--- a desk with too many trades behind the rows had too many before them
+-- a desk with too many trades after the rows had too many before them
 pub many-before : (P : Pricing) (desk : List ℕ) (old new : Tables) (rows : List Row) (said : List Said) → Imports P old rows said new → HasTooMany desk new → HasTooMany desk old
 many-before P desk old new rows said is many =
     let before = len (own desk old.desks) in

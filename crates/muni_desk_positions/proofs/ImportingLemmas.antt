@@ -1,4 +1,4 @@
--- An import with the positions of a desk behind its report.
+-- An import with the positions of a desk after its report.
 use Rattle.std.proofs.Common.{◌≡◌, ◌⊎◌, ◌≤◌, ◌<◌, inl, inr, ℕ, arith, refl, ap, subst, Option, Some, None, List, [], length, IfSome, Result, Ok, Err}
 use Rattle.std.proofs.lemmas.List.{append-nil}
 use Rattle.muni_edge.specs.Faults.{Rose}
@@ -33,11 +33,11 @@ pub none-done : (Prices : Pricing) (text : List ℕ) (old new : Option Tables) (
 none-done Prices text None new had same = tt
 none-done Prices text (Some t) new had same = rw same record { rows = []; left = rows_of text; all = refl; did = did-none Prices t had }
 
--- a count that begins with none
+-- a count that begins at 0
 rose-from-none : (none before now : ℕ) → none ≡ 0 → Rose before now → Rose none now
 rose-from-none none before now is rose = omega (arith, is, rose)
 
--- behind the rows the store has failed, or the desk had too many trades before them
+-- after the rows the store has failed, or the desk had too many trades before them
 pub fault-behind : (Prices : Pricing) (desk : List ℕ) (rows : List Row) (old now : Option Tables) (had has : Option (List ℕ)) (none before after : ℕ) → none ≡ 0
     → IfSome old (λ t. Did Prices rows t now had has) → (Rose before after ⊎ MayNotSum desk now) → Rose none after ⊎ MayNotSum desk old
 fault-behind Prices desk rows old now had has none before after is did (inl rose) = inl (rose-from-none none before after is rose)

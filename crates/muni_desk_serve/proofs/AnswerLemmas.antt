@@ -52,7 +52,7 @@ answered-by Prices old new before now link after served.NoMemory faults none ros
 pub told-reading : (link : Traffic) (bytes : List ℕ) (reading : Reading) → link.left ≡ Some bytes → Asks link reading → Reads bytes reading
 told-reading link bytes reading told asks = subst (λ left. IfSome left (λ b. Reads b reading)) told asks
 
--- one of two, the second of which leads on
+-- one of two; the second leads on
 settled : {A B Z : Type 0} → A ⊎ B → (B → Z) → A ⊎ Z
 settled (inl a) then = inl a
 settled (inr b) then = inr (then b)

@@ -1,4 +1,4 @@
--- One connection behind others.
+-- One connection after others.
 use Rattle.std.proofs.Common.{◌≡◌, ◌≢◌, ◌≤◌, ◌⊎◌, ◌+◌, ◌-◌, ◌∙◌, ℕ, List, [], ◌∷◌, ◌++◌, length, drop, map, Option, Some, None, IfSome, slice_get, option_map, Ok, Err, inl, inr, refl, sym, ap, subst, arith}
 use Rattle.std.specs.List.{Contains}
 use Rattle.std.proofs.lemmas.List.{append_assoc, append-nil, length-append, map-append}
@@ -86,7 +86,7 @@ at-end (Err fault.Store) connections most after on all = absurd on
 at-end (Err fault.Door) connections most after on all = tt
 at-end (Err fault.NoMemory) connections most after on all = inr (on, all)
 
--- so many connections were served, and the run goes on
+-- this many connections were served, and the run goes on
 pub record IsOn {L : Type 0} (Prices : Pricing) (told : L → Traffic) (port count : ℕ) (door : DoorState L) (state : Option (DoorState L)) (old new : Option Tables) (before now : ℕ) (end : Outcome) : Type 0 where
   pub connections : List (Connection L)
   pub after : DoorState L

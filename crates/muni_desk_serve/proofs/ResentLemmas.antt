@@ -20,7 +20,7 @@ use Rattle.muni_desk_serve.specs.declared.served.Served.TheVariants as served
 use Rattle.muni_desk_serve.proofs.AnswerLemmas.{written-whole, told-reading}
 use Rattle.muni_desk_serve.proofs.RunLemmas.{connections-run}
 
--- ---- connections and those behind them
+-- ---- connections and those after them
 
 -- the tables between two parts of a run
 record ServedParts (Prices : Pricing) (old : Option Tables) (earlier later : List Exchange) (new : Option Tables) : Type 0 where

@@ -13,7 +13,7 @@ use Rattle.muni_desk_serve.specs.Serves.{Traffic}
 use Rattle.muni_desk_serve.specs.declared.fault.ServeFault.TheVariants as fault
 use Rattle.muni_desk_serve.proofs.ConnectionLemmas.{none-served}
 
--- what is told of names
+-- what is known of names
 abbrev Told : Type 0
 Told = List ℕ → Option Tables
 
@@ -67,7 +67,7 @@ pub unfetched-counted : {A : Type 0} (fetched : Result A KeepFault) (refusal : K
 unfetched-counted fetched keeper.Failed outcome before now is ends failed store = failed is
 unfetched-counted fetched keeper.NoMemory outcome before now is ends failed store = absurd (cc (ends, store))
 
--- the tables of the keeper that comes back are then those of its name, where that name was told
+-- the tables of the keeper that comes back are then those of its name, if that name was known
 closes-with : (store : List ℕ) (lent_as : ℕ) (old mid new : Told) (out : Option (List ℕ × ℕ)) (first last opening : Option Tables) → old store ≡ opening
     → is_some (mid store) ≡ is_some (old store) → out ≡ Some (store, lent_as) → IfSome (old store) (λ t. first ≡ Some t) → is_some last ≡ is_some first
     → IfSome out (λ lent. IfSome (mid lent.0) (λ _. IfSome last (λ t. new lent.0 ≡ Some t)))

@@ -1,4 +1,4 @@
--- The columns of a row, and the one that is told.
+-- The columns of a row, and the one that is reported.
 use Rattle.std.proofs.Common.{◌≡◌, ◌≤◌, ◌+◌, ◌-◌, ◌↔◌, ◌||◌, ◌&&◌, ℕ, zero, suc, Bool, true, false, List, [], ◌∷◌, ◌++◌, length, Option, Some, None, option_map, refl, sym, ap, ◌∙◌, subst, arith, Result, Ok, Err}
 use Rattle.std.specs.Prelude.{codes, not, is_some, is_ok, slice_get, if◌then◌else◌, ◌==◌, IsOk}
 use Rattle.std.specs.Char.{is_ascii_alphanumeric}
@@ -59,7 +59,7 @@ by-basis P yield price rate text is =
     by false false true is_a is_b is_c is = subst P (sym (same-text text (codes "rate") is_c)) rate
     by false false false is_a is_b is_c is = absurd (cc is)
 
--- a reading is some where it has no fault, and what is made of it too
+-- a reading is some if it has no fault, and what is made of it too
 reads-ok : {A E : Type 0} (reading : Result A E) → is_some (result_ok reading) ≡ is_ok reading
 reads-ok (Ok x) = refl
 reads-ok (Err e) = refl
@@ -68,7 +68,7 @@ made-some : {A B : Type 0} (make : A → B) (reading : Option A) → is_some (op
 made-some make None = refl
 made-some make (Some x) = refl
 
--- a first interest date reads exactly where the law says so
+-- a first interest date reads exactly if the law says so
 first-by : (empty : Bool) (kind text : List ℕ) → is_kind kind ≡ true → (length text == 0) ≡ empty → is_some (kind_reading kind (if empty then None else Some text)) ≡ (if bytes_eq kind (codes "periodic") then is_day text else empty)
 first-by true kind [] is none = by-kind (λ k. is_some (kind_reading k None) ≡ (if bytes_eq k (codes "periodic") then is_day [] else true)) refl refl refl refl kind is
 first-by true kind (byte ∷ text) is none = absurd (grind (arith, nat_tests, none))
@@ -80,7 +80,7 @@ first-by false kind text is some =
 first-reads : (kind text : List ℕ) → is_kind kind ≡ true → is_some (kind_reading kind (not_empty text)) ≡ is_first_date kind text
 first-reads kind text is = first-by (length text == 0) kind text is refl
 
--- a coupon reads exactly where the law says so
+-- a coupon reads exactly if the law says so
 coupon-by : (none empty reads : Bool) (text : List ℕ) → (length text == 0) ≡ empty → is_ok (coupon_reading text) ≡ reads → is_some (coupon_by (not none) text) ≡ (reads || (none && empty))
 coupon-by none empty reads text is_empty is_read = rw is_empty (by none empty reads is_read) where
   by : (none empty reads : Bool) → is_ok (coupon_reading text) ≡ reads → is_some (if not (not none) && empty then Some 0 else result_ok (coupon_reading text)) ≡ (reads || (none && empty))
@@ -94,7 +94,7 @@ coupon-by none empty reads text is_empty is_read = rw is_empty (by none empty re
 coupon-reads : (kind text : List ℕ) → is_some (coupon_by (not (pays_none kind)) text) ≡ is_coupon kind text
 coupon-reads kind text = coupon-by (pays_none kind) (length text == 0) (is_ok (coupon_reading text)) text refl refl
 
--- a kind pays interest where its text does not say that it pays none
+-- a kind pays interest if its text does not say that it pays none
 kind-pays : (text : List ℕ) (first : Option (List ℕ)) (kind : Kind) → is_kind text ≡ true → kind_reading text first ≡ Some kind → pays_interest kind ≡ not (pays_none text)
 kind-pays text first kind named =
     by-kind (λ t. kind_reading t first ≡ Some kind → pays_interest kind ≡ not (pays_none t))
@@ -120,7 +120,7 @@ kind-pays text first kind named =
     discount None is = ap pays_interest (sym (same_Some Discount kind is))
     discount (Some first) is = absurd (none-some kind is)
 
--- a value reads exactly where the law says so
+-- a value reads exactly if the law says so
 value-reads : (basis text : List ℕ) → is_basis basis ≡ true → is_some (given_reading basis text) ≡ is_value basis text
 value-reads basis text is =
     by-basis (λ b. is_some (given_reading b text) ≡ is_value b text)
@@ -130,30 +130,30 @@ value-reads basis text is =
     basis is
 
 -- ---- the first column that does not read
--- what columns tell, of which the first has a number: the first that does not read, or a value
+-- what columns say, the first of which has a number: the first that does not read, or a value
 abbrev Tells : (A : Type 0) → ℕ → List Bool → Result A RowFault → Type 0
 Tells A n [] row = (x : A) × (row ≡ Ok x)
 Tells A n (true ∷ columns) row = Tells A (suc n) columns row
 Tells A n (false ∷ columns) row = row ≡ Err (BadField n)
 
--- one column, and those behind it
+-- one column, and those after it
 column-tells : (A B : Type 0) (n m : ℕ) (read : Option A) (reads : Bool) (more : A → Result B RowFault) (columns : List Bool) → is_some read ≡ reads → m ≡ suc n
     → ((x : A) → read ≡ Some x → Tells B m columns (more x)) → Tells B n (reads ∷ columns) (in_column n read >>= more)
 column-tells A B n m None reads more columns same next behind = subst (λ r. Tells B n (r ∷ columns) (Err (BadField n))) same refl
 column-tells A B n m (Some x) reads more columns same next behind = subst (λ r. Tells B n (r ∷ columns) (more x)) same (subst (λ k. Tells B k columns (more x)) next (behind x refl))
 
--- one column, and none behind it
+-- one column, and none after it
 last-tells : (A : Type 0) (n : ℕ) (read : Option A) (reads : Bool) → is_some read ≡ reads → Tells A n (reads ∷ []) (in_column n read)
 last-tells A n None reads same = subst (λ r. Tells A n (r ∷ []) (Err (BadField n))) same refl
 last-tells A n (Some x) reads same = subst (λ r. Tells A n (r ∷ []) (Ok x)) same (x, refl)
 
--- a test of a column, and the columns behind it
+-- a test of a column, and the columns after it
 test-tells : (A : Type 0) (n m : ℕ) (test : Bool) (columns : List Bool) (row : Result A RowFault) → m ≡ suc n
     → (test ≡ true → Tells A m columns row) → Tells A n (test ∷ columns) (if test then row else Err (BadField n))
 test-tells A n m true columns row next behind = subst (λ k. Tells A k columns row) next (behind refl)
 test-tells A n m false columns row next behind = refl
 
--- columns, and others behind them
+-- columns, and others after them
 then-tells : (A B : Type 0) (n m : ℕ) (front columns : List Bool) (row : Result A RowFault) (more : A → Result B RowFault) → n + length front ≡ m
     → Tells A n front row → ((x : A) → row ≡ Ok x → Tells B m columns (more x)) → Tells B n (front ++ columns) (row >>= more)
 then-tells A B n m [] columns row more next tells behind =

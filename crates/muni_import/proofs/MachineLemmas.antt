@@ -48,7 +48,7 @@ step-ends st.AfterQuote c = unless-copied (c == 34) st.InQuoted (in_field defaul
 step-ends st.InComment c = unless-skipped (c == 10) st.StartRecord (st.InComment, act.Skip) (λ ends. absurd (cc ends))
 step-ends st.AfterCr c = unless-skipped (c == 10) st.StartRecord (start_record default_config c) (at-record c)
 
--- behind a record no other is begun, and so many bytes are left
+-- after a record no other is begun, and this many bytes are left
 pub record IsBehind (next : Read) (most : ℕ) : Type 0 where
   pub between : IsBetween next.1
   pub few : length next.2 ≤ most
@@ -86,7 +86,7 @@ behind-byte s fields now c rest next is =
     (λ later. behind-any x.0 (fields_after x.1 fields now) (field_after x.1 c now) rest next later)
     is
 
--- where no record is begun, no bytes are no record
+-- if no record is begun, no bytes are no record
 pub none-between : (s : State) → IsBetween s → next_record default_config s [] [] [] ≡ None
 unfolding next_record
 none-between s (inl is) = rw is refl

@@ -41,7 +41,7 @@ no-bytes : (xs : List ℕ) → length xs ≤ 0 → xs ≡ []
 no-bytes [] few = refl
 no-bytes (x ∷ xs) few = absurd (omega (arith, few))
 
--- the first row, and those behind it
+-- the first row, and those after it
 rows-next : (s : State) (xs : List ℕ) (next : Read) → next_record default_config s [] [] xs ≡ Some next → rows_from s xs ≡ row_of next.0 ∷ rows_from next.1 next.2
 unfolding rows_from records_from
 rows-next s [] next is =
@@ -55,7 +55,7 @@ rows-next s (c ∷ xs) next is =
     (ap (λ records. row_of next.0 ∷ map row_of records)
     (same-records (length (c ∷ xs)) (length next.2 + 1) next.1 next.2 left.between (omega (arith, left.few)) (omega arith)))
 
--- a read of a record tells the next of the rows that are left
+-- a read of a record gives the next of the rows that are left
 told-next : (s : State) (xs : List ℕ) (next : Option Read) (fields : List (List ℕ)) (s2 : State) (ys : List ℕ) → next_record default_config s [] [] xs ≡ next
     → NextIs next true fields s2 ys → IsNext (rows_from s xs) (Some (row_of fields)) (Some (rows_from s2 ys))
 told-next s xs None fields s2 ys is told = absurd (cc told)

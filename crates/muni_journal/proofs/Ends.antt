@@ -73,7 +73,7 @@ gates_rise (suc k) c at e ends = elim (cases_eq (byte_at c at.gate) 1) [
   | inr is_closed ↦ omega (arith, ap (λ (p : Place). p.gate) (same_Some at e (sym (closed_step k c at is_closed) ∙ ends)))
 ]
 
--- what stands behind a closed gate does not count
+-- what comes after a closed gate does not count
 pub same_end : (k : ℕ) (d c : List ℕ) (at e : Place) → end_from k d at ≡ Some e → IsSameBefore e.gate d c → byte_at c e.gate ≢ 1 → end_from k c at ≡ Some e
 same_end zero d c at e ends same closed = absurd (none-some e ends)
 same_end (suc k) d c at e ends same closed = elim (cases_eq (byte_at d at.gate) 1) [

@@ -1,4 +1,4 @@
--- The tables for which the images stand while a put is made.
+-- The tables that the images mean while a put is made.
 use Rattle.std.proofs.Common.{◌≡◌, ◌≢◌, inl, inr, ⊎_elim, ℕ, zero, suc, ◌+◌, ◌<◌, ◌≤◌, ◌^◌, if◌then◌else◌, true, List, [], ◌∷◌, ◌++◌, length, Option, Some, None, refl, sym, ◌∙◌, ap, arith}
 use Rattle.std.specs.Prelude.{is_some}
 use Rattle.std.specs.Option.{option_map, option_and_then}
@@ -144,14 +144,14 @@ module _ (at : Place) (x : Put) where
         | inr is_closed ↦ inl (ap (λ (o : Option Place). option_map (λ (p : Place). p.tables) o) (was.without c from.2 is_closed))
       ]
 
--- the same, with the place behind the slot as a number
+-- the same, with the place after the slot as a number
 pub behind_piece : (at : Place) (x : Put) (gate : ℕ) (image : List ℕ → Type 0) → gate ≡ at.gate + 5 + length (body_of x) → AllImages image (λ c. journal_of c ≡ Some (place_with at x))
     → AllImages image (λ c. journal_of c ≡ Some (record { gate = gate; tables = after at.tables x }))
 behind_piece at x gate image size all = record {
   each = λ c now. all.each c now ∙ ap (λ (n : ℕ). let p : Place = record { gate = n; tables = after at.tables x } in Some p) (sym size);
 }
 
--- a put that stands on the disk is in doubt where it is not answered
+-- a put that is on the disk is in doubt if it is not answered
 pub put_doubtful : (gate : ℕ) (piece : List ℕ) (old new : List ℕ → Type 0) → AllImages new (ComesFrom (IsPut gate piece) old) → AllImages new (ComesFrom (IsDoubtful gate piece) old)
 put_doubtful gate piece old new all = record {
   each = λ c now. let from = all.each c now in (from.0, from.1, record { before = from.2.before; behind = from.2.behind });

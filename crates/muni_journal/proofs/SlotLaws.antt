@@ -1,4 +1,4 @@
--- What stands for tables is the slots of puts that lead to them.
+-- Bytes that mean tables are the slots of puts that lead to them.
 use Rattle.std.proofs.Common.{◌≡◌, ◌≢◌, inl, inr, ℕ, zero, suc, ◌+◌, ◌-◌, ◌<◌, ◌≤◌, ◌&&◌, Bool, true, false, cond, List, [], ◌∷◌, ◌++◌, length, Option, Some, None, refl, sym, ◌∙◌, ap, arith, length-append}
 use Rattle.std.specs.Prelude.{All, nat_le}
 use Rattle.std.specs.Option.{option_map, option_and_then}
@@ -34,7 +34,7 @@ both_true : (a b : Bool) → a && b ≡ true → (a ≡ true) × (b ≡ true)
 both_true true b is = (refl, is)
 both_true false b is = absurd (cc is)
 
--- what stands at two places side by side
+-- what is at two places side by side
 joined : (p q : ℕ) (xs ys c : List ℕ) → p + length xs ≡ q → StandsAt p xs c → StandsAt q ys c → StandsAt p (xs ++ ys) c
 joined p q xs ys c next first second = record {
   each = λ i below. elim (cases_lt i (length xs)) [
@@ -67,7 +67,7 @@ place gate tables = record { gate = gate; tables = tables }
 places : (g h : ℕ) (t u : Tables) → g ≡ h → t ≡ u → ◌≡◌ {A = Option Place} (Some (place g t)) (Some (place h u))
 places g h t u gate tables = ap (λ (n : ℕ). Some (place n t)) gate ∙ ap (λ (x : Tables). Some (place h x)) tables
 
--- slots lead to the closed gate behind them
+-- slots lead to the closed gate after them
 ends_at : (puts : List Put) (c : List ℕ) (g : ℕ) (t tables : Tables) → All HasRecord puts → led_by puts t ≡ Some tables → StandsAt g (slots_of puts) c → byte_at c (g + length (slots_of puts)) ≢ 1
     → end_from (suc (length puts)) c (place g t) ≡ Some (place (g + length (slots_of puts)) tables)
 ends_at [] c g t tables all led stands closed =

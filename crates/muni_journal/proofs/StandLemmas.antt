@@ -38,7 +38,7 @@ module _ {S D : Type 0} (of : shelf.Ghosts S D) (lends : disk.Ghosts D) where
         record { clock = two.clock ∙ one.clock; same = λ t c left. one.same t c (two.same t c left) };
   }
 
-  -- the disk of a keeper stands for its tables, or for them after its put in doubt
+  -- the disk of a keeper means its tables, or those after its put in doubt
   pub keeper_stands : (k : JournalKeeper D lends) → ((c : List ℕ) → lends.since k.disk (lends.clock k.disk) c → lends.image k.disk c) → (c : List ℕ) → lends.since k.disk (lends.clock k.disk) c → StandsFor k.kept k.in_doubt None c
   keeper_stands k here c left =
       let at : Place = record { gate = k.gate; tables = k.kept } in

@@ -1,4 +1,4 @@
--- What a cabinet tells as disks come back to their shelf.
+-- What a cabinet says as disks come back to their shelf.
 use Rattle.std.proofs.Common.{◌≡◌, ◌≢◌, sym, ap, ◌∙◌, refl, subst, Bool, true, false, ℕ, List, Option, Some, None, if◌then◌else◌, nat_eq}
 use Rattle.std.specs.Prelude.{is_some, IfSome}
 use Rattle.std.specs.Option.{option_map, option_and_then}
@@ -35,7 +35,7 @@ at_other : (name o : List ℕ) (t : Tables) (disks : Disks) → o ≢ name → t
 at_other name o t disks differs =
     other_name name o (option_map (λ _. t) (disks o)) (option_and_then tables_of (disks o)) (pointwise nat_eq name o) refl differs
 
--- a disk that stands for the tables of its keeper
+-- a disk that means the tables of its keeper
 stand : (bytes : Option (List ℕ)) (kept : Tables) → ((c : List ℕ) → ReadsAs bytes c → tables_of c ≡ Some kept) → option_and_then tables_of bytes ≡ option_map (λ _. kept) bytes
 stand None kept stands = refl
 stand (Some c) kept stands = stands c (λ i. refl)
@@ -46,7 +46,7 @@ map_alike None (Some c) t tells = absurd (cc tells)
 map_alike (Some b) None t tells = absurd (cc tells)
 map_alike (Some b) (Some c) t tells = refl
 
--- a disk comes back and stands for the tables that were told for it
+-- a disk comes back and means the tables that were known for it
 pub told_still : (name : List ℕ) (kept : Tables) (old new : Disks) (bytes : Option (List ℕ)) → new name ≡ bytes → ((c : List ℕ) → ReadsAs bytes c → tables_of c ≡ Some kept)
     → ((o : List ℕ) → is_some (new o) ≡ is_some (old o)) → ((o : List ℕ) → o ≢ name → new o ≡ old o) → (o : List ℕ) → told_of None new o ≡ told_of (Some (name, kept)) old o
 told_still name kept old new bytes own stands tells others =
@@ -64,7 +64,7 @@ all_kept : (lent kept : Tables) (told : Option (List ℕ)) → lent ≡ kept →
 all_kept lent kept None same = tt
 all_kept lent kept (Some b) same = ap Some same
 
--- the keeper that is held has the tables that are told for its name
+-- the keeper that is held has the tables that are known for its name
 pub held_has : (held name : List ℕ) (kept lent : Tables) (disks : Disks) → name ≡ held → lent ≡ kept → IfSome (told_of (Some (held, kept)) disks name) (λ t. Some lent ≡ Some t)
 held_has held name kept lent disks named same =
     subst (λ (n : List ℕ). IfSome (told_of (Some (held, kept)) disks n) (λ t. Some lent ≡ Some t)) (sym named)

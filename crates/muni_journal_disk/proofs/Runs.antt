@@ -16,7 +16,7 @@ module _ {D : Type 0} (clock : D → ℕ) (since : D → ℕ → List ℕ → Ty
     before = λ t c le left. ⊎_elim (so_far.before t c le) (λ now. inr (here c now)) ((time.told t c (omega (arith, le, so_far.later))).0 left);
   }
 
-  -- two runs of calls, one behind the other
+  -- two runs of calls, one after the other
   pub joins : (old mid new : D) (IsSo : List ℕ → Type 0) → StopsLeave clock since old mid IsSo → StopsLeave clock since mid new IsSo → StopsLeave clock since old new IsSo
   joins old mid new IsSo first second = record {
     later = omega (arith, first.later, second.later);
@@ -29,7 +29,7 @@ module _ {D : Type 0} (clock : D → ℕ) (since : D → ℕ → List ℕ → Ty
       → ((c : List ℕ) → image new c → image old c) → StopsLeave clock since old new (image old)
   one_call image old new now time fewer = goes_on old old new (image old) (image new) (started old (image old) now) time fewer
 
-  -- and a run of calls behind another
+  -- and a run of calls after another
   pub no_image : (image : D → List ℕ → Type 0) (old mid new : D) → StopsLeave clock since old mid (image old) → ((c : List ℕ) → image mid c → image old c) → StopsLeave clock since mid new (image mid)
       → StopsLeave clock since old new (image old)
   no_image image old mid new first fewer second = joins old mid new (image old) first (record {

@@ -5,7 +5,7 @@ use Rattle.muni_terms.specs.declared.row.Call.{Call}
 use Rattle.muni_journal_record.specs.Words.{front}
 use Rattle.muni_journal_record.specs.IssueBody.{call_of, calls_of}
 
--- calls that were read before, and those that are read behind them
+-- calls that were read before, and those that are read after them
 abbrev pub behind : List Call → Option (List Call) → Option (List Call)
 behind calls more = option_map (λ later. calls ++ later) more
 
@@ -24,7 +24,7 @@ step calls later k n rest piece after call more there is added =
     ap (λ (l : List Call). behind l (calls_of n after)) added ∙ behind_one calls call (calls_of n after)
     ∙ sym (ap (behind calls) (next_is n rest piece after call there is)) ∙ sym (ap (λ (m : ℕ). behind calls (calls_of m rest)) more)
 
--- where no call is read, none are
+-- if no call is read, none are
 pub none_read : (calls : List Call) (k n : ℕ) (rest : List ℕ) → k ≡ suc n → front 8 rest ≡ None → behind calls (calls_of k rest) ≡ None
 none_read calls k n rest more none = ap (λ (m : ℕ). behind calls (calls_of m rest)) more ∙ (rw none refl)
 

@@ -96,7 +96,7 @@ module _ (gate : ℕ) (image : List ℕ → Type 0) where
         (from.0, from.1, record { others = from.2; is_closed = ap (byte_at c) place ∙ (written c (only c now)).each 0 (omega arith) });
   }
 
--- a run of calls, and the call behind it
+-- a run of calls, and the call after it
 module _ {D : Type 0} (clock : D → ℕ) (since : D → ℕ → List ℕ → Type 0) (image : D → List ℕ → Type 0) (IsSo : List ℕ → Type 0) where
   pub begun : (old : D) → ((c : List ℕ) → since old (clock old) c ↔ image old c) → AllImages (image old) IsSo → StopsLeave clock since old old IsSo
   begun old now before = started clock since old IsSo (λ c left. before.each c ((now c).0 left))

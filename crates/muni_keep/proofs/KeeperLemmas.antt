@@ -1,4 +1,4 @@
--- What stands under a name of a cabinet, after a keeper was put under it or another.
+-- What is under a name of a cabinet, after a keeper was put under it or another.
 use Rattle.std.proofs.Common.{◌≡◌, ◌≢◌, ℕ, true, false, List, [], ◌∷◌, ◌++◌, Some, Result, Ok, Err, cond, map, refl, sym, ap, subst, ◌∙◌}
 use Rattle.std.specs.Prelude.{IsSome, OnErr}
 use Rattle.std.specs.Option.{unwrap_or}
@@ -26,7 +26,7 @@ get_put m name x = get-insert nat_list_cmp_total m name x name ∙ ap (λ b. con
 pub is_put : {X : Type 0} (m : FinMap by_bytes X) (name : List ℕ) (x : X) → IsSome (get (insert m name x) name)
 is_put m name x = subst IsSome (sym (get_put m name x)) refl
 
--- under that name it stands
+-- it is under that name
 pub keeper_put : (keepers : Keepers) (name : List ℕ) (keeper : KeeperState) → keeper_at (insert keepers name keeper) name ≡ keeper
 keeper_put keepers name keeper = ap (λ found. unwrap_or found (new_keeper [])) (get_put keepers name keeper)
 

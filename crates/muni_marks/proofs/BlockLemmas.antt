@@ -7,7 +7,7 @@ use Rattle.std.proofs.lemmas.Grind.{flat_map-append}
 use Rattle.rayon.proofs.ListFacts.{AllZip-append}
 use Rattle.muni_edge.specs.declared.fault.NoMemory.{NoMemory}
 
--- where each block has its marks, all rows have theirs
+-- if each block has its marks, all rows have theirs
 pub flat_marks : {X Y Z : Type 0} (R : X → Y → Type 0) (f : Z → List Y) (blocks : List (List X)) (parts : List Z) → AllZip (λ block part. AllZip R block (f part)) blocks parts
     → AllZip R (flat_map (λ l. l) blocks) (flat_map f parts)
 flat_marks R f [] [] all = tt

@@ -151,7 +151,7 @@ still tables cusip old new is_missing [] next are = tt
 still tables cusip old new is_missing (Ok asked ∷ rows) next are = (next.others asked.cusip are.0, still tables cusip old new is_missing rows next are.1)
 still tables cusip old new is_missing (Err fault ∷ rows) next are = (tt, still tables cusip old new is_missing rows next are.1)
 
--- so many rows are fetched, and what is known of their CUSIPs
+-- this many rows are fetched, and what is known of their CUSIPs
 pub record IsSoFar (tables : Tables) (issue : List ℕ → Option IssueRow) (is_missing : List ℕ → Bool) (rows : List (Result Asked RowFault)) : Type 0 where
   pub known : AreKnown tables issue is_missing
   pub fetched : AreFetched tables issue rows
@@ -178,7 +178,7 @@ pub row_default : (told : Option Tables) (issue : List ℕ → Option IssueRow) 
 row_default told issue is_missing rows i (Ok asked) within is other far = absurd (other asked refl)
 row_default told issue is_missing rows i (Err fault) within is other far = row_passed told issue is_missing rows i fault within is far
 
--- the same where tables are told
+-- the same if tables are known
 pub told_found : (told : Option Tables) (old new : List ℕ → Option IssueRow) (is_missing : List ℕ → Bool) (key : List ℕ) (issue : IssueRow) → IfSome told (λ t. AreKnown t old is_missing)
     → IfSome told (λ t. Some issue ≡ issue_at t key) → ((other : List ℕ) → new other ≡ cond (is_at (by_bytes key) other) (Some issue) (old other))
     → IfSome told (λ t. IsKnownNext t key old new is_missing)

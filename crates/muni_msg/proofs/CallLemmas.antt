@@ -22,7 +22,7 @@ calls-here before text texts call reads = rw reads (more-by before call (calls_r
 pub calls-fault : (before : List Call) (text : List ℕ) (texts : List (List ℕ)) → call_reading text ≡ None → with_more before (calls_reading (text ∷ texts)) ≡ None
 calls-fault before text texts fault = rw fault refl
 
--- nothing in front, and nothing behind
+-- nothing in front, and nothing after
 pub calls-first : (calls : Option (List Call)) → with_more [] calls ≡ calls
 calls-first None = refl
 calls-first (Some calls) = refl

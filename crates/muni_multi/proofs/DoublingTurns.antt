@@ -14,7 +14,7 @@ use Rattle.muni_multi.specs.DoublingLaws.{level_by-first, level_by-more, level_e
 use Rattle.muni_multi.specs.Horner.{AreDiscountEnds}
 use Rattle.muni_multi.specs.HornerLaws.{discount-is}
 
--- ---- what the places of a count stand for
+-- ---- what the places of a count mean
 pub halved : (n place : ℕ) → 0 < place → n / 2 ^ (place - 1) / 2 ≡ n / 2 ^ place
 halved n place pos =
     let one : place - 1 + 1 ≡ place = omega arith in
@@ -32,7 +32,7 @@ pub record IsLevelOf (carry p x m level : ℕ) : Type 0 where
   pub some : 1 ≤ m
   pub value : (f : ℕ) → m < 2 ^ suc f → level ≡ level_by carry p x f m
 
--- the topmost place alone stands for one payment
+-- the topmost place alone means one payment
 pub first-turn : (carry p x n place level : ℕ) → 2 ^ place ≤ n → n < 2 * 2 ^ place → level ≡ 4096 * p → IsLevelOf carry p x (n / 2 ^ place) level
 first-turn carry p x n place level least most is =
     let one : n / 2 ^ place ≡ 1 = quotient_is n (2 ^ place) 1 (pow_pos place) (omega arith) (omega arith) in
@@ -81,7 +81,7 @@ power-fits lo hi k ends few = factor-fits (discount_divisor ends.y) lo hi k (dis
 pub power-reach : (lo hi k : ℕ) → AreDiscountEnds lo hi → k ≤ 99 → hi ^ k ≤ 15 * (2 ^ 60) ^ k
 power-reach lo hi k ends few = discount-in_reach hi k few (discount-at lo hi ends).at_most
 
--- where no payment comes before the first interest
+-- if no payment comes before the first interest
 pub no-skip : (carry : ℕ) (series : PaymentSeries) (x m paid : ℕ) → carry < 2 ^ 60 → series.skip ≡ 0 → m ≡ series.n - 1 - series.skip → paid ≡ paid_end carry series x m → paid ≡ doubling_end carry series x
 unfolding doubling_end
 no-skip carry series x m paid small none count is =

@@ -118,7 +118,7 @@ after_moved desk holdings key version last told cusip name right found =
     ∙ holding_after cusip key version told
     ∙ ap (λ h. plus h (share cusip version)) (ap (λ d. holding_of cusip (last_versions d told)) name ∙ sym (right cusip))
 
--- so where no holding in its range comes after a put, the desk has no room for it
+-- so if no holding in its range comes after a put, the desk has no room for it
 pub none_fits : (watched : Option (List ℕ)) (told : Option Tables) (holdings : Holdings) (key : Key) (version : Version) (last : Option (ℕ × Version)) (before cusip : List ℕ)
     → is_watched watched key.desk ≡ true → AreRight watched told holdings → IfSome told (λ t. last ≡ last_at t key)
     → HasNoRoom holdings last version before ⊎ HasNoRoom holdings last version cusip → IfSome told (λ t. HasNoRoomFor watched key version t)
@@ -129,7 +129,7 @@ none_fits (Some desk) (Some told) holdings key version last before cusip tested 
 none_fits (Some desk) (Some told) holdings key version last before cusip tested right found (inr none) =
     (tested, (cusip, λ range. none _ range (after_moved desk holdings key version last told cusip (watched_is (Some desk) desk key.desk tested refl) (right desk told refl refl) found)))
 
--- and where it was put the desk had room
+-- and if it was put, the desk had room
 pub had_room : (watched : Option (List ℕ)) (told now : Option Tables) (holdings : Holdings) (key : Key) (version : Version)
     → AreInRange holdings → AreRight watched now holdings → now ≡ option_map (with_version key version) told → IfSome told (λ t. ¬ (HasNoRoomFor watched key version t))
 had_room watched None now holdings key version range right is = tt

@@ -15,7 +15,7 @@ pub same : (a b : Holding) → a.live ≡ b.live → a.bought ≡ b.bought → a
 same a b live bought sold paid received =
     λ i. record { live = live i; bought = bought i; sold = sold i; paid = paid i; received = received i }
 
--- what is left where the same is taken off
+-- what is left if the same is taken off
 pub cancel : (a b s : Holding) → plus a s ≡ plus b s → a ≡ b
 cancel a b s e =
     let l = ap (λ (h : Holding). h.live) e in

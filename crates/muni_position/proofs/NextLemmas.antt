@@ -36,7 +36,7 @@ use Rattle.muni_position.proofs.HoldingLemmas.{position_is}
 use Rattle.muni_position.proofs.PageLemmas.{all_pass}
 use Rattle.muni_position.proofs.PutLemmas.{keys_rise, find_lookup}
 
--- the positions of those entries at which a trade stands
+-- the positions of those entries that have a live trade
 abbrev pub held_of : Holdings → List (List ℕ × Holding) → List (List ℕ × Position)
 held_of holdings es = map (λ e. (e.0, position_in (kept holdings e.0))) (filter (λ e. nat_lt 0 (kept holdings e.0).live) es)
 
@@ -49,7 +49,7 @@ some_live n above = grind (arith, nat_tests)
 none_live : (n : ℕ) → n ≤ 0 → nat_lt 0 n ≡ false
 none_live n none = grind (arith, nat_tests)
 
--- what stands at a CUSIP among the positions of these versions
+-- what is at a CUSIP among the positions of these versions
 found_is : (cusip : List ℕ) (all versions : List Version)
     → find by_bytes cusip (map (λ version. (version.terms.asked.cusip, position_of version.terms.asked.cusip all)) (filter (λ version. is_live version.act) versions))
     ≡ cond (nat_lt 0 (length (filter (counts cusip) versions))) (Some (position_of cusip all)) None
@@ -70,7 +70,7 @@ found_is cusip all (v ∷ vs) =
       | false ↦ rest
     ]
 
--- a CUSIP is among the positions exactly where a trade of it stands
+-- a CUSIP is among the positions exactly if a trade of it is live
 pub held_at : (versions : List Version) (cusip : List ℕ) → lookup (is_at (by_bytes cusip)) (positions_of versions) ≡ if_live (position_of cusip versions)
 unfolding positions_of position_of
 held_at versions cusip =
@@ -100,7 +100,7 @@ if_found : (found : Option Holding) (position : Position) → cond (is_some (con
 if_found None position = refl
 if_found (Some h) position = elim (nat_lt 0 h.live) as (λ b. cond (is_some (cond b (Some h) None)) (Some position) None ≡ cond b (Some position) None) [ true ↦ refl | false ↦ refl ]
 
--- what stands at a CUSIP among those that are kept
+-- what is at a CUSIP among those that are kept
 kept_at : (holdings : Holdings) (cusip : List ℕ) → lookup (is_at (by_bytes cusip)) (held_of holdings holdings.entries) ≡ if_live (position_in (kept holdings cusip))
 kept_at holdings cusip =
     let live = λ (k : List ℕ). nat_lt 0 (kept holdings k).live in
@@ -209,7 +209,7 @@ stop_at holdings e old rest is live =
     ap (λ l. slice_get (held_of holdings l) 0) is
     ∙ ap (λ b. slice_get (map (λ e. (e.0, position_in (kept holdings e.0))) (cond b (e ∷ filter (λ e. nat_lt 0 (kept holdings e.0).live) rest) (filter (λ e. nat_lt 0 (kept holdings e.0).live) rest))) 0) (some_live (kept holdings e.0).live live)
 
--- of entries, one more line is written where a trade stands
+-- of entries, one more line is written if a trade is live
 pub line_written : (holdings : Holdings) (e : List ℕ × Holding) (old rest : List (List ℕ × Holding)) (text next all : List ℕ) → old ≡ e ∷ rest → 0 < (kept holdings e.0).live
     → next ≡ text ++ position_line e.0 (position_in (kept holdings e.0)) → text ++ position_lines (held_of holdings old) ≡ all → next ++ position_lines (held_of holdings rest) ≡ all
 line_written holdings e old rest text next all is live written so_far =

@@ -39,7 +39,7 @@ below_one : {X : Type 0} (key : List ℕ) (front : List (List ℕ × X)) (e : Li
 below_one key [] e back t = first _ _ t
 below_one key (x ∷ front) e back t = below_one key front e back (second _ _ t)
 
--- of entries in order, those behind one are those past its key
+-- of entries in order, those after one are those past its key
 pub past_one : {X : Type 0} (front : List (List ℕ × X)) (e : List ℕ × X) (back : List (List ℕ × X)) → T (is_sorted by_bytes (front ++ e ∷ back))
     → filter (λ other. is_past (Some e.0) other.0) (front ++ e ∷ back) ≡ back
 past_one [] e back t =
@@ -67,7 +67,7 @@ same_length : {A B : Type 0} (f : A → B) (xs : List A) → length (map f xs) �
 same_length f [] = refl
 same_length f (x ∷ xs) = ap suc (same_length f xs)
 
--- so many trades of a desk were read, up to a reference, and these are their holdings
+-- this many trades of a desk were read, up to a reference, and these are their holdings
 pub record IsSummed (desk : List ℕ) (tables : Tables) (after : Option (List ℕ)) (count : ℕ) (holdings : Holdings) : Type 0 where
   pub read : List (List ℕ × History Version)
   pub all : read ++ trades_past after (own desk tables.desks) ≡ entries (own desk tables.desks)
@@ -148,7 +148,7 @@ page_fits desk tables after count lines holdings summed are =
     let rest = trades_past after (own desk tables.desks) in
     omega (arith, summed.counted, ap length are, same_length line (take 50 rest), ap length summed.all, length-append summed.read rest, ap length (take-append-drop 50 rest), length-append (take 50 rest) (drop 50 rest))
 
--- the same where tables are told
+-- the same if tables are known
 pub each : {A : Type 0} (P : A → Type 0) (told : Option A) → ((t : A) → P t) → IfSome told P
 each P None all = tt
 each P (Some t) all = all t

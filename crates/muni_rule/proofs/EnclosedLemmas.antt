@@ -1,4 +1,4 @@
--- What verdicts tell where the worth is enclosed narrowly.
+-- What verdicts say if the worth is enclosed narrowly.
 use Rattle.std.proofs.Common.{◌≡◌, ℕ, ◌+◌, ◌<◌, ◌≤◌, sym, ◌∙◌, arith, ℤ, pos, negsuc}
 use Rattle.std.proofs.lemmas.Int.{ints}
 use Rattle.muni_rule.specs.Payments.{PaymentSeries, IsSeries}
@@ -22,7 +22,7 @@ pub divisor-most : (y : ℤ) → IsManyPeriodsBoundary y → discount_divisor y 
 divisor-most (pos n) within = let most = within.1 in omega (arith, ints, most)
 divisor-most (negsuc n) within = omega arith
 
--- what an encloser tells of a series at a yield
+-- what an encloser says of a series at a yield
 pub record IsEnclosed (series : PaymentSeries) (y : ℤ) (enclosure : WorthEnds) : Type 0 where
   pub series_is : IsSeries series
   pub divisor : 0 < discount_divisor y
@@ -56,7 +56,7 @@ pub more-false : (series : PaymentSeries) (y : ℤ) (enclosure : WorthEnds) (amo
 more-false series y enclosure amount verdict given is said =
     more-no (to_come series) y (ends_of series y enclosure) (amount + series.accrued) (enclosed-holds series y enclosure given) (sym is ∙ said)
 
--- Unsure is read off an enclosure alone, and only where the price is near
+-- Unsure is read off an enclosure alone, and only if the price is near
 doubtful-by : (series : PaymentSeries) (y : ℤ) (enclosure : WorthEnds) (amount : ℕ) (read : WorthEnds → Verdict) → IsSeries series → ((top unit : ℕ) → read (exactly top unit) ≡ Unsure → ⊥) → (read enclosure ≡ Unsure → IsNear (to_come series) y (pos amount)) → read (ends_of series y enclosure) ≡ Unsure → IsDoubtful series y (pos amount)
 doubtful-by series y enclosure amount read is sure near =
     by-cases series y enclosure (λ ends. read ends ≡ Unsure → IsDoubtful series y (pos amount))

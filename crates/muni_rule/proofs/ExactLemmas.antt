@@ -145,7 +145,7 @@ by-cases series y enclosure P zero par short enclosed =
     short
     (λ not_short. enclosed (or_from (nat_eq (discount_divisor y) 2000000) (is_par_bond series (discount_divisor y) || is_short series) not_zero (or_from (is_par_bond series (discount_divisor y)) (is_short series) not_par not_short)))))
 
--- where an enclosure holds the worth, the ends do
+-- if an enclosure holds the worth, the ends do
 pub ends-hold : (series : PaymentSeries) (y : ℤ) (enclosure : WorthEnds) → series.skip < series.n → 0 < discount_divisor y → HoldsWorth (to_come series) y enclosure → HoldsWorth (to_come series) y (ends_of series y enclosure)
 ends-hold series y enclosure skip some holds =
     by-cases series y enclosure (λ ends. HoldsWorth (to_come series) y ends)

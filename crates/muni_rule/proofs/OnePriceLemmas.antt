@@ -37,7 +37,7 @@ printed-one basis Reaches s t closed is also =
     (cases_lt t s))
     (cases_lt s t)
 
--- and none where the exact price is below zero
+-- and none if the exact price is below zero
 pub printed-not_below : (basis : Basis) (Reaches : ℤ → Type 0) (t : ℕ) → IsClosed Reaches → IsPrintedPriceBy basis Reaches t → ¬ (IsBelowZero Reaches)
 printed-not_below basis Reaches t closed printed = λ below.
     below.zero_not_reached (closed (thousandths_by basis t) (pos 0) (thousandths-from basis t) printed.reached)
@@ -47,7 +47,7 @@ thousandths-none : (basis : Basis) → thousandths_by basis 0 ≡ pos 0
 thousandths-none Thirty360 = refl
 thousandths-none Actual365 = refl
 
--- where some amount is not reached, the thousandths that are reached end somewhere
+-- if some amount is not reached, the thousandths that are reached end somewhere
 some-price : (basis : Basis) (Reaches : ℤ → Type 0) (m : ℕ) → ((amount : ℤ) → Decided (Reaches amount)) → ¬ (Reaches (thousandths_by basis m)) → IsBelowZero Reaches ⊎ ((t : ℕ) × IsPrintedPriceBy basis Reaches t)
 some-price basis Reaches m decided missed =
     ⊎_elim

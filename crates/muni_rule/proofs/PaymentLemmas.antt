@@ -83,7 +83,7 @@ count-places : (anchor date later : Civil) (i j : ℕ) → IsPlace anchor date i
 count-places anchor date later i j at at_later order =
     rw (between-places anchor date later i j at.last at_later.last at.from order at_later.below) (length-map-range_with_len (date_at anchor.day (month_index anchor % 6)) (i + 1) (j - i))
 
--- no more quasi-coupon dates stand between two dates than between two that enclose them
+-- no more quasi-coupon dates are between two dates than between two that enclose them
 pub quasi_count-within : (anchor start date later end : Civil) → IsCivil anchor → anchor.day ≤ 28 → IsSettlementDate start → IsSettlementDate date → IsSettlementDate later → IsSettlementDate end → order_of start ≤ order_of date → order_of date ≤ order_of later → order_of later ≤ order_of end →
     quasi_count anchor date later ≤ quasi_count anchor start end
 quasi_count-within anchor start date later end anchor_civil small settled1 settled2 settled3 settled4 order1 order2 order3 =

@@ -75,7 +75,7 @@ not_passed-power c k x hi v t some under law =
     let all : c ^ k * t ≤ c ^ k * (x ^ k * v) = omega arith in
     le_of_mul-le-mul_left all (one-le-pow k c some)
 
--- where t * h^i / v^(m + i) is top / unit, the same holds of the k-th powers
+-- if t * h^i / v^(m + i) is top / unit, the same holds of the k-th powers
 pub fraction-power : (k h v t m i top unit : ℕ) → t * h ^ i * unit ≡ top * v ^ (m + i) → unit ^ k * (t ^ k * h ^ (i * k)) ≡ top ^ k * v ^ (m * k + i * k)
 fraction-power k h v t m i top unit same =
     let raised : (t * h ^ i * unit) ^ k ≡ (top * v ^ (m + i)) ^ k = ap (λ x. x ^ k) same in

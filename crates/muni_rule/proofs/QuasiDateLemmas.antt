@@ -1,4 +1,4 @@
--- The quasi-coupon dates of an anchor by their places: the k-th stands k half years after the year 0.
+-- The quasi-coupon dates of an anchor by their places: the k-th is k half years after the year 0.
 use Rattle.std.proofs.Common.{◌≡◌, ℕ, ◌+◌, ◌-◌, ◌*◌, ◌%◌, ◌<◌, ◌≤◌, Bool, true, eqb, ltb, leb, ◌&&◌, min, max, map, filter, Some, None, refl, ap, ◌∙◌, arith}
 use Rattle.std.specs.List.{range_with_len, last_or}
 use Rattle.std.proofs.lemmas.Bool.Decides.{nat_tests}
@@ -6,7 +6,7 @@ use Rattle.muni_rule.specs.Civil.{Civil, order_of, is_before, is_not_after, mont
 use Rattle.muni_rule.specs.QuasiDates.{desk_months, quasi_dates, last_quasi_date, quasi_dates_between}
 use Rattle.muni_rule.proofs.RangeLemmas.{filter_between, filter_sixths, filter_map, map_map, last_of_range}
 
--- the date with this day at a place, where months leave `rest` when they are cut into half years
+-- the date with this day at a place, if months leave `rest` when they are cut into half years
 abbrev pub date_at : ℕ → ℕ → ℕ → Civil
 date_at day rest k = day_in_month (6 * k + rest) day
 
@@ -23,7 +23,7 @@ pub quasi_dates-places : (anchor : Civil) → quasi_dates anchor ≡ map (date_a
 unfolding quasi_dates desk_months
 quasi_dates-places anchor = quasi_dates-between_years anchor 3_800 600
 
--- the date at a place is the last one not after a date, which stands at `order` in the order of dates
+-- the date at a place is the last one not after a date, which is at `order` in the order of dates
 pub record IsLastAt (day rest order k : ℕ) : Type 0 where
   pub reached : 31 * (6 * k + rest) + 31 + day ≤ order
   pub next_not_reached : order < 31 * (6 * k + rest) + 217 + day

@@ -46,7 +46,7 @@ filter_behind test start (suc skipped) count fails =
     let next : start + suc skipped ≡ start + 1 + skipped = omega arith in
     rw (one_more, next, here) (filter_behind test (start + 1) skipped count (λ k from below. fails k (omega arith) (omega arith)))
 
--- every sixth number, where a range begins at a multiple of six
+-- every sixth number, if a range begins at a multiple of six
 pub filter_sixths : (rest start count : ℕ) → rest < 6 →
     filter (λ k. eqb (k % 6) rest) (range_with_len (6 * start) (6 * count)) ≡ map (λ k. 6 * k + rest) (range_with_len start count)
 filter_sixths rest start zero small = refl

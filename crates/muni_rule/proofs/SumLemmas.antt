@@ -97,7 +97,7 @@ unfolding discounted_sum
 zero_sum a h m =
     sum_to-same (λ k. a k * h ^ k * h ^ (suc m - 1 - k)) (λ k. h ^ m * a k) (suc m) (λ k less. zero_member (a k) h m k less) ∙ sum_to-times a (h ^ m) (suc m)
 
--- payments of r with s beside the last are worth s, half a year before the first, where r and s
+-- payments of r with s beside the last are worth s, half a year before the first, if r and s
 -- discounted by half a year are s
 level_step : (r s h v x t more : ℕ) → (r + s) * h ≡ s * v → more ≡ r * x + h * t → t * h ≡ s * x → more * h ≡ s * (x * v)
 level_step r s h v x t more par step rest =

@@ -27,7 +27,7 @@ unsure-test true b said = cc
 unsure-test false true said = cc
 unsure-test false false said = (refl, refl)
 
--- how often the divisor stands in the power that is asked for
+-- how often the divisor is in the power that is asked for
 abbrev discounts : PeriodicPayments → ℕ
 discounts bond = (length bond.payments - 1) * 180 + (180 - bond.a)
 

@@ -1,4 +1,4 @@
--- Where the price falls as the yield rises, the printed yield is the rounded one, and the only one.
+-- If the price falls as the yield rises, the printed yield is the rounded one, and the only one.
 use Rattle.std.proofs.Common.{◌≡◌, ℕ, zero, suc, ◌+◌, ◌/◌, ◌⊎◌, inl, inr, ℤ, pos, negsuc, neg_ℤ, ◌+ℤ◌, ◌≤ℤ◌, ◌<ℤ◌, arith, refl, subst, sym}
 use Rattle.std.proofs.lemmas.Int.{ints}
 use Rattle.std.proofs.lemmas.Bool.{cases_lt}
@@ -7,7 +7,7 @@ use Rattle.muni_rule.specs.Accuracy.{rounded_yield}
 use Rattle.muni_rule.specs.PrintedYield.{boundary, Reached, IsPrintedYield, IsFromAbove, IsFromBelow, TruncatesYieldTo, Falls}
 use Rattle.muni_rule.specs.Outcomes.{IsBelow, IsAbove, IsPrint}
 
--- two whole numbers stand in order
+-- two whole numbers are in order
 ordered : (y z : ℤ) → (y <ℤ z) ⊎ ((y ≡ z) ⊎ (z <ℤ y))
 ordered (pos m) (pos n) =
     elim (cases_lt m n) [
@@ -45,7 +45,7 @@ More-le {AtLeast} {More} falls y z le more =
       | inr (inr above) ↦ absurd (omega (arith, ints))
     ]
 
--- a printed yield is reached where the price at its boundary is enough, and then it is
+-- a printed yield is reached if the price at its boundary is enough, and then it is
 reached-lower : {AtLeast More : ℤ → Type 0} → Falls AtLeast More → (t z : ℤ) → boundary t <ℤ z → AtLeast z → Reached AtLeast More t
 reached-lower falls (pos zero) z less at = falls.lower (boundary (pos zero)) z less at
 reached-lower falls (pos (suc n)) z less at = falls.more (boundary (pos (suc n))) (falls.lower (boundary (pos (suc n))) z less at)

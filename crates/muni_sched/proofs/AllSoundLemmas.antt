@@ -110,7 +110,7 @@ names-doubt given list (lowest.Below c) answer is doubt = dated-other (NamesDoub
 names-doubt given list lowest.Above answer is doubt = subst (NamesDoubt given list) (sym (some-same answer answers.Above is)) tt
 names-doubt given list (lowest.NoTime c) answer is doubt = dated-other (NamesDoubt given list) (λ day. answers.NoTime day) answer (date_of list c) (λ day. tt) is
 
--- where none is in doubt, no answer names one that is
+-- if none is in doubt, no answer names one that is
 decided : (given : GivenFigure) (list : List Candidate) (answer : LowAnswer) → NamesDoubt given list answer → IsDecidedWithoutDoubt given list answer
 decided given list (answers.Low figure c) doubt none = tt
 decided given list (answers.Undecided date boundary) doubt none = none doubt.candidate doubt.figure doubt.doubtful

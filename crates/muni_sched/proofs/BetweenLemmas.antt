@@ -40,7 +40,7 @@ pub record IsBetween (low high : ℕ) (outcome : CandidateOutcome) : Type 0 wher
   pub most : high ≤ 105002 → rank_of outcome <ℤ yield_at high
   pub of : IsOf Yield outcome
 
--- of the outcome at the end, where the two are neighbours
+-- of the outcome at the end, if the two are neighbours
 record IsBeside (low : ℕ) (outcome : CandidateOutcome) : Type 0 where
   from : 1 ≤ low → yield_at low ≤ℤ rank_of outcome
   to : low < 105002 → rank_of outcome <ℤ yield_at (low + 1)

@@ -108,7 +108,7 @@ missed-past false figure t past = absurd past
 missed-is : (bracket : YieldBracket) → bracket.high ≤ 105002 → IsPast (missed_by bracket) (yield_at bracket.high)
 missed-is bracket most = let test = le-leb bracket.high 105002 most in subst (λ test. IsPast (if test then Some (yield_at bracket.high) else None) (yield_at bracket.high)) (sym test) (omega (arith, ints))
 
--- a bracket stands in a list
+-- a bracket is in a list
 abbrev pub Has : YieldBracket → List YieldBracket → Type 0
 Has bracket [] = ⊥
 Has bracket (it ∷ rest) = (it ≡ bracket) ⊎ Has bracket rest
@@ -193,7 +193,7 @@ pub either : (test : Bool) → (test ≡ true) ⊎ (test ≡ false)
 either true = inl refl
 either false = inr refl
 
--- where the lead is not kept none is
+-- if the lead is not kept none is
 pub none-false : (verdicts : PaymentSeries → ℕ → ℕ → Verdict) (r : ℕ) (lead it : YieldBracket) (least : ℤ) (ceiling : Option ℤ) → lead.low < lead.high → (lead.high ≤ 105002 → IsPast ceiling (yield_at lead.high)) → is_kept ceiling lead ≡ false → IsAfter verdicts r lead least it → is_kept ceiling it ≡ false
 none-false verdicts r lead it least ceiling apart past dropped after =
     ⊎_elim

@@ -18,7 +18,7 @@ use Rattle.muni_sched.specs.Search.{missed, outcomes_of}
 use Rattle.muni_sched.proofs.BetweenLemmas.{at, rank_of, known_at}
 use Rattle.muni_sched.proofs.SearchLemmas.{rank-most, IsPast, IsOver, IsBehind, IsSearchedFor, IsCeiling, IsMissedPlace, IsRefined}
 
--- the outcomes that are told, where those that are not known stand as Above
+-- the outcomes that are known, with Above for those that are not
 told-at : (known : List (Option CandidateOutcome)) (k : ℕ) → at (outcomes_of known) k ≡ unwrap_or (known_at known k) Above
 told-at known k =
     ⊎_elim
@@ -34,7 +34,7 @@ told-known known k outcome is = told-at known k ∙ ap (λ (it : Option Candidat
 told-unknown : (known : List (Option CandidateOutcome)) (k : ℕ) → known_at known k ≡ None → at (outcomes_of known) k ≡ Above
 told-unknown known k is = told-at known k ∙ ap (λ (it : Option CandidateOutcome). unwrap_or it Above) is
 
--- each outcome is told, or decides nothing
+-- each outcome is known, or decides nothing
 record IsDropped (finals : List CandidateOutcome) (search : Search) (k : ℕ) : Type 0 where
   told : at (outcomes_of search.known.items) k ≡ Above
   past : IsBehind search.ceiling search.missed (rank_of (at finals k))
@@ -52,8 +52,8 @@ over-decided verdicts finals r search is none k =
     left.1)
     (is.covered k)
 
--- The first of least rank among the outcomes that are told is so among all. A candidate that holds the
--- ceiling is told, so that the least rank is below the ceiling, and each that was dropped is not.
+-- The first of least rank among the outcomes that are known is so among all. A candidate that holds the
+-- ceiling is known, so that the least rank is below the ceiling, and each that was dropped is not.
 abbrev IsToldOrBehind : (finals told : List CandidateOutcome) (ceiling : Option ℤ) (missed : ℕ) → ℕ → Type 0
 IsToldOrBehind finals told ceiling missed j = (at told j ≡ at finals j) ⊎ IsBehind ceiling missed (rank_of (at finals j))
 
@@ -131,7 +131,7 @@ ranked-of_all verdicts finals r search answer is none ranked =
       decides = subst (λ outcome. answer ≡ decided_by outcome ranked.candidate) first.1 ranked.decides;
     }
 
--- what is told is of a yield
+-- what is known is of a yield
 pub told-of : (verdicts : PaymentSeries → ℕ → ℕ → Verdict) (finals : List CandidateOutcome) (r : ℕ) (search : Search) → IsRefined verdicts finals r search → All (IsOf Yield) (outcomes_of search.known.items)
 told-of verdicts finals r search is = λ k d inside. subst (IsOf Yield) (get_or_default (outcomes_of search.known.items) k Above d inside)
     (⊎_elim

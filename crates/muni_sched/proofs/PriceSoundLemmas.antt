@@ -196,7 +196,7 @@ all-timed ends y (candidate ∷ list) [] is c never = absurd is
 all-timed ends y (candidate ∷ list) (x ∷ outcomes) is zero never = timed ends y (to_come_of candidate.shape) x is.0 never
 all-timed ends y (candidate ∷ list) (x ∷ outcomes) is (suc c) never = all-timed ends y list outcomes is.1 c never
 
--- where all are above, the first is none of these
+-- if all are above, the first is none of these
 not-above : (outcomes : List CandidateOutcome) (outcome : CandidateOutcome) → outcome_at outcomes 0 ≡ outcome → ¬ (outcome ≡ Above) → ¬ (outcome ≡ NoTime) → ¬ (AllAreAbove (negsuc 0) outcomes)
 not-above outcomes (Print t) same other time all = all.none_printed t 0 same
 not-above outcomes (Unsure s) same other time all = all.none_material s 0 (record { unsure = same; matters = λ m h print. absurd (all.none_printed m h print.first.such) })

@@ -16,7 +16,7 @@ first-none : (side other : Option Ordering) → first_of side other ≡ None →
 first-none None other none = (refl, none)
 first-none (Some side) other none = absurd (cc)
 
--- where none excludes it, it may be given for each
+-- if none excludes it, it may be given for each
 pub all-given : (y : ℤ) (list : List Candidate) → side_of_first y list ≡ None → All (IsGivenFor y) list
 all-given y [] none = All-nil (IsGivenFor y)
 all-given y (candidate ∷ list) none =

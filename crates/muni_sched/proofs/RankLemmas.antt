@@ -137,7 +137,7 @@ least-first kind outcomes c all is = record {
 pub first-ranked : (least : ℤ) (outcomes : List CandidateOutcome) (c : ℕ) → IsFirstOfLeastRank least outcomes c → IsRanked least outcomes (decided_at outcomes c)
 first-ranked least outcomes c first = record { candidate = c; first = first; decides = refl }
 
--- Where all ranks are past that of Below, all candidates have figures or are above them.
+-- If all ranks are past that of Below, all candidates have figures or are above them.
 all_reach : (least : ℤ) (outcomes : List CandidateOutcome) → ((k : ℕ) → negsuc 2_147_483_645 ≤ℤ rank least (outcome_at outcomes k)) → AllReachFigures least outcomes
 all_reach least outcomes from = record {
   timed = λ k e. omega (arith, ints, from k, ap (rank least) e);

@@ -43,7 +43,7 @@ below_maturity-by_kind Zero dated maturity date on_calendar =
 below_maturity-by_kind AtRedemption dated maturity date on_calendar = absurd (cc)
 below_maturity-by_kind Discount dated maturity date on_calendar = absurd (cc)
 
--- a call passes its tests behind the call before it, and so do the calls behind it
+-- a call passes its tests after the call before it, and so do the calls after it
 record IsPassed (row : IssueRow) (before : Option Day) (call : Call) (calls : List Call) : Type 0 where
   pub below : order_of (civil call.date) < order_of (civil row.maturity)
   pub rises : Check.rises before call.date ≡ true
@@ -60,7 +60,7 @@ is_passed row before call calls none =
       rest = both.1;
     }
 
--- the calls behind a day are all after it
+-- the calls after a day are all after it
 calls-later : (row : IssueRow) (floor : ℕ) (before : Day) (calls : List Call) → Check.calls_fault row (Some before) calls ≡ None → floor ≤ place_of before → All (λ call. floor < order_of call.date) (map call_redemption calls)
 calls-later row floor before [] none low = All-nil (λ call. floor < order_of call.date)
 calls-later row floor before (call ∷ calls) none low =

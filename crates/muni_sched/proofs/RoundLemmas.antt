@@ -19,7 +19,7 @@ use Rattle.muni_sched.specs.YieldOutcome.{many_yield}
 written : {X : Type 0} (before new after : List X) → after ≡ refill (length before) before new → length new ≡ length before → after ≡ new
 written before new after is same = is ∙ take_at new (drop (length new) before) (length before) same
 
--- the searches as they are halved, where the slice holds them
+-- the searches as they are halved, if the slice holds them
 pub halved-now : (verdicts : PaymentSeries → ℕ → ℕ → Verdict) (before slice new after : List OpenSearch) → slice ≡ before → AllZip (IsHalved verdicts) slice new → after ≡ refill (length before) before new → AllZip (IsHalved verdicts) before after
 halved-now verdicts before slice new after same each is =
     let zip : AllZip (IsHalved verdicts) before new = subst (λ searches. AllZip (IsHalved verdicts) searches new) same each in

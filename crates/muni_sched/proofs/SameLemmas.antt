@@ -43,7 +43,7 @@ low-same least outcomes t u c d is also =
     let same : t ≡ u = omega (arith, ints, is.lowest.none_lower d u also.lowest.first.such, also.lowest.none_lower c t is.lowest.first.such) in
     (same, first-same (λ k. IsPrint u (outcome_at outcomes k)) c d (subst (λ v. IsFirst (λ k. IsPrint v (outcome_at outcomes k)) c) same is.lowest.first) also.lowest.first)
 
--- where all reach figures none is below them, nor without time
+-- if all reach figures none is below them, nor without time
 not-below : (least : ℤ) (outcomes : List CandidateOutcome) (x : CandidateOutcome) (c : ℕ) → AllReachFigures least outcomes → ¬ (IsFirstBelow least outcomes x c)
 not-below least outcomes x c reach is = reach.none_below c is.first.such
 

@@ -241,7 +241,7 @@ written-here : (test : Bool) (known : List (Option CandidateOutcome)) (c : ℕ) 
 written-here true known c it inside settled = get_or-set_same known c it (Some Above) inside
 written-here false known c it inside settled = cc
 
--- what stood at k still stands there, or the wanted outcome does
+-- what was at k is still there, or the wanted outcome is
 written-or : (test : Bool) (known : List (Option CandidateOutcome)) (c k : ℕ) (it wanted before : Option CandidateOutcome) → c < length known → (c ≡ k → test ≡ true → it ≡ wanted) → known_at known k ≡ before → (known_at (if test then slice_set known c it else known) k ≡ wanted) ⊎ (known_at (if test then slice_set known c it else known) k ≡ before)
 written-or true known c k it wanted before inside right there =
     ⊎_elim

@@ -49,7 +49,7 @@ above least D Below exact sound time figure_of print unsure = absurd (figure_of 
 above least D Above exact sound time figure_of print unsure = sound
 above least D NoTime exact sound time figure_of print unsure = absurd (time refl)
 
--- Where none is material, an unsure candidate is at the lowest printed figure or higher, and before the
+-- If none is material, an unsure candidate is at the lowest printed figure or higher, and before the
 -- first that has it, higher.
 unsure_from : (least : ℤ) (outcomes : List CandidateOutcome) (t : ℤ) (c k : ℕ) (s : ℤ) → IsLowestFigure least outcomes t c → outcome_at outcomes k ≡ Unsure s → t ≤ℤ s
 unsure_from least outcomes t c k s low e =

@@ -97,7 +97,7 @@ finals-of_yield verdicts price (candidate ∷ list) (it ∷ known) some all of z
 finals-of_yield verdicts price (candidate ∷ list) (it ∷ known) some all of (suc k) =
     finals-of_yield verdicts price list known some (All-tail IsCandidate candidate list all) (All-tail IsKnownYield it known of) k
 
--- what the sum of the payments tells is so
+-- what the sum of the payments says is so
 abbrev pub AreFirstKnown : (verdicts : PaymentSeries → ℕ → ℕ → Verdict) (price : ℕ) → Type 0
 AreFirstKnown verdicts price = (series : PaymentSeries) → IsSeries series → 2 ≤ series.n → IsWindow (verdicts series price) (window_first series price)
 

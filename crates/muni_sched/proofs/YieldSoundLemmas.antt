@@ -204,8 +204,8 @@ yield-sound ends price (many series) outcome exact range some law is exactly =
     subst (λ x. IsSound (negsuc 5000) (IsFigureInDoubt (at_price price) (many series)) x exact) (sym is) (final-sound ends series price exact range.0 range.1 some (law series range.0 range.1) exactly)
 yield-sound ends price (one least payment) outcome exact range some law is exactly = single-sound least payment price outcome (IsFigureInDoubt (at_price price) (one least payment)) exact range some is exactly
 
--- ---- doubt, where nothing is known of the exact yields
--- where an outcome is unsure, what is to come is in doubt at the next figure
+-- ---- doubt, if nothing is known of the exact yields
+-- if an outcome is unsure, what is to come is in doubt at the next figure
 simple-sure : (answer : SimpleYield) (s : ℤ) → ¬ (one_yield answer ≡ Unsure s)
 simple-sure (simple.Print t) s same = cc
 simple-sure simple.Below s same = cc

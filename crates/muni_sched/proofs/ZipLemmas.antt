@@ -1,4 +1,4 @@
--- Lists that stand for lists, item by item.
+-- Lists that model lists, item by item.
 use Rattle.std.proofs.Common.{◌≡◌, ℕ, ◌+◌, ◌<◌, List, [], ◌∷◌, ◌++◌, All, length, map, take, get_or, suc, refl, ap, sym, subst, ◌∙◌, arith}
 use Rattle.std.specs.List.{AllZip}
 use Rattle.std.proofs.lemmas.List.{take_more}
@@ -6,7 +6,7 @@ use Rattle.std.proofs.lemmas.Slice.Zip.{AllZip-long}
 use Rattle.std.proofs.lemmas.List.Elements.{All-head, All-tail}
 use Rattle.muni_sched.specs.AnswerLaws.{HasOne}
 
--- where two items that stand for one are the same, so are two lists
+-- if two items that model one are the same, so are two lists
 pub zip-same : {X Y : Type 0} (Good : X → Type 0) (Is : X → Y → Type 0) (xs : List X) (ys zs : List Y) → ((x : X) (y z : Y) → Good x → Is x y → Is x z → y ≡ z) → All Good xs → AllZip Is xs ys → AllZip Is xs zs → ys ≡ zs
 zip-same Good Is [] [] [] same all is also = refl
 zip-same Good Is [] [] (z ∷ zs) same all is also = absurd also
@@ -29,7 +29,7 @@ more-only Is x xs (y ∷ ys) first rest is =
     let tail : ys ≡ rest.value = rest.only ys is.1 in
     rw (head, tail) refl
 
--- where one item stands for each, one list does for all
+-- if one item models each, one list models all
 pub zip-has_one : {X Y : Type 0} (Good : X → Type 0) (Is : X → Y → Type 0) (xs : List X) → ((x : X) → Good x → HasOne (Is x)) → All Good xs → HasOne (AllZip Is xs)
 zip-has_one Good Is [] each all = record { value = []; such = tt; only = λ ys is. none-only Is ys is }
 zip-has_one Good Is (x ∷ xs) each all =
@@ -53,7 +53,7 @@ zip-next R xs i x ys new y inside is all one pushed =
 pub zip-long : {X Y : Type 0} (Is : X → Y → Type 0) (xs : List X) (ys : List Y) (Long : ℕ → Type 0) → AllZip Is xs ys → Long (length ys) → Long (length xs)
 zip-long Is xs ys Long all long = subst Long (AllZip-long Is xs ys all) long
 
--- where an item stands for each by its image, so does the list of the images
+-- if an item models each by its image, so does the list of the images
 pub zip-map : {X Y Z : Type 0} (Is : X → Z → Type 0) (f : Y → Z) (xs : List X) (ys : List Y) → AllZip (λ x y. Is x (f y)) xs ys → AllZip Is xs (map f ys)
 zip-map Is f [] [] is = tt
 zip-map Is f [] (y ∷ ys) is = absurd is

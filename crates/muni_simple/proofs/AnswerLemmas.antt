@@ -1,4 +1,4 @@
--- A right answer says that the price is below zero exactly where it is, and a printed yield is in the
+-- A right answer says that the price is below zero exactly if it is, and a printed yield is in the
 -- range of its shape.
 use Rattle.std.proofs.Common.{◌≡◌, ℤ, ◌↔◌, arith, refl}
 use Rattle.std.proofs.lemmas.Int.{ints}

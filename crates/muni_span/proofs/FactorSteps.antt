@@ -29,7 +29,7 @@ factor_joined-above uk ue uek ve he qek re fk pos power root ratio =
 powers-some : (u k e : ℕ) → 0 < u → 0 < (u ^ e) ^ k * u ^ e
 powers-some u k e pos = mul-pos (one-le-pow k (u ^ e) (one-le-pow e u pos)) (one-le-pow e u pos)
 
--- q is the k-th root of r, which stands for h / v, and f the e-th power of q: f is an end of the e-th
+-- q is the k-th root of r, which means h / v, and f the e-th power of q: f is an end of the e-th
 -- power of that root, and so its k-th power one of the e-th power of h / v
 factor-below : (u v h k e q r f : ℕ) → 0 < u → q ^ k * u ≤ r * u ^ k → r * v ≤ h * u → f * u ^ e ≤ q ^ e * u → f ^ k * v ^ e ≤ h ^ e * u ^ k
 factor-below u v h k e q r f pos root ratio power =

@@ -1,4 +1,4 @@
--- The greatest number that passes a test: there is one where any passes, and one only.
+-- The greatest number that passes a test: there is one if any passes, and one only.
 use Rattle.std.proofs.Common.{◌≡◌, ℕ, Bool, suc, zero, ◌<◌, ◌≤◌, ◌⊎◌, refl, sym, ap, ◌∙◌, subst, ⊎_elim, arith, true, false}
 use Rattle.std.proofs.lemmas.Bool.{cases_Bool}
 use Rattle.muni_span.specs.Roots.{greatest_where}

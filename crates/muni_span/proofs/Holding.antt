@@ -8,7 +8,7 @@ use Rattle.muni_span.proofs.Fractions.{at_most-then, at_most-times, at_most-powe
 use Rattle.muni_rule.proofs.PowerLemmas.{pow-one, pow-times, pow-turned}
 use Rattle.muni_span.proofs.Quotients.{IsRounded}
 
--- an end's power, where the end is at most a product
+-- an end's power, if the end is at most a product
 product_power : (a b c d e f j : ℕ) → IsAtMost a b (c * e) (d * f) → IsAtMost (a ^ j) (b ^ j) (c ^ j * e ^ j) (d ^ j * f ^ j)
 product_power a b c d e f j law = rw (← mul-pow c e j, ← mul-pow d f j) (at_most-power a b (c * e) (d * f) j law)
 

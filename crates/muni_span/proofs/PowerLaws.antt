@@ -1,4 +1,4 @@
--- The ends of a power stand round the exact powers, and near each other.
+-- The ends of a power enclose the exact powers, and are near each other.
 use Rattle.std.proofs.Common.{◌≡◌, ℕ, suc, zero, ◌+◌, ◌-◌, ◌*◌, ◌/◌, ◌^◌, ◌<◌, ◌≤◌, ◌⊎◌, max, min, refl, sym, ap, subst, ⊎_elim, arith, lit≤, lit<}
 use Rattle.std.proofs.Math.Nat.{mul-le-mul, mul-le-mul_left, mul-le-mul_right, le_of_mul-le-mul_right, lt-div-mul-add, pow-le-pow_left, mul-pos, pow-suc, pow-zero, one-le-pow}
 use Rattle.std.proofs.lemmas.Nat.{pow-add}
@@ -11,7 +11,7 @@ use Rattle.muni_span.proofs.Quotients.{IsRounded, rounded}
 use Rattle.muni_span.proofs.PowerWidths.{IsSmall, IsLarge, ordered, small_product, large_product, small_cut, large_cut, shares}
 use Rattle.muni_span.proofs.Squaring.{even_or_odd, one_or_more, from_half-even, from_half-odd, power_by-first, power_by-more, power_end-none, power_end-some}
 
--- `lo` and `hi` stand round the k-th powers of `a` and `b`, and each step adds the width of the base and 2 to theirs
+-- `lo` and `hi` enclose the k-th powers of `a` and `b`, and each step adds the width of the base and 2 to theirs
 pub record IsPower (u a b k lo hi : ℕ) : Type 0 where
   pub below : IsAtMost lo u (a ^ k) (u ^ k)
   pub above : IsAtMost (b ^ k) (u ^ k) hi u
@@ -35,7 +35,7 @@ product_above u b m n p q h pos over one two =
     (at_most-then (b ^ m * b ^ n) (u ^ m * u ^ n) (p * q) (u * u) h u (mul-pos pos pos)
     (at_most-times (b ^ m) (u ^ m) p u (b ^ n) (u ^ n) q u one two) (record { cross = omega arith }))
 
--- an upper end may be cut where the exact power is in reach
+-- an upper end may be cut if the exact power is in reach
 cut_above : (u t p r h : ℕ) → 15 * u ≤ t → p ≤ 15 * r → IsAtMost p r h u → IsAtMost p r (min h t) u
 cut_above u t p r h room most law =
     ⊎_elim (λ (below : h ≤ t). let same : min h t ≡ h = omega arith in rw same law)
@@ -67,7 +67,7 @@ product_of_powers u t a b m n l1 h1 l2 h2 l h some more pos room most round one 
           (large_product u (m * (b - a + 2) - 2) (n * (b - a + 2) - 2) l1 h1 l2 h2 l h pos two.ordered (one.large over) (two.large over) round));
     }
 
--- a power is in reach where a greater one is
+-- a power is in reach if a greater one is
 pub times-in_reach : (u x c m j k : ℕ) → 0 < u → c ≤ m → j ≤ k → c * x ^ k ≤ m * u ^ k → c * x ^ j ≤ m * u ^ j
 times-in_reach u x c m j k pos some less most =
     ⊎_elim (λ below.
@@ -167,7 +167,7 @@ power_is a b k some few order most =
     same_ends (2 ^ 60) a b k (power_end 0 a k) (power_end (2 ^ 60 - 1) b k) (power_by (product_end 0) a 7 k) (power_by (product_end (2 ^ 60 - 1)) b 7 k)
     (power_end-some 0 a k some) (power_end-some (2 ^ 60 - 1) b k some) (power_by-is a b 7 k some few order most)
 
--- the width of a power, where its upper end is at most m
+-- the width of a power, if its upper end is at most m
 pub power_narrow : (u a b k lo hi m : ℕ) → 0 < u → 1 ≤ m → hi ≤ m * u → IsPower u a b k lo hi → hi - lo ≤ k * (b - a + 2) * m
 power_narrow u a b k lo hi m pos some cover law =
     ⊎_elim (λ under.

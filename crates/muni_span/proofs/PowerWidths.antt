@@ -8,7 +8,7 @@ pub record IsSmall (u e lo hi : ℕ) : Type 0 where
   pub under : hi ≤ u
   pub near : hi ≤ lo + e
 
--- ends of which the upper is at least one: they differ by at most e in proportion to it
+-- ends whose upper one is at least one: they differ by at most e in proportion to it
 pub record IsLarge (u e lo hi : ℕ) : Type 0 where
   pub over : u ≤ hi
   pub near : hi * u ≤ lo * u + e * hi

@@ -38,7 +38,7 @@ quotient_is x d q pos least most =
     let above : q < x / d + 1 = lt_of_mul-lt-mul_right d two in
     omega arith
 
--- the ceiling is one above the floor where something is left over
+-- the ceiling is one above the floor if something is left over
 pub ceiling_more : (x d q : ℕ) → 0 < d → q ≡ x / d → q * d < x → q + 1 ≡ (x + (d - 1)) / d
 ceiling_more x d q pos floor part =
     let over : x < x / d * d + d = lt-div-mul-add pos in
@@ -51,7 +51,7 @@ rounded_plain u p q l h pos low high =
     let none : p + 0 ≡ p = omega arith in
     rw (low, high) (subst (λ (x : ℕ). IsRounded u p q (x / u) ((q + (u - 1)) / u)) none (rounded u p q pos))
 
--- a quotient by w of a product, where only the part of the factor below t * w leaves a rest
+-- a quotient by w of a product, if only the part of the factor below t * w leaves a rest
 pub by_halves : (t w a f e : ℕ) → 0 < w → a / (t * w) * f * t + (a % (t * w) * f + e) / w ≡ (a * f + e) / w
 by_halves t w a f e pos =
     let whole : a / (t * w) * (t * w) + a % (t * w) ≡ a = div-add-mod' a (t * w) in

@@ -26,7 +26,7 @@ bracket_closed carry v low high near is =
     let over : v < power_end carry (low + 1) 180 = subst (λ (x : ℕ). v < power_end carry x 180) next is.over in
     sym (greatest_unique (λ x. leb (power_end carry x 180) v) (2 ^ 60 + 2 ^ 50) low (narrowest carry v low (2 ^ 60 + 2 ^ 50) (omega arith) is.under over))
 
--- a number whose power is at most v, where that of the next is more
+-- a number whose power is at most v, and that of the next is more
 pub certified : (carry v q : ℕ) → q < 2 ^ 60 + 2 ^ 50 → power_end carry q 180 ≤ v → v < power_end carry (q + 1) 180 → q ≡ root_end carry v
 certified carry v q within under over = bracket_closed carry v q (q + 1) (omega arith) (record {
   ordered = omega arith;

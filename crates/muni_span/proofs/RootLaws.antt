@@ -1,4 +1,4 @@
--- The ends of a root stand round the exact roots, and near each other.
+-- The ends of a root enclose the exact roots, and are near each other.
 use Rattle.std.proofs.Common.{◌≡◌, ℕ, suc, zero, ◌+◌, ◌-◌, ◌*◌, ◌^◌, ◌<◌, ◌≤◌, ◌≢◌, sym, ap, subst, ⊎_elim, arith, lit≤, lit<}
 use Rattle.std.proofs.Math.Nat.{mul-le-mul_left, mul-le-mul_right, le_of_mul-le-mul_right, mul-pos, one-le-pow, pow-le-pow_left, pow-suc, pow-zero}
 use Rattle.std.proofs.lemmas.Bool.{cases_lt}
@@ -13,7 +13,7 @@ use Rattle.muni_span.proofs.PowerGrowth.{power_end-grows}
 use Rattle.muni_span.proofs.RootEnds.{IsEnd, root_end-is}
 use Rattle.muni_span.proofs.RootReach.{reach_up, reach_down}
 
--- the k-th power of x stands between two ends that are at most e apart
+-- the k-th power of x is between two ends that are at most e apart
 pub record IsClose (u k e x lo hi : ℕ) : Type 0 where
   pub below : IsAtMost lo u (x ^ k) (u ^ k)
   pub above : IsAtMost (x ^ k) (u ^ k) hi u

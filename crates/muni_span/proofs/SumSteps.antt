@@ -22,7 +22,7 @@ step-above u v h c s r p x a t pos round factor sum =
     let least : c * (h * t) ≤ p * (x * v) = le_of_mul-le-mul_right all pos in
     omega arith
 
--- where a factor is at most g / f, an end with a reserve z that pays for each payment grows by that much
+-- if a factor is at most g / f, an end with a reserve z that pays for each payment grows by that much
 pub step-bound : (u f g b s r p a z x y : ℕ) → 0 < u → f * r ≤ g * u → p * u ≤ s * r + u → f * (1 + a + z) ≤ g * z → (s + z) * x ≤ b * y → (p + a + z) * (x * f) ≤ b * (y * g)
 step-bound u f g b s r p a z x y pos growth round reserve so_far =
     let one : s * (f * r) ≤ s * (g * u) = mul-le-mul_left s growth in

@@ -24,7 +24,7 @@ module _ {D : Type 0} (state : D → State) (desk : List ℕ) where
   one_more before between after all i lines more row line inside is longer so_far next =
       rw (take_more all i row inside, is, longer) (line_behind before between after (take i all) lines row line so_far next)
 
-  -- behind the last row
+  -- after the last row
   pub all_lines : (before after : D) (all : List (List Value)) (i : ℕ) (lines : List Line) → length all ≤ i
       → AreLines state desk before after (take i all) lines → AreLines state desk before after all lines
   all_lines before after all i lines past so_far = rw (take_all i all past) at so_far

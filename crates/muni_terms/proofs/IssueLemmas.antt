@@ -24,7 +24,7 @@ use Rattle.muni_terms.specs.declared.row.IssueRow.{IssueRow}
 use Rattle.muni_terms.specs.declared.row.TermsFault.{TermsFault}
 use Rattle.muni_terms.specs.declared.row.TermsFault.TheVariants.{BadCusip, BadOrder, BadDay, BadCoupon, FirstTooLong, CallOffCalendar, CallsNotRising, BadCallPrice, TooLong, BadName, BadBasis}
 
--- a test that does not fail, and what comes behind it
+-- a test that does not fail, and what comes after it
 pub passed : {X : Type 0} (test : Bool) (fault : X) (behind : Option X) → cond (not test) (Some fault) behind ≡ None → (test ≡ true) × (behind ≡ None)
 passed true fault behind none = (refl, none)
 passed false fault behind none = absurd (cc)
@@ -61,7 +61,7 @@ is_issue row none =
     let early = early-passed row both.0 in
     record { order = early.0; day = early.1; start = early.2; term = early.3; calls = both.1 }
 
--- each call passed its tests behind the call before it
+-- each call passed its tests after the call before it
 call-passed : (row : IssueRow) (before : Option Day) (calls : List Call) (k : ℕ) (other : Call) → Check.calls_fault row before calls ≡ None → k < length calls → (last : Option Day) × (Check.call_fault row last (slice_index_or calls k other) ≡ None)
 call-passed row before [] k other none inside = absurd (omega arith)
 call-passed row before (call ∷ calls) zero other none inside = (before, (neither (Check.call_fault row before call) (Check.calls_fault row (Some call.date) calls) none).0)
@@ -168,7 +168,7 @@ is_settled row settlement issue settled =
       below = ltb-true (order_of (civil settlement)) (order_of (civil row.maturity)) parts.1;
     }
 
--- a date that is not after another stands in the same year or an earlier one
+-- a date that is not after another is in the same year or an earlier one
 year-order : (date later : Civil) → IsCivil date → IsCivil later → order_of date ≤ order_of later → date.year ≤ later.year
 year-order date later civil later_civil order = omega (arith, civil, later_civil)
 

@@ -9,7 +9,7 @@ use Rattle.muni_terms.specs.declared.row.Call.{Call}
 use Rattle.muni_msg.specs.Fields.{◌>>=◌}
 use Rattle.muni_wire.specs.Calls.{call_in, calls_in, each_call, few_calls, listed}
 
--- calls that were read, and others behind them, if those read
+-- calls that were read, and others after them, if those read
 abbrev pub with_more : List Call → Option (List Call) → Option (List Call)
 with_more calls more = option_map (λ rest. calls ++ rest) more
 

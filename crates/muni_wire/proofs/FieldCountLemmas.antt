@@ -9,7 +9,7 @@ use Rattle.httparse.proofs.PieceLemmas.{Stops_token}
 use Rattle.httparse.proofs.GrammarLemmas.{cons-append, print_request-append, request_tree}
 use Rattle.httparse.proofs.RefusalLemmas.{lines_over, request_failed_section}
 
--- the start line of a head, and what stands behind it
+-- the start line of a head, and what comes after it
 started : RequestHead → List ℕ → List ℕ
 started h behind = print_blank h.blank ++ (h.method ++ 32 ∷ (h.target ++ 32 ∷ (print_version h.minor ++ (print_end h.line_end ++ behind))))
 

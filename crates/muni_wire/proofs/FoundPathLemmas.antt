@@ -170,7 +170,7 @@ reference-found {K} key b rest is =
     ∙ seek-drop (length (b ∷ rest) - 1) ends rest
     ∙ ap (λ path. seek 0 ends path) (all-dropped rest (length (b ∷ rest) - 1) count)
 
--- a desk, a slash and a reference, where other rows go on behind a desk or end there
+-- a desk, a slash and a reference, if other rows go on after a desk or end there
 pair-found : {K : Type 0} (key : K) (others behind : RowsOf K) (b : ℕ) (desk : List ℕ) (r : ℕ) (reference : List ℕ) → IsPart (b ∷ desk) → IsPart (r ∷ reference)
     → step b others ≡ [] → step param_token others ≡ behind → step catch_all_token others ≡ []
     → longest_suffix (segment (b ∷ (desk ++ 47 ∷ r ∷ reference))) ((47 ∷ param_token ∷ [], key) ∷ behind)
@@ -195,7 +195,7 @@ pair-found {K} key others behind b desk r reference is is_reference none after n
     ∙ ap (λ p. seek 0 left p) (drop-append_seam desk (47 ∷ r ∷ reference))
     ∙ seek-in 47 left (r ∷ reference) key (reference-found key r reference is_reference)
 
--- a desk at the end of a path, behind which others go on
+-- a desk at the end of a path, after which others go on
 desk-found : {K : Type 0} (other key : K) (b : ℕ) (desk : List ℕ) → IsPart (b ∷ desk)
     → seek 0 ((param_token ∷ 47 ∷ param_token ∷ [], other) ∷ (param_token ∷ [], key) ∷ []) (b ∷ desk) ≡ Some key
 unfolding seek
@@ -302,7 +302,7 @@ route-at path key ascii found =
     ap (λ v. cond v (option_map (λ (found : RouteOf Route). found.value) (first routes path)) None) (is-text path ascii)
     ∙ ap (λ o. option_map (λ (found : RouteOf Route). found.value) o) found
 
--- what stands behind the front of a path is read
+-- what comes after the front of a path is read
 
 slash-place : (desk reference : List ℕ) → IsPart desk → prefix_len (λ x. not (x == 47)) (desk ++ 47 ∷ reference) ≡ length desk
 slash-place [] reference is = refl
@@ -317,7 +317,7 @@ slash-position desk reference is =
     ap (λ n. cond (nat_lt n (length (desk ++ 47 ∷ reference))) (Some n) None) (slash-place desk reference is)
     ∙ ap (λ v. cond v (Some (length desk)) None) inside
 
--- a desk and a reference, where both are read
+-- a desk and a reference, if both are read
 abbrev read-both : List ℕ → List ℕ → Option Key
 read-both desk reference =
     result_ok (name_reading is_desk_letter 16 desk) >>= λ desk.

@@ -19,7 +19,7 @@ record AreAlike (part whole : Data) : Type 0 where
   basis : basis_in part ≡ basis_in whole
   fee : fee_in part ≡ fee_in whole
 
--- two texts of which one tests unlike the other are not the same
+-- two texts that test differently are not the same
 unlike : (a b : List ℕ) → bytes_eq a b ≡ false → a ≢ b
 unlike a b test same =
     let alike : bytes_eq b b ≡ true = grind (arith, bytes_eq-Decides b b) in

@@ -28,14 +28,14 @@ or-true : (a : Bool) → (a || true) ≡ true
 or-true true = refl
 or-true false = refl
 
--- the end of a line behind a place is found there
+-- the end of a line after a place is found there
 end-behind : (front rest : List ℕ) (place : ℕ) → place ≤ length front → list_any (λ b. b == 10) (drop place (front ++ 10 ∷ rest)) ≡ true
 end-behind front rest place inside =
     ap (list_any (λ b. b == 10)) (drop-append-le place front (10 ∷ rest) inside)
     ∙ list_any-append (λ b. b == 10) (drop place front) (10 ∷ rest)
     ∙ or-true (list_any (λ b. b == 10) (drop place front))
 
--- a head that ends before a place stands before it
+-- a head that ends before a place is before it
 ends-before : (bytes : List ℕ) (place : ℕ) (h : RequestHead) (rest : List ℕ) → HasNoRequest (take place bytes) → ReadsRequest bytes h rest → length (print_request h) ≤ place → ⊥
 ends-before bytes place h rest none reads before =
     none h (take (place - length (print_request h)) rest)

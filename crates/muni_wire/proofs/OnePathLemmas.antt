@@ -37,12 +37,12 @@ abbrev HasText : {K : Type 0} → (K → Type 0) → List ℕ → RowsOf K → T
 HasText Is path [] = ⊥
 HasText Is path ((t, key) ∷ rest) = ((t ≡ path) × Is key) ⊎ HasText Is path rest
 
--- what is found is no such key
+-- what is found is not this key
 abbrev pub FindsNone : {K : Type 0} → (K → Type 0) → Option K → Type 0
 FindsNone Is None = ⊤
 FindsNone Is (Some key) = Is key → ⊥
 
--- where it is one, a row is this text
+-- if it is one, a row is this text
 abbrev FindsText : {K : Type 0} → (K → Type 0) → List ℕ → RowsOf K → Option K → Type 0
 FindsText Is path rows None = ⊤
 FindsText Is path rows (Some key) = Is key → HasText Is path rows

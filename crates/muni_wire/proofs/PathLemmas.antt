@@ -56,7 +56,7 @@ text-is-name is_letter most text name e =
 is-name : (is_letter : ℕ → Bool) (most : ℕ) (text name : List ℕ) → result_ok (name_reading is_letter most text) ≡ Some name → IsName is_letter most name
 is-name is_letter most text name e = subst (IsName is_letter most) (name-read is_letter most text name e) (text-is-name is_letter most text name e)
 
--- what stands behind a prefix
+-- what comes after a prefix
 behind-by : (b : Bool) (prefix text rest : List ℕ) → bytes_eq (take (length prefix) text) prefix ≡ b → cond b (Some (drop (length prefix) text)) None ≡ Some rest → text ≡ prefix ++ rest
 behind-by true prefix text rest is e =
     let front : take (length prefix) text ≡ prefix = grind (arith, bytes_eq-Decides (take (length prefix) text) prefix, is) in

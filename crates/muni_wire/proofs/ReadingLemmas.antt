@@ -69,7 +69,7 @@ told-body (Some all) (Some left) bytes end size form result took whole is =
 not-short : (n m : ℕ) → m ≤ n → nat_lt n m ≡ false
 not-short n m h = grind (arith, nat_tests)
 
--- the bytes of a body are those behind the head, whatever follows them
+-- the bytes of a body are those after the head, whatever follows them
 body-is : (items piece rest : List ℕ) (end size : ℕ) → end ≤ length items → end + size ≤ length (items ++ piece)
     → (take size (drop end items ++ (piece ++ rest)) ≡ take ((end + size) - end) (drop end (items ++ piece))) × (nat_lt (length (drop end items ++ (piece ++ rest))) size ≡ false)
 body-is items piece rest end size inside long =

@@ -12,7 +12,7 @@ use Rattle.muni_wire.specs.Reading.{Reading, Faulty, Short, Reads, carried_out}
 use Rattle.muni_wire.specs.declared.fault.Bad.TheVariants as bad
 use Rattle.muni_wire.proofs.ExtentLemmas.{head-longer}
 
--- the lines of a head before its last, and what stands behind them
+-- the lines of a head before its last, and what comes after them
 last-line : (front fields rest : List ℕ) (end : LineEnd) → (front ++ (fields ++ print_end end)) ++ rest ≡ (front ++ fields) ++ (print_end end ++ rest)
 last-line front fields rest end =
     ap (λ l. l ++ rest) (sym (append_assoc front fields (print_end end))) ∙ append_assoc (front ++ fields) (print_end end) rest

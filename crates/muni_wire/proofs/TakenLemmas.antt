@@ -22,7 +22,7 @@ told P None new bytes took fact = tt
 told P (Some all) None bytes took fact = absurd took
 told P (Some all) (Some rest) bytes took fact = subst P (sym took) (fact rest)
 
--- so does what holds of the bytes taken, where none is left
+-- so does what holds of the bytes taken, if none is left
 pub told-at-end : (P : List ℕ → Type 0) (old new : Option (List ℕ)) (bytes : List ℕ) → Consumes old new bytes
     → IsAtEnd new → P bytes → IfSome old P
 told-at-end P None new bytes took end fact = tt

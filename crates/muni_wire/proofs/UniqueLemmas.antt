@@ -14,11 +14,11 @@ use Rattle.muni_wire.specs.declared.fault.WireFault.TheVariants as fault
 use Rattle.muni_wire.proofs.CutLemmas.{cut}
 use Rattle.muni_wire.proofs.FieldCountLemmas.{overflows}
 
--- what is left of the first bytes behind a head
+-- what is left of the first bytes after a head
 behind : RequestHead → List ℕ → List ℕ
 behind h rest = take (head_limit - length (print_request h)) rest
 
--- a head within the limit stands in the first bytes
+-- a head within the limit is in the first bytes
 in-front : (bytes : List ℕ) (h : RequestHead) (rest : List ℕ) → HasHead bytes h rest → ReadsRequest (take head_limit bytes) h (behind h rest)
 unfolding behind
 in-front bytes h rest has =

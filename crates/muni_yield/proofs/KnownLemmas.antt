@@ -1,4 +1,4 @@
--- A clear verdict at one place tells those at all places on one side of it.
+-- A clear verdict at one place decides those at all places on one side of it.
 use Rattle.std.proofs.Common.{◌≡◌, ℕ, zero, suc, Bool, true, false, ◌+◌, ◌-◌, ◌*◌, ◌^◌, ◌<◌, ◌≤◌, refl, sym, ap, ◌∙◌, subst, ⊎_elim, arith, Some, None, ℤ, pos, negsuc, ◌+ℤ◌, ◌-ℤ◌, ◌<ℤ◌, ◌≤ℤ◌}
 use Rattle.std.specs.Prelude.{if◌then◌else◌, length, nat_le, nat_lt}
 use Rattle.std.proofs.Math.Nat.{pow-lt-pow_left, mul-lt-mul_of_pos_right, one-le-pow}
@@ -35,7 +35,7 @@ pub record MayBeAsked (series : PaymentSeries) (ends : ℤ → WorthEnds) (price
 are-enclosed : (series : PaymentSeries) (ends : ℤ → WorthEnds) (price : ℕ) → MayBeAsked series ends price → AreEnclosed series ends
 are-enclosed series ends price may = λ y within. let at = may.narrow y within in enclosed series y (ends y) may.is within at.holds at.narrow
 
--- ---- what a clear verdict tells at its own place
+-- ---- what a clear verdict says at its own place
 yes-said : (verdict : Verdict) → is_yes verdict ≡ true → verdict ≡ Yes
 yes-said Yes said = refl
 yes-said No said = cc
@@ -58,7 +58,7 @@ clear-missed series y enclosure price some given clear =
     let said : at_least_verdict (ends_of series y enclosure) (360000 * price - 360 + series.accrued) ≡ No = subst (λ x. at_least_verdict (ends_of series y enclosure) x ≡ No) order (no-said (at_least_verdict (ends_of series y enclosure) (360000 * price + series.accrued - 360)) clear) in
     at_least-false series y enclosure (360000 * price - 360) _ given refl said
 
--- ---- what the price tells of the verdict at a place
+-- ---- what the price says of the verdict at a place
 more-less : (bond : PeriodicPayments) (y : ℤ) (x z : ℕ) → 0 < discount_divisor y → x < z → IsWorthAtLeast bond y z → IsWorthMore bond y x
 more-less bond y x z some less at =
     let divisor = discount_divisor y ^ ((length bond.payments - 1) * 180 + (180 - bond.a)) in

@@ -107,7 +107,7 @@ pub settled-verdict : (said : ℤ → Verdict) (bracket : YieldBracket) → IsBr
 settled-verdict said bracket is settled answered =
     end-verdict said bracket.low bracket.at_high (bracket-end said bracket is (settled-next bracket settled) answered)
 
--- the outcome that a settled search tells
+-- the outcome that a settled search gives
 some-from : (test : Bool) (one other : Outcome) → (if test then Some one else None) ≡ Some other → (test ≡ true) × (one ≡ other)
 some-from true one other same = (refl, cc)
 some-from false one other same = cc

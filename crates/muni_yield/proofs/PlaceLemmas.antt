@@ -1,4 +1,4 @@
--- What is asked at a place, and what the answer tells.
+-- What is asked at a place, and what the answer says.
 use Rattle.std.proofs.Common.{◌≡◌, ℕ, zero, suc, ◌+◌, ◌*◌, ◌<◌, ◌≤◌, refl, sym, ap, ◌∙◌, arith, ℤ, pos, negsuc, ◌≤ℤ◌, ◌<ℤ◌}
 use Rattle.std.proofs.lemmas.Int.{ints}
 use Rattle.muni_rule.specs.Doubt.{IsDoubtful}
@@ -35,7 +35,7 @@ asked-below ends series price place y verdict below at said =
     let amount : ℕ = 360000 * price + series.accrued in
     said ∙ (ap (λ z. more_verdict (worth z) amount) at ∙ sym (verdict-below worth amount (yield_at place) (omega (arith, ints))))
 
--- what a verdict on a printed yield tells
+-- what a verdict on a printed yield says
 abbrev pub Tells : PaymentSeries → ℕ → ℤ → Verdict → Type 0
 Tells series price t Yes = Reached (λ y. AtLeast (to_come series) y (pos (360000 * price))) (λ y. More (to_come series) y (pos (360000 * price))) t
 Tells series price t No = ¬ (Reached (λ y. AtLeast (to_come series) y (pos (360000 * price))) (λ y. More (to_come series) y (pos (360000 * price))) t)

@@ -1,4 +1,4 @@
--- What stands before `at` was appended, and no more.
+-- What comes before `at` was appended, and no more.
 use Rattle.std.proofs.Common.{◌≤◌, length, take}
 use Rattle.std.specs.Io.KnownBytes.{Appends}
 use Rattle.muni_host.proofs.writing.write_on.Given as goal

@@ -5,7 +5,7 @@ use Rattle.csv.specs.declared.reader.Trim.TheVariants as trim
 use Rattle.muni_marks.specs.Rows.{row_of}
 use Rattle.muni_marks.proofs.reader.read_marks.Given as goal
 
--- so many records were read, and the reader is behind them
+-- this many records were read, and the reader is after them
 abbrev pub invariant-loop-row : goal.invariant-loop-row
 invariant-loop-row l = (l.row-iterator.rdr.trim ≡ trim.None) × Ready l.row-iterator.rdr × (0 < l.row-iterator.left) × (l.row-iterator.rdr.config ≡ default_config)
     × (y : List ℕ) × (source_of (λ s. Some s.now) l.row-iterator.rdr ≡ Some y)

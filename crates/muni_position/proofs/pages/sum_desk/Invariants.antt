@@ -4,7 +4,7 @@ use Rattle.muni_position.specs.Holdings.{AreInRange, kept}
 use Rattle.muni_position.proofs.PageLemmas.{IsSummed}
 use Rattle.muni_position.proofs.pages.sum_desk.Given as goal
 
--- so many lines were read
+-- this many lines were read
 abbrev pub invariant-pages : goal.invariant-pages
 invariant-pages g l = record {
   range : AreInRange l.holdings;

@@ -67,7 +67,7 @@ loop-search-preserved g c =
       counted = counted-next verdicts known.final.finals c.args.price c.args.list.now c.start-search.result.ceiling c.loop-search.rounds c.loop-search.search c.refine.new.self few pending known.final.refined c.refine.ensures known.counted;
     }
 
--- the outcomes that are told, once nothing is left to ask
+-- the outcomes that are known, once nothing is left to ask
 out : (g : given.Over) (c : After-outcomes-outcomes g) → AreSearchedOut (g.E.Encloser.ends c.args.encloser.now) c.args.price c.args.list.now c.outcomes-outcomes.result.items
 out g c =
     let ends = g.E.Encloser.ends c.args.encloser.now in
@@ -80,7 +80,7 @@ lowest_of-candidate-requires g c =
     let told = c.as_slice.result.now in
     subst (All (IsOf Yield)) (sym (map-same told)) (subst (All (IsOf Yield)) (sym c.as_slice.ensures.value) (out g (goal.at.lowest_of-candidate-requires g c).After-outcomes-outcomes).found_range)
 
--- the candidate that decides among the outcomes that are told decides among those of all candidates
+-- the candidate that decides among the outcomes that are known decides among those of all candidates
 ranked : (g : given.Over) (c : After-outcome_at-outcome g) (all : AreSearchedOut (g.E.Encloser.ends c.args.encloser.now) c.args.price c.args.list.now c.outcomes-outcomes.result.items) → IsRanked (least_unsure Yield) all.outcomes (decided_by c.outcome_at-outcome.result c.lowest_of-candidate.result)
 ranked g c all =
     let candidate = c.lowest_of-candidate.result in
