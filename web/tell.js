@@ -69,8 +69,8 @@ export const STATUSES = {
   431: ["the first 16,384 bytes have no whole head and might become one, or a head has more than 64 fields",
     "send fewer and shorter header fields"],
   502: ["the desk does not answer; it may be starting", "send the same again: it acts once"],
-  503: ["the store failed, and nothing was kept by this request; over a journal it may be kept after all if the " +
-    "server is stopped before it keeps something else",
+  503: ["the store failed, and nothing was kept by this request; it may be kept after all over a file of SQLite if a " +
+    "sync failed, and over a journal if the server is stopped before it keeps something else",
     "see whether its disk is full, and send the request again"],
   504: ["the desk did not answer in time", "send the same again: it acts once"],
 };
