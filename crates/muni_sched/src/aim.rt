@@ -16,15 +16,11 @@ pub(crate) struct Aim {
 impl Aim {
     /// Next to a guess at the yield of the candidate whose rough yield is the lowest.
     pub(crate) fn first(searches: &[OpenSearch]) -> Aim {
-        let mut lowest: Option<(i64, &OpenSearch)> = None;
-        for search in searches {
-            let rough = search.guided.rough_yield();
-            if lowest.is_none_or(|(yld, _)| rough < yld) {
-                lowest = Some((rough, search));
+        match lowest_roughly(searches) {
+            Some(search) => {
+                let guess = search.guided.guess(search.guided.rough_yield());
+                Aim::at(search, guess, 0)
             }
-        }
-        match lowest {
-            Some((rough, search)) => Aim::at(search, search.guided.guess(rough), 0),
             None => Aim {
                 place: 1,
                 candidate: 0,
@@ -33,18 +29,26 @@ impl Aim {
         }
     }
 
-    /// After a round, next to the lowest guess at the yields that are left.
+    /// After a round, next to the guess at hand if its candidate is still searched, and else to a
+    /// new one.
     pub(crate) fn next(&self, searches: &[OpenSearch]) -> Aim {
-        let mut lowest: Option<Aim> = None;
+        if let Some(search) = self.own(searches) {
+            return Aim::at(search, self.guess_of(search), self.place);
+        }
+        match lowest_roughly(searches) {
+            Some(search) => Aim::at(search, self.guess_of(search), self.place),
+            None => *self,
+        }
+    }
+
+    // The search that the guess is of, while more than one of its verdicts is open.
+    fn own<'a>(&self, searches: &'a [OpenSearch]) -> Option<&'a OpenSearch> {
         for search in searches {
-            if search.guided.window().is_wide() {
-                let aim = Aim::at(search, self.guess_of(search), self.place);
-                if lowest.is_none_or(|other| aim.guess < other.guess) {
-                    lowest = Some(aim);
-                }
+            if search.candidate == self.candidate && search.guided.window().is_wide() {
+                return Some(search);
             }
         }
-        lowest.unwrap_or(*self)
+        None
     }
 
     /// The place.
@@ -90,6 +94,20 @@ impl Aim {
             guess,
         }
     }
+}
+
+// Of those with more than one verdict open, the search whose rough yield is the lowest.
+fn lowest_roughly(searches: &[OpenSearch]) -> Option<&OpenSearch> {
+    let mut lowest = None;
+    let mut least = i64::MAX;
+    for search in searches {
+        let rough = search.guided.rough_yield();
+        if search.guided.window().is_wide() && rough < least {
+            lowest = Some(search);
+            least = rough;
+        }
+    }
+    lowest
 }
 
 // The boundary of a place, in 10^-6.

@@ -19,9 +19,10 @@ pub(crate) fn rough_yield(flows: &Flows, price: Price) -> i64 {
     let redemption = flows.redemption() as i64;
     let price = 360_000 * price.units() as i64;
     let days = 180 * i64::from(flows.n()) - i64::from(flows.a());
-    let pull = part((redemption - price) * 180, days);
+    let pull = (redemption - price) * 180;
+    let interest = (flows.regular() as i64).wrapping_mul(days);
     let between = (2 * redemption + 3 * price) / 10_000_000;
-    part(pull.wrapping_add(flows.regular() as i64), between)
+    part(pull.wrapping_add(interest), between.wrapping_mul(days))
 }
 
 /// The highest place that is reached, nearly, by Newton's method from a yield in 10^-6.
