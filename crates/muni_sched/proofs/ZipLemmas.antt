@@ -60,11 +60,6 @@ zip-map Is f [] (y ∷ ys) is = absurd is
 zip-map Is f (x ∷ xs) [] is = absurd is
 zip-map Is f (x ∷ xs) (y ∷ ys) is = (is.0, zip-map Is f xs ys is.1)
 
--- a list is its own image by the function that changes nothing
-pub map-same : {X : Type 0} (xs : List X) → map (λ (x : X). x) xs ≡ xs
-map-same [] = refl
-map-same (x ∷ xs) = ap (λ rest. x ∷ rest) (map-same xs)
-
 -- two lists of one length that agree place by place
 pub zip-each : {X : Type 0} (R : X → X → Type 0) (xs ys : List X) → length ys ≡ length xs → ((k : ℕ) (d : X) → k < length xs → R (get_or xs k d) (get_or ys k d)) → AllZip R xs ys
 zip-each R [] [] count each = tt

@@ -14,6 +14,13 @@ pub(crate) struct Aim {
 }
 
 impl Aim {
+    /// Before any guess.
+    pub(crate) const START: Aim = Aim {
+        place: 1,
+        candidate: 0,
+        guess: 0,
+    };
+
     /// Next to a guess at the yield of the candidate whose rough yield is the lowest.
     pub(crate) fn first(searches: &[OpenSearch]) -> Aim {
         match lowest_roughly(searches) {
@@ -21,11 +28,7 @@ impl Aim {
                 let guess = search.guided.guess(search.guided.rough_yield());
                 Aim::at(search, guess, 0)
             }
-            None => Aim {
-                place: 1,
-                candidate: 0,
-                guess: 0,
-            },
+            None => Aim::START,
         }
     }
 

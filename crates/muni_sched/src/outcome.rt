@@ -1,10 +1,11 @@
 //! What is known of a candidate's figure, and the order in which outcomes decide.
 
-ghost use Rattle.std.specs.Prelude.{◌≡◌};
+ghost use Rattle.std.specs.Prelude.{◌≡◌, unwrap_or};
 ghost use Rattle.muni_sched.specs.FigureKind.{FigureKind, Price, Yield};
 ghost use Rattle.muni_sched.specs.Figures.{least_unsure, IsOf};
 ghost use Rattle.muni_sched.specs.PriceOutcome.{price_outcome};
 ghost use Rattle.muni_sched.specs.Ranks as spec;
+ghost use Rattle.muni_sched.specs.declared.outcome.CandidateOutcome.TheVariants.{Above};
 
 use muni_dec::Yield3;
 use muni_multi::PriceAnswer;
@@ -78,5 +79,16 @@ impl Ranked for CandidateOutcome {
             CandidateOutcome::Above => ABOVE,
             CandidateOutcome::NoTime => NO_TIME,
         }
+    }
+}
+
+impl Ranked for Option<CandidateOutcome> {
+    ghost kind = { Yield };
+
+    ghost outcome = { λ known. unwrap_or known Above };
+
+    // Once nothing is left to ask, one that is not known cannot be the lowest.
+    fn rank(&self) -> i32 {
+        self.unwrap_or(CandidateOutcome::Above).rank()
     }
 }

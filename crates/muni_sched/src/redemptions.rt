@@ -1,6 +1,6 @@
 //! The redemption candidates of an issue.
 
-ghost use Rattle.std.specs.Prelude.{◌≡◌, ◌<◌, ◌≤◌, true, map, length, All, AllPairs};
+ghost use Rattle.std.specs.Prelude.{◌≡◌, ◌<◌, ◌≤◌, true, [], map, length, All, AllPairs};
 ghost use Rattle.arrayvec.specs.ArrayVec.{array_vec_len};
 ghost use Rattle.muni_rule.specs.Civil.{is_before};
 ghost use Rattle.muni_rule.specs.Redemptions.{calls_after};
@@ -24,7 +24,8 @@ pub fn candidates(issue: &Issue, settlement: Day) -> ArrayVec<Candidate, 41>
     ensures some { 0 < length result.items }
     ensures rising { AllPairs IsEarlier result.items }
 {
-    let mut list = call_candidates(issue, settlement);
+    let mut list = ArrayVec::new();
+    push_calls(&mut list, issue, settlement);
     let date = issue.row().maturity;
     let shape = shape_at(issue, settlement, date, Price::PAR);
     list.push(Candidate {
@@ -36,18 +37,18 @@ pub fn candidates(issue: &Issue, settlement: Day) -> ArrayVec<Candidate, 41>
     list
 }
 
-fn call_candidates(issue: &Issue, settlement: Day) -> ArrayVec<Candidate, 41>
-    requires { settles issue.now settlement ≡ true }
-    ensures redemptions { map redemption_of result.items
+fn push_calls(list: &mut ArrayVec<Candidate, 41>, issue: &Issue, settlement: Day)
+    requires empty { list.old.items ≡ [] }
+    requires settled { settles issue.now settlement ≡ true }
+    ensures redemptions { map redemption_of list.new.items
         ≡ calls_to_come settlement issue.now.calls.items }
-    ensures labels { map label_of result.items
+    ensures labels { map label_of list.new.items
         ≡ map spec.call_label (calls_to_come settlement issue.now.calls.items) }
-    ensures shapes { All (HasShape issue.now settlement) result.items }
-    ensures ranges { All IsCandidate result.items }
-    ensures len { array_vec_len result ≤ 40 }
+    ensures shapes { All (HasShape issue.now settlement) list.new.items }
+    ensures ranges { All IsCandidate list.new.items }
+    ensures len { array_vec_len list.new ≤ 40 }
 {
     let row = issue.row();
-    let mut list = ArrayVec::new();
     for call in row.calls.as_slice() {
         if is_to_come(call, settlement) {
             list.push(Candidate {
@@ -58,7 +59,6 @@ fn call_candidates(issue: &Issue, settlement: Day) -> ArrayVec<Candidate, 41>
             });
         }
     }
-    list
 }
 
 fn is_to_come(call: &Call, settlement: Day) -> bool

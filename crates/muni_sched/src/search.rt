@@ -1,6 +1,6 @@
 //! The searches for the yields of all candidates, side by side.
 
-ghost use Rattle.std.specs.Prelude.{◌≡◌, ◌<◌, ◌≤◌, ◌+◌, ℕ, ℤ, List, length, All, map, Option, None, option_map};
+ghost use Rattle.std.specs.Prelude.{◌≡◌, ◌<◌, ◌≤◌, ◌+◌, ℕ, ℤ, List, [], length, All, map, Option, None, option_map};
 ghost use Rattle.std.specs.List.{filter, AllZip};
 ghost use Rattle.muni_yield.specs.Bracket.{IsBracket};
 ghost use Rattle.muni_yield.specs.Places.{place_verdict};
@@ -8,7 +8,7 @@ ghost use Rattle.muni_yield.specs.Settled.{settled_as};
 ghost use Rattle.muni_sched.specs.Candidates.{IsCandidate};
 ghost use Rattle.muni_sched.specs.Figures.{IsOf};
 ghost use Rattle.muni_sched.specs.Search as spec;
-ghost use Rattle.muni_sched.specs.Search.{IsSearch, IsPending, IsOpen, IsHalved, IsKnownYield, CanRefine, IsStarted, IsRound, recorded, missed, missed_first, missed_after, ceiling_after, ceiling_first, outcomes_of, searches_from};
+ghost use Rattle.muni_sched.specs.Search.{IsSearch, IsPending, IsOpen, IsHalved, IsKnownYield, CanRefine, IsStarted, IsRound, recorded, missed, missed_first, missed_after, ceiling_after, ceiling_first, searches_from};
 ghost use Rattle.muni_sched.specs.YieldOutcome.{IsKnownFirst, many_yield};
 ghost use Rattle.muni_sched.specs.FigureKind.{Yield};
 
@@ -113,29 +113,25 @@ impl Search {
         requires price { 0 < price }
         ensures { IsStarted price list.now result }
     {
-        let known = all_known_first(list, price);
-        let searches = all_searches(list, price);
-        let ceiling = ceiling_first(known.as_slice());
-        let aim = Aim::first(searches.as_slice());
-        Search {
-            known,
-            searches,
-            ceiling,
+        let mut search = Search {
+            known: ArrayVec::new(),
+            searches: ArrayVec::new(),
+            ceiling: None,
             missed: 105_003,
-            aim,
-        }
+            aim: Aim::START,
+        };
+        push_known_first(&mut search.known, list, price);
+        push_searches(&mut search.searches, list, price);
+        search.ceiling = ceiling_first(search.known.as_slice());
+        search.aim = Aim::first(search.searches.as_slice());
+        search
     }
 
-    /// The outcomes, once nothing is left to ask. A candidate whose outcome is not known cannot be
-    /// the lowest, and counts as above all figures.
-    pub(crate) fn outcomes(&self) -> ArrayVec<CandidateOutcome, 41>
-        ensures { result.items ≡ outcomes_of self.now.known.items }
+    /// The outcome of each candidate, if it is known.
+    pub(crate) fn known(&self) -> &[Option<CandidateOutcome>]
+        ensures { result.now ≡ self.now.known.items }
     {
-        let mut outcomes = ArrayVec::new();
-        for known in self.known.as_slice() {
-            outcomes.push(known.unwrap_or(CandidateOutcome::Above));
-        }
-        outcomes
+        self.known.as_slice()
     }
 
     /// Whether nothing is left to ask.
@@ -189,27 +185,30 @@ impl Search {
     }
 }
 
-fn all_known_first(list: &[Candidate], price: Price) -> ArrayVec<Option<CandidateOutcome>, 41>
+fn push_known_first(
+    known: &mut ArrayVec<Option<CandidateOutcome>, 41>,
+    list: &[Candidate],
+    price: Price,
+)
+    requires empty { known.old.items ≡ [] }
     requires few { length list.now ≤ 41 }
     requires candidates { All IsCandidate list.now }
     requires price { 0 < price }
-    ensures known { AllZip (IsKnownFirst price) list.now result.items }
-    ensures range { All IsKnownYield result.items }
+    ensures known { AllZip (IsKnownFirst price) list.now known.new.items }
+    ensures range { All IsKnownYield known.new.items }
 {
-    let mut known = ArrayVec::new();
     for candidate in list {
         known.push(known_first(candidate, price));
     }
-    known
 }
 
-fn all_searches(list: &[Candidate], price: Price) -> ArrayVec<OpenSearch, 41>
+fn push_searches(searches: &mut ArrayVec<OpenSearch, 41>, list: &[Candidate], price: Price)
+    requires empty { searches.old.items ≡ [] }
     requires few { length list.now ≤ 41 }
     requires candidates { All IsCandidate list.now }
     requires price { 0 < price }
-    ensures { result.items ≡ searches_from price 0 list.now }
+    ensures { searches.new.items ≡ searches_from price 0 list.now }
 {
-    let mut searches = ArrayVec::new();
     for (candidate, redemption) in list.iter().enumerate() {
         if let Shape::Many(flows) = redemption.shape {
             searches.push(OpenSearch {
@@ -218,7 +217,6 @@ fn all_searches(list: &[Candidate], price: Price) -> ArrayVec<OpenSearch, 41>
             });
         }
     }
-    searches
 }
 
 // A yield that is printed is not reached at the next figure.

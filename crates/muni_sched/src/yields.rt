@@ -10,6 +10,7 @@ ghost use Rattle.muni_sched.specs.GivenFigure.{at_price};
 ghost use Rattle.muni_sched.specs.LowAnswers.{low_yield};
 ghost use Rattle.muni_sched.specs.Lowest as spec;
 ghost use Rattle.muni_sched.specs.Ranks.{decided_by};
+ghost use Rattle.muni_sched.specs.Search.{outcomes_of};
 ghost use Rattle.muni_sched.specs.SearchedOut.{CountsRounds};
 ghost use Rattle.muni_sched.specs.declared.outcome.CandidateOutcome.TheVariants.{Unsure};
 
@@ -103,21 +104,22 @@ fn searched<R: Threads + Sync, E: Encloser + Sync, G: Gate + Sync>(
         search.refine(rt, workers as usize, rounds, encloser, gate);
         rounds += 1;
     }
-    let outcomes = search.outcomes();
-    let candidate = lowest_of(outcomes.as_slice());
-    let outcome = outcome_at(outcomes.as_slice(), candidate);
+    let known = search.known();
+    let candidate = lowest_of(known);
+    let outcome = outcome_at(known, candidate);
     Found {
         lowest: decided_yield(list, outcome, candidate),
         rounds,
     }
 }
 
-fn outcome_at(outcomes: &[CandidateOutcome], candidate: usize) -> CandidateOutcome
-    ensures { result ≡ spec.outcome_at outcomes.now candidate }
+// A candidate whose outcome is not known counts as above all figures.
+fn outcome_at(known: &[Option<CandidateOutcome>], candidate: usize) -> CandidateOutcome
+    ensures { result ≡ spec.outcome_at (outcomes_of known.now) candidate }
 {
-    match outcomes.get(candidate) {
-        Some(outcome) => *outcome,
-        None => CandidateOutcome::Above,
+    match known.get(candidate) {
+        Some(Some(outcome)) => *outcome,
+        Some(None) | None => CandidateOutcome::Above,
     }
 }
 

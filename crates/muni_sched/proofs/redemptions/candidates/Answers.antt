@@ -11,13 +11,13 @@ use Rattle.muni_sched.proofs.redemptions.candidates.Goals as goal
 pub returns : goal.returns
 returns c =
     let row = c.args.issue.now in
-    let calls = c.call_candidates-list in
+    let calls = c.push_calls in
     let candidate : Candidate = record { date = row.maturity; price = par_price; label = Maturity; shape = c.shape_at-shape.result } in
     let same = c.row.ensures.value in
     let shape = rw same at c.shape_at-shape.ensures.shape in
-    let pushed : c.push.new.self.items ≡ calls.result.items ++ candidate ∷ [] = rw same at c.push.ensures.items in
+    let pushed : c.push.new.self.items ≡ calls.new.list.items ++ candidate ∷ [] = rw same at c.push.ensures.items in
     let all : AreCandidates row c.args.settlement c.push.new.self.items =
-    are_candidates row c.args.settlement calls.result.items c.push.new.self.items candidate
+    are_candidates row c.args.settlement calls.new.list.items c.push.new.self.items candidate
     (record { redemptions = calls.ensures.redemptions; labels = calls.ensures.labels; shapes = calls.ensures.shapes; ranges = calls.ensures.ranges })
     refl refl shape c.shape_at-shape.ensures.range pushed in
     record {

@@ -3,8 +3,8 @@ use Rattle.muni_rule.specs.Civil.{is_before}
 use Rattle.muni_days.specs.Day.{civil}
 use Rattle.muni_sched.specs.declared.candidate.Candidate.{Candidate}
 use Rattle.muni_sched.proofs.CandidateLemmas.{call-later, call-earlier}
-use Rattle.muni_sched.proofs.redemptions.call_candidates.Goals.{then-is_to_come, else-is_to_come}
-use Rattle.muni_sched.proofs.redemptions.call_candidates.Goals as goal
+use Rattle.muni_sched.proofs.redemptions.push_calls.Goals.{then-is_to_come, else-is_to_come}
+use Rattle.muni_sched.proofs.redemptions.push_calls.Goals as goal
 
 pub loop-call-preserved : goal.loop-call-preserved
 loop-call-preserved c =

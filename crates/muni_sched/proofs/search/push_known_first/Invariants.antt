@@ -2,7 +2,7 @@ use Rattle.std.proofs.Common.{◌≡◌, take, length, All}
 use Rattle.std.specs.List.{AllZip}
 use Rattle.muni_sched.specs.Search.{IsKnownYield}
 use Rattle.muni_sched.specs.YieldOutcome.{IsKnownFirst}
-use Rattle.muni_sched.proofs.search.all_known_first.Given as goal
+use Rattle.muni_sched.proofs.search.push_known_first.Given as goal
 
 abbrev pub invariant-loop-candidate : goal.invariant-loop-candidate
 invariant-loop-candidate l = record {

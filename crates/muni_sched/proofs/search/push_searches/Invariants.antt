@@ -1,6 +1,6 @@
 use Rattle.std.proofs.Common.{◌≡◌, ◌≤◌, ◌++◌, drop, length}
 use Rattle.muni_sched.specs.Search.{searches_from}
-use Rattle.muni_sched.proofs.search.all_searches.Given as goal
+use Rattle.muni_sched.proofs.search.push_searches.Given as goal
 
 abbrev pub invariant-loop-candidate : goal.invariant-loop-candidate
 invariant-loop-candidate l = record {

@@ -1,7 +1,7 @@
 use Rattle.std.proofs.Common.{◌≤◌, take}
 use Rattle.arrayvec.specs.ArrayVec.{array_vec_len}
 use Rattle.muni_sched.proofs.CandidateLemmas.{AreCallCandidates}
-use Rattle.muni_sched.proofs.redemptions.call_candidates.Given as goal
+use Rattle.muni_sched.proofs.redemptions.push_calls.Given as goal
 
 -- the candidates are those of the calls so far
 abbrev pub invariant-loop-call : goal.invariant-loop-call

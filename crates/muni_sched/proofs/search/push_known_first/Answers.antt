@@ -3,7 +3,7 @@ use Rattle.std.proofs.lemmas.List.Elements.{All-push, All-same}
 use Rattle.muni_sched.specs.Search.{IsKnownYield}
 use Rattle.muni_sched.specs.YieldOutcome.{IsKnownFirst}
 use Rattle.muni_sched.proofs.ZipLemmas.{zip-next}
-use Rattle.muni_sched.proofs.search.all_known_first.Goals as goal
+use Rattle.muni_sched.proofs.search.push_known_first.Goals as goal
 
 pub loop-candidate-preserved : goal.loop-candidate-preserved
 loop-candidate-preserved c =
