@@ -34,12 +34,13 @@ impl Aim {
 
     /// After a round, next to the guess at hand if its candidate is still searched, and else to a
     /// new one.
-    pub(crate) fn next(&self, searches: &[OpenSearch]) -> Aim {
+    pub(crate) fn next(&self, searches: &[OpenSearch], is_asked: bool) -> Aim {
+        let asked = if is_asked { self.place } else { 0 };
         if let Some(search) = self.own(searches) {
-            return Aim::at(search, self.guess_of(search), self.place);
+            return Aim::at(search, self.guess_of(search), asked);
         }
         match lowest_roughly(searches) {
-            Some(search) => Aim::at(search, self.guess_of(search), self.place),
+            Some(search) => Aim::at(search, self.guess_of(search), asked),
             None => *self,
         }
     }

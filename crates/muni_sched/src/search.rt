@@ -18,9 +18,9 @@ use crate::{Candidate, CandidateOutcome, Shape};
 use arrayvec::ArrayVec;
 use muni_dec::Price;
 use muni_edge::Gate;
-use muni_multi::{Discount, Encloser};
-use muni_yield::GuidedSearch;
+use muni_multi::Encloser;
 use muni_yield::laws::searches_are_in_order;
+use muni_yield::{Discounts, GuidedSearch};
 use std::thread;
 use std::thread::Threads;
 
@@ -102,7 +102,7 @@ pub(crate) struct Search {
 struct Round {
     number: u32,
     aim: Aim,
-    discount: Option<Discount>,
+    discounts: Discounts,
 }
 
 impl Search {
@@ -141,15 +141,15 @@ impl Search {
         self.searches.as_slice().is_empty()
     }
 
-    // What all searches of a round have in common. Most ask at one place in it, so one discount serves
-    // them. A search that asks at another one computes its own.
+    // What all searches of a round have in common. They ask at two places at most, so two discounts
+    // serve them. A search that asks at another one computes its own.
     fn round(&self, number: u32) -> Round
         requires { All IsPending self.now.searches.items }
     {
         Round {
             number,
             aim: self.aim,
-            discount: first_discount(self.searches.as_slice(), self.aim.place()),
+            discounts: discounts_of(self.searches.as_slice(), self.aim.place()),
         }
     }
 
@@ -181,7 +181,9 @@ impl Search {
         self.ceiling = least_ceiling(searches, self.ceiling);
         self.missed = least_missed(searches, self.missed);
         keep_needed(&mut self.searches, self.ceiling, self.missed);
-        self.aim = self.aim.next(self.searches.as_slice());
+        self.aim = self
+            .aim
+            .next(self.searches.as_slice(), asking.discounts.has_aim());
     }
 }
 
@@ -251,17 +253,15 @@ fn ceiling_first(known: &[Option<CandidateOutcome>]) -> Option<i32>
     ceiling
 }
 
-fn first_discount(searches: &[OpenSearch], aim: u32) -> Option<Discount>
+fn discounts_of(searches: &[OpenSearch], aim: u32) -> Discounts
     requires each { All IsPending searches.now }
     requires aim { (1 ≤ aim) × (aim ≤ 105_002) }
 {
+    let mut discounts = Discounts::new();
     for search in searches {
-        let discount = search.guided.discount(aim);
-        if discount.is_some() {
-            return discount;
-        }
+        search.guided.add_discount(aim, &mut discounts);
     }
-    None
+    discounts
 }
 
 fn ask_each<R: Threads + Sync, E: Encloser + Sync, G: Gate + Sync>(
@@ -288,7 +288,7 @@ fn ask_each<R: Threads + Sync, E: Encloser + Sync, G: Gate + Sync>(
             gate.start(round.number, search.candidate);
             search
                 .guided
-                .halve(encloser, round.aim.place(), round.discount.as_ref());
+                .halve(encloser, round.aim.place(), &round.discounts);
         },
     );
 }

@@ -1,13 +1,13 @@
 //! A search that knows verdicts without a question.
 
-ghost use Rattle.std.specs.Prelude.{◌≡◌, ◌<◌, ◌≤◌, false, IfSome};
+ghost use Rattle.std.specs.Prelude.{◌≡◌, ◌<◌, ◌≤◌, false};
 ghost use Rattle.muni_yield.specs.Bracket as bracket;
 ghost use Rattle.muni_yield.specs.Known.{IsGuided, guided_start};
 ghost use Rattle.muni_yield.specs.Places.{place_verdict};
 
 use crate::laws::searches_are_in_order;
 use crate::place::boundary_at;
-use crate::{Bracket, Window, guess};
+use crate::{Bracket, Discounts, Window, guess};
 use muni_dec::Price;
 use muni_multi::{Discount, Encloser, Verdict};
 use muni_terms::Flows;
@@ -53,7 +53,7 @@ impl GuidedSearch {
     /// Halves a search that is not settled, with one call of the encloser at most: at the bracket's
     /// next question, or if that is known at the place `aim`. No discount is computed if the one at
     /// hand is that of the place.
-    pub fn halve<E: Encloser>(&mut self, encloser: &E, aim: u32, kept: Option<&Discount>)
+    pub fn halve<E: Encloser>(&mut self, encloser: &E, aim: u32, discounts: &Discounts)
         requires open { bracket.is_settled self.old.bracket ≡ false }
         requires known { IsGuided (place_verdict (E.ends encloser.now)) self.old }
         requires aim { (1 ≤ aim) × (aim ≤ 105_002) }
@@ -61,17 +61,30 @@ impl GuidedSearch {
             ≡ bracket.halved (place_verdict (E.ends encloser.now)) self.old.bracket }
         ensures known { IsGuided (place_verdict (E.ends encloser.now)) self.new }
     {
-        let verdict = self.answer(encloser, aim, kept);
+        let verdict = self.answer(encloser, aim, discounts);
         self.bracket.halve_known(verdict);
     }
 
-    /// The discount of the place at which the next halving asks, if it does.
-    pub fn discount(&self, aim: u32) -> Option<Discount>
+    /// Adds the discount of the place at which the next halving asks, if it does and none is at hand.
+    pub fn add_discount(&self, aim: u32, discounts: &mut Discounts)
         requires open { bracket.is_settled self.now.bracket ≡ false }
         requires aim { (1 ≤ aim) × (aim ≤ 105_002) }
     {
-        let place = self.place(aim)?;
-        Some(Discount::at(boundary_at(place), self.bracket.flows().a()))
+        let question = self.bracket.question();
+        if self.window.verdict_at(question).is_none() {
+            if discounts.question.is_none() {
+                discounts.question = Some(self.discount_at(question));
+            }
+        } else if self.window.is_open_at(aim) && discounts.aim.is_none() {
+            discounts.aim = Some(self.discount_at(aim));
+        }
+    }
+
+    fn discount_at(&self, place: u32) -> Discount
+        requires some { 1 ≤ place }
+        requires most { place ≤ 105_002 }
+    {
+        Discount::at(boundary_at(place), self.bracket.flows().a())
     }
 
     /// A rough yield, in 10^-6.
@@ -84,23 +97,8 @@ impl GuidedSearch {
         guess::place_near(self.bracket.flows(), self.bracket.price(), from)
     }
 
-    fn place(&self, aim: u32) -> Option<u32>
-        requires open { bracket.is_settled self.now.bracket ≡ false }
-        requires aim { (1 ≤ aim) × (aim ≤ 105_002) }
-        ensures range { IfSome result (λ place. (1 ≤ place) × (place ≤ 105_002)) }
-    {
-        let question = self.bracket.question();
-        if self.window.verdict_at(question).is_none() {
-            Some(question)
-        } else if self.window.is_open_at(aim) {
-            Some(aim)
-        } else {
-            None
-        }
-    }
-
     // The verdict on the bracket's next question.
-    fn answer<E: Encloser>(&mut self, encloser: &E, aim: u32, kept: Option<&Discount>) -> Verdict
+    fn answer<E: Encloser>(&mut self, encloser: &E, aim: u32, discounts: &Discounts) -> Verdict
         requires open { bracket.is_settled self.old.bracket ≡ false }
         requires known { IsGuided (place_verdict (E.ends encloser.now)) self.old }
         requires aim { (1 ≤ aim) × (aim ≤ 105_002) }
@@ -112,10 +110,10 @@ impl GuidedSearch {
         let question = self.bracket.question();
         match self.window.verdict_at(question) {
             Some(verdict) => {
-                self.leap(encloser, aim, kept);
+                self.leap(encloser, aim, discounts.aim.as_ref());
                 verdict
             }
-            None => self.ask(encloser, question, kept),
+            None => self.ask(encloser, question, discounts.question.as_ref()),
         }
     }
 

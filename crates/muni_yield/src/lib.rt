@@ -2,6 +2,7 @@
 #![tactic(auto)]
 
 mod bracket;
+mod discounts;
 mod guess;
 mod guided;
 pub mod laws;
@@ -11,6 +12,7 @@ mod printed;
 mod window;
 
 pub use bracket::Bracket;
+pub use discounts::Discounts;
 pub use guided::GuidedSearch;
 pub use outcome::Outcome;
 pub use printed::printed_yield;
