@@ -105,10 +105,12 @@ fn lowest_roughly(searches: &[OpenSearch]) -> Option<&OpenSearch> {
     let mut lowest = None;
     let mut least = i64::MAX;
     for search in searches {
-        let rough = search.guided.rough_yield();
-        if search.guided.window().is_wide() && rough < least {
-            lowest = Some(search);
-            least = rough;
+        if search.guided.window().is_wide() {
+            let rough = search.guided.rough_yield();
+            if rough < least {
+                lowest = Some(search);
+                least = rough;
+            }
         }
     }
     lowest

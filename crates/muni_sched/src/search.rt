@@ -97,12 +97,13 @@ pub(crate) struct Search {
     aim: Aim,
 }
 
-/// What all searches of a round have in common.
+/// What all searches of a round have in common. They ask at two places at most, so two discounts
+/// serve them. A search that asks at another one computes its own.
 #[derive(Clone, Copy)]
-struct Round {
+struct Round<'a> {
     number: u32,
     aim: Aim,
-    discounts: Discounts,
+    discounts: &'a Discounts,
 }
 
 impl Search {
@@ -141,18 +142,6 @@ impl Search {
         self.searches.as_slice().is_empty()
     }
 
-    // What all searches of a round have in common. They ask at two places at most, so two discounts
-    // serve them. A search that asks at another one computes its own.
-    fn round(&self, number: u32) -> Round
-        requires { All IsPending self.now.searches.items }
-    {
-        Round {
-            number,
-            aim: self.aim,
-            discounts: discounts_of(self.searches.as_slice(), self.aim.place()),
-        }
-    }
-
     /// One round: each search is halved once. Then those are dropped whose outcome is known or
     /// cannot be the lowest.
     pub(crate) fn refine<R: Threads + Sync, E: Encloser + Sync, G: Gate + Sync>(
@@ -167,7 +156,13 @@ impl Search {
         requires can { CanRefine (place_verdict (E.ends encloser.now)) self.old }
         ensures { IsRound (place_verdict (E.ends encloser.now)) self.old self.new }
     {
-        let asking = self.round(round);
+        let mut discounts = Discounts::new();
+        add_discounts(&mut discounts, self.searches.as_slice(), self.aim.place());
+        let asking = Round {
+            number: round,
+            aim: self.aim,
+            discounts: &discounts,
+        };
         ask_each(
             rt,
             self.searches.as_mut_slice(),
@@ -181,9 +176,7 @@ impl Search {
         self.ceiling = least_ceiling(searches, self.ceiling);
         self.missed = least_missed(searches, self.missed);
         keep_needed(&mut self.searches, self.ceiling, self.missed);
-        self.aim = self
-            .aim
-            .next(self.searches.as_slice(), asking.discounts.has_aim());
+        self.aim = self.aim.next(self.searches.as_slice(), discounts.has_aim());
     }
 }
 
@@ -253,22 +246,20 @@ fn ceiling_first(known: &[Option<CandidateOutcome>]) -> Option<i32>
     ceiling
 }
 
-fn discounts_of(searches: &[OpenSearch], aim: u32) -> Discounts
+fn add_discounts(discounts: &mut Discounts, searches: &[OpenSearch], aim: u32)
     requires each { All IsPending searches.now }
     requires aim { (1 ≤ aim) × (aim ≤ 105_002) }
 {
-    let mut discounts = Discounts::new();
     for search in searches {
-        search.guided.add_discount(aim, &mut discounts);
+        search.guided.add_discount(aim, discounts);
     }
-    discounts
 }
 
 fn ask_each<R: Threads + Sync, E: Encloser + Sync, G: Gate + Sync>(
     rt: &R,
     searches: &mut [OpenSearch],
     workers: usize,
-    round: &Round,
+    round: &Round<'_>,
     encloser: &E,
     gate: &G,
 )
@@ -276,6 +267,11 @@ fn ask_each<R: Threads + Sync, E: Encloser + Sync, G: Gate + Sync>(
     requires each { All (IsOpen (place_verdict (E.ends encloser.now))) searches.old }
     ensures { AllZip (IsHalved (place_verdict (E.ends encloser.now))) searches.old searches.new }
 {
+    // In most rounds one search is left.
+    if searches.len() == 1 {
+        ask_one(&mut searches[0], round, encloser, gate);
+        return;
+    }
     thread::for_each_mut(
         rt,
         searches,
@@ -284,13 +280,18 @@ fn ask_each<R: Threads + Sync, E: Encloser + Sync, G: Gate + Sync>(
             requires { IsOpen (place_verdict (E.ends encloser.now)) search.now }
             ensures { IsHalved (place_verdict (E.ends encloser.entry.now))
                 search.entry.now search.exit.now }
-        {
-            gate.start(round.number, search.candidate);
-            search
-                .guided
-                .halve(encloser, round.aim.place(), &round.discounts);
-        },
+        { ask_one(search, round, encloser, gate) },
     );
+}
+
+fn ask_one<E: Encloser, G: Gate>(search: &mut OpenSearch, round: &Round<'_>, encloser: &E, gate: &G)
+    requires { IsOpen (place_verdict (E.ends encloser.now)) search.old }
+    ensures { IsHalved (place_verdict (E.ends encloser.now)) search.old search.new }
+{
+    gate.start(round.number, search.candidate);
+    search
+        .guided
+        .halve(encloser, round.aim.place(), round.discounts);
 }
 
 fn record_settled(searches: &[OpenSearch], known: &mut [Option<CandidateOutcome>])

@@ -2,14 +2,15 @@ use Rattle.std.proofs.Common.{List, ◌≡◌, ◌∙◌, refl, sym, subst, ap, 
 use Rattle.std.specs.List.{refill, AllZip}
 use Rattle.muni_yield.specs.Places.{place_verdict}
 use Rattle.muni_sched.specs.declared.search.OpenSearch.{OpenSearch}
-use Rattle.muni_sched.specs.Search.{IsSearch, IsHalved, ceiling_after, missed_after}
+use Rattle.muni_sched.specs.Search.{IsSearch, IsPending, IsHalved, ceiling_after, missed_after}
 use Rattle.muni_sched.proofs.RoundLemmas.{halved-now, halved-searches, halved-candidates, pending-searches, recorded-now}
 use Rattle.muni_sched.proofs.search.Search.refine.Given as given
 use Rattle.muni_sched.proofs.search.Search.refine.Goals.{After-as_slice-searches}
 use Rattle.muni_sched.proofs.search.Search.refine.Goals as goal
 
-pub round-asking-requires : goal.round-asking-requires
-round-asking-requires g c = pending-searches (place_verdict (g.E.Encloser.ends c.args.encloser.now)) c.args.self.now.searches.items c.requires.can.each
+pub add_discounts-requires-clause-each : goal.add_discounts-requires-clause-each
+add_discounts-requires-clause-each g c =
+    subst (All IsPending) (sym c.as_slice.ensures.value) (pending-searches (place_verdict (g.E.Encloser.ends c.args.encloser.now)) c.args.self.now.searches.items c.requires.can.each)
 
 -- the searches after their halvings
 now : (g : given.Over) (c : After-as_slice-searches g) → AllZip (IsHalved (place_verdict (g.E.Encloser.ends c.args.encloser.now))) c.args.self.now.searches.items c.as_slice-searches.result.now
