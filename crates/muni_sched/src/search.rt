@@ -107,25 +107,35 @@ struct Round<'a> {
 }
 
 impl Search {
-    /// Before the first round.
-    pub(crate) fn start(list: &[Candidate], price: Price) -> Search
-        requires few { length list.now ≤ 41 }
-        requires candidates { All IsCandidate list.now }
-        requires price { 0 < price }
-        ensures { IsStarted price list.now result }
+    /// With no candidates.
+    pub(crate) fn new() -> Search
+        ensures known { result.known.items ≡ [] }
+        ensures searches { result.searches.items ≡ [] }
+        ensures missed { result.missed ≡ 105_003 }
     {
-        let mut search = Search {
+        Search {
             known: ArrayVec::new(),
             searches: ArrayVec::new(),
             ceiling: None,
             missed: 105_003,
             aim: Aim::START,
-        };
-        push_known_first(&mut search.known, list, price);
-        push_searches(&mut search.searches, list, price);
-        search.ceiling = ceiling_first(search.known.as_slice());
-        search.aim = Aim::first(search.searches.as_slice());
-        search
+        }
+    }
+
+    /// Adds the candidates, before the first round.
+    pub(crate) fn start(&mut self, list: &[Candidate], price: Price)
+        requires known { self.old.known.items ≡ [] }
+        requires searches { self.old.searches.items ≡ [] }
+        requires missed { self.old.missed ≡ 105_003 }
+        requires few { length list.now ≤ 41 }
+        requires candidates { All IsCandidate list.now }
+        requires price { 0 < price }
+        ensures { IsStarted price list.now self.new }
+    {
+        push_known_first(&mut self.known, list, price);
+        push_searches(&mut self.searches, list, price);
+        self.ceiling = ceiling_first(self.known.as_slice());
+        self.aim = Aim::first(self.searches.as_slice());
     }
 
     /// The outcome of each candidate, if it is known.

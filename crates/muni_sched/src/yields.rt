@@ -98,7 +98,8 @@ fn searched<R: Threads + Sync, E: Encloser + Sync, G: Gate + Sync>(
     ensures rounds { CountsRounds (E.ends encloser.now) price list.now 0 result.rounds }
     ensures few { result.rounds ≤ 19 }
 {
-    let mut search = Search::start(list, price);
+    let mut search = Search::new();
+    search.start(list, price);
     let mut rounds = 0;
     while !search.is_over() {
         search.refine(rt, workers as usize, rounds, encloser, gate);

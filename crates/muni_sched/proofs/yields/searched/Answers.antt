@@ -37,9 +37,9 @@ loop-search-init g c =
       };
     }) in
     record {
-      final = started-final verdicts c.args.price c.args.list.now c.start-search.result first c.requires.price c.requires.candidates c.requires.few c.start-search.ensures;
+      final = started-final verdicts c.args.price c.args.list.now c.start.new.self first c.requires.price c.requires.candidates c.requires.few c.start.ensures;
       most = omega arith;
-      counted = counted-first verdicts c.args.price c.args.list.now c.start-search.result c.requires.price c.requires.candidates c.start-search.ensures;
+      counted = counted-first verdicts c.args.price c.args.list.now c.start.new.self c.requires.price c.requires.candidates c.start.ensures;
     }
 
 pub overflow_add-rounds : goal.overflow_add-rounds
@@ -64,7 +64,7 @@ loop-search-preserved g c =
     record {
       final = next-final verdicts c.args.price c.args.list.now c.loop-search.rounds c.loop-search.search c.refine.new.self few c.refine.ensures known.final;
       most = omega (arith, few);
-      counted = counted-next verdicts known.final.finals c.args.price c.args.list.now c.start-search.result.ceiling c.loop-search.rounds c.loop-search.search c.refine.new.self few pending known.final.refined c.refine.ensures known.counted;
+      counted = counted-next verdicts known.final.finals c.args.price c.args.list.now c.start.new.self.ceiling c.loop-search.rounds c.loop-search.search c.refine.new.self few pending known.final.refined c.refine.ensures known.counted;
     }
 
 -- the outcomes that are known, once nothing is left to ask
@@ -118,11 +118,11 @@ returns-clause-rounds g c =
     let verdicts = place_verdict (g.E.Encloser.ends c.args.encloser.now) in
     let last = c.loop-search.search in
     let over : is_over last ≡ true = sym c.is_over.ensures ∙ search rules in
-    let all = counted-last verdicts c.args.price c.args.list.now c.start-search.result.ceiling c.loop-search.rounds last (over-none last.searches.items over) c.loop-search.invariant.counted in
+    let all = counted-last verdicts c.args.price c.args.list.now c.start.new.self.ceiling c.loop-search.rounds last (over-none last.searches.items over) c.loop-search.invariant.counted in
     record {
-      known = c.start-search.result.known.items;
-      first = c.start-search.ensures.known;
-      counted = omega (arith, all, ap (λ ceiling. rounds 19 verdicts ceiling (brackets_from c.args.price c.args.list.now)) c.start-search.ensures.ceiling);
+      known = c.start.new.self.known.items;
+      first = c.start.ensures.known;
+      counted = omega (arith, all, ap (λ ceiling. rounds 19 verdicts ceiling (brackets_from c.args.price c.args.list.now)) c.start.ensures.ceiling);
     }
 
 pub returns-clause-few : goal.returns-clause-few
