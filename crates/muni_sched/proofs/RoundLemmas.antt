@@ -1,9 +1,9 @@
 -- What one round leaves, over lists.
-use Rattle.std.proofs.Common.{◌≡◌, ◌<◌, ℕ, List, [], ◌∷◌, Bool, true, false, All, length, drop, slice_set, Option, Some, refl, ap, sym, subst, ◌∙◌}
+use Rattle.std.proofs.Common.{◌≡◌, ◌<◌, ℕ, List, [], ◌∷◌, Bool, true, false, All, length, drop, get_or, arith, slice_set, Option, Some, refl, ap, sym, subst, ◌∙◌}
 use Rattle.std.specs.Prelude.{if◌then◌else◌}
 use Rattle.std.specs.List.{refill, AllZip}
 use Rattle.std.proofs.lemmas.List.{take_at, length-set}
-use Rattle.std.proofs.lemmas.List.Elements.{All-head, All-tail, All-cons, All-nil, All-weaker}
+use Rattle.std.proofs.lemmas.List.Elements.{All-head, All-tail, All-cons, All-nil, All-weaker, All-get_or}
 use Rattle.std.proofs.lemmas.Slice.Zip.{AllZip-long}
 use Rattle.muni_rule.specs.Payments.{PaymentSeries}
 use Rattle.muni_rule.specs.declared.verdict.Verdict.{Verdict}
@@ -35,6 +35,13 @@ halved-searches verdicts (one ∷ rest) [] zip all = absurd zip
 halved-searches verdicts (one ∷ rest) (next ∷ after) zip all =
     All-cons IsSearch next after (half-search verdicts one next (All-head (IsOpen verdicts) one rest all) zip.0)
     (halved-searches verdicts rest after zip.1 (All-tail (IsOpen verdicts) one rest all))
+
+-- the one search that is left is one after its halving too
+pub alone-search : (verdicts : PaymentSeries → ℕ → ℕ → Verdict) (before slice new after : List OpenSearch) (one : OpenSearch) → slice ≡ before → AllZip (IsHalved verdicts) slice new → after ≡ refill (length before) before new → All (IsOpen verdicts) before → length before ≡ 1 → one ≡ get_or after 0 one → IsSearch one
+alone-search verdicts before slice new after one same each is all alone at =
+    let zip = halved-now verdicts before slice new after same each is in
+    let long : length after ≡ 1 = AllZip-long (IsHalved verdicts) before after zip ∙ alone in
+    subst IsSearch (sym at) (All-get_or IsSearch after 0 one (omega (arith, long)) (halved-searches verdicts before after zip all))
 
 pub halved-candidates : (verdicts : PaymentSeries → ℕ → ℕ → Verdict) (searches after : List OpenSearch) (n : ℕ) → AllZip (IsHalved verdicts) searches after → All (λ (one : OpenSearch). one.candidate < n) searches → All (λ (one : OpenSearch). one.candidate < n) after
 halved-candidates verdicts [] [] n zip all = All-nil (λ (one : OpenSearch). one.candidate < n)

@@ -8,7 +8,7 @@ ghost use Rattle.muni_yield.specs.Settled.{settled_as};
 ghost use Rattle.muni_sched.specs.Candidates.{IsCandidate};
 ghost use Rattle.muni_sched.specs.Figures.{IsOf};
 ghost use Rattle.muni_sched.specs.Search as spec;
-ghost use Rattle.muni_sched.specs.Search.{IsSearch, IsPending, IsOpen, IsHalved, IsKnownYield, CanRefine, IsStarted, IsRound, recorded, missed, missed_first, missed_after, ceiling_after, ceiling_first, searches_from};
+ghost use Rattle.muni_sched.specs.Search.{IsSearch, IsPending, IsOpen, IsHalved, IsKnownYield, CanRefine, IsStarted, IsRound, noted, recorded, missed, missed_first, missed_after, ceiling_after, ceiling_first, searches_from};
 ghost use Rattle.muni_sched.specs.YieldOutcome.{IsKnownFirst, many_yield};
 ghost use Rattle.muni_sched.specs.FigureKind.{Yield};
 
@@ -166,6 +166,25 @@ impl Search {
         requires can { CanRefine (place_verdict (E.ends encloser.now)) self.old }
         ensures { IsRound (place_verdict (E.ends encloser.now)) self.old self.new }
     {
+        if self.searches.as_slice().len() == 1 {
+            self.refine_one(round, encloser, gate);
+        } else {
+            self.refine_each(rt, workers, round, encloser, gate);
+        }
+    }
+
+    fn refine_each<R: Threads + Sync, E: Encloser + Sync, G: Gate + Sync>(
+        &mut self,
+        rt: &R,
+        workers: usize,
+        round: u32,
+        encloser: &E,
+        gate: &G,
+    )
+        requires workers { 0 < workers }
+        requires can { CanRefine (place_verdict (E.ends encloser.now)) self.old }
+        ensures { IsRound (place_verdict (E.ends encloser.now)) self.old self.new }
+    {
         let mut discounts = Discounts::new();
         add_discounts(&mut discounts, self.searches.as_slice(), self.aim.place());
         let asking = Round {
@@ -187,6 +206,30 @@ impl Search {
         self.missed = least_missed(searches, self.missed);
         keep_needed(&mut self.searches, self.ceiling, self.missed);
         self.aim = self.aim.next(self.searches.as_slice(), discounts.has_aim());
+    }
+
+    // The same, if one search is left, as in most rounds. No thread is started.
+    fn refine_one<E: Encloser, G: Gate>(&mut self, round: u32, encloser: &E, gate: &G)
+        requires one { length self.old.searches.items ≡ 1 }
+        requires can { CanRefine (place_verdict (E.ends encloser.now)) self.old }
+        ensures { IsRound (place_verdict (E.ends encloser.now)) self.old self.new }
+    {
+        let is_asked = ask_alone(
+            self.searches.as_mut_slice(),
+            round,
+            self.aim,
+            encloser,
+            gate,
+        );
+        let search = &self.searches.as_slice()[0];
+        note_settled(search, self.known.as_mut_slice());
+        self.ceiling = lower_of(self.ceiling, search.missed());
+        self.missed = self.missed.min(search.guided.window().no());
+        if !search.is_needed(self.ceiling, self.missed) {
+            self.searches.clear();
+        } else if search.guided.window().is_wide() {
+            self.aim = self.aim.next(self.searches.as_slice(), is_asked);
+        }
     }
 }
 
@@ -277,11 +320,6 @@ fn ask_each<R: Threads + Sync, E: Encloser + Sync, G: Gate + Sync>(
     requires each { All (IsOpen (place_verdict (E.ends encloser.now))) searches.old }
     ensures { AllZip (IsHalved (place_verdict (E.ends encloser.now))) searches.old searches.new }
 {
-    // In most rounds one search is left.
-    if searches.len() == 1 {
-        ask_one(&mut searches[0], round, encloser, gate);
-        return;
-    }
     thread::for_each_mut(
         rt,
         searches,
@@ -304,15 +342,47 @@ fn ask_one<E: Encloser, G: Gate>(search: &mut OpenSearch, round: &Round<'_>, enc
         .halve(encloser, round.aim.place(), round.discounts);
 }
 
+// Of the one search that is left. Whether it asks at the aim is answered.
+fn ask_alone<E: Encloser, G: Gate>(
+    searches: &mut [OpenSearch],
+    number: u32,
+    aim: Aim,
+    encloser: &E,
+    gate: &G,
+) -> bool
+    requires one { length searches.old ≡ 1 }
+    requires each { All (IsOpen (place_verdict (E.ends encloser.now))) searches.old }
+    ensures { AllZip (IsHalved (place_verdict (E.ends encloser.now))) searches.old searches.new }
+{
+    let search = &mut searches[0];
+    let is_asked = search.guided.asks_at(aim.place());
+    let round = Round {
+        number,
+        aim,
+        discounts: &Discounts::new(),
+    };
+    ask_one(search, &round, encloser, gate);
+    is_asked
+}
+
+// The outcome of a search, once it is known.
+fn note_settled(search: &OpenSearch, known: &mut [Option<CandidateOutcome>])
+    requires search { IsSearch search.now }
+    requires candidate { search.now.candidate < length known.old }
+    ensures { known.new ≡ noted search.now known.old }
+{
+    if let Some(outcome) = search.settled() {
+        known[search.candidate] = Some(outcome);
+    }
+}
+
 fn record_settled(searches: &[OpenSearch], known: &mut [Option<CandidateOutcome>])
     requires each { All IsSearch searches.now }
     requires candidates { All (λ it. it.candidate < length known.old) searches.now }
     ensures { known.new ≡ recorded searches.now known.old }
 {
     for search in searches {
-        if let Some(outcome) = search.settled() {
-            known[search.candidate] = Some(outcome);
-        }
+        note_settled(search, known);
     }
 }
 

@@ -80,6 +80,13 @@ impl GuidedSearch {
         }
     }
 
+    /// Whether the next halving asks at the place `aim`.
+    pub fn asks_at(&self, aim: u32) -> bool
+        requires { bracket.is_settled self.now.bracket ≡ false }
+    {
+        self.window.verdict_at(self.bracket.question()).is_some() && self.window.is_open_at(aim)
+    }
+
     fn discount_at(&self, place: u32) -> Discount
         requires some { 1 ≤ place }
         requires most { place ≤ 105_002 }

@@ -4,9 +4,9 @@ use Rattle.muni_yield.specs.Places.{place_verdict}
 use Rattle.muni_sched.specs.declared.search.OpenSearch.{OpenSearch}
 use Rattle.muni_sched.specs.Search.{IsSearch, IsPending, IsHalved, ceiling_after, missed_after}
 use Rattle.muni_sched.proofs.RoundLemmas.{halved-now, halved-searches, halved-candidates, pending-searches, recorded-now}
-use Rattle.muni_sched.proofs.search.Search.refine.Given as given
-use Rattle.muni_sched.proofs.search.Search.refine.Goals.{After-as_slice-searches}
-use Rattle.muni_sched.proofs.search.Search.refine.Goals as goal
+use Rattle.muni_sched.proofs.search.Search.refine_each.Given as given
+use Rattle.muni_sched.proofs.search.Search.refine_each.Goals.{After-as_slice-searches}
+use Rattle.muni_sched.proofs.search.Search.refine_each.Goals as goal
 
 pub add_discounts-requires-clause-each : goal.add_discounts-requires-clause-each
 add_discounts-requires-clause-each g c =
