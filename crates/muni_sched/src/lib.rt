@@ -12,6 +12,7 @@ mod outcome;
 mod prices;
 mod range;
 mod redemptions;
+mod round;
 mod search;
 mod shape;
 mod yield_outcome;

@@ -8,11 +8,12 @@ ghost use Rattle.muni_yield.specs.Settled.{settled_as};
 ghost use Rattle.muni_sched.specs.Candidates.{IsCandidate};
 ghost use Rattle.muni_sched.specs.Figures.{IsOf};
 ghost use Rattle.muni_sched.specs.Search as spec;
-ghost use Rattle.muni_sched.specs.Search.{IsSearch, IsPending, IsOpen, IsHalved, IsKnownYield, CanRefine, IsStarted, IsRound, noted, recorded, missed, missed_first, missed_after, ceiling_after, ceiling_first, searches_from};
+ghost use Rattle.muni_sched.specs.Search.{IsSearch, IsKnownYield, CanRefine, IsStarted, IsRound, noted, recorded, missed, missed_first, missed_after, ceiling_after, ceiling_first, searches_from};
 ghost use Rattle.muni_sched.specs.YieldOutcome.{IsKnownFirst, many_yield};
 ghost use Rattle.muni_sched.specs.FigureKind.{Yield};
 
 use crate::aim::Aim;
+use crate::round::{Round, add_discounts, ask_alone, ask_each};
 use crate::yield_outcome::{known_first, many_yield};
 use crate::{Candidate, CandidateOutcome, Shape};
 use arrayvec::ArrayVec;
@@ -21,7 +22,6 @@ use muni_edge::Gate;
 use muni_multi::Encloser;
 use muni_yield::laws::searches_are_in_order;
 use muni_yield::{Discounts, GuidedSearch};
-use std::thread;
 use std::thread::Threads;
 
 /// The search for the yield of one candidate, which is counted from 0 in order of date.
@@ -95,15 +95,6 @@ pub(crate) struct Search {
     missed: u32,
     /// The place at which the next round asks if an answer is known.
     aim: Aim,
-}
-
-/// What all searches of a round have in common. They ask at two places at most, so two discounts
-/// serve them. A search that asks at another one computes its own.
-#[derive(Clone, Copy)]
-struct Round<'a> {
-    number: u32,
-    aim: Aim,
-    discounts: &'a Discounts,
 }
 
 impl Search {
@@ -297,72 +288,6 @@ fn ceiling_first(known: &[Option<CandidateOutcome>]) -> Option<i32>
         ceiling = lower_of(ceiling, missed_first(*outcome));
     }
     ceiling
-}
-
-fn add_discounts(discounts: &mut Discounts, searches: &[OpenSearch], aim: u32)
-    requires each { All IsPending searches.now }
-    requires aim { (1 ≤ aim) × (aim ≤ 105_002) }
-{
-    for search in searches {
-        search.guided.add_discount(aim, discounts);
-    }
-}
-
-fn ask_each<R: Threads + Sync, E: Encloser + Sync, G: Gate + Sync>(
-    rt: &R,
-    searches: &mut [OpenSearch],
-    workers: usize,
-    round: &Round<'_>,
-    encloser: &E,
-    gate: &G,
-)
-    requires workers { 0 < workers }
-    requires each { All (IsOpen (place_verdict (E.ends encloser.now))) searches.old }
-    ensures { AllZip (IsHalved (place_verdict (E.ends encloser.now))) searches.old searches.new }
-{
-    thread::for_each_mut(
-        rt,
-        searches,
-        workers,
-        &|_, search: &mut OpenSearch|
-            requires { IsOpen (place_verdict (E.ends encloser.now)) search.now }
-            ensures { IsHalved (place_verdict (E.ends encloser.entry.now))
-                search.entry.now search.exit.now }
-        { ask_one(search, round, encloser, gate) },
-    );
-}
-
-fn ask_one<E: Encloser, G: Gate>(search: &mut OpenSearch, round: &Round<'_>, encloser: &E, gate: &G)
-    requires { IsOpen (place_verdict (E.ends encloser.now)) search.old }
-    ensures { IsHalved (place_verdict (E.ends encloser.now)) search.old search.new }
-{
-    gate.start(round.number, search.candidate);
-    search
-        .guided
-        .halve(encloser, round.aim.place(), round.discounts);
-}
-
-// Of the one search that is left. Whether it asks at the aim is answered.
-fn ask_alone<E: Encloser, G: Gate>(
-    searches: &mut [OpenSearch],
-    number: u32,
-    aim: Aim,
-    encloser: &E,
-    gate: &G,
-) -> bool
-    requires one { length searches.old ≡ 1 }
-    requires each { All (IsOpen (place_verdict (E.ends encloser.now))) searches.old }
-    ensures { AllZip (IsHalved (place_verdict (E.ends encloser.now))) searches.old searches.new }
-{
-    let search = &mut searches[0];
-    let is_asked = search.guided.asks_at(aim.place());
-    let round = Round {
-        number,
-        aim,
-        discounts: &Discounts::new(),
-    };
-    ask_one(search, &round, encloser, gate);
-    is_asked
 }
 
 // The outcome of a search, once it is known.

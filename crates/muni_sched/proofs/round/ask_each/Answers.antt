@@ -3,7 +3,7 @@ use Rattle.muni_yield.specs.Places.{place_verdict}
 use Rattle.muni_sched.specs.declared.search.OpenSearch.{OpenSearch}
 use Rattle.muni_sched.specs.Search.{IsHalved}
 use Rattle.muni_sched.proofs.ZipLemmas.{zip-each}
-use Rattle.muni_sched.proofs.search.ask_each.Goals as goal
+use Rattle.muni_sched.proofs.round.ask_each.Goals as goal
 
 pub returns : goal.returns
 returns g c =

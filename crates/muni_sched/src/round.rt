@@ -1,0 +1,91 @@
+//! What the searches of a round ask.
+
+ghost use Rattle.std.specs.Prelude.{◌≡◌, ◌<◌, ◌≤◌, length, All};
+ghost use Rattle.std.specs.List.{AllZip};
+ghost use Rattle.muni_yield.specs.Places.{place_verdict};
+ghost use Rattle.muni_sched.specs.Search.{IsPending, IsOpen, IsHalved};
+
+use crate::aim::Aim;
+use crate::search::OpenSearch;
+use muni_edge::Gate;
+use muni_multi::Encloser;
+use muni_yield::Discounts;
+use std::thread;
+use std::thread::Threads;
+
+/// What all searches of a round have in common. They ask at two places at most, so two discounts
+/// serve them. A search that asks at another one computes its own.
+#[derive(Clone, Copy)]
+pub(crate) struct Round<'a> {
+    pub(crate) number: u32,
+    pub(crate) aim: Aim,
+    pub(crate) discounts: &'a Discounts,
+}
+
+/// Adds the discounts of the places at which the searches ask.
+pub(crate) fn add_discounts(discounts: &mut Discounts, searches: &[OpenSearch], aim: u32)
+    requires each { All IsPending searches.now }
+    requires aim { (1 ≤ aim) × (aim ≤ 105_002) }
+{
+    for search in searches {
+        search.guided.add_discount(aim, discounts);
+    }
+}
+
+/// Halves each search.
+pub(crate) fn ask_each<R: Threads + Sync, E: Encloser + Sync, G: Gate + Sync>(
+    rt: &R,
+    searches: &mut [OpenSearch],
+    workers: usize,
+    round: &Round<'_>,
+    encloser: &E,
+    gate: &G,
+)
+    requires workers { 0 < workers }
+    requires each { All (IsOpen (place_verdict (E.ends encloser.now))) searches.old }
+    ensures { AllZip (IsHalved (place_verdict (E.ends encloser.now))) searches.old searches.new }
+{
+    thread::for_each_mut(
+        rt,
+        searches,
+        workers,
+        &|_, search: &mut OpenSearch|
+            requires { IsOpen (place_verdict (E.ends encloser.now)) search.now }
+            ensures { IsHalved (place_verdict (E.ends encloser.entry.now))
+                search.entry.now search.exit.now }
+        { ask_one(search, round, encloser, gate) },
+    );
+}
+
+fn ask_one<E: Encloser, G: Gate>(search: &mut OpenSearch, round: &Round<'_>, encloser: &E, gate: &G)
+    requires { IsOpen (place_verdict (E.ends encloser.now)) search.old }
+    ensures { IsHalved (place_verdict (E.ends encloser.now)) search.old search.new }
+{
+    gate.start(round.number, search.candidate);
+    search
+        .guided
+        .halve(encloser, round.aim.place(), round.discounts);
+}
+
+/// Halves the one search that is left, and answers whether it asks at the aim.
+pub(crate) fn ask_alone<E: Encloser, G: Gate>(
+    searches: &mut [OpenSearch],
+    number: u32,
+    aim: Aim,
+    encloser: &E,
+    gate: &G,
+) -> bool
+    requires one { length searches.old ≡ 1 }
+    requires each { All (IsOpen (place_verdict (E.ends encloser.now))) searches.old }
+    ensures { AllZip (IsHalved (place_verdict (E.ends encloser.now))) searches.old searches.new }
+{
+    let search = &mut searches[0];
+    let is_asked = search.guided.asks_at(aim.place());
+    let round = Round {
+        number,
+        aim,
+        discounts: &Discounts::new(),
+    };
+    ask_one(search, &round, encloser, gate);
+    is_asked
+}
