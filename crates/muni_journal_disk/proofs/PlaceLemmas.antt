@@ -9,7 +9,7 @@ use Rattle.muni_journal_disk.specs.declared.past.MadeCall.{MadeCall}
 use Rattle.muni_journal_disk.specs.declared.mem_shelf.Place.{Place}
 use Rattle.muni_journal_disk.specs.Frames.{IsMoved}
 use Rattle.muni_journal_disk.specs.Moments.{WasImage}
-use Rattle.muni_journal_disk.specs.Places.{has_place, disk_under, clock_of, since_of}
+use Rattle.muni_journal_disk.specs.Places.{has_place, disk_under, bytes_of, faults_of, clock_of, since_of}
 
 or_true : (b : Bool) → b || true ≡ true
 or_true true = refl
@@ -41,6 +41,13 @@ one_more len old there new place is same long =
 -- a disk goes to its place
 pub goes_there : (there : Option MemDisk) (disk : MemDisk) → there ≡ Some disk → IsMoved (length disk.past.items) (clock_of there) (WasImage disk.first.items disk.past.items) (since_of there)
 goes_there there disk is = subst (λ (o : Option MemDisk). IsMoved (length disk.past.items) (clock_of o) (WasImage disk.first.items disk.past.items) (since_of o)) (sym is) (record { clock = refl; same = λ t c left. left })
+
+-- and is what the shelf tells of under its name
+pub read_there : (there : Option MemDisk) (disk : MemDisk) → there ≡ Some disk → Some (bytes_of there) ≡ Some disk.bytes.items
+read_there there disk is = ap (λ (o : Option MemDisk). Some (bytes_of o)) is
+
+pub failed_there : (there : Option MemDisk) (disk : MemDisk) → there ≡ Some disk → faults_of there ≡ disk.faults
+failed_there there disk is = ap faults_of is
 
 -- a disk comes out of its place, or is new
 pub comes_out : (there : Option MemDisk) (new disk : MemDisk) → new.first.items ≡ [] → new.past.items ≡ [] → disk ≡ unwrap_or there new → IsMoved (clock_of there) (length disk.past.items) (since_of there) (WasImage disk.first.items disk.past.items)

@@ -35,3 +35,13 @@ pub record IsMoved (before now : ℕ) (past since : ℕ → List ℕ → Type 0)
 -- Nothing happens to the disks of the other names.
 pub record KeepsMoments {S : Type 0} (clock_of : S → List ℕ → ℕ) (since_of : S → List ℕ → ℕ → List ℕ → Type 0) (name : List ℕ) (old new : S) : Type 0 where
   pub others : (other : List ℕ) → other ≢ name → IsMoved (clock_of old other) (clock_of new other) (since_of old other) (since_of new other)
+
+-- What lies under the other names stays, and nothing happens to it meanwhile.
+pub record LeavesOthers {S : Type 0} (told_of : S → List ℕ → Option (List ℕ)) (disk_faults_of : S → List ℕ → ℕ) (clock_of : S → List ℕ → ℕ) (since_of : S → List ℕ → ℕ → List ℕ → Type 0) (name : List ℕ) (old new : S) : Type 0 where
+  pub disks : KeepsOthers told_of disk_faults_of name old new
+  pub moments : KeepsMoments clock_of since_of name old new
+
+-- The disks of all names read as they did, and nothing happens to them.
+pub record LeavesAll {S : Type 0} (told_of : S → List ℕ → Option (List ℕ)) (clock_of : S → List ℕ → ℕ) (since_of : S → List ℕ → ℕ → List ℕ → Type 0) (old new : S) : Type 0 where
+  pub unchanged : (other : List ℕ) → told_of new other ≡ told_of old other
+  pub unmoved : (other : List ℕ) → IsMoved (clock_of old other) (clock_of new other) (since_of old other) (since_of new other)

@@ -1,9 +1,11 @@
 pub mod Bytes
 pub mod Disk
+pub mod Exchange
 pub mod Frames
 pub mod Calls
 pub mod Past
 pub mod Moments
+pub mod Moves
 pub mod Places
 pub mod MemDisk
 pub mod Takes

@@ -1,5 +1,5 @@
 -- What a call leaves of a disk in memory.
-use Rattle.std.specs.Prelude.{◌≡◌, ◌==◌, Bool, true, false, if◌then◌else◌, ◌∷◌, length, Result, OnOk, IsErrOf}
+use Rattle.std.specs.Prelude.{◌≡◌, ◌==◌, ◌<◌, ◌≤◌, ℕ, List, IfSome, Bool, true, false, if◌then◌else◌, ◌∷◌, length, Result, OnOk, IsErrOf}
 use Rattle.std.specs.List.{list_any}
 use Rattle.muni_edge.specs.Calls.{one_more}
 use Rattle.muni_journal_disk.specs.declared.fault.DiskFault.{DiskFault}
@@ -7,6 +7,8 @@ use Rattle.muni_journal_disk.specs.declared.fault.DiskFault.TheVariants.{Failed,
 use Rattle.muni_journal_disk.specs.declared.past.Step.{Step}
 use Rattle.muni_journal_disk.specs.declared.past.MadeCall.{MadeCall}
 use Rattle.muni_journal_disk.specs.declared.mem_disk.MemDisk.{MemDisk}
+use Rattle.muni_journal_disk.specs.Moments.{WasImage}
+use Rattle.muni_journal_disk.specs.Past.{call_of, IsStopped}
 
 -- the next call is one of those that fail
 abbrev pub is_listed : MemDisk → Bool
@@ -35,3 +37,11 @@ pub record MakesCall (IsStep : Bool → Step → Type 0) (result : Result Unit D
   pub made : OnOk result (IsMade (IsStep false) false old new)
   pub failed : IsErrOf result Failed → IsMade (IsStep true) true old new
   pub unmade : IsErrOf result NoMemory → IsUnmade old new
+
+-- A stop within the call of a number leaves these bytes, after so many bytes of its piece were written.
+pub record IsLeftByStop (disk : MemDisk) (number kept : ℕ) (bytes : List ℕ) : Type 0 where
+  pub stopped : number < length disk.past.items → IfSome (call_of disk.past.items number) (λ call. IsStopped call.before.items kept bytes call.step)
+  -- if no call has that number, the disk is as it is now
+  pub present : length disk.past.items ≤ number → bytes ≡ disk.bytes.items
+  -- and they are an image that a stop since that call may have left
+  pub image : number ≤ length disk.past.items → WasImage disk.first.items disk.past.items number bytes

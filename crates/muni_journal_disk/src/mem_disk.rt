@@ -48,6 +48,8 @@ fn stopped(alloc: Global, call: &MadeCall, kept: usize) -> Result<Vec<u8>, Alloc
 }
 
 impl MemDisk {
+    ghost use Rattle.muni_journal_disk.specs.MemDisk.{IsLeftByStop};
+
     /// An empty disk.
     pub fn new(alloc: Global, failing: &[u64]) -> Result<MemDisk, DiskFault>
         ensures empty { IfOk result (λ disk. (disk.first.items ≡ []) × (disk.bytes.items ≡ [])) }
@@ -77,18 +79,10 @@ impl MemDisk {
     /// that call was to write were written, or all if it had fewer. If no call has that number it is
     /// the disk as it is now. No call of it fails.
     pub fn after_stop(&self, number: usize, kept: usize) -> Result<MemDisk, DiskFault>
-        ensures stopped { IfOk result (λ disk. number < length self.now.past.items
-            → IfSome (call_of self.now.past.items number)
-            (λ call. IsStopped call.before.items kept disk.bytes.items call.step)) }
-        ensures present { IfOk result (λ disk. length self.now.past.items ≤ number
-            → disk.bytes.items ≡ self.now.bytes.items) }
+        ensures left { IfOk result (λ disk. IsLeftByStop self.now number kept disk.bytes.items) }
         ensures fresh { IfOk result (λ disk.
             (disk.past.items ≡ []) × (disk.failing.items ≡ []) × (disk.faults ≡ 0)) }
         ensures memory { OnErr result (result ≡ Err DiskFault.NoMemory) }
-
-        // It is an image that a stop since that call may have left.
-        ensures image { IfOk result (λ disk. number ≤ length self.now.past.items
-            → WasImage self.now.first.items self.now.past.items number disk.bytes.items) }
     {
         let bytes = self.stopped_at(number, kept)?;
         Ok(MemDisk {
@@ -102,13 +96,7 @@ impl MemDisk {
     }
 
     fn stopped_at(&self, number: usize, kept: usize) -> Result<Vec<u8>, AllocError>
-        ensures stopped { IfOk result (λ bytes. number < length self.now.past.items
-            → IfSome (call_of self.now.past.items number)
-            (λ call. IsStopped call.before.items kept bytes.items call.step)) }
-        ensures present { IfOk result (λ bytes. length self.now.past.items ≤ number
-            → bytes.items ≡ self.now.bytes.items) }
-        ensures image { IfOk result (λ bytes. number ≤ length self.now.past.items
-            → WasImage self.now.first.items self.now.past.items number bytes.items) }
+        ensures { IfOk result (λ bytes. IsLeftByStop self.now number kept bytes.items) }
     {
         let calls = self.past.len();
         if number >= calls {

@@ -3,6 +3,7 @@
 ghost use Rattle.std.specs.Prelude.{◌≡◌, ◌≢◌, ◌↔◌, IsErrOf, ℕ, List, true, false, map, Some, None, Err, IfOk, OnOk, OnErr};
 ghost use Rattle.std.specs.Option.{ForSome};
 ghost use Rattle.muni_edge.specs.Calls.{none_made};
+ghost use Rattle.muni_journal_disk.specs.Exchange.{AreExchanged, HasNone};
 ghost use Rattle.muni_journal_disk.specs.Places.{has_place, disk_under};
 
 use crate::disk::Disk;
@@ -33,11 +34,8 @@ pub struct MemShelf {
 fn exchange(places: &mut [Place], name: &[u8], disk: &mut Option<MemDisk>) -> bool
     ensures there { result ≡ has_place places.old name.now }
     ensures places { (other : List ℕ) → has_place places.new other ≡ has_place places.old other }
-    ensures put { result ≡ true → disk_under places.new name.now ≡ disk.old }
-    ensures got { result ≡ true → disk.new ≡ disk_under places.old name.now }
-    ensures none { result ≡ false → disk_under places.old name.now ≡ None }
-    ensures kept { result ≡ false → disk.new ≡ disk.old }
-    ensures unchanged { result ≡ false → places.new ≡ places.old }
+    ensures exchanged { result ≡ true → AreExchanged name.now disk.old disk.new places.old places.new }
+    ensures kept { result ≡ false → HasNone name.now disk.old disk.new places.old places.new }
     ensures others { (other : List ℕ) → other ≢ name.now
         → disk_under places.new other ≡ disk_under places.old other }
 {

@@ -10,7 +10,7 @@ returns-clause-there c =
     let place : Place = record { name = c.in_ok-name.name; disk = None } in
     let named : place.name.items ≡ c.args.name.now = search rules in
     let long : old.len ≡ length old.items = search rules in
-    let pushed = one_more old.len old.items c.exchange.new.places c.push.new.self.items place c.in_ok-push.ensures.items (c.if-exchange.ensures.unchanged refl ∙ c.deref_mut.ensures.value) long in
+    let pushed = one_more old.len old.items c.exchange.new.places c.push.new.self.items place c.in_ok-push.ensures.items ((c.if-exchange.ensures.kept refl).unchanged ∙ c.deref_mut.ensures.value) long in
     ap (λ (places : List Place). has_place places c.args.name.now) pushed
     ∙ (ap (has_place (old.items ++ place ∷ [])) (sym named) ∙ has_new old.items place)
 
@@ -20,5 +20,5 @@ returns-clause-others c other differs =
     let place : Place = record { name = c.in_ok-name.name; disk = None } in
     let named : place.name.items ≡ c.args.name.now = search rules in
     let long : old.len ≡ length old.items = search rules in
-    let pushed = one_more old.len old.items c.exchange.new.places c.push.new.self.items place c.in_ok-push.ensures.items (c.if-exchange.ensures.unchanged refl ∙ c.deref_mut.ensures.value) long in
+    let pushed = one_more old.len old.items c.exchange.new.places c.push.new.self.items place c.in_ok-push.ensures.items ((c.if-exchange.ensures.kept refl).unchanged ∙ c.deref_mut.ensures.value) long in
     ap (λ (places : List Place). disk_under places other) pushed ∙ others_have old.items place other (λ same. differs (same ∙ named))

@@ -9,14 +9,17 @@ returns-clause-taken c =
     let name = c.args.name.now in
     let found : c.in_ok-disk.disk ≡ disk_under old name = c.in_ok-disk.ensures.disk in
     record {
-      disk = search rules;
-      disk_faults = search rules;
-      moved = comes_out (disk_under old name) c.in_ok-new_disk.new_disk c.unwrap_or.result (search rules) (search rules) (search rules);
+      disk = record {
+        bytes = search rules;
+        faults = search rules;
+        moved = comes_out (disk_under old name) c.in_ok-new_disk.new_disk c.unwrap_or.result (search rules) (search rules) (search rules);
+      };
       out = search rules;
       none_out = search rules;
-      others = search rules;
-      moments = record { others = λ o differs. stays_there _ _ (c.in_ok-disk.ensures.others o differs) };
+      others = record {
+        disks = search rules;
+        moments = record { others = λ o differs. stays_there _ _ (c.in_ok-disk.ensures.others o differs) };
+      };
       unchanged = search rules;
-      unmoved = search rules;
       cause = search rules;
     }
