@@ -1,5 +1,5 @@
 -- What a call leaves of a keeper over a journal.
-use Rattle.std.specs.Prelude.{◌≡◌, ◌≢◌, ◌<◌, ◌+◌, ◌^◌, ◌⊎◌, length, Some, None, is_some, Result, OnOk, OnErr, IsErrOf}
+use Rattle.std.specs.Prelude.{◌≡◌, ◌≢◌, ◌<◌, ◌+◌, ◌^◌, ◌⊎◌, ℕ, List, length, Some, None, is_some, Result, OnOk, OnErr, IsErrOf}
 use Rattle.muni_edge.specs.Faults.{Rose}
 use Rattle.muni_keep.specs.Keeper.{EditsTables}
 use Rattle.muni_keep.specs.declared.fault.KeepFault.{KeepFault}
@@ -11,6 +11,7 @@ use Rattle.muni_journal_disk.specs.declared.fault.DiskFault.TheVariants.{Failed}
 use Rattle.muni_journal_disk.specs.declared.disk.Disk.{Ghosts}
 use Rattle.muni_journal_record.specs.Body.{body_of}
 use Rattle.muni_journal_record.specs.declared.put.Put.{Put}
+use Rattle.muni_journal.specs.Journal.{HasTables, tables_of}
 use Rattle.muni_journal.specs.Puts.{after}
 use Rattle.muni_journal.specs.Stops.{StandsFor}
 use Rattle.muni_journal.specs.declared.keeper.JournalKeeper.{JournalKeeper}
@@ -23,6 +24,14 @@ pub record IsUnsettled {D : Type 0} (of : Ghosts D) (fault : DiskFault) (old new
   pub stops : StopsLeave of.clock of.since old.disk new.disk (StandsFor old.kept old.in_doubt None)
   pub tells : is_some (of.bytes new.disk) ≡ is_some (of.bytes old.disk)
   pub failed : fault ≡ Failed → Rose (of.faults old.disk) (of.faults new.disk)
+
+-- No put is in doubt any more: the disk stands for the tables, and each image of it does. Each image since the call
+-- began stands for them, or for them after the put that was in doubt.
+pub record IsLetGo {D : Type 0} (of : Ghosts D) (keeper : JournalKeeper D of) (disk : D) : Type 0 where
+  pub stands : HasTables (of.bytes disk) keeper.kept
+  pub images : (c : List ℕ) → of.image disk c → tables_of c ≡ Some keeper.kept
+  pub stops : StopsLeave of.clock of.since keeper.disk disk (StandsFor keeper.kept keeper.in_doubt None)
+  pub tells : is_some (of.bytes disk) ≡ is_some (of.bytes keeper.disk)
 
 -- A fault is counted only if the disk has failed, or the slot of the put would end past the limit.
 abbrev pub CountsForCause : {D : Type 0} → (of : Ghosts D) → Put → JournalKeeper D of → JournalKeeper D of → Type 0

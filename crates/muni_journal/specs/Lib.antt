@@ -1,7 +1,9 @@
 pub mod Cabinet
+pub mod GivenBack
 pub mod Journal
 pub mod Keeper
 pub mod Laws
+pub mod Looks
 pub mod Opened
 pub mod Piece
 pub mod Puts

@@ -143,6 +143,7 @@ fn disk_fault(fault: FetchFault) -> DiskFault
 impl<S: Shelf> Cabinet for JournalCabinet<S> {
     ghost use Rattle.std.specs.Option.{option_map};
     ghost use Rattle.muni_journal.specs.Told.{off_shelf, told_of, lent_as_of};
+    ghost use Rattle.muni_journal.specs.GivenBack.{IsOutAs, TellsTables, TellsAsBefore, KeepsOthers};
     ghost use Rattle.muni_journal.specs.Whereabouts.{FetchesAsItStands, GivesBackAsItStands};
 
     type K = JournalKeeper<S::D>;
@@ -190,17 +191,11 @@ impl<S: Shelf> Cabinet for JournalCabinet<S> {
     }
 
     fn give_back(&mut self, keeper: JournalKeeper<S::D>)
-        requires { IsSomeAnd (⟦<JournalCabinet<S> as Cabinet>⟧.out self.old)
-            (λ lent. lent.1 ≡ lent_as_of (S.D.bytes keeper.disk)) }
+        requires { IsOutAs ⟦<JournalCabinet<S> as Cabinet>⟧ (lent_as_of (S.D.bytes keeper.disk)) self.old }
 
-        ensures tables { IfSome (⟦<JournalCabinet<S> as Cabinet>⟧.out self.old)
-            (λ lent. IfSome (⟦<JournalCabinet<S> as Cabinet>⟧.told self.old lent.0)
-            (λ _. ⟦<JournalCabinet<S> as Cabinet>⟧.told self.new lent.0 ≡ Some keeper.kept)) }
-        ensures tells { (other : List ℕ) → is_some (⟦<JournalCabinet<S> as Cabinet>⟧.told self.new other)
-            ≡ is_some (⟦<JournalCabinet<S> as Cabinet>⟧.told self.old other) }
-        ensures others { IfSome (⟦<JournalCabinet<S> as Cabinet>⟧.out self.old) (λ lent. (other : List ℕ)
-            → other ≢ lent.0 → ⟦<JournalCabinet<S> as Cabinet>⟧.told self.new other
-            ≡ ⟦<JournalCabinet<S> as Cabinet>⟧.told self.old other) }
+        ensures tables { TellsTables ⟦<JournalCabinet<S> as Cabinet>⟧ keeper.kept self.old self.new }
+        ensures tells { TellsAsBefore ⟦<JournalCabinet<S> as Cabinet>⟧ self.old self.new }
+        ensures others { KeepsOthers ⟦<JournalCabinet<S> as Cabinet>⟧ self.old self.new }
         ensures none_out { self.new.out ≡ None }
         ensures counted { self.new.faults ≡ raised self.old.faults keeper.faults }
 

@@ -3,10 +3,10 @@
 ghost use Rattle.std.specs.Prelude.{◌≡◌, ◌==◌, ◌<◌, ◌≤◌, ◌+◌, ◌^◌, ◌≢◌, Err, Some, None, length, IfOk, IfErr, OnOk};
 ghost use Rattle.muni_keep.specs.Tables.{no_tables};
 ghost use Rattle.muni_journal_disk.specs.Bytes.{byte_at, bytes_at};
-ghost use Rattle.muni_journal_disk.specs.Calls.{KeepsBytes};
-ghost use Rattle.muni_journal_disk.specs.Disk.{Found, IfRead, StopsLeave};
+ghost use Rattle.muni_journal_disk.specs.Disk.{Found, IfRead};
 ghost use Rattle.muni_journal_record.specs.Body.{put_of as spec_put_of};
 ghost use Rattle.muni_journal.specs.Journal as spec;
+ghost use Rattle.muni_journal.specs.Looks.{OnlyReads};
 
 use crate::kept::put_next;
 use muni_journal_disk::{Disk, DiskFault};
@@ -33,8 +33,7 @@ fn fill<D: Disk>(disk: &mut D, place: u64, room: &mut [u8]) -> Result<(), DiskFa
     requires { place + length room.old < 2 ^ 41 }
     ensures filled { OnOk result (IfRead (D.bytes disk.old)
         (λ c. room.new ≡ bytes_at c place (length room.old))) }
-    ensures keeps { KeepsBytes D.Disk DiskFault.Failed result disk.old disk.new }
-    ensures stops { StopsLeave D.clock D.since disk.old disk.new (D.image disk.old) }
+    ensures reads { OnlyReads D.Disk DiskFault.Failed result disk.old disk.new }
 {
     disk.read(place, room)
 }
@@ -43,8 +42,7 @@ fn fill<D: Disk>(disk: &mut D, place: u64, room: &mut [u8]) -> Result<(), DiskFa
 fn is_open<D: Disk>(disk: &mut D, place: u64) -> Result<bool, DiskFault>
     requires { place + 1 < 2 ^ 41 }
     ensures gate { Found (D.bytes disk.old) result (λ c. byte_at c place == 1) }
-    ensures keeps { KeepsBytes D.Disk DiskFault.Failed result disk.old disk.new }
-    ensures stops { StopsLeave D.clock D.since disk.old disk.new (D.image disk.old) }
+    ensures reads { OnlyReads D.Disk DiskFault.Failed result disk.old disk.new }
 {
     let mut room = [0];
     fill(disk, place, &mut room)?;
@@ -56,8 +54,7 @@ fn is_open<D: Disk>(disk: &mut D, place: u64) -> Result<bool, DiskFault>
 fn number_at<D: Disk>(disk: &mut D, place: u64) -> Result<u32, DiskFault>
     requires { place + 4 < 2 ^ 41 }
     ensures number { Found (D.bytes disk.old) result (λ c. spec.number_at c place) }
-    ensures keeps { KeepsBytes D.Disk DiskFault.Failed result disk.old disk.new }
-    ensures stops { StopsLeave D.clock D.since disk.old disk.new (D.image disk.old) }
+    ensures reads { OnlyReads D.Disk DiskFault.Failed result disk.old disk.new }
 {
     let mut room = [0; 4];
     fill(disk, place, &mut room)?;
@@ -69,8 +66,7 @@ fn body_at<D: Disk>(disk: &mut D, place: u64, count: usize) -> Result<Option<Put
     requires room { place + 1_024 < 2 ^ 41 }
     requires length { count ≤ 1_024 }
     ensures put { Found (D.bytes disk.old) result (λ c. spec_put_of (bytes_at c place count)) }
-    ensures keeps { KeepsBytes D.Disk DiskFault.Failed result disk.old disk.new }
-    ensures stops { StopsLeave D.clock D.since disk.old disk.new (D.image disk.old) }
+    ensures reads { OnlyReads D.Disk DiskFault.Failed result disk.old disk.new }
 {
     let mut room = [0; 1024];
     fill(disk, place, &mut room[..count])?;
@@ -87,8 +83,7 @@ fn next_gate<D: Disk>(disk: &mut D, gate: u64, kept: &mut MemTables) -> Result<u
     ensures further { IfOk result (λ next. gate < next) }
     ensures none { result ≡ Err FetchFault.NotAJournal → IfRead (D.bytes disk.old)
         (λ c. spec.behind_slot c (record { gate = gate; tables = kept.old }) ≡ None) }
-    ensures keeps { KeepsBytes D.Disk (FetchFault.Disk DiskFault.Failed) result disk.old disk.new }
-    ensures stops { StopsLeave D.clock D.since disk.old disk.new (D.image disk.old) }
+    ensures reads { OnlyReads D.Disk (FetchFault.Disk DiskFault.Failed) result disk.old disk.new }
 {
     let place = gate + 1;
     let count = match number_at(disk, place) {
@@ -116,8 +111,7 @@ fn open_at<D: Disk>(disk: &mut D, place: u64) -> Result<bool, FetchFault>
     requires { place + 1 < 2 ^ 41 }
     ensures gate { Found (D.bytes disk.old) result (λ c. byte_at c place == 1) }
     ensures disk { IfErr result (λ fault. fault ≢ FetchFault.NotAJournal) }
-    ensures keeps { KeepsBytes D.Disk (FetchFault.Disk DiskFault.Failed) result disk.old disk.new }
-    ensures stops { StopsLeave D.clock D.since disk.old disk.new (D.image disk.old) }
+    ensures reads { OnlyReads D.Disk (FetchFault.Disk DiskFault.Failed) result disk.old disk.new }
 {
     match is_open(disk, place) {
         Ok(opened) => Ok(opened),
@@ -133,8 +127,7 @@ pub(crate) fn read_slots<D: Disk>(disk: &mut D, kept: &mut MemTables) -> Result<
     ensures room { IfOk result (λ gate. gate ≤ 2 ^ 40) }
     // It is no journal only if the disk stands for no tables, or its slots end past the limit.
     ensures none { result ≡ Err FetchFault.NotAJournal → IfRead (D.bytes disk.old) spec.IsNoJournal }
-    ensures keeps { KeepsBytes D.Disk (FetchFault.Disk DiskFault.Failed) result disk.old disk.new }
-    ensures stops { StopsLeave D.clock D.since disk.old disk.new (D.image disk.old) }
+    ensures reads { OnlyReads D.Disk (FetchFault.Disk DiskFault.Failed) result disk.old disk.new }
 {
     let mut gate = 0;
     'slots: while open_at(disk, gate)? {

@@ -1,12 +1,10 @@
 //! Opens a journal.
 
-ghost use Rattle.std.specs.Prelude.{◌≡◌, List, ℕ, Some, None, is_some, IfOk, IfErr};
-ghost use Rattle.muni_edge.specs.Faults.{Rose};
-ghost use Rattle.muni_journal_disk.specs.Disk.{IfRead, StopsLeave};
-ghost use Rattle.muni_journal.specs.Journal.{IsNoJournal, HasTables, tables_of};
-ghost use Rattle.muni_journal.specs.Keeper.{IsUnsettled};
-ghost use Rattle.muni_journal.specs.Opened.{left};
-ghost use Rattle.muni_journal.specs.Stops.{StandsFor};
+ghost use Rattle.std.specs.Prelude.{◌≡◌, None, IfOk, IfErr};
+ghost use Rattle.muni_journal.specs.Journal.{HasTables};
+ghost use Rattle.muni_journal.specs.Keeper.{IsUnsettled, IsLetGo};
+ghost use Rattle.muni_journal.specs.Looks.{Stays};
+ghost use Rattle.muni_journal.specs.Opened.{left, IsKeeperOf, IsUnfetched};
 
 use crate::fetching::{FetchFault, read_slots};
 use crate::keeper::JournalKeeper;
@@ -31,20 +29,11 @@ pub(crate) struct Unsettled<D: Disk> {
 
 /// The keeper of the tables for which a disk stands. The disk is synced first.
 pub fn open<D: Disk + Drop>(alloc: Global, disk: D) -> Result<JournalKeeper<D>, Unfetched<D>>
-    ensures found { IfOk result (λ keeper. HasTables (D.bytes disk) keeper.kept) }
-    ensures settled { IfOk result (λ keeper. keeper.in_doubt ≡ None) }
-    ensures uncounted { IfOk result (λ keeper. keeper.faults ≡ 0) }
-
-    // It is no journal only if the disk stands for no tables, or its slots end past the limit.
-    ensures none { IfErr result (λ unfetched. unfetched.fault ≡ FetchFault.NotAJournal
-        → IfRead (D.bytes disk) IsNoJournal) }
-    ensures failed { IfErr result (λ unfetched. unfetched.fault ≡ FetchFault.Disk DiskFault.Failed
-        → Rose (D.faults disk) (D.faults unfetched.disk)) }
+    ensures found { IfOk result (IsKeeperOf D.Disk disk) }
+    ensures refused { IfErr result (IsUnfetched D.Disk disk) }
 
     // What the disk reads as stays, and no image comes, nor does one within the call.
-    ensures bytes { D.bytes (left result) ≡ D.bytes disk }
-    ensures images { (c : List ℕ) → D.image (left result) c → D.image disk c }
-    ensures stops { StopsLeave D.clock D.since disk (left result) (D.image disk) }
+    ensures stays { Stays D.Disk disk (left result) }
 {
     let mut disk = disk;
     let mut kept = MemTables::new(alloc);
@@ -78,12 +67,7 @@ impl<D: Disk> JournalKeeper<D> {
     /// Its disk, which then stands for its tables, if no put is in doubt or the one that is can be
     /// taken back.
     pub(crate) fn into_disk(self) -> Result<D, Unsettled<D>>
-        ensures stands { IfOk result (λ disk. HasTables (D.bytes disk) self.kept) }
-        ensures images { IfOk result
-            (λ disk. (c : List ℕ) → D.image disk c → tables_of c ≡ Some self.kept) }
-        ensures stops { IfOk result (λ disk. StopsLeave D.clock D.since self.disk disk
-            (StandsFor self.kept self.in_doubt None)) }
-        ensures tells { IfOk result (λ disk. is_some (D.bytes disk) ≡ is_some (D.bytes self.disk)) }
+        ensures let_go { IfOk result (IsLetGo D.Disk self) }
         ensures refused { IfErr result
             (λ unsettled. IsUnsettled D.Disk unsettled.fault self unsettled.keeper) }
     {
