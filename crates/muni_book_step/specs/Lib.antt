@@ -1,7 +1,8 @@
 pub mod Accepted
+pub mod CarriedOut
+pub mod Finds
 pub mod Plan
 pub mod Reasons
-pub mod Step
 pub mod Runs
 pub mod Sound
-pub mod CarriedOut
+pub mod Step

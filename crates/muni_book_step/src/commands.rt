@@ -2,9 +2,8 @@
 
 ghost use Rattle.std.specs.Prelude.{◌≡◌};
 ghost use Rattle.muni_terms.specs.Check.{checked};
-ghost use Rattle.muni_keep.specs.Frames.{Found};
-ghost use Rattle.muni_keep.specs.Keeper.{OnlyReads};
 ghost use Rattle.muni_keep.specs.Trades.{own};
+ghost use Rattle.muni_book_step.specs.Finds.{Finds};
 ghost use Rattle.muni_book_step.specs.Plan as spec;
 ghost use Rattle.muni_book_step.specs.Step.{own_of, desk_of};
 
@@ -17,9 +16,8 @@ use muni_terms::{Issue, IssueRow, check};
 
 /// What is to be done for a command. The keeper is only read from.
 pub fn plan_of<K: Keeper>(keeper: &mut K, command: &Command) -> Result<Plan, KeepFault>
-    ensures plan { Found (K.tables keeper.old) result
+    ensures plan { Finds K.Keeper keeper.old keeper.new result
         (λ t. spec.plan_of t.issues (own_of (desk_of command.now) t) command.now) }
-    ensures reads { OnlyReads K.Keeper result keeper.old keeper.new }
 {
     match command {
         Command::AddIssue(row) => add_issue(keeper, row),
@@ -50,9 +48,8 @@ fn confirmed<K: Keeper>(
     number: u32,
     version: Version,
 ) -> Result<Plan, KeepFault>
-    ensures plan { Found (K.tables keeper.old) result
+    ensures plan { Finds K.Keeper keeper.old keeper.new result
         (λ t. spec.confirmed t.issues key.now number version) }
-    ensures reads { OnlyReads K.Keeper result keeper.old keeper.new }
 {
     match keeper.issue(&version.terms.asked.cusip)? {
         Some(issue) => Ok(Plan::Answer(Reply::Confirmed {
@@ -72,9 +69,8 @@ fn sent_again<K: Keeper>(
     terms: &Terms,
     version: Version,
 ) -> Result<Plan, KeepFault>
-    ensures plan { Found (K.tables keeper.old) result
+    ensures plan { Finds K.Keeper keeper.old keeper.new result
         (λ t. spec.sent_again t.issues key.now number terms.now version) }
-    ensures reads { OnlyReads K.Keeper result keeper.old keeper.new }
 {
     if version.terms == *terms {
         confirmed(keeper, key, number, version)
@@ -84,9 +80,8 @@ fn sent_again<K: Keeper>(
 }
 
 fn add_issue<K: Keeper>(keeper: &mut K, row: &IssueRow) -> Result<Plan, KeepFault>
-    ensures plan { Found (K.tables keeper.old) result
+    ensures plan { Finds K.Keeper keeper.old keeper.new result
         (λ t. spec.issue_plan t.issues (checked row.now)) }
-    ensures reads { OnlyReads K.Keeper result keeper.old keeper.new }
 {
     match check(row.copy()) {
         Ok(issue) => add_checked(keeper, issue),
@@ -95,9 +90,8 @@ fn add_issue<K: Keeper>(keeper: &mut K, row: &IssueRow) -> Result<Plan, KeepFaul
 }
 
 fn add_checked<K: Keeper>(keeper: &mut K, issue: Issue) -> Result<Plan, KeepFault>
-    ensures plan { Found (K.tables keeper.old) result
+    ensures plan { Finds K.Keeper keeper.old keeper.new result
         (λ t. spec.checked_issue_plan t.issues issue) }
-    ensures reads { OnlyReads K.Keeper result keeper.old keeper.new }
 {
     match keeper.issue(&issue.row().cusip)? {
         Some(other) => Ok(kept_issue(&issue, other)),
@@ -118,9 +112,8 @@ fn kept_issue(issue: &Issue, other: Issue) -> Plan
 }
 
 fn enter<K: Keeper>(keeper: &mut K, key: &Key, terms: &Terms) -> Result<Plan, KeepFault>
-    ensures plan { Found (K.tables keeper.old) result
+    ensures plan { Finds K.Keeper keeper.old keeper.new result
         (λ t. spec.entry_plan t.issues (own key.now.desk t.desks) key.now terms.now) }
-    ensures reads { OnlyReads K.Keeper result keeper.old keeper.new }
 {
     match keeper.version(key, 1)? {
         Some(version) => sent_again(keeper, key, 1, terms, version),
@@ -129,9 +122,8 @@ fn enter<K: Keeper>(keeper: &mut K, key: &Key, terms: &Terms) -> Result<Plan, Ke
 }
 
 fn first_entry<K: Keeper>(keeper: &mut K, key: &Key, terms: &Terms) -> Result<Plan, KeepFault>
-    ensures plan { Found (K.tables keeper.old) result
+    ensures plan { Finds K.Keeper keeper.old keeper.new result
         (λ t. spec.first_entry_plan t.issues (own key.now.desk t.desks) key.now terms.now) }
-    ensures reads { OnlyReads K.Keeper result keeper.old keeper.new }
 {
     let Some(issue) = keeper.issue(&terms.asked.cusip)? else {
         return Ok(refused(Refusal::UnknownIssue));
@@ -149,8 +141,8 @@ fn first_entry<K: Keeper>(keeper: &mut K, key: &Key, terms: &Terms) -> Result<Pl
 }
 
 fn is_full<K: Keeper>(keeper: &mut K, desk: &DeskName) -> Result<bool, KeepFault>
-    ensures full { Found (K.tables keeper.old) result (λ t. spec.is_full (own desk.now t.desks)) }
-    ensures reads { OnlyReads K.Keeper result keeper.old keeper.new }
+    ensures full { Finds K.Keeper keeper.old keeper.new result
+        (λ t. spec.is_full (own desk.now t.desks)) }
 {
     Ok(keeper.trades(desk)? >= 100_000)
 }
@@ -212,9 +204,8 @@ fn correct<K: Keeper>(
     number: u32,
     terms: &Terms,
 ) -> Result<Plan, KeepFault>
-    ensures plan { Found (K.tables keeper.old) result
+    ensures plan { Finds K.Keeper keeper.old keeper.new result
         (λ t. spec.correction_plan t.issues (own key.now.desk t.desks) key.now number terms.now) }
-    ensures reads { OnlyReads K.Keeper result keeper.old keeper.new }
 {
     let Some((count, last)) = keeper.last(key)? else {
         return Ok(refused(Refusal::UnknownTrade));
@@ -232,9 +223,8 @@ fn kept_correction<K: Keeper>(
     terms: &Terms,
     version: Version,
 ) -> Result<Plan, KeepFault>
-    ensures plan { Found (K.tables keeper.old) result
+    ensures plan { Finds K.Keeper keeper.old keeper.new result
         (λ t. spec.kept_correction_plan t.issues key.now number terms.now version) }
-    ensures reads { OnlyReads K.Keeper result keeper.old keeper.new }
 {
     if is_corrected(version.act) {
         sent_again(keeper, key, number, terms, version)
@@ -251,9 +241,8 @@ fn next_correction<K: Keeper>(
     count: u32,
     last: &Version,
 ) -> Result<Plan, KeepFault>
-    ensures plan { Found (K.tables keeper.old) result
+    ensures plan { Finds K.Keeper keeper.old keeper.new result
         (λ t. spec.next_correction_plan t.issues key.now number terms.now (count, last.now)) }
-    ensures reads { OnlyReads K.Keeper result keeper.old keeper.new }
 {
     if let Some(why) = correction_refusal(count, last, number) {
         return Ok(refused(why));
@@ -271,9 +260,8 @@ fn next_correction<K: Keeper>(
 }
 
 fn cancel<K: Keeper>(keeper: &mut K, key: &Key, number: u32) -> Result<Plan, KeepFault>
-    ensures plan { Found (K.tables keeper.old) result
+    ensures plan { Finds K.Keeper keeper.old keeper.new result
         (λ t. spec.cancel_plan t.issues (own key.now.desk t.desks) key.now number) }
-    ensures reads { OnlyReads K.Keeper result keeper.old keeper.new }
 {
     let Some((count, last)) = keeper.last(key)? else {
         return Ok(refused(Refusal::UnknownTrade));
@@ -290,9 +278,8 @@ fn kept_cancel<K: Keeper>(
     number: u32,
     version: Version,
 ) -> Result<Plan, KeepFault>
-    ensures plan { Found (K.tables keeper.old) result
+    ensures plan { Finds K.Keeper keeper.old keeper.new result
         (λ t. spec.kept_cancel_plan t.issues key.now number version) }
-    ensures reads { OnlyReads K.Keeper result keeper.old keeper.new }
 {
     if is_canceled(version.act) {
         confirmed(keeper, key, number, version)
@@ -308,9 +295,8 @@ fn next_cancel<K: Keeper>(
     count: u32,
     last: &Version,
 ) -> Result<Plan, KeepFault>
-    ensures plan { Found (K.tables keeper.old) result
+    ensures plan { Finds K.Keeper keeper.old keeper.new result
         (λ t. spec.next_cancel_plan t.issues key.now number (count, last.now)) }
-    ensures reads { OnlyReads K.Keeper result keeper.old keeper.new }
 {
     if let Some(why) = cancel_refusal(count, last, number) {
         return Ok(refused(why));
@@ -330,9 +316,8 @@ fn next_cancel<K: Keeper>(
 }
 
 fn confirm<K: Keeper>(keeper: &mut K, key: &Key) -> Result<Plan, KeepFault>
-    ensures plan { Found (K.tables keeper.old) result
+    ensures plan { Finds K.Keeper keeper.old keeper.new result
         (λ t. spec.confirmation_plan t.issues (own key.now.desk t.desks) key.now) }
-    ensures reads { OnlyReads K.Keeper result keeper.old keeper.new }
 {
     match keeper.last(key)? {
         Some((number, version)) => confirmed(keeper, key, number, version),
@@ -341,8 +326,8 @@ fn confirm<K: Keeper>(keeper: &mut K, key: &Key) -> Result<Plan, KeepFault>
 }
 
 fn quote<K: Keeper>(keeper: &mut K, asked: &Asked) -> Result<Plan, KeepFault>
-    ensures plan { Found (K.tables keeper.old) result (λ t. spec.quote_plan t.issues asked.now) }
-    ensures reads { OnlyReads K.Keeper result keeper.old keeper.new }
+    ensures plan { Finds K.Keeper keeper.old keeper.new result
+        (λ t. spec.quote_plan t.issues asked.now) }
 {
     match keeper.issue(&asked.cusip)? {
         Some(issue) => Ok(Plan::Quote {
@@ -358,9 +343,8 @@ fn list<K: Keeper>(
     desk: &DeskName,
     after: &Option<Reference>,
 ) -> Result<Plan, KeepFault>
-    ensures plan { Found (K.tables keeper.old) result
+    ensures plan { Finds K.Keeper keeper.old keeper.new result
         (λ t. spec.list_plan (own desk.now t.desks) after.now) }
-    ensures reads { OnlyReads K.Keeper result keeper.old keeper.new }
 {
     Ok(Plan::Answer(Reply::Listed(keeper.page(desk, after)?)))
 }
