@@ -1,5 +1,5 @@
 -- Which faults come of which part of a request.
-use Rattle.std.specs.Prelude.{◌≡◌, ℕ, Result, Ok, Err, ⊤}
+use Rattle.std.specs.Prelude.{◌≡◌, ℕ, Result, Ok, Err, IfErr, ⊤}
 use Rattle.muni_edge.specs.Faults.{Rose}
 use Rattle.muni_edge.specs.Link.{OnlyTakes}
 use Rattle.muni_edge.specs.declared.sink.Sink as sink
@@ -33,3 +33,8 @@ CountsTakes (Err fault.NoMemory) before now = now ≡ before
 pub record TakesAndTells {L T : Type 0} (takes : source.Ghosts L) (puts : sink.Ghosts L) (result : Result T WireFault) (old new : L) : Type 0 where
   pub counts : CountsTakes result (takes.faults old) (takes.faults new)
   pub only : OnlyTakes takes puts fault.LinkFault result old new
+
+-- And nothing else is done: any fault is one of taking.
+pub record TakesOnly {L T : Type 0} (takes : source.Ghosts L) (puts : sink.Ghosts L) (result : Result T WireFault) (old new : L) : Type 0 where
+  pub fault : IfErr result (λ fault. IsOfTake fault)
+  pub tells : TakesAndTells takes puts result old new

@@ -18,3 +18,4 @@ pub mod PathLaws
 pub mod List
 pub mod HttpStatus
 pub mod Answer
+pub mod Answers

@@ -1,12 +1,12 @@
 //! The answers to requests.
 
-ghost use Rattle.std.specs.Prelude.{◌≡◌, ◌≤◌, ◌+◌, ◌++◌, decimal, length, OnOk};
+ghost use Rattle.std.specs.Prelude.{◌≡◌, ◌≤◌, ◌+◌, ◌++◌, decimal, length};
 ghost use Rattle.arrayvec.specs.ArrayVec.{array_vec_len};
 ghost use Rattle.muni_confirm.specs.Confirmation.{confirmation_text};
 ghost use Rattle.muni_confirm.specs.Figures.{figure_text};
 ghost use Rattle.muni_confirm.specs.Refusal.{refusal_text};
-ghost use Rattle.muni_edge.specs.Link.{OnlyPuts};
 ghost use Rattle.muni_wire.specs.Answer as spec;
+ghost use Rattle.muni_wire.specs.Answers.{Answers};
 
 use crate::Bad;
 use crate::list::push_list;
@@ -24,8 +24,7 @@ use muni_terms::Issue;
 ///
 /// After a failure the connection may hold a part of the answer.
 pub fn write_reply<L: Link>(link: &mut L, reply: &Reply) -> Result<(), Failed>
-    ensures puts { OnlyPuts L.Source L.Sink (spec.answer_to_reply reply.now) result link.old link.new }
-    ensures uncounted { OnOk result (L.Sink.faults link.new ≡ L.Sink.faults link.old) }
+    ensures { Answers L.Source L.Sink (spec.answer_to_reply reply.now) result link.old link.new }
 {
     let mut text = ArrayVec::new();
     push_reply(&mut text, reply);
@@ -37,8 +36,7 @@ pub fn write_reply<L: Link>(link: &mut L, reply: &Reply) -> Result<(), Failed>
 ///
 /// After a failure the connection may hold a part of the answer.
 pub fn write_bad<L: Link>(link: &mut L, bad: Bad) -> Result<(), Failed>
-    ensures puts { OnlyPuts L.Source L.Sink (spec.answer_to_bad bad) result link.old link.new }
-    ensures uncounted { OnOk result (L.Sink.faults link.new ≡ L.Sink.faults link.old) }
+    ensures { Answers L.Source L.Sink (spec.answer_to_bad bad) result link.old link.new }
 {
     write_status(link, HttpStatus::of_bad(bad), allowed(bad))
 }
@@ -47,8 +45,7 @@ pub fn write_bad<L: Link>(link: &mut L, bad: Bad) -> Result<(), Failed>
 ///
 /// After a failure the connection may hold a part of the answer.
 pub fn write_unavailable<L: Link>(link: &mut L) -> Result<(), Failed>
-    ensures puts { OnlyPuts L.Source L.Sink spec.unavailable result link.old link.new }
-    ensures uncounted { OnOk result (L.Sink.faults link.new ≡ L.Sink.faults link.old) }
+    ensures { Answers L.Source L.Sink spec.unavailable result link.old link.new }
 {
     write_status(link, HttpStatus::Unavailable, b"")
 }
@@ -69,8 +66,7 @@ fn allowed(bad: Bad) -> &'static [u8]
 fn write_status<L: Link>(link: &mut L, status: HttpStatus, allow: &[u8]) -> Result<(), Failed>
     requires { length allow.now ≤ 13 }
 
-    ensures puts { OnlyPuts L.Source L.Sink (spec.status_answer status allow.now) result link.old link.new }
-    ensures uncounted { OnOk result (L.Sink.faults link.new ≡ L.Sink.faults link.old) }
+    ensures { Answers L.Source L.Sink (spec.status_answer status allow.now) result link.old link.new }
 {
     let mut text = ArrayVec::new();
     push_status(&mut text, status);
@@ -87,8 +83,7 @@ fn write<L: Link>(
 ) -> Result<(), Failed>
     requires { length allow.now ≤ 13 }
 
-    ensures puts { OnlyPuts L.Source L.Sink (spec.answer status allow.now text.now.items) result link.old link.new }
-    ensures uncounted { OnOk result (L.Sink.faults link.new ≡ L.Sink.faults link.old) }
+    ensures { Answers L.Source L.Sink (spec.answer status allow.now text.now.items) result link.old link.new }
 {
     let mut answer = ArrayVec::new();
     push_head(&mut answer, status, allow, text.len());

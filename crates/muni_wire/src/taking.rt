@@ -1,11 +1,11 @@
 //! The bytes of a connection, which come in pieces.
 
-ghost use Rattle.std.specs.Prelude.{◌≡◌, ◌≤◌, ◌<◌, ◌+◌, ◌-◌, ◌==◌, ◌&&◌, ℕ, List, true, not, length, min, take, drop, nat_lt, ◌++◌, IfOk, IfErr, OnOk, vec_len};
+ghost use Rattle.std.specs.Prelude.{◌≡◌, ◌≤◌, ◌<◌, ◌+◌, ◌-◌, ◌==◌, ◌&&◌, ℕ, List, true, not, length, min, take, drop, nat_lt, ◌++◌, IfOk, OnOk, vec_len};
 ghost use Rattle.std.specs.Io.KnownBytes.{Consumes, IsAtEnd};
 ghost use Rattle.std.specs.List.{list_any};
 ghost use Rattle.httparse.specs.Grammar.{HasNoRequest};
 ghost use Rattle.muni_wire.specs.Extent.{TakesAtMost, TakesHead, piece_limit};
-ghost use Rattle.muni_wire.specs.Faults.{IsOfTake, TakesAndTells};
+ghost use Rattle.muni_wire.specs.Faults.{TakesOnly};
 ghost use Rattle.muni_wire.specs.Head.{EndsInHead, head_limit};
 ghost use Rattle.muni_wire.specs.Routes.{routes as all_routes};
 ghost use Rattle.muni_wire.specs.Taken as spec;
@@ -31,8 +31,7 @@ pub(crate) fn read_head<L: Link>(
     ensures taken { IfOk result
         (λ read. Consumes (L.left link.old) (L.left link.new) read.1.items) }
     ensures no_further { TakesHead (L.left link.old) (L.left link.new) }
-    ensures others { IfErr result (λ fault. IsOfTake fault) }
-    ensures takes { TakesAndTells L.Source L.Sink result link.old link.new }
+    ensures takes { TakesOnly L.Source L.Sink result link.old link.new }
 {
     let mut bytes = Vec::new(alloc);
     let mut has_begun = false;
@@ -103,8 +102,7 @@ pub(crate) fn fill<L: Link>(
         × (bytes.new.items ≡ bytes.old.items ++ piece)) }
     ensures end { OnOk result (vec_len bytes.new < limit → IsAtEnd (L.left link.new)) }
     ensures few { TakesAtMost (limit - vec_len bytes.old) (L.left link.old) (L.left link.new) }
-    ensures others { IfErr result (λ fault. IsOfTake fault) }
-    ensures takes { TakesAndTells L.Source L.Sink result link.old link.new }
+    ensures takes { TakesOnly L.Source L.Sink result link.old link.new }
 {
     for turn in 0..81_921usize {
         let _turn = turn;
@@ -131,8 +129,7 @@ fn take_more<L: Link>(link: &mut L, bytes: &mut Vec<u8>, limit: usize) -> Result
     ensures end { IfOk result (λ count. count ≡ 0 → IsAtEnd (L.left link.new)) }
     ensures few { TakesAtMost (min piece_limit (limit - vec_len bytes.old))
         (L.left link.old) (L.left link.new) }
-    ensures others { IfErr result (λ fault. IsOfTake fault) }
-    ensures takes { TakesAndTells L.Source L.Sink result link.old link.new }
+    ensures takes { TakesOnly L.Source L.Sink result link.old link.new }
 {
     let mut room = [0u8; 1024];
     let size = (limit - bytes.len()).min(1024);

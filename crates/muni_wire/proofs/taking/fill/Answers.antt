@@ -31,9 +31,9 @@ loop-turn-preserved g c =
           had.1 had.2 (omega arith) (omega arith) took.few;
       each = omega (arith, took.count, c.if-branch-eq0.false);
       most = λ h. omega (arith, took.limit);
-      uncounted = took.takes.counts ∙ c.loop-turn.invariant.uncounted;
-      keeps_bytes = took.takes.only.keeps_bytes ∙ c.loop-turn.invariant.keeps_bytes;
-      keeps_puts = took.takes.only.keeps_puts ∙ c.loop-turn.invariant.keeps_puts;
+      uncounted = took.takes.tells.counts ∙ c.loop-turn.invariant.uncounted;
+      keeps_bytes = took.takes.tells.only.keeps_bytes ∙ c.loop-turn.invariant.keeps_bytes;
+      keeps_puts = took.takes.tells.only.keeps_puts ∙ c.loop-turn.invariant.keeps_puts;
     }
 
 pub returns-in_err-take_more-clause-few : goal.returns-in_err-take_more-clause-few

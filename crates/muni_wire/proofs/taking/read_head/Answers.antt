@@ -38,9 +38,9 @@ loop-turn-preserved g c =
       room = (seen.awaited still.0).1;
       begun = seen.begun;
       none = (seen.awaited still.0).0;
-      uncounted = took.takes.counts ∙ had.uncounted;
-      keeps_bytes = took.takes.only.keeps_bytes ∙ had.keeps_bytes;
-      keeps_puts = took.takes.only.keeps_puts ∙ had.keeps_puts;
+      uncounted = took.takes.tells.counts ∙ had.uncounted;
+      keeps_bytes = took.takes.tells.only.keeps_bytes ∙ had.keeps_bytes;
+      keeps_puts = took.takes.tells.only.keeps_puts ∙ had.keeps_puts;
     }
 
 pub returns-in_err-count-clause-no_further : goal.returns-in_err-count-clause-no_further
