@@ -11,6 +11,7 @@ ghost use Rattle.muni_book.specs.GivenFor.{IsInRange, IsOnBasis, IsNote};
 ghost use Rattle.muni_book.specs.Answers as spec;
 ghost use Rattle.muni_book.specs.Answers.{IsRightAnswer, IsFound};
 
+use crate::Workers;
 use crate::trade::{is_wrong_basis, net_price, side_left, total};
 use muni_days::Basis;
 use muni_dec::{
@@ -74,6 +75,7 @@ pub fn figures<R: Threads + Sync, E: Encloser + Sync, G: Gate + Sync>(
     if let Some(side) = side_left(asked, list.as_slice()) {
         return Err(Refusal::GivenOutOfRange(side));
     }
+    let workers = Workers::new(workers);
     let found = find(rt, asked, list.as_slice(), workers, encloser, gate)?;
     Ok(figures_of(issue, asked, found))
 }
@@ -83,7 +85,7 @@ fn find<R: Threads + Sync, E: Encloser + Sync, G: Gate + Sync>(
     rt: &R,
     asked: &Asked,
     list: &[Candidate],
-    workers: u32,
+    workers: Workers,
     encloser: &E,
     gate: &G,
 ) -> Result<PriceAndYield, Refusal>
@@ -92,7 +94,6 @@ fn find<R: Threads + Sync, E: Encloser + Sync, G: Gate + Sync>(
     requires in_range { IsInRange asked.now.given asked.now.side asked.now.fee list.now }
     requires some { 0 < length list.now }
     requires few { length list.now ≤ 41 }
-    requires workers { (1 ≤ workers) × (workers ≤ 16) }
     ensures found { IsFound (E.ends encloser.now) asked.now.given asked.now.side asked.now.fee
         list.now result }
     ensures range { IfOk result (λ found. found.price ≤ 100_000_000) }
@@ -150,19 +151,18 @@ fn at_price<R: Threads + Sync, E: Encloser + Sync, G: Gate + Sync>(
     list: &[Candidate],
     price: Price,
     net: Price,
-    workers: u32,
+    workers: Workers,
     encloser: &E,
     gate: &G,
 ) -> Result<PriceAndYield, Refusal>
     requires ranges { All IsCandidate list.now }
     requires few { length list.now ≤ 41 }
     requires net { 0 < net }
-    requires workers { (1 ≤ workers) × (workers ≤ 16) }
     ensures found { spec.IsFoundAtPrice (E.ends encloser.now) price net list.now result }
     ensures shown { IfOk result (λ found. found.price ≡ price / 1000) }
     ensures range { IfOk result (λ found. found.price ≤ 100_000_000) }
 {
-    match yield_to_worst(rt, list, net, workers, encloser, gate) {
+    match yield_to_worst(rt, list, net, workers.count(), encloser, gate) {
         Ok(lowest) => Ok(PriceAndYield {
             price: trunc3(price),
             yld: lowest.yld,

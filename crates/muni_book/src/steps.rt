@@ -9,7 +9,7 @@ ghost use Rattle.muni_book_step.specs.Step.{CanKeep};
 ghost use Rattle.muni_book_step.specs.CarriedOut.{IsCarriedOut, KeepsIssue, KeepsVersion};
 ghost use Rattle.muni_book.specs.Answers.{IsRightAnswer};
 
-use crate::{BookFault, figures};
+use crate::{BookFault, Workers, figures};
 use muni_book_step::{Plan, plan_of};
 use muni_edge::Gate;
 use muni_keep::{KeepFault, Keeper};
@@ -43,6 +43,7 @@ pub fn apply<R: Threads + Sync, K: Keeper, E: Encloser + Sync, G: Gate + Sync>(
     ensures same { SameKeeper K.Keeper BookFault.Failed result keeper.old keeper.new }
 {
     let plan = plan_of(keeper, command)?;
+    let workers = Workers::new(workers);
     Ok(carry_out(rt, keeper, plan, workers, encloser, gate)?)
 }
 
@@ -50,11 +51,10 @@ fn carry_out<R: Threads + Sync, K: Keeper, E: Encloser + Sync, G: Gate + Sync>(
     rt: &R,
     keeper: &mut K,
     plan: Plan,
-    workers: u32,
+    workers: Workers,
     encloser: &E,
     gate: &G,
 ) -> Result<Reply, KeepFault>
-    requires workers { (1 ≤ workers) × (workers ≤ 16) }
     requires can_keep { IfSome (K.tables keeper.old) (λ t. CanKeep t plan) }
     ensures done { IfOk result (λ reply. IfSome (K.tables keeper.old) (λ t.
         IsCarriedOut (IsRightAnswer (E.ends encloser.now)) plan t reply (K.tables keeper.new))) }
@@ -64,7 +64,7 @@ fn carry_out<R: Threads + Sync, K: Keeper, E: Encloser + Sync, G: Gate + Sync>(
     match plan {
         Plan::Answer(reply) => Ok(reply),
         Plan::Quote { issue, asked } => {
-            match figures(rt, &issue, &asked, workers, encloser, gate) {
+            match figures(rt, &issue, &asked, workers.count(), encloser, gate) {
                 Ok(figures) => Ok(Reply::Quoted { asked, figures }),
                 Err(why) => Ok(Reply::Refused(why)),
             }
@@ -82,7 +82,7 @@ fn carry_out<R: Threads + Sync, K: Keeper, E: Encloser + Sync, G: Gate + Sync>(
             number,
             act,
             terms,
-        } => match figures(rt, &issue, &terms.asked, workers, encloser, gate) {
+        } => match figures(rt, &issue, &terms.asked, workers.count(), encloser, gate) {
             Ok(figures) => {
                 let version = Version {
                     act,
