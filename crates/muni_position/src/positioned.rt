@@ -2,7 +2,6 @@
 
 ghost use Rattle.std.specs.Prelude.{◌≡◌, ◌≢◌, ◌+◌, ℕ, List, Option, Some, None, IsSome, IfOk, IfSome, OnOk, OnErr, slice_get};
 ghost use Rattle.std.specs.Option.{option_map};
-ghost use Rattle.muni_keep.specs.Frames.{Found};
 ghost use Rattle.muni_keep.specs.History.{next_number};
 ghost use Rattle.muni_keep.specs.Keeper.{OnlyReads, EditsTables, SameKeeper};
 ghost use Rattle.muni_keep.specs.Tables.{issue_at, trade_at, version_at, last_at, trade_count, page_at, with_issue, with_version};
@@ -163,7 +162,7 @@ impl<K: Keeper> Positioned<K> {
 }
 
 impl<K: Keeper> Keeper for Positioned<K> {
-    ghost use Rattle.muni_position.specs.Watching.{KeepsWatch, LooksInside};
+    ghost use Rattle.muni_position.specs.Watching.{FindsInside, KeepsWatch, LooksInside};
 
     ghost tables = { λ keeper. K.tables keeper.inner };
 
@@ -172,8 +171,7 @@ impl<K: Keeper> Keeper for Positioned<K> {
     ghost lent_as = { λ keeper. K.lent_as keeper.inner };
 
     fn issue(&mut self, cusip: &[u8; 9]) -> Result<Option<Issue>, KeepFault>
-        ensures found { Found (K.tables self.old.inner) result (λ t. issue_at t cusip.now) }
-        ensures looks { LooksInside K.Keeper result self.old self.new }
+        ensures { FindsInside K.Keeper result (λ t. issue_at t cusip.now) self.old self.new }
     {
         self.inner.issue(cusip)
     }
@@ -188,15 +186,13 @@ impl<K: Keeper> Keeper for Positioned<K> {
     }
 
     fn version(&mut self, key: &Key, number: u32) -> Result<Option<Version>, KeepFault>
-        ensures found { Found (K.tables self.old.inner) result (λ t. version_at t key.now number) }
-        ensures looks { LooksInside K.Keeper result self.old self.new }
+        ensures { FindsInside K.Keeper result (λ t. version_at t key.now number) self.old self.new }
     {
         self.inner.version(key, number)
     }
 
     fn last(&mut self, key: &Key) -> Result<Option<(u32, Version)>, KeepFault>
-        ensures found { Found (K.tables self.old.inner) result (λ t. last_at t key.now) }
-        ensures looks { LooksInside K.Keeper result self.old self.new }
+        ensures { FindsInside K.Keeper result (λ t. last_at t key.now) self.old self.new }
     {
         self.inner.last(key)
     }
@@ -223,8 +219,7 @@ impl<K: Keeper> Keeper for Positioned<K> {
     }
 
     fn trades(&mut self, desk: &DeskName) -> Result<u32, KeepFault>
-        ensures found { Found (K.tables self.old.inner) result (λ t. trade_count t desk.now) }
-        ensures looks { LooksInside K.Keeper result self.old self.new }
+        ensures { FindsInside K.Keeper result (λ t. trade_count t desk.now) self.old self.new }
     {
         self.inner.trades(desk)
     }
@@ -245,17 +240,13 @@ impl<K: Keeper> Keeper for Positioned<K> {
 impl<K: Keeper> Positioned<K> {
     ghost use Rattle.std.specs.Prelude.{Err, IsTrue};
     ghost use Rattle.muni_position.specs.Holdings.{is_watched};
-    ghost use Rattle.muni_position.specs.Watching.{KeepsWatch};
+    ghost use Rattle.muni_position.specs.Watching.{EditsInside, KeepsWatch};
 
     /// Puts the next version of a trade and changes the totals by it, if they have room for it.
     pub(crate) fn put(&mut self, key: &Key, number: u32, version: &Version) -> Result<(), PutFault>
         requires { IfSome (K.tables self.old.inner) (λ t. number ≡ next_number (trade_at t key.now)) }
 
-        ensures kept { OnOk result
-            (K.tables self.new.inner ≡ option_map (with_version key.now version.now) (K.tables self.old.inner)) }
-        ensures unchanged { OnErr result (K.tables self.new.inner ≡ K.tables self.old.inner) }
-        ensures same { SameKeeper K.Keeper (PutFault.Refused KeepFault.Failed) result
-            self.old.inner self.new.inner }
+        ensures edits { EditsInside K.Keeper (with_version key.now version.now) result self.old.inner self.new.inner }
         ensures watch { KeepsWatch self.old self.new }
         ensures totals { OnErr result ((cusip : List ℕ) → kept self.new.holdings cusip ≡ kept self.old.holdings cusip) }
 
