@@ -47,6 +47,7 @@ class Server:
                 break
             except ConnectionRefusedError:
                 if not self.is_new or self.process.poll() is not None or time.time() > end_by:
+                    self.process.kill()
                     raise SystemExit("the server takes no connection")
                 time.sleep(0.02)
         self.is_new = False
