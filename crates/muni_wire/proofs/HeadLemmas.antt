@@ -1,4 +1,4 @@
--- What is said of a head stands whatever bytes follow.
+-- What is said of a head holds whatever bytes follow.
 use Rattle.std.proofs.Common.{◌≡◌, ◌≤◌, ℕ, List, Option, length, drop, take, map, refl, ap, arith}
 use Rattle.std.proofs.lemmas.List.{length-map, length-take}
 use Rattle.std.specs.Io.KnownBytes.{IsAtEnd}

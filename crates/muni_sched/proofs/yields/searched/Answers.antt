@@ -79,7 +79,7 @@ pub lowest_of-candidate-requires : goal.lowest_of-candidate-requires
 lowest_of-candidate-requires g c =
     (out g (goal.at.lowest_of-candidate-requires g c).After-known-known).found_range
 
--- the candidate that decides among the outcomes that are told decides among those of all candidates
+-- the candidate that decides among the outcomes that are known decides among those of all candidates
 ranked : (g : given.Over) (c : After-outcome_at-outcome g) (all : AreSearchedOut (g.E.Encloser.ends c.args.encloser.now) c.args.price c.args.list.now (outcomes_of c.known-known.result.now)) → IsRanked (least_unsure Yield) all.outcomes (decided_by c.outcome_at-outcome.result c.lowest_of-candidate.result)
 ranked g c all =
     let candidate = c.lowest_of-candidate.result in
