@@ -1,4 +1,4 @@
-//! The import of a CSV text into a store, with the positions of a desk behind its report.
+//! The import of a CSV text into a store, with the positions of a desk after its report.
 
 ghost use Rattle.std.specs.Prelude.{◌≡◌, ◌≤◌, None, length, IfSome};
 ghost use Rattle.muni_book.specs.Answers.{IsRightAnswer};
@@ -23,7 +23,7 @@ use std::alloc::Global;
 use std::thread::Threads;
 
 /// Applies each row of a CSV text to the tables of a store and writes a line of report on each, as an
-/// import does, and behind them what a desk then holds, a line for each CUSIP.
+/// import does, and after them what a desk then holds, a line for each CUSIP.
 ///
 /// A desk with more than 100,000 trades is answered as a fault of the store, before the first row.
 pub fn import_with_positions<
@@ -59,7 +59,7 @@ pub fn import_with_positions<
     done
 }
 
-// The rows of a text over a keeper whose desk is watched before the first, and its positions behind the
+// The rows of a text over a keeper whose desk is watched before the first, and its positions after the
 // report on the last.
 fn import_and_list<R: Threads + Sync, K: Keeper, O: Sink, E: Encloser + Sync, G: Gate + Sync>(
     calculator: &Calculator<'_, R, E, G>,

@@ -1,4 +1,4 @@
-//! The calls of an object in memory, of which some are to fail.
+//! The calls of an object in memory, some of which are to fail.
 
 ghost use Rattle.std.specs.Prelude.{◌≡◌, ◌≤◌, IfOk, is_ok, not};
 ghost use Rattle.muni_edge.specs.Calls.{none_made, is_listed, after_call, after_fault, raised};

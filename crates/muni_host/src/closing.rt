@@ -7,16 +7,16 @@ use std::io::{ErrorKind, Read};
 use std::net::{OpenStream, Shutdown};
 use std::time::Duration;
 
-/// At most so many reads are made.
+/// At most this many reads are made.
 const READS: usize = 1_024;
 
-/// A read takes at most so many bytes, so all of them take at most 16 MiB.
+/// A read takes at most this many bytes, so all of them take at most 16 MiB.
 const ROOM: usize = 16_384;
 
 /// A read waits so long for bytes.
 const WAIT_MILLIS: u64 = 50;
 
-/// At most so many reads find none, so an end that is silent is waited for one second.
+/// At most this many reads find none, so an end that is silent is waited for one second.
 const SILENT_READS: usize = 20;
 
 /// Ends what is sent over a stream, and reads away what the other end still sends.

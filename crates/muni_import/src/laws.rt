@@ -18,7 +18,7 @@ pub fn last_fields_may_be_left_out()
     ensures corrections { LastMayBeLeftOut (codes "correct") 9 }
 {}
 
-/// Of a row that is no command the first fault is told: that it has no name, then that it has
+/// Of a row that is no command the first fault is reported: that it has no name, then that it has
 /// another number of fields, then the least column that does not read. Every other row is a
 /// command.
 pub fn the_least_bad_column_is_told()

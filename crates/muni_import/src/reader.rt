@@ -66,7 +66,7 @@ impl<'a> RowReader<'a> {
 
     /// The next row: its command, or why it is none. `None` where no row is left.
     ///
-    /// Want of memory is the only refusal, and no row is told after it.
+    /// Out of memory is the only refusal, and no row comes after it.
     pub fn next_row(&mut self) -> Result<Option<Result<Command, RowFault>>, NoMemory>
         ensures next { IfOk result (λ row. IfSome self.old (λ left. IsNext left row self.new)) }
         ensures refused { OnErr result (self.new ≡ None) }

@@ -146,7 +146,7 @@ fn terms(row: &ByteRecord, first: u32) -> Result<Terms, RowFault>
     })
 }
 
-// A basis, and in the column behind it a value.
+// A basis, and in the column after it a value.
 fn given(row: &ByteRecord, column: u32) -> Result<Given, RowFault>
     requires { (1 ≤ column) × (column ≤ 9) }
     ensures { result ≡ spec.given_in column (fields_of row.now) }

@@ -40,7 +40,7 @@ is_accrued_whole series =
     (nat_eq series.a 0 && nat_eq series.accrued 0)
     || (nat_eq series.a 180 && nat_eq series.accrued series.regular)
 
--- no payment is 0 for want of interest, and the first one is regular too
+-- no payment is 0 because there is no interest, and the first one is regular too
 abbrev pub is_level : PaymentSeries → Bool
 is_level series = nat_eq series.skip 0 && nat_eq series.first series.regular
 
