@@ -143,8 +143,9 @@ fn a_put_that_fails_ends_an_import_behind_its_row(rt: HostRuntime) -> Result<(),
 
 #[test]
 fn a_keeper_that_fails_ends_an_import_before_its_row(rt: HostRuntime) -> Result<(), Fail> {
-    // How often an import of these three rows asks the keeper.
+    // How often an import of these three rows asks the keeper, and with the confirmation behind it.
     let calls = 10u64;
+    let all_calls = 12u64;
     let mut before = 0u32;
     for call in 0..16u64 {
         let failing = Failing {
@@ -155,7 +156,8 @@ fn a_keeper_that_fails_ends_an_import_before_its_row(rt: HostRuntime) -> Result<
         if call < calls {
             assert_eq!(rt; (status, is_kept), (Status::StoreFault, lines == 2));
         } else {
-            assert_eq!(rt; (status, lines), (Status::Done, 3));
+            let done = (Status::Done, 3, call >= all_calls);
+            assert_eq!(rt; (status, lines, is_kept), done);
         }
         assert!(rt; before <= lines);
         before = lines;
@@ -181,6 +183,12 @@ fn first_wrong_status<R: Threads + Sync>(rt: &R, alloc: Global) -> Result<Option
         ),
         (
             IMPORT,
+            [NONE, NONE, FIRST_CALL, NONE],
+            Status::StoreFault,
+            Status::Refused,
+        ),
+        (
+            LISTED,
             [NONE, NONE, FIRST_CALL, NONE],
             Status::StoreFault,
             Status::Refused,
