@@ -143,7 +143,7 @@ fn a_put_that_fails_ends_an_import_behind_its_row(rt: HostRuntime) -> Result<(),
 
 #[test]
 fn a_keeper_that_fails_ends_an_import_before_its_row(rt: HostRuntime) -> Result<(), Fail> {
-    // How often an import of these three rows asks the keeper, and with the confirmation behind it.
+    // How often an import of these three rows asks the keeper, and with the confirmation after it.
     let calls = 10u64;
     let all_calls = 12u64;
     let mut before = 0u32;
