@@ -1,2 +1,3 @@
+mod OpenLemmas
 mod PageLemmas
 pub mod RefusedLemmas

@@ -1,9 +1,9 @@
 -- What a refused statement leaves of a database.
-use Rattle.std.proofs.Common.{◌≡◌, ◌⊎◌, ℕ, List, Err, inl, inr, false}
+use Rattle.std.proofs.Common.{ℕ, List, Err, inl, inr, false}
 use Rattle.std.proofs.lemmas.Bool.{cases_Bool}
 use Rattle.sqlite.specs.declared.error.Error.{Error}
 use Rattle.sqlite.specs.declared.types.Value.{Value}
-use Rattle.sqlite.specs.State.{State, Executes, ExecutesIn, IsNotRun, RunsAlone, shows_rows, IsUnchanged, IsRolledBack}
+use Rattle.sqlite.specs.State.{State, Executes, ExecutesIn, IsNotRun, shows_rows}
 use Rattle.muni_store.specs.Ran.{IsUndone}
 
 not_run : (old new : State) (sql : List ℕ) (params : List Value) (e : Error) → IsNotRun old new sql params e → IsUndone old new

@@ -1,5 +1,7 @@
+pub mod Calls
 pub mod Counts
 pub mod Kinds
+pub mod Open
 pub mod Page
 pub mod Ran
 pub mod Rows

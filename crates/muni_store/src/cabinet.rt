@@ -3,7 +3,7 @@
 ghost use Rattle.std.specs.Prelude.{◌≡◌, None, option_map};
 
 use crate::faults::counted;
-use crate::keeper::SqlKeeper;
+use crate::file_keeper::FileKeeper;
 use crate::store_file::StoreFile;
 use muni_edge::Faults;
 use muni_keep::{Cabinet, KeepFault};
@@ -16,7 +16,7 @@ use sqlite::{File, FileStore};
 #[derive(Drop)]
 pub struct SqlCabinet<'a> {
     rt: &'a HostRuntime,
-    lent: Option<StoreFile<'a>>,
+    lent: Option<Vec<u8>>,
     faults: Faults,
 }
 
@@ -34,25 +34,27 @@ impl<'a> SqlCabinet<'a> {
 }
 
 impl<'a> Cabinet for SqlCabinet<'a> {
-    type K = SqlKeeper<FileStore<File>>;
+    type K = FileKeeper<FileStore<File>, StoreFile>;
 
     ghost told = { λ _ _. None };
 
     ghost faults = { λ cabinet. cabinet.faults };
 
-    ghost out = { λ cabinet. option_map (λ file. (file.path.items, 0)) cabinet.lent };
+    ghost out = { λ cabinet. option_map (λ name. (name.items, 0)) cabinet.lent };
 
-    fn fetch(&mut self, name: &[u8]) -> Result<SqlKeeper<FileStore<File>>, KeepFault> {
-        let mut file = StoreFile::new(self.rt, name.to_vec(self.rt.alloc())?);
+    fn fetch(&mut self, name: &[u8]) -> Result<FileKeeper<FileStore<File>, StoreFile>, KeepFault> {
+        let lent = name.to_vec(self.rt.alloc())?;
+        let mut file = StoreFile::new(self.rt.clone()?, name.to_vec(self.rt.alloc())?);
         let keeper = counted(&mut self.faults, file.open())?;
-        self.lent = Some(file);
-        Ok(keeper)
+        self.lent = Some(lent);
+        Ok(FileKeeper::new(file, keeper))
     }
 
-    fn give_back(&mut self, keeper: SqlKeeper<FileStore<File>>) {
-        let (database, is_changed, faults) = keeper.into_parts();
+    fn give_back(&mut self, keeper: FileKeeper<FileStore<File>, StoreFile>) {
+        let (file, keeper, faults) = keeper.into_parts();
         self.faults.add(&faults);
-        if let Some(file) = &self.lent {
+        if let Some(keeper) = keeper {
+            let (database, is_changed) = keeper.into_parts();
             file.close(database, is_changed);
         }
         self.lent = None;

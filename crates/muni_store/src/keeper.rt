@@ -4,14 +4,15 @@ ghost use Rattle.std.specs.Prelude.{◌≡◌, ◌⊎◌, [], None, Ok, Some, If
 ghost use Rattle.sqlite.specs.Held.{state};
 ghost use Rattle.muni_store_rows.specs.Issue as issues;
 ghost use Rattle.muni_store_rows.specs.Version as versions;
+ghost use Rattle.muni_store.specs.Calls.{Looks, Puts};
 ghost use Rattle.muni_store.specs.Counts.{count_of, with_count, after_put};
 ghost use Rattle.muni_store.specs.Faults.{CountsFailure};
 ghost use Rattle.muni_store.specs.Page.{IsPage};
-ghost use Rattle.muni_store.specs.Ran.{Ran, NotRun, Asked};
+ghost use Rattle.muni_store.specs.Ran.{Asked};
 ghost use Rattle.muni_store.specs.Rows as rows;
 ghost use Rattle.muni_store.specs.Statements as spec;
 
-use crate::faults::counted;
+use crate::faults::{counted, is_shut};
 use crate::page::read_page;
 use crate::statements::{
     count_trades, find_issue, find_last, find_version, insert_issue, insert_version,
@@ -34,6 +35,7 @@ use std::alloc::Global;
 pub struct SqlKeeper<S: Alter + Drop> {
     database: Connection<S>,
     is_changed: bool,
+    is_shut: bool,
     trades: TradeCounts,
     faults: Faults,
 }
@@ -48,22 +50,29 @@ impl<S: Alter + Drop> SqlKeeper<S> {
         SqlKeeper {
             database,
             is_changed,
+            is_shut: false,
             trades: TradeCounts::new(alloc),
             faults: Faults::none(),
         }
     }
 
-    /// The database, whether it was changed, and the count of faults.
-    pub(crate) fn into_parts(self) -> (Connection<S>, bool, Faults)
-        ensures { result.2 ≡ self.faults }
+    /// Whether the last call found that an earlier failure of the disk has shut the database.
+    pub(crate) fn is_shut(&self) -> bool
+        ensures { result ≡ self.now.is_shut }
+    {
+        self.is_shut
+    }
+
+    /// The database, and whether it was changed.
+    pub(crate) fn into_parts(self) -> (Connection<S>, bool)
+        ensures { result ≡ (self.database, self.is_changed) }
     {
         let SqlKeeper {
             database,
             is_changed,
-            faults,
             ..
         } = self;
-        (database, is_changed, faults)
+        (database, is_changed)
     }
 }
 
@@ -75,57 +84,54 @@ impl<S: Alter + Drop> Keeper for SqlKeeper<S> {
     ghost lent_as = { λ _. 0 };
 
     fn issue(&mut self, cusip: &[u8; 9]) -> Result<Option<Issue>, KeepFault>
-        ensures read { IfOk result (rows.Reads rows.issue_in (state S.Store self.old.database)
-            (state S.Store self.new.database) spec.select_issue (spec.cusip_values cusip.now)) }
-        ensures asked { Asked (state S.Store self.old.database) (state S.Store self.new.database)
-            spec.select_issue (spec.cusip_values cusip.now) }
+        ensures looks { Looks (state S.Store) rows.issue_in spec.select_issue (spec.cusip_values cusip.now) result
+            self.old.database self.new.database }
         ensures counts { self.new.trades ≡ self.old.trades }
         ensures counted { CountsFailure result self.old.faults self.new.faults }
     {
         let found = find_issue(&mut self.database, cusip);
+        self.is_shut = is_shut(&found);
         counted(&mut self.faults, found)
     }
 
     fn put_issue(&mut self, issue: &Issue) -> Result<(), KeepFault>
-        ensures ran { OnOk result (Ran (state S.Store self.old.database) (state S.Store self.new.database)
-            spec.insert_issue (spec.issue_values (issues.columns_of issue.now))) }
-        ensures undone { OnErr result (NotRun (state S.Store) self.old.database self.new.database) }
+        ensures puts { Puts (state S.Store) spec.insert_issue (spec.issue_values (issues.columns_of issue.now))
+            result self.old.database self.new.database }
         ensures counts { self.new.trades ≡ self.old.trades }
         ensures counted { CountsFailure result self.old.faults self.new.faults }
     {
         self.is_changed = true;
         let put = insert_issue(&mut self.database, issue);
+        self.is_shut = is_shut(&put);
         counted(&mut self.faults, put)
     }
 
     fn version(&mut self, key: &Key, number: u32) -> Result<Option<Version>, KeepFault>
-        ensures read { IfOk result (rows.Reads rows.version_in (state S.Store self.old.database)
-            (state S.Store self.new.database) spec.select_version (spec.numbered_key_values key.now number)) }
-        ensures asked { Asked (state S.Store self.old.database) (state S.Store self.new.database)
-            spec.select_version (spec.numbered_key_values key.now number) }
+        ensures looks { Looks (state S.Store) rows.version_in spec.select_version
+            (spec.numbered_key_values key.now number) result self.old.database self.new.database }
         ensures counts { self.new.trades ≡ self.old.trades }
         ensures counted { CountsFailure result self.old.faults self.new.faults }
     {
         let found = find_version(&mut self.database, key, number);
+        self.is_shut = is_shut(&found);
         counted(&mut self.faults, found)
     }
 
     fn last(&mut self, key: &Key) -> Result<Option<(u32, Version)>, KeepFault>
-        ensures read { IfOk result (rows.Reads rows.last_in (state S.Store self.old.database)
-            (state S.Store self.new.database) spec.select_last (spec.key_values key.now)) }
-        ensures asked { Asked (state S.Store self.old.database) (state S.Store self.new.database)
-            spec.select_last (spec.key_values key.now) }
+        ensures looks { Looks (state S.Store) rows.last_in spec.select_last (spec.key_values key.now) result
+            self.old.database self.new.database }
         ensures counts { self.new.trades ≡ self.old.trades }
         ensures counted { CountsFailure result self.old.faults self.new.faults }
     {
         let found = find_last(&mut self.database, key);
+        self.is_shut = is_shut(&found);
         counted(&mut self.faults, found)
     }
 
     fn put_version(&mut self, key: &Key, number: u32, version: &Version) -> Result<(), KeepFault>
-        ensures ran { OnOk result (Ran (state S.Store self.old.database) (state S.Store self.new.database)
-            spec.insert_version (spec.version_values (versions.columns_of key.now number version.now))) }
-        ensures undone { OnErr result (NotRun (state S.Store) self.old.database self.new.database) }
+        ensures puts { Puts (state S.Store) spec.insert_version
+            (spec.version_values (versions.columns_of key.now number version.now)) result
+            self.old.database self.new.database }
         ensures counts { self.new.trades
             ≡ after_put key.now.desk number (is_ok result) self.old.trades }
         ensures counted { CountsFailure result self.old.faults self.new.faults }
@@ -133,6 +139,7 @@ impl<S: Alter + Drop> Keeper for SqlKeeper<S> {
         self.is_changed = true;
         let put = insert_version(&mut self.database, key, number, version);
         self.trades.note_put(&key.desk, number, put.is_ok());
+        self.is_shut = is_shut(&put);
         counted(&mut self.faults, put)
     }
 
@@ -157,6 +164,7 @@ impl<S: Alter + Drop> Keeper for SqlKeeper<S> {
             return Ok(count);
         }
         let found = count_trades(&mut self.database, desk);
+        self.is_shut = is_shut(&found);
         let count = counted(&mut self.faults, found)?;
         self.trades.keep(desk, count);
         Ok(count)
@@ -173,6 +181,7 @@ impl<S: Alter + Drop> Keeper for SqlKeeper<S> {
         ensures counted { CountsFailure result self.old.faults self.new.faults }
     {
         let lines = read_page(&mut self.database, desk, after);
+        self.is_shut = is_shut(&lines);
         counted(&mut self.faults, lines)
     }
 }

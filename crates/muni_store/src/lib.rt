@@ -4,6 +4,7 @@
 mod cabinet;
 mod fault;
 mod faults;
+mod file_keeper;
 mod keeper;
 pub mod laws;
 mod look;
@@ -16,4 +17,5 @@ mod store_file;
 mod trade_counts;
 
 pub use cabinet::SqlCabinet;
+pub use file_keeper::FileKeeper;
 pub use keeper::SqlKeeper;

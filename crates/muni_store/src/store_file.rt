@@ -3,6 +3,7 @@
 ghost use Rattle.std.specs.Prelude.{◌≡◌, false, IfOk, OnOk};
 
 use crate::fault::StoreFault;
+use crate::file_keeper::OpensAnew;
 use crate::keeper::SqlKeeper;
 use crate::look::{Found, look_at};
 use crate::moving::move_old_rows;
@@ -15,15 +16,15 @@ const EMPTY_LOG: u64 = 41;
 
 /// The file of a store, by its path.
 #[derive(Drop)]
-pub struct StoreFile<'a> {
-    rt: &'a HostRuntime,
+pub struct StoreFile {
+    rt: HostRuntime,
     path: Vec<u8>,
     // What was there when it was opened.
     found: Found,
 }
 
-impl<'a> StoreFile<'a> {
-    pub(crate) fn new(rt: &'a HostRuntime, path: Vec<u8>) -> StoreFile<'a>
+impl StoreFile {
+    pub(crate) fn new(rt: HostRuntime, path: Vec<u8>) -> StoreFile
         ensures { result.path ≡ path }
     {
         StoreFile {
@@ -37,8 +38,8 @@ impl<'a> StoreFile<'a> {
         ensures path { self.new.path ≡ self.old.path }
     {
         let path = text(&self.path)?;
-        self.found = look_at(self.rt, path)?;
-        match Connection::open_from(self.rt, path, false, Unknown) {
+        self.found = look_at(&self.rt, path)?;
+        match Connection::open_from(&self.rt, path, false, Unknown) {
             Ok(database) => Ok(database),
             Err((error, _left)) => {
                 // What is left holds the lock.
@@ -52,9 +53,9 @@ impl<'a> StoreFile<'a> {
     // no other process can be writing the log.
     fn remove_new_log(&self) {
         if let Found::Store(Some(log)) = &self.found {
-            if let Ok(about) = fs::metadata(self.rt, log) {
+            if let Ok(about) = fs::metadata(&self.rt, log) {
                 if about.len() <= EMPTY_LOG {
-                    let _ = fs::remove_file(self.rt, log);
+                    let _ = fs::remove_file(&self.rt, log);
                 }
             }
         }
@@ -83,6 +84,15 @@ impl<'a> StoreFile<'a> {
         } else {
             self.remove_new_log();
         }
+    }
+}
+
+impl OpensAnew<FileStore<File>> for StoreFile {
+    // What the log holds is written into the file and synced before, since of a sync that failed the system
+    // may count as written what the disk does not have.
+    fn open_anew(&mut self) -> Result<SqlKeeper<FileStore<File>>, StoreFault> {
+        self.connect()?.close()?;
+        self.open()
     }
 }
 
