@@ -43,16 +43,11 @@ impl Disk for FileDisk {
 
     fn read(&mut self, place: u64, room: &mut [u8]) -> Result<(), DiskFault> {
         room.fill(0);
-        let Ok(got) = self.file.read_at(room, place) else {
-            return Err(DiskFault::from(self.faults.fail()));
-        };
-        // What the file does not have is 0, and a read that ends before its end is a failure.
-        if got < room.len() {
-            let Ok(0) = self.file.read_at(&mut room[got..], place + got as u64) else {
-                return Err(DiskFault::from(self.faults.fail()));
-            };
+        match self.file.read_at(room, place) {
+            // What the file does not have is 0. A file that ends within what is read was cut off.
+            Ok(got) if got == 0 || got == room.len() => Ok(()),
+            _ => Err(DiskFault::from(self.faults.fail())),
         }
-        Ok(())
     }
 
     fn write(&mut self, place: u64, piece: &[u8]) -> Result<(), DiskFault> {
