@@ -1,3 +1,4 @@
+pub mod BoundLemmas
 pub mod ChangeLemmas
 pub mod HoldingLemmas
 pub mod KeptLemmas

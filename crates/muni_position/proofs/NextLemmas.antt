@@ -144,7 +144,7 @@ held_are versions holdings ordered are =
     let rising : IsStrictlySortedBy by_bytes (keys_of held) =
     subst (IsStrictlySortedBy by_bytes) (sym (keys-map position (filter (λ e. live e.0) holdings.entries) ∙ keys-filter live holdings.entries)) (IsStrictlySortedBy-filter by_bytes live (keys_of holdings.entries) ordered) in
     same_entries by_bytes nat_list_cmp_total exact_bytes held (positions_of versions) (in_order held rising) (in_order (positions_of versions) (positions_rise versions))
-    (λ cusip. find_lookup cusip held ∙ kept_at holdings cusip ∙ ap if_live (ap position_in (are cusip) ∙ position_is cusip versions) ∙ sym (held_at versions cusip) ∙ sym (find_lookup cusip (positions_of versions)))
+    (λ cusip. find_lookup cusip held ∙ kept_at holdings cusip ∙ ap if_live (ap position_in (are.sums cusip) ∙ position_is cusip versions) ∙ sym (held_at versions cusip) ∙ sym (find_lookup cusip (positions_of versions)))
 
 past_map : {X Y : Type 0} (g : List ℕ → Y) (p : List ℕ → Bool) (es : List (List ℕ × X)) → filter (λ (e : List ℕ × Y). p e.0) (map (λ e. (e.0, g e.0)) es) ≡ map (λ e. (e.0, g e.0)) (filter (λ e. p e.0) es)
 past_map g p [] = refl

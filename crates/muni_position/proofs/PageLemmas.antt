@@ -2,7 +2,7 @@
 use Rattle.std.proofs.Common.{◌≡◌, ◌≤◌, ◌<◌, ℕ, suc, ◌+◌, ◌-◌, Bool, true, false, cond, List, [], ◌∷◌, ◌++◌, length, map, take, drop, Option, Some, None, refl, sym, ap, subst, ◌∙◌, arith, append_assoc}
 use Rattle.std.specs.Prelude.{T, slice_get, IfSome}
 use Rattle.muni_position.specs.Holdings.{HasTooMany, HasFew}
-use Rattle.std.specs.List.{filter}
+use Rattle.std.specs.List.{filter, AllByRecursion}
 use Rattle.std.specs.declared.cmp.Ordering.TheVariants.{Greater}
 use Rattle.std.specs.Ordering.{is_lt, ordering_reverse}
 use Rattle.std.specs.Cmp.{tied_itself}
@@ -16,8 +16,9 @@ use Rattle.muni_keep.specs.History.{History}
 use Rattle.muni_keep.specs.Tables.{Tables, line, page_at}
 use Rattle.muni_keep.specs.Trades.{by_bytes, own, is_past, trades_past}
 use Rattle.muni_position.specs.Positions.{last_versions}
-use Rattle.muni_position.specs.Holding.{nothing, plus, holding_of}
+use Rattle.muni_position.specs.Holding.{nothing, plus, holding_of, IsBounded}
 use Rattle.muni_position.specs.Holdings.{Holdings, kept, AreOf}
+use Rattle.muni_position.proofs.BoundLemmas.{bounded-append}
 use Rattle.muni_position.proofs.HoldingLemmas.{holding_of-nil, holding_of-append}
 use Rattle.muni_position.proofs.PutLemmas.{first, second, less}
 
@@ -79,15 +80,15 @@ none_read desk tables holdings none = record {
   read = [];
   all = all_pass (entries (own desk tables.desks));
   counted = refl;
-  sums = λ cusip. none cusip ∙ sym (holding_of-nil cusip);
+  sums = record { sums = λ cusip. none cusip ∙ sym (holding_of-nil cusip); bounded = tt };
 }
 
 -- one page more
 pub page_read : (desk : List ℕ) (tables : Tables) (after : Option (List ℕ)) (count next : ℕ) (lines : List Line) (last : Line) (old new : Holdings)
     → IsSummed desk tables after count old → lines ≡ page_at tables desk after → slice_get lines (length lines - 1) ≡ Some last
-    → ((cusip : List ℕ) → kept new cusip ≡ plus (kept old cusip) (holding_of cusip (map (λ line. line.version) lines)))
+    → ((cusip : List ℕ) → kept new cusip ≡ plus (kept old cusip) (holding_of cusip (map (λ line. line.version) lines))) → AllByRecursion IsBounded (map (λ line. line.version) lines)
     → next ≡ count + length lines → IsSummed desk tables (Some last.reference) next new
-page_read desk tables after count next lines last old new summed are is_last adds is =
+page_read desk tables after count next lines last old new summed are is_last adds bounded is =
     let trades = own desk tables.desks in
     let rest = trades_past after trades in
     let page = take 50 rest in
@@ -104,18 +105,24 @@ page_read desk tables after count next lines last old new summed are is_last add
     ∙ ap (filter (λ trade. is_past (Some e.0) trade.0)) cut
     ∙ past_one (summed.read ++ split.0) e behind (subst (λ l. T (is_sorted by_bytes l)) cut (entries_sorted trades)) in
     let last_of = λ (trade : List ℕ × History Version). trade.1.last in
+    let version = λ (line : Line). line.version in
+    let versions : map version lines ≡ map last_of page = ap (map version) are ∙ versions_of_lines page in
     record {
       read = summed.read ++ page;
       all =
           ap (λ l. (summed.read ++ page) ++ l) past ∙ append_assoc summed.read page behind
           ∙ ap (λ l. summed.read ++ l) whole ∙ summed.all;
       counted = omega (arith, is, summed.counted, length-append summed.read page, same_length line page, ap length are);
-      sums = λ cusip.
-          adds cusip
-          ∙ ap (λ h. plus h (holding_of cusip (map (λ line. line.version) lines))) (summed.sums cusip)
-          ∙ ap (λ l. plus (holding_of cusip (map last_of summed.read)) (holding_of cusip l)) (ap (map (λ line. line.version)) are ∙ versions_of_lines page)
-          ∙ sym (holding_of-append cusip (map last_of summed.read) (map last_of page))
-          ∙ ap (holding_of cusip) (sym (map-append last_of summed.read page));
+      sums = record {
+        sums = λ cusip.
+            adds cusip
+            ∙ ap (λ h. plus h (holding_of cusip (map version lines))) (summed.sums.sums cusip)
+            ∙ ap (λ l. plus (holding_of cusip (map last_of summed.read)) (holding_of cusip l)) versions
+            ∙ sym (holding_of-append cusip (map last_of summed.read) (map last_of page))
+            ∙ ap (holding_of cusip) (sym (map-append last_of summed.read page));
+        bounded = subst (AllByRecursion IsBounded) (sym (map-append last_of summed.read page))
+            (bounded-append (map last_of summed.read) (map last_of page) summed.sums.bounded (subst (AllByRecursion IsBounded) versions bounded));
+      };
     }
 
 no_more : {A B : Type 0} (f : A → B) (n : ℕ) (rest : List A) → map f (take (suc n) rest) ≡ [] → rest ≡ []
@@ -131,7 +138,7 @@ all_read desk tables after count lines holdings summed are none =
     let empty = none_left lines none in
     let ended = no_more line 49 (trades_past after trades) (sym are ∙ empty) in
     let read : summed.read ≡ entries trades = sym (append_nil summed.read) ∙ ap (λ l. summed.read ++ l) (sym ended) ∙ summed.all in
-    (λ cusip. summed.sums cusip ∙ ap (λ l. holding_of cusip (map (λ trade. trade.1.last) l)) read, sym (ap length read) ∙ summed.counted)
+    (subst (λ l. AreOf (map (λ trade. trade.1.last) l) holdings) read summed.sums, sym (ap length read) ∙ summed.counted)
   where
     none_left : {A : Type 0} (xs : List A) → length xs ≡ 0 → xs ≡ []
     none_left [] none = refl
@@ -155,10 +162,10 @@ each P (Some t) all = all t
 
 pub told_read : (desk : List ℕ) (told : Option Tables) (after : Option (List ℕ)) (count next : ℕ) (lines : List Line) (last : Line) (old new : Holdings)
     → IfSome told (λ t. IsSummed desk t after count old) → IfSome told (λ t. lines ≡ page_at t desk after) → slice_get lines (length lines - 1) ≡ Some last
-    → ((cusip : List ℕ) → kept new cusip ≡ plus (kept old cusip) (holding_of cusip (map (λ line. line.version) lines)))
+    → ((cusip : List ℕ) → kept new cusip ≡ plus (kept old cusip) (holding_of cusip (map (λ line. line.version) lines))) → AllByRecursion IsBounded (map (λ line. line.version) lines)
     → next ≡ count + length lines → IfSome told (λ t. IsSummed desk t (Some last.reference) next new)
-told_read desk None after count next lines last old new summed are is_last adds is = tt
-told_read desk (Some t) after count next lines last old new summed are is_last adds is = page_read desk t after count next lines last old new summed are is_last adds is
+told_read desk None after count next lines last old new summed are is_last adds bounded is = tt
+told_read desk (Some t) after count next lines last old new summed are is_last adds bounded is = page_read desk t after count next lines last old new summed are is_last adds bounded is
 
 pub told_all : (desk : List ℕ) (told : Option Tables) (after : Option (List ℕ)) (count : ℕ) (lines : List Line) (holdings : Holdings)
     → IfSome told (λ t. IsSummed desk t after count holdings) → IfSome told (λ t. lines ≡ page_at t desk after) → length lines ≡ 0

@@ -80,14 +80,14 @@ sum_after f m key history =
     let old = lasts_sum f es in
     rw (now, was, old) all
 
-grown_last : {V : Type 0} (trade : Option (History V)) (version : V) → (grown trade version).last ≡ version
+pub grown_last : {V : Type 0} (trade : Option (History V)) (version : V) → (grown trade version).last ≡ version
 grown_last None version = refl
 grown_last (Some history) version = refl
 
 get_put : {X : Type 0} (m : FinMap by_bytes X) (key : List ℕ) (x : X) → get (insert m key x) key ≡ Some x
 get_put m key x = get-insert nat_list_cmp_total m key x key ∙ ap (λ b. cond b (Some x) (get m key)) ((eq_by_cmp_equiv nat_list_cmp_total).refl key)
 
-own_put : (desk reference : List ℕ) (version : Version) (desks : Desks Version) → own desk (trades.put desk reference version desks) ≡ put_own reference version (own desk desks)
+pub own_put : (desk reference : List ℕ) (version : Version) (desks : Desks Version) → own desk (trades.put desk reference version desks) ≡ put_own reference version (own desk desks)
 own_put desk reference version desks = ap (λ found. unwrap_or found empty) (get_put desks desk (put_own reference version (own desk desks)))
 
 field_after : (f : Version → ℕ) (key : Key) (version : Version) (tables : Tables)

@@ -1,15 +1,16 @@
 -- How a put changes the holdings of a desk.
-use Rattle.std.specs.Prelude.{◌≡◌, ℕ, true, List, Option, Some, None, if◌then◌else◌}
+use Rattle.std.specs.Prelude.{◌≡◌, ◌<◌, ℕ, true, List, Option, Some, None, if◌then◌else◌}
 use Rattle.std.specs.Ordering.{eq_by_cmp}
 use Rattle.muni_msg.specs.declared.version.Version.{Version}
 use Rattle.muni_msg.specs.declared.command.Key.{Key}
 use Rattle.muni_keep.specs.Tables.{Tables, with_version}
 use Rattle.muni_keep.specs.Trades.{by_bytes}
-use Rattle.muni_position.specs.Holding.{plus, share, share_of_last, holding_of, IsInRange}
+use Rattle.muni_position.specs.Holding.{plus, share, share_of_last, IsInRange}
 use Rattle.muni_position.specs.Holdings.{Holdings, kept, is_watched}
-use Rattle.muni_position.specs.Positions.{last_versions}
+use Rattle.muni_position.specs.Positions.{last_versions, position_of}
 use Rattle.muni_position.specs.declared.holding.Holding.{Holding}
 use Rattle.muni_position.specs.declared.change.Change.{Change}
+use Rattle.muni_position.specs.declared.position.Position.{Position}
 
 -- the CUSIP that a trade named before a version, or that of the version if it is the first
 abbrev pub named_before : Option (ℕ × Version) → Version → List ℕ
@@ -40,11 +41,12 @@ after_change change holdings cusip =
     if eq_by_cmp by_bytes change.cusip cusip then change.held
     else (if eq_by_cmp by_bytes change.before cusip then change.left else kept holdings cusip)
 
--- what the desk of a key would hold of a CUSIP after a put
-abbrev pub held_after : List ℕ → Key → Version → Tables → Holding
-held_after cusip key version tables = holding_of cusip (last_versions key.desk (with_version key version tables))
+-- the position of a CUSIP that the desk of a key would have after a put
+abbrev pub position_after : List ℕ → Key → Version → Tables → Position
+position_after cusip key version tables = position_of cusip (last_versions key.desk (with_version key version tables))
 
--- the desk is watched, and what it would hold of some CUSIP after a put is out of its range
+-- the desk is watched, and after a put more than 100,000 of its trades would be live in some CUSIP
 abbrev pub HasNoRoomFor : Option (List ℕ) → Key → Version → Tables → Type 0
 HasNoRoomFor watched key version tables =
-    (is_watched watched key.desk ≡ true) × ((cusip : List ℕ) × ¬ (IsInRange (held_after cusip key version tables)))
+    (is_watched watched key.desk ≡ true)
+    × ((cusip : List ℕ) × (100_000 < (position_after cusip key version tables).live))

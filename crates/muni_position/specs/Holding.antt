@@ -51,6 +51,11 @@ holding_of cusip versions =
       received = sum_by (λ version. (share cusip version).received) versions;
     }
 
+-- of at most the greatest par and the greatest total
+pub record IsBounded (version : Version) : Type 0 where
+  pub par : version.terms.asked.par ≤ 1_000_000_000
+  pub total : version.figures.total ≤ 9_223_372_036_854_775_807
+
 -- as many trades as a desk may have, each of at most the greatest par and the greatest total
 pub record IsInRange (h : Holding) : Type 0 where
   pub few : h.live ≤ 100_000

@@ -1,5 +1,6 @@
 -- The holdings that are kept beside a keeper, and those of its tables.
 use Rattle.std.specs.Prelude.{◌≡◌, ℕ, ◌≤◌, ◌<◌, List, Option, Some, None, Bool, false, length}
+use Rattle.std.specs.List.{AllByRecursion}
 use Rattle.std.specs.Ordering.{eq_by_cmp}
 use Rattle.std.specs.Option.{unwrap_or}
 use Rattle.std.specs.FinMap.{entries}
@@ -10,7 +11,7 @@ use Rattle.std.specs.declared.ops.Bound.TheVariants.{Excluded, Unbounded}
 use Rattle.muni_msg.specs.declared.version.Version.{Version}
 use Rattle.muni_keep.specs.Tables.{Tables}
 use Rattle.muni_keep.specs.Trades.{by_bytes, own}
-use Rattle.muni_position.specs.Holding.{nothing, holding_of, IsInRange}
+use Rattle.muni_position.specs.Holding.{nothing, holding_of, IsBounded, IsInRange}
 use Rattle.muni_position.specs.Positions.{last_versions}
 use Rattle.muni_position.specs.declared.holding.Holding.{Holding}
 
@@ -26,9 +27,10 @@ kept holdings cusip = unwrap_or (tree.get by_bytes holdings cusip) nothing
 abbrev pub AreInRange : Holdings → Type 0
 AreInRange holdings = (cusip : List ℕ) → IsInRange (kept holdings cusip)
 
--- they are those of these versions
-abbrev pub AreOf : List Version → Holdings → Type 0
-AreOf versions holdings = (cusip : List ℕ) → kept holdings cusip ≡ holding_of cusip versions
+-- they are those of these versions, each of which is bounded
+pub record AreOf (versions : List Version) (holdings : Holdings) : Type 0 where
+  pub sums : (cusip : List ℕ) → kept holdings cusip ≡ holding_of cusip versions
+  pub bounded : AllByRecursion IsBounded versions
 
 -- if a desk is watched and the tables are exposed, they are those of its trades
 abbrev pub AreRight : Option (List ℕ) → Option Tables → Holdings → Type 0

@@ -4,7 +4,11 @@ use Rattle.std.specs.List.Sorted.{IsStrictlySortedBy}
 use Rattle.std.specs.Map.{keys_of, lookup}
 use Rattle.std.specs.BTreeMap.{is_at}
 use Rattle.muni_msg.specs.declared.version.Version.{Version}
+use Rattle.muni_msg.specs.declared.command.Key.{Key}
+use Rattle.muni_keep.specs.Tables.{Tables, with_version}
 use Rattle.muni_keep.specs.Trades.{by_bytes}
+use Rattle.muni_position.specs.Change.{HasNoRoomFor}
+use Rattle.muni_position.specs.Holdings.{HasFew}
 use Rattle.muni_position.specs.Positions.{position_of, positions_of}
 use Rattle.muni_position.specs.declared.position.Position.{Position}
 
@@ -20,3 +24,9 @@ pub record AreThoseHeld (versions : List Version) (positions : List (List ℕ ×
 
 abbrev pub PositionsAreThoseHeld : Type 0
 PositionsAreThoseHeld = (versions : List Version) → AreThoseHeld versions (positions_of versions)
+
+-- a desk that has at most 100,000 trades after a put has room for it
+abbrev pub FewTradesHaveRoom : Type 0
+FewTradesHaveRoom =
+    (watched : Option (List ℕ)) (key : Key) (version : Version) (tables : Tables)
+    → HasFew key.desk (with_version key version tables) → ¬ (HasNoRoomFor watched key version tables)

@@ -5,7 +5,7 @@ ghost use Rattle.std.specs.BTreeMap as tree;
 ghost use Rattle.muni_keep.specs.Trades.{by_bytes};
 ghost use Rattle.muni_position.specs.Change as spec;
 ghost use Rattle.muni_position.specs.Change.{IsChange, IsMoved, HasNoRoom, after_change};
-ghost use Rattle.muni_position.specs.Holding.{IsInRange};
+ghost use Rattle.muni_position.specs.Holding.{IsBounded, IsInRange};
 ghost use Rattle.muni_position.specs.Holdings as sums;
 ghost use Rattle.muni_position.specs.Holdings.{AreInRange};
 
@@ -36,6 +36,7 @@ impl Change {
         ensures none { result ≡ None
             → HasNoRoom holdings.now last.now version.now (spec.named_before last.now version.now)
             ⊎ HasNoRoom holdings.now last.now version.now version.now.terms.asked.cusip }
+        ensures bounded { IsBounded version.now }
     {
         let before = named_before(last, version);
         let cusip = version.terms.asked.cusip;
@@ -91,6 +92,7 @@ fn moved_at(
         (λ h. IsMoved cusip.now last.now version.now (sums.kept holdings.now cusip.now) h) }
     ensures range { IfSome result (λ h. IsInRange h) }
     ensures none { result ≡ None → HasNoRoom holdings.now last.now version.now cusip.now }
+    ensures bounded { IsBounded version.now }
 {
     let more = Holding::share(cusip, version);
     let less = Holding::share_of_last(cusip, last);

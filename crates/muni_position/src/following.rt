@@ -1,9 +1,9 @@
 //! A keeper whose puts the positions of a desk follow as long as there is room.
 
-ghost use Rattle.std.specs.Prelude.{◌≡◌, ◌≢◌, IfSome};
+ghost use Rattle.std.specs.Prelude.{◌≡◌, ◌≢◌, None, IfOk, IfSome};
 ghost use Rattle.muni_keep.specs.History.{next_number};
 ghost use Rattle.muni_keep.specs.Keeper.{EditsTables};
-ghost use Rattle.muni_keep.specs.Tables.{trade_at, with_version};
+ghost use Rattle.muni_keep.specs.Tables.{issue_at, trade_at, version_at, last_at, trade_count, page_at, with_issue, with_version};
 ghost use Rattle.muni_position.specs.Change.{HasNoRoomFor};
 
 use crate::positioned::Positioned;
@@ -14,7 +14,7 @@ use muni_msg::{DeskName, Key, Line, Reference, Version};
 use muni_terms::Issue;
 
 /// A keeper, and the holdings of a desk that follow its puts. A version for which they have no room is
-/// put all the same, and no desk is watched from then on.
+/// put all the same, and no desk is watched from then on. No other call ends the watch.
 ///
 /// It fails only if the keeper inside fails.
 #[derive(Drop)]
@@ -43,25 +43,39 @@ impl<K: Keeper> Following<K> {
 }
 
 impl<K: Keeper> Keeper for Following<K> {
+    ghost use Rattle.muni_position.specs.Watching.{FindsInside, KeepsWatch, LooksInside};
+
     ghost tables = { λ keeper. K.tables keeper.positioned.inner };
 
     ghost faults = { λ keeper. K.faults keeper.positioned.inner };
 
     ghost lent_as = { λ keeper. K.lent_as keeper.positioned.inner };
 
-    fn issue(&mut self, cusip: &[u8; 9]) -> Result<Option<Issue>, KeepFault> {
+    fn issue(&mut self, cusip: &[u8; 9]) -> Result<Option<Issue>, KeepFault>
+        ensures { FindsInside K.Keeper result (λ t. issue_at t cusip.now) self.old.positioned self.new.positioned }
+    {
         self.positioned.issue(cusip)
     }
 
-    fn put_issue(&mut self, issue: &Issue) -> Result<(), KeepFault> {
+    fn put_issue(&mut self, issue: &Issue) -> Result<(), KeepFault>
+        requires { IfSome (K.tables self.old.positioned.inner) (λ t. issue_at t issue.now.cusip ≡ None) }
+
+        ensures edits { EditsTables K.Keeper (with_issue issue.now) result
+            self.old.positioned.inner self.new.positioned.inner }
+        ensures watch { KeepsWatch self.old.positioned self.new.positioned }
+    {
         self.positioned.put_issue(issue)
     }
 
-    fn version(&mut self, key: &Key, number: u32) -> Result<Option<Version>, KeepFault> {
+    fn version(&mut self, key: &Key, number: u32) -> Result<Option<Version>, KeepFault>
+        ensures { FindsInside K.Keeper result (λ t. version_at t key.now number) self.old.positioned self.new.positioned }
+    {
         self.positioned.version(key, number)
     }
 
-    fn last(&mut self, key: &Key) -> Result<Option<(u32, Version)>, KeepFault> {
+    fn last(&mut self, key: &Key) -> Result<Option<(u32, Version)>, KeepFault>
+        ensures { FindsInside K.Keeper result (λ t. last_at t key.now) self.old.positioned self.new.positioned }
+    {
         self.positioned.last(key)
     }
 
@@ -85,7 +99,9 @@ impl<K: Keeper> Keeper for Following<K> {
         }
     }
 
-    fn trades(&mut self, desk: &DeskName) -> Result<u32, KeepFault> {
+    fn trades(&mut self, desk: &DeskName) -> Result<u32, KeepFault>
+        ensures { FindsInside K.Keeper result (λ t. trade_count t desk.now) self.old.positioned self.new.positioned }
+    {
         self.positioned.trades(desk)
     }
 
@@ -93,7 +109,11 @@ impl<K: Keeper> Keeper for Following<K> {
         &mut self,
         desk: &DeskName,
         after: &Option<Reference>,
-    ) -> Result<ArrayVec<Line, 50>, KeepFault> {
+    ) -> Result<ArrayVec<Line, 50>, KeepFault>
+        ensures found { IfOk result (λ lines. IfSome (K.tables self.old.positioned.inner)
+            (λ t. lines.items ≡ page_at t desk.now after.now)) }
+        ensures looks { LooksInside K.Keeper result self.old.positioned self.new.positioned }
+    {
         self.positioned.page(desk, after)
     }
 }

@@ -2,7 +2,7 @@
 
 ghost use Rattle.std.specs.Prelude.{◌≡◌, ◌≢◌, ◌+◌, ◌≤◌, None, IfSome};
 ghost use Rattle.muni_position.specs.Holding as spec;
-ghost use Rattle.muni_position.specs.Holding.{IsInRange, plus, position_in};
+ghost use Rattle.muni_position.specs.Holding.{IsBounded, IsInRange, plus, position_in};
 ghost use Rattle.muni_position.specs.Positions as positions;
 ghost use Rattle.muni_position.specs.declared.holding.Holding.{Holding};
 
@@ -45,12 +45,13 @@ impl Holding {
         ensures value { result ≡ spec.share cusip.now version.now }
         ensures range { IsInRange result }
         ensures one { result.live ≤ 1 }
+        ensures bounded { IsBounded version.now }
     {
+        let par = version.terms.asked.par.units();
+        let total = u128::from(version.figures.total.units());
         if !counts(cusip, version) {
             return Holding::nothing();
         }
-        let par = version.terms.asked.par.units();
-        let total = u128::from(version.figures.total.units());
         one(version.terms.asked.side, par, total)
     }
 

@@ -1,8 +1,9 @@
 //! The holdings of a desk, summed over the pages of its trades.
 
 ghost use Rattle.std.specs.Prelude.{◌≡◌, ◌+◌, ◌≤◌, ℕ, List, None, IfOk, IfSome, OnOk, length, map};
+ghost use Rattle.std.specs.List.{AllByRecursion};
 ghost use Rattle.muni_keep.specs.Keeper.{OnlyReads};
-ghost use Rattle.muni_position.specs.Holding.{plus, share, holding_of};
+ghost use Rattle.muni_position.specs.Holding.{IsBounded, plus, share, holding_of};
 ghost use Rattle.muni_position.specs.Holdings.{AreInRange, AreOf, HasTooMany, HasFew};
 ghost use Rattle.muni_position.specs.Holdings as spec;
 ghost use Rattle.muni_position.specs.Positions.{last_versions};
@@ -57,6 +58,7 @@ fn add_lines(holdings: &mut Holdings, lines: &[Line]) -> Result<(), AllocError>
     ensures range { OnOk result (AreInRange holdings.new) }
     ensures few { OnOk result ((cusip : List ℕ)
         → (spec.kept holdings.new cusip).live ≤ (spec.kept holdings.old cusip).live + length lines.now) }
+    ensures bounded { OnOk result (AllByRecursion IsBounded (map (λ line. line.version) lines.now)) }
 {
     for line in lines {
         add(holdings, &line.version)?;
@@ -73,6 +75,7 @@ fn add(holdings: &mut Holdings, version: &Version) -> Result<(), AllocError>
     ensures range { OnOk result (AreInRange holdings.new) }
     ensures few { OnOk result ((cusip : List ℕ)
         → (spec.kept holdings.new cusip).live ≤ (spec.kept holdings.old cusip).live + 1) }
+    ensures bounded { IsBounded version.now }
 {
     let cusip = version.terms.asked.cusip;
     let more = Holding::share(&cusip, version);

@@ -1,6 +1,7 @@
 //! A keeper with the positions of one desk beside it.
 
 ghost use Rattle.std.specs.Prelude.{◌≡◌, ◌≢◌, ◌+◌, ℕ, List, Option, Some, None, IsSome, IfOk, IfSome, OnOk, OnErr, slice_get};
+ghost use Rattle.std.proofs.Props.{props};
 ghost use Rattle.std.specs.Option.{option_map};
 ghost use Rattle.muni_keep.specs.History.{next_number};
 ghost use Rattle.muni_keep.specs.Keeper.{OnlyReads, EditsTables, SameKeeper};
@@ -38,7 +39,7 @@ pub struct Positioned<K: Keeper> {
     desk: Option<DeskName>,
     holdings: Holdings,
     ghost range: { AreInRange holdings },
-    ghost right: { AreRight desk (K.tables inner) holdings },
+    ghost right: { AreRight desk (K.tables inner) holdings } by { Prim.hlevel props },
 }
 
 fn bound_past(after: &Option<[u8; 9]>) -> Bound<&[u8; 9]>

@@ -45,5 +45,5 @@ pages-preserved g c =
       tables = c.in_ok-page.ensures.reads.unchanged ∙ c.pages.invariant.tables;
       later = omega (arith, c.pages.invariant.later, c.page.ensures.reads.later);
       lent_as = c.page.ensures.reads.lent_as ∙ c.pages.invariant.lent_as;
-      summed = rw c.copy.ensures (told_read c.args.desk.now told c.pages.after c.pages.count (c.pages.count + c.len.result) lines c.in-Some.last.now c.pages.holdings c.add_lines.new.holdings c.pages.invariant.summed are last (rw c.as_slice.ensures.value at c.in_ok-add_lines.ensures.sums) (omega (arith, count)));
+      summed = rw c.copy.ensures (told_read c.args.desk.now told c.pages.after c.pages.count (c.pages.count + c.len.result) lines c.in-Some.last.now c.pages.holdings c.add_lines.new.holdings c.pages.invariant.summed are last (rw c.as_slice.ensures.value at c.in_ok-add_lines.ensures.sums) (rw c.as_slice.ensures.value at c.in_ok-add_lines.ensures.bounded) (omega (arith, count)));
     }

@@ -25,7 +25,7 @@ invariant_of-self-2 g c =
     let moves : (cusip : List ℕ) → IsMoved cusip c.in_ok-last.last version (kept self.holdings cusip) (kept c.make.new.holdings cusip) = λ cusip. change_moves self.holdings c.make_room.new.holdings c.make.new.holdings c.in_ok-last.last version c.in-Some.change cusip c.in-Some.ensures.change (c.make_room.ensures.same cusip) (c.make.ensures cusip) in
     record {
       range = λ cusip. change_ranges self.holdings c.make_room.new.holdings c.make.new.holdings c.in_ok-last.last version c.in-Some.change cusip c.in-Some.ensures.change self.range (c.make_room.ensures.same cusip) (c.make.ensures cusip);
-      right = right_after self.desk told (g.K.Keeper.tables c.put_version-2.new.self) self.holdings c.make.new.holdings key version c.in_ok-last.last (sym c.watches.ensures.tested ∙ yes) self.right c.in_ok-last.ensures.found
+      right = right_after self.desk told (g.K.Keeper.tables c.put_version-2.new.self) self.holdings c.make.new.holdings key version c.in_ok-last.last (sym c.watches.ensures.tested ∙ yes) self.right c.of.ensures.bounded c.in_ok-last.ensures.found
           (c.in_ok-put_version-2.ensures.edits.kept ∙ ap (option_map (with_version key version)) c.last.ensures.reads.unchanged) moves;
     }
 
@@ -34,7 +34,7 @@ returns-in_default-clause-no_room g c = λ _.
     let self = c.args.self.now in
     let yes : c.watches.result ≡ true = search rules in
     let version = c.args.version.now in
-    none_fits self.desk (g.K.Keeper.tables self.inner) self.holdings c.args.key.now version c.in_ok-last.last (named_before c.in_ok-last.last version) version.terms.asked.cusip (sym c.watches.ensures.tested ∙ yes) self.right c.in_ok-last.ensures.found
+    none_fits self.desk (g.K.Keeper.tables self.inner) self.holdings c.args.key.now version c.in_ok-last.last (named_before c.in_ok-last.last version) version.terms.asked.cusip (sym c.watches.ensures.tested ∙ yes) self.right c.of.ensures.bounded c.in_ok-last.ensures.found
     (c.of.ensures.none c.in_default.is)
 
 pub returns-clause-room : goal.returns-clause-room
@@ -48,5 +48,5 @@ returns-clause-room g c =
     let moves : (cusip : List ℕ) → IsMoved cusip c.in_ok-last.last version (kept self.holdings cusip) (kept c.make.new.holdings cusip) = λ cusip. change_moves self.holdings c.make_room.new.holdings c.make.new.holdings c.in_ok-last.last version c.in-Some.change cusip c.in-Some.ensures.change (c.make_room.ensures.same cusip) (c.make.ensures cusip) in
     had_room self.desk told (g.K.Keeper.tables c.put_version-2.new.self) c.make.new.holdings key version
     (λ cusip. change_ranges self.holdings c.make_room.new.holdings c.make.new.holdings c.in_ok-last.last version c.in-Some.change cusip c.in-Some.ensures.change self.range (c.make_room.ensures.same cusip) (c.make.ensures cusip))
-    (right_after self.desk told (g.K.Keeper.tables c.put_version-2.new.self) self.holdings c.make.new.holdings key version c.in_ok-last.last (sym c.watches.ensures.tested ∙ yes) self.right c.in_ok-last.ensures.found put moves)
+    (right_after self.desk told (g.K.Keeper.tables c.put_version-2.new.self) self.holdings c.make.new.holdings key version c.in_ok-last.last (sym c.watches.ensures.tested ∙ yes) self.right c.of.ensures.bounded c.in_ok-last.ensures.found put moves)
     put
