@@ -29,9 +29,8 @@ use Rattle.muni_msg.specs.declared.asked.Given.{Given}
 use Rattle.muni_msg.specs.declared.asked.Given.TheVariants.{AtYield, AtPrice, AtRate}
 use Rattle.muni_msg.specs.declared.asked.Side.{Side}
 use Rattle.muni_msg.specs.declared.refusal.Refusal.{Refusal}
-use Rattle.muni_book.specs.declared.answers.PriceAndYield.{PriceAndYield}
 use Rattle.muni_book.specs.Trade.{net_price, price_side, side_left}
-use Rattle.muni_book.specs.Answers.{found_at_yield, found_at_price, found_at_rate, IsReturn, IsFound}
+use Rattle.muni_book.specs.Answers.{PriceAndYield, found_at_yield, found_at_price, found_at_rate, IsReturn, IsFound}
 use Rattle.muni_book.specs.GivenFor.{IsInRange, IsOnBasis}
 use Rattle.muni_book.proofs.CandidateLemmas.{of-first, rate-in_range}
 

@@ -1,3 +1,4 @@
+pub mod ShownLemmas
 pub mod CandidateLemmas
 pub mod FoundLemmas
 pub mod UniqueLemmas

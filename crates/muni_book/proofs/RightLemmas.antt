@@ -17,10 +17,9 @@ use Rattle.muni_msg.specs.declared.refusal.Range.{Range}
 use Rattle.muni_msg.specs.declared.refusal.Refusal.{Refusal}
 use Rattle.muni_msg.specs.declared.refusal.Refusal.TheVariants as refusal
 use Rattle.muni_book.specs.AnswerLaws.{AnsweredFiguresAreRight}
-use Rattle.muni_book.specs.Answers.{IsFound, IsShown, IsComputed, IsSettledAnswer}
+use Rattle.muni_book.specs.Answers.{PriceAndYield, IsFound, IsShown, IsComputed, IsSettledAnswer}
 use Rattle.muni_book.specs.RightFigures.{AreRightAt, AreRightFigures}
 use Rattle.muni_book.specs.Trade.{is_wrong_basis, side_left}
-use Rattle.muni_book.specs.declared.answers.PriceAndYield.{PriceAndYield}
 
 not-refused : (figures : Figures) (why : Refusal) → Ok figures ≡ Err why → ⊥
 not-refused figures why is = let never : Ok figures ≡ Err why = is in cc

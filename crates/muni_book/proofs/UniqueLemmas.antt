@@ -14,10 +14,9 @@ use Rattle.muni_msg.specs.declared.figures.Figures.{Figures}
 use Rattle.muni_msg.specs.declared.refusal.Range.{Range}
 use Rattle.muni_msg.specs.declared.refusal.Refusal.{Refusal}
 use Rattle.muni_msg.specs.declared.refusal.Refusal.TheVariants as refusal
-use Rattle.muni_book.specs.declared.answers.PriceAndYield.{PriceAndYield}
 use Rattle.muni_book.specs.AnswerLaws.{AnswersAreUnique}
 use Rattle.muni_book.specs.Trade.{is_wrong_basis, side_left}
-use Rattle.muni_book.specs.Answers.{figures_of, IsShown, IsComputed, IsSettledAnswer}
+use Rattle.muni_book.specs.Answers.{PriceAndYield, figures_of, IsShown, IsComputed, IsSettledAnswer}
 use Rattle.muni_book.proofs.CandidateLemmas.{on-basis}
 use Rattle.muni_book.proofs.FoundLemmas.{inside-range, found-unique}
 

@@ -1,6 +1,6 @@
 -- The right answer to what is asked of an issue: the figures of a trade, or the refusal that applies.
 -- `ends` are those that the encloser gives to payments and a yield.
-use Rattle.std.specs.Prelude.{◌≡◌, ℕ, ◌+◌, ◌/◌, MatchBool, MatchOption, List, Option, Some, None, option_map, Result, Ok, Err, ℤ, unsigned_abs}
+use Rattle.std.specs.Prelude.{◌≡◌, ℕ, ◌+◌, ◌/◌, ◌≤◌, MatchBool, MatchOption, List, Option, Some, None, option_map, Result, Ok, Err, ℤ, unsigned_abs}
 use Rattle.std.specs.List.{slice_get}
 use Rattle.muni_rule.specs.Accuracy.{TruncatesBy, Reaches, rounded_yield, accrued_cents, principal_cents, commission_cents}
 use Rattle.muni_rule.specs.DayCount.{year_of}
@@ -31,12 +31,18 @@ use Rattle.muni_msg.specs.declared.asked.Asked.{Asked}
 use Rattle.muni_msg.specs.declared.asked.Given.{Given}
 use Rattle.muni_msg.specs.declared.asked.Given.TheVariants.{AtYield, AtPrice, AtRate}
 use Rattle.muni_msg.specs.declared.asked.Side.{Side}
+use Rattle.muni_msg.specs.declared.asked.Side.TheVariants.{Sell}
 use Rattle.muni_msg.specs.declared.figures.Figures.{Figures}
 use Rattle.muni_msg.specs.declared.refusal.Range.TheVariants as range
 use Rattle.muni_msg.specs.declared.refusal.Refusal.{Refusal}
 use Rattle.muni_msg.specs.declared.refusal.Refusal.TheVariants as refusal
 use Rattle.muni_book.specs.Trade.{is_wrong_basis, net_price, side_left, total}
-use Rattle.muni_book.specs.declared.answers.PriceAndYield.{PriceAndYield}
+
+-- a price and a yield that belong together, and the redemption that gives them
+pub record PriceAndYield : Type 0 where
+  pub price : ℕ
+  pub yld : ℤ
+  pub redemption : Candidate
 
 -- at a yield: the lowest price, with the given yield rounded, or why there is none
 abbrev pub found_at_yield : ℤ → List Candidate → LowAnswer → Option (Result PriceAndYield Refusal)
@@ -161,11 +167,22 @@ IsShown row asked (Ok found) answer =
     × (answer ≡ Ok (figures_of row asked days found))
 IsShown row asked (Err refused) answer = answer ≡ Err refused
 
--- the figures that are found, or the refusal
-pub record IsComputed (ends : PaymentSeries → ℤ → WorthEnds) (row : IssueRow) (asked : Asked) (list : List Candidate) (answer : Result Figures Refusal) : Type 0 where
+-- what is found so, as it is answered
+pub record ShowsFound (Finds : Result PriceAndYield Refusal → Type 0) (row : IssueRow) (asked : Asked) (answer : Result Figures Refusal) : Type 0 where
   pub found : Result PriceAndYield Refusal
-  pub is_found : IsFound ends asked.given asked.side asked.fee list found
+  pub is_found : Finds found
   pub is_shown : IsShown row asked found answer
+
+-- the figures that are found at what is given, or the refusal
+abbrev pub IsComputed : (ends : PaymentSeries → ℤ → WorthEnds) → IssueRow → Asked → List Candidate
+    → Result Figures Refusal → Type 0
+IsComputed ends row asked list answer =
+    ShowsFound (IsFound ends asked.given asked.side asked.fee list) row asked answer
+
+-- a seller's principal covers the commission, and the interest is at most 600 million dollars
+pub record IsPayable (side : Side) (figures : Figures) : Type 0 where
+  pub covered : side ≡ Sell → figures.commission ≤ figures.principal
+  pub accrued : figures.accrued ≤ 60_000_000_000
 
 -- on a day on which the issue settles: what is given may leave its range
 pub record IsSettledAnswer (ends : PaymentSeries → ℤ → WorthEnds) (row : IssueRow) (asked : Asked) (answer : Result Figures Refusal) : Type 0 where

@@ -1,10 +1,14 @@
 -- What may be given for redemption candidates.
-use Rattle.std.specs.Prelude.{◌≡◌, ℕ, ◌<◌, ◌≤◌, ⊤, List, All}
+use Rattle.std.specs.Prelude.{◌≡◌, ℕ, ◌<◌, ◌≤◌, ⊤, true, List, length, All}
+use Rattle.muni_terms.specs.Issue.{settles}
+use Rattle.muni_terms.specs.declared.row.IssueRow.{IssueRow}
+use Rattle.muni_sched.specs.Candidates.{IsCandidate}
 use Rattle.muni_sched.specs.PriceOutcome.{IsAtYield}
 use Rattle.muni_sched.specs.Range.{IsGivenFor}
 use Rattle.muni_sched.specs.declared.candidate.Candidate.{Candidate}
 use Rattle.muni_sched.specs.declared.candidate.Shape.{Shape}
 use Rattle.muni_sched.specs.declared.candidate.Shape.TheVariants.{Many, One, AtRedemption, Discount}
+use Rattle.muni_msg.specs.declared.asked.Asked.{Asked}
 use Rattle.muni_msg.specs.declared.asked.Given.{Given}
 use Rattle.muni_msg.specs.declared.asked.Given.TheVariants.{AtYield, AtPrice, AtRate}
 use Rattle.muni_msg.specs.declared.asked.Side.{Side}
@@ -33,3 +37,12 @@ abbrev pub IsOnBasis : Given → ℕ → List Candidate → Type 0
 IsOnBasis (AtYield y) fee list = (fee ≡ 0) × All IsAtYield list
 IsOnBasis (AtPrice price) fee list = ⊤
 IsOnBasis (AtRate rate) fee list = (fee ≡ 0) × All IsNote list
+
+-- what is asked of an issue has passed each test, and these are its redemptions to come
+pub record IsAskable (row : IssueRow) (asked : Asked) (list : List Candidate) : Type 0 where
+  pub settled : settles row asked.settle ≡ true
+  pub candidates : All IsCandidate list
+  pub some : 0 < length list
+  pub few : length list ≤ 41
+  pub basis : IsOnBasis asked.given asked.fee list
+  pub in_range : IsInRange asked.given asked.side asked.fee list

@@ -12,9 +12,8 @@ use Rattle.muni_msg.specs.declared.asked.Given.{Given}
 use Rattle.muni_msg.specs.declared.asked.Given.TheVariants.{AtYield, AtPrice, AtRate}
 use Rattle.muni_msg.specs.declared.asked.Side.{Side}
 use Rattle.muni_msg.specs.declared.figures.Figures.{Figures}
-use Rattle.muni_book.specs.Answers.{found_at_yield, found_at_price, IsFoundAtRate, figures_of}
+use Rattle.muni_book.specs.Answers.{PriceAndYield, found_at_yield, found_at_price, IsFoundAtRate, figures_of}
 use Rattle.muni_book.specs.Trade.{is_wrong_basis, net_price, side_left}
-use Rattle.muni_book.specs.declared.answers.PriceAndYield.{PriceAndYield}
 
 -- At a yield the price is the lowest by the exact outcomes of all candidates, and at a price the yield
 -- is, which is that of the net price. At a rate both are exact.

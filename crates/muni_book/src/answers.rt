@@ -1,18 +1,17 @@
 //! The answer to what is asked of an issue: the figures of a trade, with the redemption that gives the
 //! lowest price or the lowest yield, or why there are none.
 
-ghost use Rattle.std.specs.Prelude.{◌≡◌, ◌<◌, ◌≤◌, ◌/◌, ◌≤ℤ◌, pos, true, Some, length, All, IfOk, IfSome};
+ghost use Rattle.std.specs.Prelude.{◌≡◌, ◌<◌, ◌≤◌, ◌≤ℤ◌, pos, true, Some, length, All, IfOk, IfSome};
 ghost use Rattle.std.specs.List.{slice_get};
 ghost use Rattle.muni_terms.specs.Issue as issues;
 ghost use Rattle.muni_sched.specs.Candidates.{IsCandidate};
-ghost use Rattle.muni_sched.specs.PriceOutcome.{IsAtYield};
-ghost use Rattle.muni_sched.specs.Range.{IsGivenFor};
-ghost use Rattle.muni_book.specs.GivenFor.{IsInRange, IsOnBasis, IsNote};
+ghost use Rattle.muni_book.specs.GivenFor.{IsAskable, IsNote};
 ghost use Rattle.muni_book.specs.Answers as spec;
-ghost use Rattle.muni_book.specs.Answers.{IsRightAnswer, IsFound};
+ghost use Rattle.muni_book.specs.Answers.{IsRightAnswer, IsComputed, ShowsFound, IsFoundAtYield, IsFoundAtPrice, IsFoundAtRate, IsPayable};
+ghost use Rattle.muni_book.specs.Trade as trades;
 
-use crate::Workers;
 use crate::trade::{is_wrong_basis, net_price, side_left, total};
+use crate::{Calculator, Workers};
 use muni_days::Basis;
 use muni_dec::{
     Price, Price3, Yield, Yield3, accrued_cents, commission_cents, principal_cents, round_yield,
@@ -27,14 +26,6 @@ use muni_sched::{
 use muni_simple::{SimpleYield, rate_price, rate_return};
 use muni_terms::Issue;
 use std::thread::Threads;
-
-// A price and a yield that belong together, and the redemption that gives them.
-#[derive(Clone, Copy)]
-struct PriceAndYield {
-    price: Price3,
-    yld: Yield3,
-    redemption: Candidate,
-}
 
 // The days up to the maturity of a note, by its basis.
 #[derive(Clone, Copy)]
@@ -75,60 +66,52 @@ pub fn figures<R: Threads + Sync, E: Encloser + Sync, G: Gate + Sync>(
     if let Some(side) = side_left(asked, list.as_slice()) {
         return Err(Refusal::GivenOutOfRange(side));
     }
-    let workers = Workers::new(workers);
-    let found = find(rt, asked, list.as_slice(), workers, encloser, gate)?;
-    Ok(figures_of(issue, asked, found))
+    let calculator = Calculator {
+        rt,
+        workers: Workers::new(workers),
+        encloser,
+        gate,
+    };
+    find(&calculator, issue, asked, list.as_slice())
 }
 
 // At each basis one of the two figures is given or computed first, and the other from it.
 fn find<R: Threads + Sync, E: Encloser + Sync, G: Gate + Sync>(
-    rt: &R,
+    calculator: &Calculator<'_, R, E, G>,
+    issue: &Issue,
     asked: &Asked,
     list: &[Candidate],
-    workers: Workers,
-    encloser: &E,
-    gate: &G,
-) -> Result<PriceAndYield, Refusal>
-    requires ranges { All IsCandidate list.now }
-    requires basis { IsOnBasis asked.now.given asked.now.fee list.now }
-    requires in_range { IsInRange asked.now.given asked.now.side asked.now.fee list.now }
-    requires some { 0 < length list.now }
-    requires few { length list.now ≤ 41 }
-    ensures found { IsFound (E.ends encloser.now) asked.now.given asked.now.side asked.now.fee
-        list.now result }
-    ensures range { IfOk result (λ found. found.price ≤ 100_000_000) }
-    ensures covered { IfOk result (λ found. asked.now.side ≡ Side.Sell
-        → asked.now.fee ≤ found.price) }
+) -> Result<Figures, Refusal>
+    requires { IsAskable issue.now asked.now list.now }
+    ensures computed { IsComputed (E.ends calculator.now.encloser.now) issue.now asked.now list.now
+        result }
+    ensures payable { IfOk result (IsPayable asked.now.side) }
 {
     match asked.given {
-        Given::AtYield(y) => at_yield(list, y, encloser),
-        Given::AtPrice(price) => {
-            let net = Price::new(net_price(price, asked.side, asked.fee));
-            at_price(rt, list, price, net, workers, encloser, gate)
-        }
-        Given::AtRate(rate) => at_rate(list, rate),
+        Given::AtYield(y) => at_yield(issue, asked, list, y, calculator.encloser),
+        Given::AtPrice(price) => at_price(calculator, issue, asked, list, price),
+        Given::AtRate(rate) => at_rate(issue, asked, list, rate),
     }
 }
 
 fn at_yield<E: Encloser>(
+    issue: &Issue,
+    asked: &Asked,
     list: &[Candidate],
     y: Yield,
     encloser: &E,
-) -> Result<PriceAndYield, Refusal>
-    requires ranges { All IsCandidate list.now }
-    requires basis { All IsAtYield list.now }
-    requires in_range { All (IsGivenFor y) list.now }
-    requires some { 0 < length list.now }
-    requires few { length list.now ≤ 41 }
-    ensures found { spec.IsFoundAtYield (E.ends encloser.now) y list.now result }
-    ensures range { IfOk result (λ found. found.price ≤ 100_000_000) }
+) -> Result<Figures, Refusal>
+    requires askable { IsAskable issue.now asked.now list.now }
+    requires given { asked.now.given ≡ Given.AtYield y }
+    ensures found { ShowsFound (IsFoundAtYield (E.ends encloser.now) y list.now)
+        issue.now asked.now result }
+    ensures payable { IfOk result (IsPayable asked.now.side) }
 {
     match price_to_worst(list, y, encloser) {
-        Ok(lowest) => Ok(PriceAndYield {
-            price: lowest.price,
-            yld: round_yield(y),
-            redemption: list[lowest.candidate],
-        }),
+        Ok(lowest) => {
+            let redemption = list[lowest.candidate];
+            Ok(figures_of(issue, asked, lowest.price, round_yield(y), redemption))
+        }
         Err(none) => Err(no_price(none)),
     }
 }
@@ -147,27 +130,32 @@ fn no_price(none: NoPrice) -> Refusal
 
 // The given price is shown, and the yield is that at the net price.
 fn at_price<R: Threads + Sync, E: Encloser + Sync, G: Gate + Sync>(
-    rt: &R,
+    calculator: &Calculator<'_, R, E, G>,
+    issue: &Issue,
+    asked: &Asked,
     list: &[Candidate],
     price: Price,
-    net: Price,
-    workers: Workers,
-    encloser: &E,
-    gate: &G,
-) -> Result<PriceAndYield, Refusal>
-    requires ranges { All IsCandidate list.now }
-    requires few { length list.now ≤ 41 }
-    requires net { 0 < net }
-    ensures found { spec.IsFoundAtPrice (E.ends encloser.now) price net list.now result }
-    ensures shown { IfOk result (λ found. found.price ≡ price / 1000) }
-    ensures range { IfOk result (λ found. found.price ≤ 100_000_000) }
+) -> Result<Figures, Refusal>
+    requires askable { IsAskable issue.now asked.now list.now }
+    requires given { asked.now.given ≡ Given.AtPrice price }
+    ensures found { ShowsFound (IsFoundAtPrice (E.ends calculator.now.encloser.now) price
+        (trades.net_price asked.now.side price asked.now.fee) list.now) issue.now asked.now result }
+    ensures payable { IfOk result (IsPayable asked.now.side) }
 {
-    match yield_to_worst(rt, list, net, workers.count(), encloser, gate) {
-        Ok(lowest) => Ok(PriceAndYield {
-            price: trunc3(price),
-            yld: lowest.yld,
-            redemption: list[lowest.candidate],
-        }),
+    let net = Price::new(net_price(price, asked.side, asked.fee));
+    let workers = calculator.workers.count();
+    match yield_to_worst(
+        calculator.rt,
+        list,
+        net,
+        workers,
+        calculator.encloser,
+        calculator.gate,
+    ) {
+        Ok(lowest) => {
+            let redemption = list[lowest.candidate];
+            Ok(figures_of(issue, asked, trunc3(price), lowest.yld, redemption))
+        }
         Err(none) => Err(no_yield(none)),
     }
 }
@@ -187,23 +175,22 @@ fn no_yield(none: NoYield) -> Refusal
 }
 
 // A discounted note has its maturity alone.
-fn at_rate(list: &[Candidate], rate: Yield) -> Result<PriceAndYield, Refusal>
-    requires ranges { All IsCandidate list.now }
-    requires basis { All IsNote list.now }
-    requires in_range { All (IsGivenFor rate) list.now }
-    requires some { 0 < length list.now }
-    ensures found { spec.IsFoundAtRate rate list.now result }
-    ensures range { IfOk result (λ found. found.price ≤ 100_000_000) }
+fn at_rate(
+    issue: &Issue,
+    asked: &Asked,
+    list: &[Candidate],
+    rate: Yield,
+) -> Result<Figures, Refusal>
+    requires askable { IsAskable issue.now asked.now list.now }
+    requires given { asked.now.given ≡ Given.AtRate rate }
+    ensures found { ShowsFound (IsFoundAtRate rate list.now) issue.now asked.now result }
+    ensures payable { IfOk result (IsPayable asked.now.side) }
 {
     let note = list[0];
     let DaysLeft { days, basis } = days_left(list);
     let price = rate_price(rate, days, basis);
     match rate_return(rate, days, basis) {
-        SimpleYield::Print(yld) => Ok(PriceAndYield {
-            price,
-            yld,
-            redemption: note,
-        }),
+        SimpleYield::Print(yld) => Ok(figures_of(issue, asked, price, yld, note)),
         SimpleYield::Below => Err(Refusal::YieldBelow { date: note.date }),
         SimpleYield::Above => Err(Refusal::YieldAbove),
         SimpleYield::NoTime => Err(Refusal::NoTime { date: note.date }),
@@ -224,26 +211,34 @@ fn days_left(list: &[Candidate]) -> DaysLeft
     }
 }
 
-fn figures_of(issue: &Issue, asked: &Asked, found: PriceAndYield) -> Figures
+// The figures of a price and a yield that belong together, with the redemption that gives them.
+fn figures_of(
+    issue: &Issue,
+    asked: &Asked,
+    price: Price3,
+    yld: Yield3,
+    redemption: Candidate,
+) -> Figures
     requires settled { issues.settles issue.now asked.now.settle ≡ true }
-    requires range { found.price ≤ 100_000_000 }
-    requires covered { asked.now.side ≡ Side.Sell → asked.now.fee ≤ found.price }
+    requires range { price ≤ 100_000_000 }
+    requires covered { asked.now.side ≡ Side.Sell → asked.now.fee ≤ price }
     ensures days { Some result.days ≡ issues.accrued_days issue.now asked.now.settle }
-    ensures figures { result ≡ spec.figures_of issue.now asked.now result.days found }
+    ensures figures { result ≡ spec.figures_of issue.now asked.now result.days
+        (record { price = price; yld = yld; redemption = redemption }) }
     ensures covered { asked.now.side ≡ Side.Sell → result.commission ≤ result.principal }
     ensures accrued { result.accrued ≤ 60_000_000_000 }
 {
     let days = issue.accrued_days(asked.settle);
-    let principal = principal_cents(asked.par, found.price);
+    let principal = principal_cents(asked.par, price);
     let row = issue.row();
     let accrued = accrued_cents(row.coupon, asked.par, days, row.basis.year());
     let commission = commission_cents(asked.par, asked.fee);
     Figures {
-        price: found.price,
-        yld: found.yld,
-        redemption: found.redemption.date,
-        at: found.redemption.price,
-        label: found.redemption.label,
+        price,
+        yld,
+        redemption: redemption.date,
+        at: redemption.price,
+        label: redemption.label,
         days,
         principal,
         accrued,
