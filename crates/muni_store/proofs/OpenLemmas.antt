@@ -1,9 +1,12 @@
 -- What a call does over a file that stays open.
 use Rattle.std.proofs.Common.{◌≡◌, Option, None, Some, IfSome, sym}
-use Rattle.muni_store.specs.Open.{WhileOpen}
+use Rattle.muni_store.specs.Open.{WhileOpen, in_hand, ran_on}
+use Rattle.muni_store.specs.declared.file_keeper.FileState.{FileState}
 
-pub while_open : {Keeper : Type 0} (old new : Option Keeper) (Does : Keeper → Keeper → Type 0) (before after : Keeper)
-    → IfSome old (λ keeper. before ≡ keeper) → IfSome new (λ keeper. keeper ≡ after) → Does before after → WhileOpen old new Does
-while_open None new Does before after taken kept did = tt
-while_open (Some was) None Does before after taken kept did = tt
-while_open (Some was) (Some is) Does before after taken kept did = rw (taken, sym kept) at did
+done : {Keeper : Type 0} (kept : Option Keeper) (Done : Keeper → Type 0) (after : Keeper) → IfSome kept (λ keeper. keeper ≡ after) → Done after → IfSome kept Done
+done None Done after same did = tt
+done (Some is) Done after same did = rw (sym same) at did
+
+pub while_open : {Keeper : Type 0} (old new : FileState Keeper) (Does : Keeper → Keeper → Type 0) (before after : Keeper)
+    → in_hand old ≡ Some before → IfSome (ran_on new) (λ keeper. keeper ≡ after) → Does before after → WhileOpen old new Does
+while_open old new Does before after taken kept did = rw taken (done (ran_on new) (Does before) after kept did)

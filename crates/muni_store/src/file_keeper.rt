@@ -1,13 +1,13 @@
 //! A keeper over the file of a store.
 
-ghost use Rattle.std.specs.Prelude.{◌≡◌, ◌⊎◌, false, None, Ok, Some, IfOk, IfSome, IsSome, OnOk, OnErr, is_ok};
+ghost use Rattle.std.specs.Prelude.{◌≡◌, ◌⊎◌, false, None, Ok, Some, IfOk, IfSome, OnOk, OnErr, is_ok};
 ghost use Rattle.sqlite.specs.Held.{state};
 ghost use Rattle.muni_store_rows.specs.Issue as issues;
 ghost use Rattle.muni_store_rows.specs.Version as versions;
 ghost use Rattle.muni_store.specs.Calls.{Looks, Puts};
 ghost use Rattle.muni_store.specs.Counts.{count_of, with_count, after_put};
 ghost use Rattle.muni_store.specs.Faults.{CountsFailure};
-ghost use Rattle.muni_store.specs.Open.{WhileOpen};
+ghost use Rattle.muni_store.specs.Open.{IsOpen, WhileOpen, in_hand, ran_on};
 ghost use Rattle.muni_store.specs.Page.{IsPage};
 ghost use Rattle.muni_store.specs.Ran.{Asked};
 ghost use Rattle.muni_store.specs.Rows as rows;
@@ -22,6 +22,7 @@ use muni_keep::{KeepFault, Keeper};
 use muni_msg::{DeskName, Key, Line, Reference, Version};
 use muni_terms::Issue;
 use sqlite::Alter;
+use std::mem;
 
 /// What opens the file of a store after a sync has failed.
 pub trait OpensAnew<S: Alter + Drop> {
@@ -30,75 +31,105 @@ pub trait OpensAnew<S: Alter + Drop> {
         ensures idle { IfOk result (λ keeper. keeper.database.in_transaction ≡ false) };
 }
 
+/// A file, and its keeper if it is open.
+#[derive(Drop)]
+pub(crate) enum FileState<K> {
+    Open(K),
+    /// Opened anew. No call has run on it.
+    Anew(K),
+    Shut,
+}
+
 /// A keeper over the file of a store. It does not expose what it keeps.
 ///
-/// A sync that fails shuts the database. The next call finds it shut and fails too, and each after that
-/// opens the file anew.
+/// A sync that fails shuts the database. The call that finds it shut fails too, and opens the file anew. If
+/// that cannot be, each call that follows fails and tries it again, until the file is open.
 #[derive(Drop)]
 pub struct FileKeeper<S: Alter + Drop, F: OpensAnew<S> + Drop> {
     file: F,
-    // None after a call that found it shut.
-    keeper: Option<SqlKeeper<S>>,
+    state: FileState<SqlKeeper<S>>,
     faults: Faults,
 }
 
 impl<S: Alter + Drop, F: OpensAnew<S> + Drop> FileKeeper<S, F> {
     /// A keeper over the file, which is open.
     pub(crate) fn new(file: F, keeper: SqlKeeper<S>) -> FileKeeper<S, F>
-        ensures open { result.keeper ≡ Some keeper }
+        ensures open { result.state ≡ FileState.Open keeper }
         ensures faults { result.faults ≡ 0 }
     {
         FileKeeper {
             file,
-            keeper: Some(keeper),
+            state: FileState::Open(keeper),
             faults: Faults::none(),
         }
     }
 
     /// The file, its keeper if it is open, and the count of faults.
     pub(crate) fn into_parts(self) -> (F, Option<SqlKeeper<S>>, Faults)
-        ensures { result ≡ (self.file, self.keeper, self.faults) }
+        ensures { result ≡ (self.file, in_hand self.state, self.faults) }
     {
         let FileKeeper {
             file,
-            keeper,
+            state,
             faults,
         } = self;
-        (file, keeper, faults)
+        match state {
+            FileState::Open(keeper) | FileState::Anew(keeper) => (file, Some(keeper), faults),
+            FileState::Shut => (file, None, faults),
+        }
     }
 
-    // The keeper of the open file, which is opened anew if it was let go.
+    // The keeper of the open file. If the file is shut it is opened anew, and the call fails.
     fn take(&mut self) -> Result<SqlKeeper<S>, KeepFault>
-        ensures open { IfSome self.old.keeper (λ keeper. result ≡ Ok keeper) }
+        ensures open { IfOk result (λ keeper. in_hand self.old.state ≡ Some keeper) }
+        ensures shut { OnErr result (in_hand self.old.state ≡ None) }
         ensures counted { CountsFailure result self.old.faults self.new.faults }
     {
-        if let Some(keeper) = self.keeper.take() {
-            return Ok(keeper);
+        match mem::replace(&mut self.state, FileState::Shut) {
+            FileState::Open(keeper) | FileState::Anew(keeper) => Ok(keeper),
+            FileState::Shut => {
+                let opened = self.file.open_anew();
+                self.state = FileState::Anew(counted(&mut self.faults, opened)?);
+                Err(self.faults.fail().into())
+            }
         }
-        let opened = self.file.open_anew();
-        counted(&mut self.faults, opened)
     }
 
-    // Puts the keeper back after a call, and gives its answer. One that found its database shut is let go.
+    // Puts the keeper back after a call, and gives its answer.
     fn put_back<T>(
         &mut self,
         keeper: SqlKeeper<S>,
         answer: Result<T, KeepFault>,
     ) -> Result<T, KeepFault>
         ensures same { result ≡ answer }
-        ensures open { OnOk result (self.new.keeper ≡ Some keeper) }
-        ensures kept { IfSome self.new.keeper (λ kept. kept ≡ keeper) }
+        ensures open { OnOk result (self.new.state ≡ FileState.Open keeper) }
+        ensures kept { IfSome (ran_on self.new.state) (λ kept. kept ≡ keeper) }
         ensures counted { CountsFailure result self.old.faults self.new.faults }
     {
         match answer {
             Err(KeepFault::Failed) => {
-                self.keeper = if keeper.is_shut() { None } else { Some(keeper) };
+                self.state = self.after_failure(keeper);
                 Err(self.faults.fail().into())
             }
             other => {
-                self.keeper = Some(keeper);
+                self.state = FileState::Open(keeper);
                 other
             }
+        }
+    }
+
+    // If the call found the database shut, it is let go, since it holds the lock of the file.
+    fn after_failure(&mut self, keeper: SqlKeeper<S>) -> FileState<SqlKeeper<S>>
+        ensures kept { IfSome (ran_on result) (λ kept. kept ≡ keeper) }
+        ensures faults { self.new.faults ≡ self.old.faults }
+    {
+        if !keeper.is_shut() {
+            return FileState::Open(keeper);
+        }
+        drop(keeper);
+        match self.file.open_anew() {
+            Ok(opened) => FileState::Anew(opened),
+            Err(_) => FileState::Shut,
         }
     }
 }
@@ -111,10 +142,10 @@ impl<S: Alter + Drop, F: OpensAnew<S> + Drop> Keeper for FileKeeper<S, F> {
     ghost lent_as = { λ _. 0 };
 
     fn issue(&mut self, cusip: &[u8; 9]) -> Result<Option<Issue>, KeepFault>
-        ensures looks { WhileOpen self.old.keeper self.new.keeper (λ was is. Looks (state S.Store) rows.issue_in
+        ensures looks { WhileOpen self.old.state self.new.state (λ was is. Looks (state S.Store) rows.issue_in
             spec.select_issue (spec.cusip_values cusip.now) result was.database is.database) }
-        ensures counts { WhileOpen self.old.keeper self.new.keeper (λ was is. is.trades ≡ was.trades) }
-        ensures open { OnOk result (IsSome self.new.keeper) }
+        ensures counts { WhileOpen self.old.state self.new.state (λ was is. is.trades ≡ was.trades) }
+        ensures open { OnOk result (IsOpen self.old.state self.new.state) }
         ensures counted { CountsFailure result self.old.faults self.new.faults }
     {
         let mut keeper = self.take()?;
@@ -123,10 +154,10 @@ impl<S: Alter + Drop, F: OpensAnew<S> + Drop> Keeper for FileKeeper<S, F> {
     }
 
     fn put_issue(&mut self, issue: &Issue) -> Result<(), KeepFault>
-        ensures puts { WhileOpen self.old.keeper self.new.keeper (λ was is. Puts (state S.Store) spec.insert_issue
+        ensures puts { WhileOpen self.old.state self.new.state (λ was is. Puts (state S.Store) spec.insert_issue
             (spec.issue_values (issues.columns_of issue.now)) result was.database is.database) }
-        ensures counts { WhileOpen self.old.keeper self.new.keeper (λ was is. is.trades ≡ was.trades) }
-        ensures open { OnOk result (IsSome self.new.keeper) }
+        ensures counts { WhileOpen self.old.state self.new.state (λ was is. is.trades ≡ was.trades) }
+        ensures open { OnOk result (IsOpen self.old.state self.new.state) }
         ensures counted { CountsFailure result self.old.faults self.new.faults }
     {
         let mut keeper = self.take()?;
@@ -135,10 +166,10 @@ impl<S: Alter + Drop, F: OpensAnew<S> + Drop> Keeper for FileKeeper<S, F> {
     }
 
     fn version(&mut self, key: &Key, number: u32) -> Result<Option<Version>, KeepFault>
-        ensures looks { WhileOpen self.old.keeper self.new.keeper (λ was is. Looks (state S.Store) rows.version_in
+        ensures looks { WhileOpen self.old.state self.new.state (λ was is. Looks (state S.Store) rows.version_in
             spec.select_version (spec.numbered_key_values key.now number) result was.database is.database) }
-        ensures counts { WhileOpen self.old.keeper self.new.keeper (λ was is. is.trades ≡ was.trades) }
-        ensures open { OnOk result (IsSome self.new.keeper) }
+        ensures counts { WhileOpen self.old.state self.new.state (λ was is. is.trades ≡ was.trades) }
+        ensures open { OnOk result (IsOpen self.old.state self.new.state) }
         ensures counted { CountsFailure result self.old.faults self.new.faults }
     {
         let mut keeper = self.take()?;
@@ -147,10 +178,10 @@ impl<S: Alter + Drop, F: OpensAnew<S> + Drop> Keeper for FileKeeper<S, F> {
     }
 
     fn last(&mut self, key: &Key) -> Result<Option<(u32, Version)>, KeepFault>
-        ensures looks { WhileOpen self.old.keeper self.new.keeper (λ was is. Looks (state S.Store) rows.last_in
+        ensures looks { WhileOpen self.old.state self.new.state (λ was is. Looks (state S.Store) rows.last_in
             spec.select_last (spec.key_values key.now) result was.database is.database) }
-        ensures counts { WhileOpen self.old.keeper self.new.keeper (λ was is. is.trades ≡ was.trades) }
-        ensures open { OnOk result (IsSome self.new.keeper) }
+        ensures counts { WhileOpen self.old.state self.new.state (λ was is. is.trades ≡ was.trades) }
+        ensures open { OnOk result (IsOpen self.old.state self.new.state) }
         ensures counted { CountsFailure result self.old.faults self.new.faults }
     {
         let mut keeper = self.take()?;
@@ -159,11 +190,11 @@ impl<S: Alter + Drop, F: OpensAnew<S> + Drop> Keeper for FileKeeper<S, F> {
     }
 
     fn put_version(&mut self, key: &Key, number: u32, version: &Version) -> Result<(), KeepFault>
-        ensures puts { WhileOpen self.old.keeper self.new.keeper (λ was is. Puts (state S.Store) spec.insert_version
+        ensures puts { WhileOpen self.old.state self.new.state (λ was is. Puts (state S.Store) spec.insert_version
             (spec.version_values (versions.columns_of key.now number version.now)) result was.database is.database) }
-        ensures counts { WhileOpen self.old.keeper self.new.keeper (λ was is.
+        ensures counts { WhileOpen self.old.state self.new.state (λ was is.
             is.trades ≡ after_put key.now.desk number (is_ok result) was.trades) }
-        ensures open { OnOk result (IsSome self.new.keeper) }
+        ensures open { OnOk result (IsOpen self.old.state self.new.state) }
         ensures counted { CountsFailure result self.old.faults self.new.faults }
     {
         let mut keeper = self.take()?;
@@ -173,20 +204,20 @@ impl<S: Alter + Drop, F: OpensAnew<S> + Drop> Keeper for FileKeeper<S, F> {
 
     fn trades(&mut self, desk: &DeskName) -> Result<u32, KeepFault>
         // A count that is kept is the answer, and nothing changes.
-        ensures kept { WhileOpen self.old.keeper self.new.keeper (λ was is.
+        ensures kept { WhileOpen self.old.state self.new.state (λ was is.
             IfSome (count_of desk.now was.trades) (λ count. (result ≡ Ok count) × (is ≡ was))) }
 
         // Otherwise the trades are counted, and the count is kept if there is memory for it.
-        ensures read { IfOk result (λ count. WhileOpen self.old.keeper self.new.keeper (λ was is.
+        ensures read { IfOk result (λ count. WhileOpen self.old.state self.new.state (λ was is.
             count_of desk.now was.trades ≡ None → rows.Reads rows.count_in (state S.Store was.database)
             (state S.Store is.database) spec.count_trades (spec.desk_values desk.now) (Some count))) }
-        ensures asked { WhileOpen self.old.keeper self.new.keeper (λ was is.
+        ensures asked { WhileOpen self.old.state self.new.state (λ was is.
             count_of desk.now was.trades ≡ None → Asked (state S.Store was.database)
             (state S.Store is.database) spec.count_trades (spec.desk_values desk.now)) }
-        ensures counts { IfOk result (λ count. WhileOpen self.old.keeper self.new.keeper (λ was is.
+        ensures counts { IfOk result (λ count. WhileOpen self.old.state self.new.state (λ was is.
             (is.trades ≡ was.trades) ⊎ (is.trades ≡ with_count desk.now count was.trades))) }
-        ensures refused { OnErr result (WhileOpen self.old.keeper self.new.keeper (λ was is. is.trades ≡ was.trades)) }
-        ensures open { OnOk result (IsSome self.new.keeper) }
+        ensures refused { OnErr result (WhileOpen self.old.state self.new.state (λ was is. is.trades ≡ was.trades)) }
+        ensures open { OnOk result (IsOpen self.old.state self.new.state) }
         ensures counted { CountsFailure result self.old.faults self.new.faults }
     {
         let mut keeper = self.take()?;
@@ -199,10 +230,10 @@ impl<S: Alter + Drop, F: OpensAnew<S> + Drop> Keeper for FileKeeper<S, F> {
         desk: &DeskName,
         after: &Option<Reference>,
     ) -> Result<ArrayVec<Line, 50>, KeepFault>
-        ensures read { IfOk result (λ lines. WhileOpen self.old.keeper self.new.keeper (λ was is.
+        ensures read { IfOk result (λ lines. WhileOpen self.old.state self.new.state (λ was is.
             IsPage (state S.Store) desk.now after.now was.database is.database lines.items)) }
-        ensures counts { WhileOpen self.old.keeper self.new.keeper (λ was is. is.trades ≡ was.trades) }
-        ensures open { OnOk result (IsSome self.new.keeper) }
+        ensures counts { WhileOpen self.old.state self.new.state (λ was is. is.trades ≡ was.trades) }
+        ensures open { OnOk result (IsOpen self.old.state self.new.state) }
         ensures counted { CountsFailure result self.old.faults self.new.faults }
     {
         let mut keeper = self.take()?;
