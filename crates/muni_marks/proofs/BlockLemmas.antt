@@ -22,6 +22,13 @@ all_ok E R [] (y ∷ ys) all = absurd all
 all_ok E R (x ∷ xs) [] all = absurd all
 all_ok E R (x ∷ xs) (y ∷ ys) all = (all.0, all_ok E R xs ys all.1)
 
+-- one row more
+pub row_more : {X Y : Type 0} (R : X → Y → Type 0) (rows : List X) (said : List Y) (i : ℕ) (row : X) (mark : Y) → i < length rows → row ≡ get_or rows i row
+    → AllZip R (take i rows) said → R row mark → AllZip R (take (i + 1) rows) (said ++ mark ∷ [])
+row_more R rows said i row mark within is so_far next =
+    subst (λ l. AllZip R l (said ++ mark ∷ [])) (sym (take_more rows i row within ∙ ap (λ r. take i rows ++ r ∷ []) (sym is)))
+    (AllZip-append R (take i rows) (row ∷ []) said (mark ∷ []) so_far (next, tt))
+
 -- one block more
 pub block_more : {Y Z : Type 0} (f : Z → List Y) (parts : List Z) (i : ℕ) (part : Z) → i < length parts → part ≡ get_or parts i part
     → flat_map f (take (i + 1) parts) ≡ flat_map f (take i parts) ++ f part

@@ -82,15 +82,12 @@ fn priced<R: Threads + Sync, E: Encloser + Sync>(
     }
 }
 
-// The rows of a block, and the fewest rows that are worth a thread of their own.
-const BLOCK: usize = 2_048;
-
-const FEW: usize = 64;
+// The rows of a block: the fewest that are worth a thread of their own.
+const BLOCK: usize = 64;
 
 /// What is said of each row, by the issues that are kept under their CUSIPs.
 ///
-/// The rows are priced on all processors, each as the book prices a trade with one worker. They are
-/// shared out in blocks, and each block is shared out again, so that long and short rows even out.
+/// The rows are priced on all processors in blocks, each row as the book prices a trade with one worker.
 pub fn marks<R: Threads + Sync, E: Encloser + Sync>(
     rt: &R,
     alloc: Global,
@@ -120,7 +117,7 @@ fn marks_in_blocks<R: Threads + Sync, E: Encloser + Sync>(
     encloser: &E,
 ) -> Result<Vec<Vec<MarkSaid>>, NoMemory>
     ensures { IfOk result (λ blocks. AllZip (λ rows block.
-        spec.AreMarks (IsRightAnswer (E.ends encloser.now)) (tree.get by_bytes issues.now) rows block.items) (chunks_of 2_048 rows.now) blocks.items) }
+        spec.AreMarks (IsRightAnswer (E.ends encloser.now)) (tree.get by_bytes issues.now) rows block.items) (chunks_of 64 rows.now) blocks.items) }
 {
     let blocks = rows
         .par_chunks(BLOCK)
@@ -150,18 +147,13 @@ fn marks_of_block<R: Threads + Sync, E: Encloser + Sync>(
     ensures { IfOk result (λ said.
         spec.AreMarks (IsRightAnswer (E.ends encloser.now)) (tree.get by_bytes issues.now) rows.now said.items) }
 {
-    let said = rows
-        .par_iter()
-        .with_min_len(FEW)
-        .map(
-            |row: &Result<Asked, RowFault>| -> MarkSaid
-                requires { IsSync R.row × IsSync E.row }
-                ensures { spec.IsMark (IsRightAnswer (E.ends encloser.entry.now)) (tree.get by_bytes issues.entry.now) row.now result }
-            { mark(rt, row, issues, encloser) },
-        )
-        .collect(rt, alloc);
-    match said {
-        Ok(said) => Ok(said),
-        Err(_) => Err(NoMemory),
+    let Ok(mut said) = Vec::with_capacity(alloc, rows.len()) else {
+        return Err(NoMemory);
+    };
+    for row in rows {
+        if said.push(mark(rt, row, issues, encloser)).is_err() {
+            return Err(NoMemory);
+        }
     }
+    Ok(said)
 }

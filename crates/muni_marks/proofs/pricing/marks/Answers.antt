@@ -18,5 +18,5 @@ returns g c =
     let items = c.as_slice-block-items.ensures.value in
     let all = c.loop-block.invariant ∙ ap (λ l. flat_map (λ block. block.items) (take c.loop-block.block-index l)) items
     ∙ ap (flat_map (λ block. block.items)) (take_all c.loop-block.block-index blocks (omega (arith, c.loop-block-test.false, ap length items))) in
-    subst (λ l. AllZip mark l c.loop-block.said.items) (chunks_of-concat 2_048 rows (omega arith))
-    (subst (λ l. AllZip mark (flat_map (λ l. l) (chunks_of 2_048 rows)) l) (sym all) (flat_marks mark (λ block. block.items) (chunks_of 2_048 rows) blocks c.in_ok-blocks.ensures))
+    subst (λ l. AllZip mark l c.loop-block.said.items) (chunks_of-concat 64 rows (omega arith))
+    (subst (λ l. AllZip mark (flat_map (λ l. l) (chunks_of 64 rows)) l) (sym all) (flat_marks mark (λ block. block.items) (chunks_of 64 rows) blocks c.in_ok-blocks.ensures))

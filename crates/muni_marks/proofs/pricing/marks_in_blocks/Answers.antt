@@ -13,12 +13,12 @@ use Rattle.muni_marks.proofs.pricing.marks_in_blocks.Goals as goal
 pub returns-in-Ok : goal.returns-in-Ok
 returns-in-Ok g c =
     let rows = c.args.rows.now in
-    let blocks = chunks_of 2_048 rows in
+    let blocks = chunks_of 64 rows in
     let slice = ap (λ it. it.base.slice.now) c.map.ensures.base ∙ ap (λ it. it.slice.now) c.with_min_len.ensures.base ∙ c.par_chunks.ensures.slice in
     let size = ap (λ it. it.base.size) c.map.ensures.base ∙ ap (λ it. it.size) c.with_min_len.ensures.base ∙ c.par_chunks.ensures.size in
     let answers = c.in-Ok.ensures in
     let chain = answers.1 in
-    let shown = chain.1 ∙ ap (λ n. chunks_of (max n 1) c.map.result.base.base.slice.now) size ∙ ap (chunks_of 2_048) slice in
+    let shown = chain.1 ∙ ap (λ n. chunks_of (max n 1) c.map.result.base.base.slice.now) size ∙ ap (chunks_of 64) slice in
     let f = c.map.result.f in
     let mark = IsMark (IsRightAnswer (g.E.Encloser.ends f.3.now)) (tree.get by_bytes f.2.now) in
     let each = slice-AllZip chain.0 blocks shown (λ block answer. IfOk answer (λ said. AllZip mark block said.items)) answers.0 chain.2 in
