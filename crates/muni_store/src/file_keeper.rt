@@ -1,15 +1,14 @@
 //! A keeper over the file of a store.
 
-ghost use Rattle.std.specs.Prelude.{◌≡◌, ◌⊎◌, false, None, Ok, Some, IfOk, IfSome, OnOk, OnErr, is_ok};
+ghost use Rattle.std.specs.Prelude.{◌≡◌, false, None, Ok, Some, IfOk, IfSome, OnOk, OnErr, is_ok};
 ghost use Rattle.sqlite.specs.Held.{state};
 ghost use Rattle.muni_store_rows.specs.Issue as issues;
 ghost use Rattle.muni_store_rows.specs.Version as versions;
-ghost use Rattle.muni_store.specs.Calls.{Looks, Puts};
-ghost use Rattle.muni_store.specs.Counts.{count_of, with_count, after_put};
+ghost use Rattle.muni_store.specs.Calls.{CountsTrades, Looks, Puts};
+ghost use Rattle.muni_store.specs.Counts.{count_of, after_put};
 ghost use Rattle.muni_store.specs.Faults.{CountsFailure};
 ghost use Rattle.muni_store.specs.Open.{IsOpen, WhileOpen, in_hand, ran_on};
 ghost use Rattle.muni_store.specs.Page.{IsPage};
-ghost use Rattle.muni_store.specs.Ran.{Asked};
 ghost use Rattle.muni_store.specs.Rows as rows;
 ghost use Rattle.muni_store.specs.Statements as spec;
 
@@ -206,17 +205,8 @@ impl<S: Alter + Drop, F: OpensAnew<S> + Drop> Keeper for FileKeeper<S, F> {
         // A count that is kept is the answer, and nothing changes.
         ensures kept { WhileOpen self.old.state self.new.state (λ was is.
             IfSome (count_of desk.now was.trades) (λ count. (result ≡ Ok count) × (is ≡ was))) }
-
-        // Otherwise the trades are counted, and the count is kept if there is memory for it.
-        ensures read { IfOk result (λ count. WhileOpen self.old.state self.new.state (λ was is.
-            count_of desk.now was.trades ≡ None → rows.Reads rows.count_in (state S.Store was.database)
-            (state S.Store is.database) spec.count_trades (spec.desk_values desk.now) (Some count))) }
-        ensures asked { WhileOpen self.old.state self.new.state (λ was is.
-            count_of desk.now was.trades ≡ None → Asked (state S.Store was.database)
-            (state S.Store is.database) spec.count_trades (spec.desk_values desk.now)) }
-        ensures counts { IfOk result (λ count. WhileOpen self.old.state self.new.state (λ was is.
-            (is.trades ≡ was.trades) ⊎ (is.trades ≡ with_count desk.now count was.trades))) }
-        ensures refused { OnErr result (WhileOpen self.old.state self.new.state (λ was is. is.trades ≡ was.trades)) }
+        ensures counts { WhileOpen self.old.state self.new.state (λ was is.
+            CountsTrades (state S.Store) desk.now result was.database is.database was.trades is.trades) }
         ensures open { OnOk result (IsOpen self.old.state self.new.state) }
         ensures counted { CountsFailure result self.old.faults self.new.faults }
     {

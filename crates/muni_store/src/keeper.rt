@@ -1,14 +1,13 @@
 //! A keeper over a database.
 
-ghost use Rattle.std.specs.Prelude.{◌≡◌, ◌⊎◌, [], None, Ok, Some, IfOk, IfSome, OnOk, OnErr, is_ok};
+ghost use Rattle.std.specs.Prelude.{◌≡◌, [], None, Ok, Some, IfOk, IfSome, is_ok};
 ghost use Rattle.sqlite.specs.Held.{state};
 ghost use Rattle.muni_store_rows.specs.Issue as issues;
 ghost use Rattle.muni_store_rows.specs.Version as versions;
-ghost use Rattle.muni_store.specs.Calls.{Looks, Puts};
-ghost use Rattle.muni_store.specs.Counts.{count_of, with_count, after_put};
+ghost use Rattle.muni_store.specs.Calls.{CountsTrades, Looks, Puts};
+ghost use Rattle.muni_store.specs.Counts.{count_of, after_put};
 ghost use Rattle.muni_store.specs.Faults.{CountsFailure};
 ghost use Rattle.muni_store.specs.Page.{IsPage};
-ghost use Rattle.muni_store.specs.Ran.{Asked};
 ghost use Rattle.muni_store.specs.Rows as rows;
 ghost use Rattle.muni_store.specs.Statements as spec;
 
@@ -147,17 +146,8 @@ impl<S: Alter + Drop> Keeper for SqlKeeper<S> {
         // A count that is kept is the answer, and nothing changes.
         ensures kept { IfSome (count_of desk.now self.old.trades)
             (λ count. (result ≡ Ok count) × (self.new ≡ self.old)) }
-
-        // Otherwise the trades are counted, and the count is kept if there is memory for it.
-        ensures read { count_of desk.now self.old.trades ≡ None
-            → IfOk result (λ count. rows.Reads rows.count_in (state S.Store self.old.database)
-            (state S.Store self.new.database) spec.count_trades (spec.desk_values desk.now) (Some count)) }
-        ensures asked { count_of desk.now self.old.trades ≡ None
-            → Asked (state S.Store self.old.database) (state S.Store self.new.database) spec.count_trades
-            (spec.desk_values desk.now) }
-        ensures counts { IfOk result (λ count. (self.new.trades ≡ self.old.trades)
-            ⊎ (self.new.trades ≡ with_count desk.now count self.old.trades)) }
-        ensures refused { OnErr result (self.new.trades ≡ self.old.trades) }
+        ensures counts { CountsTrades (state S.Store) desk.now result self.old.database self.new.database
+            self.old.trades self.new.trades }
         ensures counted { CountsFailure result self.old.faults self.new.faults }
     {
         if let Some(count) = self.trades.of(desk) {
