@@ -112,6 +112,11 @@ searches_from price c (candidate ∷ rest) =
 abbrev pub IsKnownYield : Option CandidateOutcome → Type 0
 IsKnownYield known = IfSome known (IsOf Yield)
 
+-- before there are candidates
+abbrev pub IsNew : Search → Type 0
+IsNew search =
+    (search.known.items ≡ []) × (search.searches.items ≡ []) × (search.missed ≡ 105_003)
+
 -- all that is known before the first round
 pub record IsStarted (price : ℕ) (list : List Candidate) (search : Search) : Type 0 where
   pub known : AllZip (IsKnownFirst price) list search.known.items

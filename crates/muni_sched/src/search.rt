@@ -8,7 +8,7 @@ ghost use Rattle.muni_yield.specs.Settled.{settled_as};
 ghost use Rattle.muni_sched.specs.Candidates.{IsCandidate};
 ghost use Rattle.muni_sched.specs.Figures.{IsOf};
 ghost use Rattle.muni_sched.specs.Search as spec;
-ghost use Rattle.muni_sched.specs.Search.{IsSearch, IsKnownYield, CanRefine, IsStarted, IsRound, noted, recorded, missed, missed_first, missed_after, ceiling_after, ceiling_first, searches_from};
+ghost use Rattle.muni_sched.specs.Search.{IsSearch, IsKnownYield, CanRefine, IsNew, IsStarted, IsRound, noted, recorded, missed, missed_first, missed_after, ceiling_after, ceiling_first, searches_from};
 ghost use Rattle.muni_sched.specs.YieldOutcome.{IsKnownFirst, many_yield};
 ghost use Rattle.muni_sched.specs.FigureKind.{Yield};
 
@@ -100,9 +100,7 @@ pub(crate) struct Search {
 impl Search {
     /// With no candidates.
     pub(crate) fn new() -> Search
-        ensures known { result.known.items ≡ [] }
-        ensures searches { result.searches.items ≡ [] }
-        ensures missed { result.missed ≡ 105_003 }
+        ensures { IsNew result }
     {
         Search {
             known: ArrayVec::new(),
@@ -115,9 +113,7 @@ impl Search {
 
     /// Adds the candidates, before the first round.
     pub(crate) fn start(&mut self, list: &[Candidate], price: Price)
-        requires known { self.old.known.items ≡ [] }
-        requires searches { self.old.searches.items ≡ [] }
-        requires missed { self.old.missed ≡ 105_003 }
+        requires new { IsNew self.old }
         requires few { length list.now ≤ 41 }
         requires candidates { All IsCandidate list.now }
         requires price { 0 < price }

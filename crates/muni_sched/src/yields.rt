@@ -10,8 +10,8 @@ ghost use Rattle.muni_sched.specs.GivenFigure.{at_price};
 ghost use Rattle.muni_sched.specs.LowAnswers.{low_yield};
 ghost use Rattle.muni_sched.specs.Lowest as spec;
 ghost use Rattle.muni_sched.specs.Ranks.{decided_by};
-ghost use Rattle.muni_sched.specs.Search.{outcomes_of};
-ghost use Rattle.muni_sched.specs.SearchedOut.{CountsRounds};
+ghost use Rattle.muni_sched.specs.Search.{IsNew, outcomes_of};
+ghost use Rattle.muni_sched.specs.SearchedOut.{AreSearchedOut, CountsRounds};
 ghost use Rattle.muni_sched.specs.declared.outcome.CandidateOutcome.TheVariants.{Unsure};
 
 use crate::lowest::lowest_of;
@@ -48,11 +48,12 @@ pub fn lowest_yield<R: Threads + Sync, E: Encloser + Sync, G: Gate + Sync, L: Le
     ensures rounds { CountsRounds (E.ends encloser.now) price list.now steps.old steps.new }
     ensures few { steps.new ≤ steps.old + 19 }
 {
-    let found = searched(rt, list, price, workers, encloser, gate);
-    for _round in 0..found.rounds {
+    let mut search = Search::new();
+    let rounds = searched(&mut search, rt, list, price, workers, encloser, gate);
+    for _round in 0..rounds {
         steps.tick();
     }
-    LowAnswer::of_yield(found.lowest)
+    LowAnswer::of_yield(lowest_found(&search, list, price, encloser))
 }
 
 /// The same, with the yield as such, and no count of the rounds.
@@ -70,48 +71,56 @@ pub fn yield_to_worst<R: Threads + Sync, E: Encloser + Sync, G: Gate + Sync>(
     requires workers { (1 ≤ workers) × (workers ≤ 16) }
     ensures { IsLowestAnswer (E.ends encloser.now) (at_price price) list.now (low_yield result) }
 {
-    searched(rt, list, price, workers, encloser, gate).lowest
+    let mut search = Search::new();
+    let _rounds = searched(&mut search, rt, list, price, workers, encloser, gate);
+    lowest_found(&search, list, price, encloser)
 }
 
-// The lowest yield, or why there is none, and how many rounds its search took.
-#[derive(Clone, Copy)]
-struct Found {
-    lowest: Result<LowestYield, NoYield>,
-    rounds: u32,
-}
-
-// Round by round, until nothing is left to ask.
+// Round by round, until nothing is left to ask. Answers how many rounds there were.
 fn searched<R: Threads + Sync, E: Encloser + Sync, G: Gate + Sync>(
+    search: &mut Search,
     rt: &R,
     list: &[Candidate],
     price: Price,
     workers: u32,
     encloser: &E,
     gate: &G,
-) -> Found
+) -> u32
+    requires new { IsNew search.old }
     requires few { length list.now ≤ 41 }
     requires candidates { All IsCandidate list.now }
     requires price { 0 < price }
     requires workers { 1 ≤ workers }
-    ensures answer { IsLowestAnswer (E.ends encloser.now) (at_price price) list.now
-        (low_yield result.lowest) }
-    ensures rounds { CountsRounds (E.ends encloser.now) price list.now 0 result.rounds }
-    ensures few { result.rounds ≤ 19 }
+    ensures found { AreSearchedOut (E.ends encloser.now) price list.now
+        (outcomes_of search.new.known.items) }
+    ensures rounds { CountsRounds (E.ends encloser.now) price list.now 0 result }
+    ensures few { result ≤ 19 }
 {
-    let mut search = Search::new();
     search.start(list, price);
     let mut rounds = 0;
     while !search.is_over() {
         search.refine(rt, workers as usize, rounds, encloser, gate);
         rounds += 1;
     }
+    rounds
+}
+
+// The lowest yield that a search found, or why there is none.
+fn lowest_found<E: Encloser>(
+    search: &Search,
+    list: &[Candidate],
+    price: Price,
+    encloser: &E,
+) -> Result<LowestYield, NoYield>
+    requires candidates { All IsCandidate list.now }
+    requires price { 0 < price }
+    requires found { AreSearchedOut (E.ends encloser.now) price list.now
+        (outcomes_of search.now.known.items) }
+    ensures { IsLowestAnswer (E.ends encloser.now) (at_price price) list.now (low_yield result) }
+{
     let known = search.known();
     let candidate = lowest_of(known);
-    let outcome = outcome_at(known, candidate);
-    Found {
-        lowest: decided_yield(list, outcome, candidate),
-        rounds,
-    }
+    decided_yield(list, outcome_at(known, candidate), candidate)
 }
 
 // A candidate whose outcome is not known counts as above all figures.
