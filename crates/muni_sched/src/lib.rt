@@ -25,5 +25,5 @@ pub use muni_terms::{Boundary, Label};
 pub use outcome::{CandidateOutcome, Ranked};
 pub use prices::{lowest_price, price_to_worst};
 pub use range::out_of_range;
-pub use redemptions::candidates;
+pub use redemptions::{candidates, put_candidates};
 pub use yields::{lowest_yield, yield_to_worst};

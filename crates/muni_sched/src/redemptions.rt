@@ -1,7 +1,6 @@
 //! The redemption candidates of an issue.
 
-ghost use Rattle.std.specs.Prelude.{◌≡◌, ◌<◌, ◌≤◌, true, [], map, length, All, AllPairs};
-ghost use Rattle.arrayvec.specs.ArrayVec.{array_vec_len};
+ghost use Rattle.std.specs.Prelude.{◌≡◌, ◌<◌, ◌≤◌, true, map, take, length, All, AllPairs};
 ghost use Rattle.muni_rule.specs.Civil.{is_before};
 ghost use Rattle.muni_rule.specs.Redemptions.{calls_after};
 ghost use Rattle.muni_days.specs.Day.{civil};
@@ -24,41 +23,60 @@ pub fn candidates(issue: &Issue, settlement: Day) -> ArrayVec<Candidate, 41>
     ensures some { 0 < length result.items }
     ensures rising { AllPairs IsEarlier result.items }
 {
+    let mut slots = [Candidate::default(); 41];
+    let count = put_candidates(&mut slots, issue, settlement);
     let mut list = ArrayVec::new();
-    push_calls(&mut list, issue, settlement);
-    let date = issue.row().maturity;
-    let shape = shape_at(issue, settlement, date, Price::PAR);
-    list.push(Candidate {
-        date,
-        price: Price::PAR,
-        label: Label::Maturity,
-        shape,
-    });
+    let _ = list.try_extend_from_slice(&slots[..count]);
     list
 }
 
-fn push_calls(list: &mut ArrayVec<Candidate, 41>, issue: &Issue, settlement: Day)
-    requires empty { list.old.items ≡ [] }
+/// Puts the same candidates into the first of some slots, and answers how many they are.
+pub fn put_candidates(slots: &mut [Candidate], issue: &Issue, settlement: Day) -> usize
     requires settled { settles issue.now settlement ≡ true }
-    ensures redemptions { map redemption_of list.new.items
+    requires room { 41 ≤ length slots.old }
+    ensures candidates { AreCandidates issue.now settlement (take result slots.new) }
+    ensures count { (1 ≤ result) × (result ≤ 41) }
+    ensures rising { AllPairs IsEarlier (take result slots.new) }
+    ensures len { length slots.new ≡ length slots.old }
+{
+    let calls = put_calls(slots, issue, settlement);
+    let date = issue.row().maturity;
+    slots[calls] = Candidate {
+        date,
+        price: Price::PAR,
+        label: Label::Maturity,
+        shape: shape_at(issue, settlement, date, Price::PAR),
+    };
+    calls + 1
+}
+
+// Answers how many calls are to come.
+fn put_calls(slots: &mut [Candidate], issue: &Issue, settlement: Day) -> usize
+    requires settled { settles issue.now settlement ≡ true }
+    requires room { 41 ≤ length slots.old }
+    ensures redemptions { map redemption_of (take result slots.new)
         ≡ calls_to_come settlement issue.now.calls.items }
-    ensures labels { map label_of list.new.items
+    ensures labels { map label_of (take result slots.new)
         ≡ map spec.call_label (calls_to_come settlement issue.now.calls.items) }
-    ensures shapes { All (HasShape issue.now settlement) list.new.items }
-    ensures ranges { All IsCandidate list.new.items }
-    ensures len { array_vec_len list.new ≤ 40 }
+    ensures shapes { All (HasShape issue.now settlement) (take result slots.new) }
+    ensures ranges { All IsCandidate (take result slots.new) }
+    ensures few { result ≤ 40 }
+    ensures len { length slots.new ≡ length slots.old }
 {
     let row = issue.row();
+    let mut calls = 0;
     for call in row.calls.as_slice() {
         if is_to_come(call, settlement) {
-            list.push(Candidate {
+            slots[calls] = Candidate {
                 date: call.date,
                 price: call.price,
                 label: call_label(call.price),
                 shape: shape_at(issue, settlement, call.date, call.price),
-            });
+            };
+            calls += 1;
         }
     }
+    calls
 }
 
 fn is_to_come(call: &Call, settlement: Day) -> bool

@@ -80,7 +80,7 @@ pub(crate) fn ask_alone<E: Encloser, G: Gate>(
     ensures { AllZip (IsHalved (place_verdict (E.ends encloser.now))) searches.old searches.new }
 {
     let search = &mut searches[0];
-    let is_asked = search.guided.asks_at(aim.place());
+    let is_asked = search.guided.window().is_wide() && search.guided.asks_at(aim.place());
     let round = Round {
         number,
         aim,
