@@ -21,7 +21,7 @@ use muni_edge::Gate;
 use muni_msg::{Asked, Figures, Given, Range, Refusal, Side};
 use muni_multi::Encloser;
 use muni_sched::{
-    Boundary, Candidate, NoPrice, NoYield, Shape, candidates, price_to_worst, yield_to_worst,
+    Boundary, Candidate, NoPrice, NoYield, Shape, price_to_worst, put_candidates, yield_to_worst,
 };
 use muni_simple::{SimpleYield, rate_price, rate_return};
 use muni_terms::Issue;
@@ -62,8 +62,10 @@ pub fn figures<R: Threads + Sync, E: Encloser + Sync, G: Gate + Sync>(
     if !issue.settles(asked.settle) {
         return Err(Refusal::SettleOutside);
     }
-    let list = candidates(issue, asked.settle);
-    if let Some(side) = side_left(asked, list.as_slice()) {
+    let mut slots = [Candidate::default(); 41];
+    let count = put_candidates(&mut slots, issue, asked.settle);
+    let list = &slots[..count];
+    if let Some(side) = side_left(asked, list) {
         return Err(Refusal::GivenOutOfRange(side));
     }
     let calculator = Calculator {
@@ -72,7 +74,7 @@ pub fn figures<R: Threads + Sync, E: Encloser + Sync, G: Gate + Sync>(
         encloser,
         gate,
     };
-    find(&calculator, issue, asked, list.as_slice())
+    find(&calculator, issue, asked, list)
 }
 
 // At each basis one of the two figures is given or computed first, and the other from it.
