@@ -15,10 +15,9 @@ use Rattle.muni_yield.proofs.BracketLemmas.{halved-next, start-is}
 use Rattle.muni_sched.specs.declared.candidate.Candidate.{Candidate}
 use Rattle.muni_sched.specs.declared.outcome.CandidateOutcome.{CandidateOutcome}
 use Rattle.muni_sched.specs.declared.search.OpenSearch.{OpenSearch}
-use Rattle.muni_sched.specs.declared.search.Search.{Search}
 use Rattle.muni_sched.specs.Candidates.{IsCandidate}
 use Rattle.muni_sched.specs.Rounds.{brackets_for, brackets_from, missed_by, ceiling_over, is_kept, kept_by, rounds}
-use Rattle.muni_sched.specs.Search.{IsHalved, IsRound, IsStarted, missed_after, lower_of, ceiling_after, is_at_ceiling, is_passed, is_needed, is_over, searches_for, searches_from}
+use Rattle.muni_sched.specs.Search.{SearchState, IsHalved, IsRound, IsStarted, missed_after, lower_of, ceiling_after, is_at_ceiling, is_passed, is_needed, is_over, searches_for, searches_from}
 use Rattle.muni_sched.specs.ToCome.{ToCome, many, one, to_come_of}
 use Rattle.muni_sched.proofs.IntLemmas.{less_or_not}
 use Rattle.muni_sched.proofs.BetweenLemmas.{rank_of}
@@ -59,21 +58,21 @@ pub record AreSameBelow (high : ℕ) (it other : Option ℤ) : Type 0 where
   pub to : (t : ℤ) → t <ℤ yield_at high → IsPast it t → IsPast other t
   pub back : (t : ℤ) → t <ℤ yield_at high → IsPast other t → IsPast it t
 
-pub record IsFollowed (verdicts : PaymentSeries → ℕ → ℕ → Verdict) (r : ℕ) (search : Search) (ceiling : Option ℤ) (brackets : List YieldBracket) : Type 0 where
+pub record IsFollowed (verdicts : PaymentSeries → ℕ → ℕ → Verdict) (r : ℕ) (search : SearchState) (ceiling : Option ℤ) (brackets : List YieldBracket) : Type 0 where
   pub lead : YieldBracket
   pub own : IsLevel verdicts r lead.low lead.high (rank_of (end_of verdicts r lead)) lead
   pub level : All (IsLevel verdicts r lead.low lead.high (rank_of (end_of verdicts r lead))) brackets
   pub has : Has lead brackets
-  pub searched : All (λ (it : OpenSearch). IsLevel verdicts r lead.low lead.high (rank_of (end_of verdicts r lead)) it.guided.bracket) search.searches.items
-  pub leads : HasSearch lead search.searches.items
+  pub searched : All (λ (it : OpenSearch). IsLevel verdicts r lead.low lead.high (rank_of (end_of verdicts r lead)) it.guided.bracket) search.searches
+  pub leads : HasSearch lead search.searches
   pub below : AreSameBelow lead.high ceiling search.ceiling
   pub missed : search.missed ≤ 105002 → rank_of (end_of verdicts r lead) <ℤ yield_at search.missed
 
-pub record AreBothOver (search : Search) (brackets : List YieldBracket) : Type 0 where
+pub record AreBothOver (search : SearchState) (brackets : List YieldBracket) : Type 0 where
   pub none : brackets ≡ []
-  pub over : search.searches.items ≡ []
+  pub over : search.searches ≡ []
 
-abbrev pub IsInStep : (PaymentSeries → ℕ → ℕ → Verdict) → ℕ → Search → Option ℤ → List YieldBracket → Type 0
+abbrev pub IsInStep : (PaymentSeries → ℕ → ℕ → Verdict) → ℕ → SearchState → Option ℤ → List YieldBracket → Type 0
 IsInStep verdicts r search ceiling brackets = IsFollowed verdicts r search ceiling brackets ⊎ AreBothOver search brackets
 
 searched-after : (verdicts : PaymentSeries → ℕ → ℕ → Verdict) (r : ℕ) (lead : YieldBracket) (searches asked : List OpenSearch) → r < 19 → IsLevel verdicts r lead.low lead.high (rank_of (end_of verdicts r lead)) lead → AllZip (IsHalved verdicts) searches asked → All (λ (it : OpenSearch). IsLevel verdicts r lead.low lead.high (rank_of (end_of verdicts r lead)) it.guided.bracket) searches
@@ -162,7 +161,7 @@ has-needed ceiling missed lead Good (it ∷ rest) need all has =
     has
 
 -- one round
-next-step : (verdicts : PaymentSeries → ℕ → ℕ → Verdict) (finals : List CandidateOutcome) (r : ℕ) (search after : Search) (ceiling : Option ℤ) (brackets : List YieldBracket) → r < 19 → IsRefined verdicts finals r search → IsRefined verdicts finals (r + 1) after → IsRound verdicts search after → IsFollowed verdicts r search ceiling brackets
+next-step : (verdicts : PaymentSeries → ℕ → ℕ → Verdict) (finals : List CandidateOutcome) (r : ℕ) (search after : SearchState) (ceiling : Option ℤ) (brackets : List YieldBracket) → r < 19 → IsRefined verdicts finals r search → IsRefined verdicts finals (r + 1) after → IsRound verdicts search after → IsFollowed verdicts r search ceiling brackets
     → IsInStep verdicts (r + 1) after (ceiling_over ceiling (map (halved verdicts) brackets)) (kept_by ceiling (map (halved verdicts) brackets))
 next-step verdicts finals r search after ceiling brackets few is later round step =
     let lead = halved verdicts step.lead in
@@ -178,13 +177,13 @@ next-step verdicts finals r search after ceiling brackets few is later round ste
     -- the same of the search
     let searches = round.asked in
     let its = map bracket_of searches in
-    let each : All (λ (it : OpenSearch). After it.guided.bracket) searches = searched-after verdicts r step.lead search.searches.items searches few step.own round.each step.searched in
+    let each : All (λ (it : OpenSearch). After it.guided.bracket) searches = searched-after verdicts r step.lead search.searches searches few step.own round.each step.searched in
     let its_all : All After its = All-map After bracket_of searches each in
-    let leads : HasSearch lead searches = subst (Has lead) (sym (map-halved verdicts search.searches.items searches round.each)) (has-halved verdicts (map bracket_of search.searches.items) step.lead step.leads) in
+    let leads : HasSearch lead searches = subst (Has lead) (sym (map-halved verdicts search.searches searches round.each)) (has-halved verdicts (map bracket_of search.searches) step.lead step.leads) in
     let its_now : after.ceiling ≡ ceiling_over search.ceiling its = round.ceiling ∙ ceiling-map search.ceiling searches in
     let its_past : lead.high ≤ 105002 → IsPast after.ceiling (yield_at lead.high) = λ most. subst (λ c. IsPast c (yield_at lead.high)) (sym its_now) (has-ceiling search.ceiling its lead leads most) in
     let most : r + 1 ≤ 19 = omega arith in
-    let answers = all-asked verdicts finals r search.searches.items searches few round.each is.each in
+    let answers = all-asked verdicts finals r search.searches searches few round.each is.each in
     -- both say the same below the lead's higher place
     let falls = (halved-next verdicts step.lead step.own.is step.own.pending).high in
     let rises = yield-rises lead.high step.lead.high falls in
@@ -307,13 +306,13 @@ first-level verdicts lead it least own is from = record {
   from = from;
 }
 
-first-step : (verdicts : PaymentSeries → ℕ → ℕ → Verdict) (price : ℕ) (list : List Candidate) (search : Search) → 0 < price → All IsCandidate list → IsStarted price list search → IsInStep verdicts 0 search search.ceiling (brackets_from price list)
+first-step : (verdicts : PaymentSeries → ℕ → ℕ → Verdict) (price : ℕ) (list : List Candidate) (search : SearchState) → 0 < price → All IsCandidate list → IsStarted price list search → IsInStep verdicts 0 search search.ceiling (brackets_from price list)
 first-step verdicts price list search some all is =
     let brackets = brackets_from price list in
     let firsts = first-all price list some all in
-    let same : map bracket_of search.searches.items ≡ brackets = ap (map bracket_of) is.searches ∙ map-from price 0 list in
+    let same : map bracket_of search.searches ≡ brackets = ap (map bracket_of) is.searches ∙ map-from price 0 list in
     ⊎_elim
-    (λ (none : brackets ≡ []). inr (record { none = none; over = map-none search.searches.items (same ∙ none) }))
+    (λ (none : brackets ≡ []). inr (record { none = none; over = map-none search.searches (same ∙ none) }))
     (λ (found : HasLowest (λ bracket. rank_of (end_of verdicts 0 bracket)) brackets).
     let lead = found.lead in
     let least = rank_of (end_of verdicts 0 lead) in
@@ -324,7 +323,7 @@ first-step verdicts price list search some all is =
       own = first-level verdicts lead lead least own own (omega (arith, ints));
       level = level;
       has = found.has;
-      searched = map-all (IsLevel verdicts 0 lead.low lead.high least) search.searches.items (subst (All (IsLevel verdicts 0 lead.low lead.high least)) (sym same) level);
+      searched = map-all (IsLevel verdicts 0 lead.low lead.high least) search.searches (subst (All (IsLevel verdicts 0 lead.low lead.high least)) (sym same) level);
       leads = subst (Has lead) (sym same) found.has;
       below = record { to = λ t less past. past; back = λ t less past. past };
       missed = λ most. absurd (omega (arith, most, is.missed));
@@ -353,13 +352,13 @@ rounds-next verdicts r ceiling brackets few pending =
     omega (arith, it)
 
 -- after r rounds those that are left are counted
-pub record IsCounted (verdicts : PaymentSeries → ℕ → ℕ → Verdict) (price : ℕ) (list : List Candidate) (first : Option ℤ) (r : ℕ) (search : Search) : Type 0 where
+pub record IsCounted (verdicts : PaymentSeries → ℕ → ℕ → Verdict) (price : ℕ) (list : List Candidate) (first : Option ℤ) (r : ℕ) (search : SearchState) : Type 0 where
   pub ceiling : Option ℤ
   pub brackets : List YieldBracket
   pub step : IsInStep verdicts r search ceiling brackets
   pub counted : r + rounds (19 - r) verdicts ceiling brackets ≡ rounds 19 verdicts first (brackets_from price list)
 
-pub counted-first : (verdicts : PaymentSeries → ℕ → ℕ → Verdict) (price : ℕ) (list : List Candidate) (search : Search) → 0 < price → All IsCandidate list → IsStarted price list search → IsCounted verdicts price list search.ceiling 0 search
+pub counted-first : (verdicts : PaymentSeries → ℕ → ℕ → Verdict) (price : ℕ) (list : List Candidate) (search : SearchState) → 0 < price → All IsCandidate list → IsStarted price list search → IsCounted verdicts price list search.ceiling 0 search
 counted-first verdicts price list search some all is = record {
   ceiling = search.ceiling;
   brackets = brackets_from price list;
@@ -367,10 +366,10 @@ counted-first verdicts price list search some all is = record {
   counted = omega arith;
 }
 
-not-over : (search : Search) → search.searches.items ≡ [] → is_over search ≡ false → ⊥
+not-over : (search : SearchState) → search.searches ≡ [] → is_over search ≡ false → ⊥
 not-over search none pending = let over : is_over search ≡ true = rw none refl in let never : true ≡ false = sym over ∙ pending in cc
 
-pub counted-next : (verdicts : PaymentSeries → ℕ → ℕ → Verdict) (finals : List CandidateOutcome) (price : ℕ) (list : List Candidate) (first : Option ℤ) (r : ℕ) (search after : Search) → r < 19 → is_over search ≡ false → IsRefined verdicts finals r search → IsRound verdicts search after → IsCounted verdicts price list first r search → IsCounted verdicts price list first (r + 1) after
+pub counted-next : (verdicts : PaymentSeries → ℕ → ℕ → Verdict) (finals : List CandidateOutcome) (price : ℕ) (list : List Candidate) (first : Option ℤ) (r : ℕ) (search after : SearchState) → r < 19 → is_over search ≡ false → IsRefined verdicts finals r search → IsRound verdicts search after → IsCounted verdicts price list first r search → IsCounted verdicts price list first (r + 1) after
 counted-next verdicts finals price list first r search after few pending is round counted =
     ⊎_elim
     (λ (step : IsFollowed verdicts r search counted.ceiling counted.brackets). record {
@@ -382,7 +381,7 @@ counted-next verdicts finals price list first r search after few pending is roun
     (λ (both : AreBothOver search counted.brackets). absurd (not-over search both.over pending))
     counted.step
 
-pub counted-last : (verdicts : PaymentSeries → ℕ → ℕ → Verdict) (price : ℕ) (list : List Candidate) (first : Option ℤ) (r : ℕ) (search : Search) → search.searches.items ≡ [] → IsCounted verdicts price list first r search → r ≡ rounds 19 verdicts first (brackets_from price list)
+pub counted-last : (verdicts : PaymentSeries → ℕ → ℕ → Verdict) (price : ℕ) (list : List Candidate) (first : Option ℤ) (r : ℕ) (search : SearchState) → search.searches ≡ [] → IsCounted verdicts price list first r search → r ≡ rounds 19 verdicts first (brackets_from price list)
 counted-last verdicts price list first r search none counted =
     ⊎_elim
     (λ (step : IsFollowed verdicts r search counted.ceiling counted.brackets). absurd (subst (HasSearch step.lead) none step.leads))

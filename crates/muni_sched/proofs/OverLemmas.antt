@@ -11,10 +11,9 @@ use Rattle.muni_sched.specs.LowestFigure.{Lowest}
 use Rattle.muni_sched.specs.declared.outcome.CandidateOutcome.{CandidateOutcome}
 use Rattle.muni_sched.specs.declared.outcome.CandidateOutcome.TheVariants.{Above}
 use Rattle.muni_sched.specs.declared.search.OpenSearch.{OpenSearch}
-use Rattle.muni_sched.specs.declared.search.Search.{Search}
 use Rattle.muni_sched.specs.Figures.{IsOf}
 use Rattle.muni_sched.specs.Ranks.{decided_by, IsFirstOfLeastRank, IsRanked}
-use Rattle.muni_sched.specs.Search.{missed, outcomes_of}
+use Rattle.muni_sched.specs.Search.{SearchState, missed, outcomes_of}
 use Rattle.muni_sched.proofs.BetweenLemmas.{at, rank_of, known_at}
 use Rattle.muni_sched.proofs.SearchLemmas.{rank-most, IsPast, IsOver, IsBehind, IsSearchedFor, IsCeiling, IsMissedPlace, IsRefined}
 
@@ -35,20 +34,20 @@ told-unknown : (known : List (Option CandidateOutcome)) (k : ℕ) → known_at k
 told-unknown known k is = told-at known k ∙ ap (λ (it : Option CandidateOutcome). unwrap_or it Above) is
 
 -- each outcome is known, or decides nothing
-record IsDropped (finals : List CandidateOutcome) (search : Search) (k : ℕ) : Type 0 where
-  told : at (outcomes_of search.known.items) k ≡ Above
+record IsDropped (finals : List CandidateOutcome) (search : SearchState) (k : ℕ) : Type 0 where
+  told : at (outcomes_of search.known) k ≡ Above
   past : IsBehind search.ceiling search.missed (rank_of (at finals k))
 
-abbrev IsDecided : (finals : List CandidateOutcome) (search : Search) → ℕ → Type 0
-IsDecided finals search k = (at (outcomes_of search.known.items) k ≡ at finals k) ⊎ IsDropped finals search k
+abbrev IsDecided : (finals : List CandidateOutcome) (search : SearchState) → ℕ → Type 0
+IsDecided finals search k = (at (outcomes_of search.known) k ≡ at finals k) ⊎ IsDropped finals search k
 
-over-decided : (verdicts : PaymentSeries → ℕ → ℕ → Verdict) (finals : List CandidateOutcome) (r : ℕ) (search : Search) → IsRefined verdicts finals r search → search.searches.items ≡ [] → (k : ℕ) → IsDecided finals search k
+over-decided : (verdicts : PaymentSeries → ℕ → ℕ → Verdict) (finals : List CandidateOutcome) (r : ℕ) (search : SearchState) → IsRefined verdicts finals r search → search.searches ≡ [] → (k : ℕ) → IsDecided finals search k
 over-decided verdicts finals r search is none k =
     ⊎_elim
-    (λ (right : known_at search.known.items k ≡ Some (at finals k)). inl (told-known search.known.items k (at finals k) right))
-    (λ (left : (known_at search.known.items k ≡ None) × (IsBehind search.ceiling search.missed (rank_of (at finals k)) ⊎ IsSearchedFor search.searches.items k)). ⊎_elim
-    (λ (past : IsBehind search.ceiling search.missed (rank_of (at finals k))). inr (record { told = told-unknown search.known.items k left.0; past = past }))
-    (λ (has : IsSearchedFor search.searches.items k). absurd (subst (λ searches. IsSearchedFor searches k) none has))
+    (λ (right : known_at search.known k ≡ Some (at finals k)). inl (told-known search.known k (at finals k) right))
+    (λ (left : (known_at search.known k ≡ None) × (IsBehind search.ceiling search.missed (rank_of (at finals k)) ⊎ IsSearchedFor search.searches k)). ⊎_elim
+    (λ (past : IsBehind search.ceiling search.missed (rank_of (at finals k))). inr (record { told = told-unknown search.known k left.0; past = past }))
+    (λ (has : IsSearchedFor search.searches k). absurd (subst (λ searches. IsSearchedFor searches k) none has))
     left.1)
     (is.covered k)
 
@@ -96,10 +95,10 @@ below-behind finals told ceiling missed c k holder place decided first behind =
     (decided other.0))
     behind
 
-first-of_all : (finals : List CandidateOutcome) (search : Search) (c : ℕ) → ((k : ℕ) → IsOf Yield (at finals k)) → IsCeiling finals search.ceiling → IsMissedPlace finals search.missed → ((k : ℕ) → IsDecided finals search k) → IsFirstOfLeastRank (negsuc 5000) (outcomes_of search.known.items) c
-    → IsFirstOfLeastRank (negsuc 5000) finals c × (at (outcomes_of search.known.items) c ≡ at finals c)
+first-of_all : (finals : List CandidateOutcome) (search : SearchState) (c : ℕ) → ((k : ℕ) → IsOf Yield (at finals k)) → IsCeiling finals search.ceiling → IsMissedPlace finals search.missed → ((k : ℕ) → IsDecided finals search k) → IsFirstOfLeastRank (negsuc 5000) (outcomes_of search.known) c
+    → IsFirstOfLeastRank (negsuc 5000) finals c × (at (outcomes_of search.known) c ≡ at finals c)
 first-of_all finals search c of holder place decided first =
-    let told = outcomes_of search.known.items in
+    let told = outcomes_of search.known in
     let below : (k : ℕ) → IsDropped finals search k → rank_of (at told c) <ℤ rank_of (at finals k) =
     λ k dropped. below-behind finals told search.ceiling search.missed c k holder place
     (λ j. ⊎_elim (λ (right : at told j ≡ at finals j). inl right) (λ (it : IsDropped finals search j). inr it.past) (decided j)) first dropped.past in
@@ -121,7 +120,7 @@ first-of_all finals search c of holder place decided first =
       here,
     )
 
-pub ranked-of_all : (verdicts : PaymentSeries → ℕ → ℕ → Verdict) (finals : List CandidateOutcome) (r : ℕ) (search : Search) (answer : Lowest) → IsRefined verdicts finals r search → search.searches.items ≡ [] → IsRanked (negsuc 5000) (outcomes_of search.known.items) answer → IsRanked (negsuc 5000) finals answer
+pub ranked-of_all : (verdicts : PaymentSeries → ℕ → ℕ → Verdict) (finals : List CandidateOutcome) (r : ℕ) (search : SearchState) (answer : Lowest) → IsRefined verdicts finals r search → search.searches ≡ [] → IsRanked (negsuc 5000) (outcomes_of search.known) answer → IsRanked (negsuc 5000) finals answer
 ranked-of_all verdicts finals r search answer is none ranked =
     let decided = over-decided verdicts finals r search is none in
     let first = first-of_all finals search ranked.candidate is.of is.ceiling_is is.missed_is decided ranked.first in
@@ -132,11 +131,11 @@ ranked-of_all verdicts finals r search answer is none ranked =
     }
 
 -- what is known is of a yield
-pub told-of : (verdicts : PaymentSeries → ℕ → ℕ → Verdict) (finals : List CandidateOutcome) (r : ℕ) (search : Search) → IsRefined verdicts finals r search → All (IsOf Yield) (outcomes_of search.known.items)
-told-of verdicts finals r search is = λ k d inside. subst (IsOf Yield) (get_or_default (outcomes_of search.known.items) k Above d inside)
+pub told-of : (verdicts : PaymentSeries → ℕ → ℕ → Verdict) (finals : List CandidateOutcome) (r : ℕ) (search : SearchState) → IsRefined verdicts finals r search → All (IsOf Yield) (outcomes_of search.known)
+told-of verdicts finals r search is = λ k d inside. subst (IsOf Yield) (get_or_default (outcomes_of search.known) k Above d inside)
     (⊎_elim
-    (λ (right : known_at search.known.items k ≡ Some (at finals k)). subst (IsOf Yield) (sym (told-known search.known.items k (at finals k) right)) (is.of k))
-    (λ (left : (known_at search.known.items k ≡ None) × (IsBehind search.ceiling search.missed (rank_of (at finals k)) ⊎ IsSearchedFor search.searches.items k)). subst (IsOf Yield) (sym (told-unknown search.known.items k left.0)) tt)
+    (λ (right : known_at search.known k ≡ Some (at finals k)). subst (IsOf Yield) (sym (told-known search.known k (at finals k) right)) (is.of k))
+    (λ (left : (known_at search.known k ≡ None) × (IsBehind search.ceiling search.missed (rank_of (at finals k)) ⊎ IsSearchedFor search.searches k)). subst (IsOf Yield) (sym (told-unknown search.known k left.0)) tt)
     (is.covered k))
 
 pub over-none : (searches : List OpenSearch) → (length searches == 0) ≡ true → searches ≡ []

@@ -1,9 +1,9 @@
 -- What one round leaves, over lists.
-use Rattle.std.proofs.Common.{◌≡◌, ◌<◌, ℕ, List, [], ◌∷◌, Bool, true, false, All, length, drop, get_or, arith, slice_set, Option, Some, refl, ap, sym, subst, ◌∙◌}
-use Rattle.std.specs.Prelude.{if◌then◌else◌}
-use Rattle.std.specs.List.{refill, AllZip}
-use Rattle.std.proofs.lemmas.List.{take_at, length-set}
-use Rattle.std.proofs.lemmas.List.Elements.{All-head, All-tail, All-cons, All-nil, All-weaker, All-get_or}
+use Rattle.std.proofs.Common.{◌≡◌, ◌<◌, ◌≤◌, ◌+◌, ◌++◌, ℕ, List, [], ◌∷◌, Bool, true, false, All, length, take, drop, set, get_or, arith, slice_set, Option, Some, refl, ap, sym, subst, ◌∙◌}
+use Rattle.std.specs.Prelude.{if◌then◌else◌, min}
+use Rattle.std.specs.List.{refill, filter, AllZip}
+use Rattle.std.proofs.lemmas.List.{take_at, take_more, get_or-drop, length-set}
+use Rattle.std.proofs.lemmas.List.Elements.{All-head, All-tail, All-cons, All-nil, All-weaker, filter-append}
 use Rattle.std.proofs.lemmas.Slice.Zip.{AllZip-long}
 use Rattle.muni_rule.specs.Payments.{PaymentSeries}
 use Rattle.muni_rule.specs.declared.verdict.Verdict.{Verdict}
@@ -12,7 +12,7 @@ use Rattle.muni_yield.specs.Settled.{outcome_of}
 use Rattle.muni_yield.proofs.BracketLemmas.{halved-next}
 use Rattle.muni_sched.specs.declared.outcome.CandidateOutcome.{CandidateOutcome}
 use Rattle.muni_sched.specs.declared.search.OpenSearch.{OpenSearch}
-use Rattle.muni_sched.specs.Search.{IsSearch, IsPending, IsOpen, IsHalved, noted, recorded}
+use Rattle.muni_sched.specs.Search.{SearchState, IsSearch, IsPending, IsOpen, IsHalved, IsRound, noted, recorded, lower_of, missed, is_needed}
 use Rattle.muni_sched.specs.YieldOutcome.{many_yield}
 
 -- a list that was written through a slice of all of it
@@ -25,7 +25,7 @@ halved-now verdicts before slice new after same each is =
     let zip : AllZip (IsHalved verdicts) before new = subst (λ searches. AllZip (IsHalved verdicts) searches new) same each in
     subst (AllZip (IsHalved verdicts) before) (sym (written before new after is (AllZip-long (IsHalved verdicts) before new zip))) zip
 
-half-search : (verdicts : PaymentSeries → ℕ → ℕ → Verdict) (one after : OpenSearch) → IsOpen verdicts one → IsHalved verdicts one after → IsSearch after
+pub half-search : (verdicts : PaymentSeries → ℕ → ℕ → Verdict) (one after : OpenSearch) → IsOpen verdicts one → IsHalved verdicts one after → IsSearch after
 half-search verdicts one after is half = subst IsBracket (sym half.bracket) (halved-next verdicts one.guided.bracket is.0 is.1).is
 
 pub halved-searches : (verdicts : PaymentSeries → ℕ → ℕ → Verdict) (searches after : List OpenSearch) → AllZip (IsHalved verdicts) searches after → All (IsOpen verdicts) searches → All IsSearch after
@@ -35,13 +35,6 @@ halved-searches verdicts (one ∷ rest) [] zip all = absurd zip
 halved-searches verdicts (one ∷ rest) (next ∷ after) zip all =
     All-cons IsSearch next after (half-search verdicts one next (All-head (IsOpen verdicts) one rest all) zip.0)
     (halved-searches verdicts rest after zip.1 (All-tail (IsOpen verdicts) one rest all))
-
--- the one search that is left is one after its halving too
-pub alone-search : (verdicts : PaymentSeries → ℕ → ℕ → Verdict) (before slice new after : List OpenSearch) (one : OpenSearch) → slice ≡ before → AllZip (IsHalved verdicts) slice new → after ≡ refill (length before) before new → All (IsOpen verdicts) before → length before ≡ 1 → one ≡ get_or after 0 one → IsSearch one
-alone-search verdicts before slice new after one same each is all alone at =
-    let zip = halved-now verdicts before slice new after same each is in
-    let long : length after ≡ 1 = AllZip-long (IsHalved verdicts) before after zip ∙ alone in
-    subst IsSearch (sym at) (All-get_or IsSearch after 0 one (omega (arith, long)) (halved-searches verdicts before after zip all))
 
 pub halved-candidates : (verdicts : PaymentSeries → ℕ → ℕ → Verdict) (searches after : List OpenSearch) (n : ℕ) → AllZip (IsHalved verdicts) searches after → All (λ (one : OpenSearch). one.candidate < n) searches → All (λ (one : OpenSearch). one.candidate < n) after
 halved-candidates verdicts [] [] n zip all = All-nil (λ (one : OpenSearch). one.candidate < n)
@@ -71,3 +64,41 @@ pub recorded-now : (searches slice : List OpenSearch) (before known new : List (
 recorded-now searches slice before known new same all is =
     let now : new ≡ recorded searches before = cc in
     written before new (refill (length before) before new) refl (ap length now ∙ length-recorded searches before) ∙ now
+
+-- ---- the searches that are needed, one by one
+read-at : (searches : List OpenSearch) (place : ℕ) (d : OpenSearch) → get_or searches place d ≡ get_or (drop place searches) 0 d
+read-at searches place d =
+    let same : place + 0 ≡ place = omega arith in
+    sym (get_or-drop place searches 0 d ∙ ap (λ k. get_or searches k d) same)
+
+-- one more search, if those from its place on are as they were
+pub needed-next : (needed : OpenSearch → Bool) (before searches : List OpenSearch) (place : ℕ) (one : OpenSearch) → place < length before → drop place searches ≡ drop place before → one ≡ get_or searches place one
+    → filter needed (take (place + 1) before) ≡ filter needed (take place before) ++ filter needed (one ∷ [])
+needed-next needed before searches place one inside rest is =
+    let here : get_or before place one ≡ one = read-at before place one ∙ (ap (λ (it : List OpenSearch). get_or it 0 one) (sym rest) ∙ (sym (read-at searches place one) ∙ sym is)) in
+    ap (filter needed) (take_more before place one inside ∙ ap (λ (it : OpenSearch). take place before ++ it ∷ []) here)
+    ∙ filter-append needed (take place before) (one ∷ [])
+
+-- ---- the one search that is left, in the first slot
+pub front-of : (slots : List OpenSearch) (left : ℕ) (d : OpenSearch) → left ≡ 1 → left ≤ length slots → take left slots ≡ get_or slots 0 d ∷ []
+front-of [] left d is fits = absurd (omega (arith, is, fits))
+front-of (one ∷ rest) left d is fits = ap (λ n. take n (one ∷ rest)) is
+
+pub front-has : (P : OpenSearch → Type 0) (slots : List OpenSearch) (left : ℕ) (d : OpenSearch) → left ≡ 1 → left ≤ length slots → All P (take left slots) → P (get_or slots 0 d)
+front-has P slots left d is fits all = All-head P (get_or slots 0 d) [] (subst (All P) (front-of slots left d is fits) all)
+
+pub front-put : (slots : List OpenSearch) (one d : OpenSearch) → 1 ≤ length slots → get_or (set slots 0 one) 0 d ≡ one
+front-put [] one d some = absurd (omega (arith, some))
+front-put (first ∷ rest) one d some = refl
+
+-- a round of one search
+pub one-round : (verdicts : PaymentSeries → ℕ → ℕ → Verdict) (before after : SearchState) (one next told : OpenSearch) → before.searches ≡ one ∷ [] → IsHalved verdicts one next → told ≡ next → after.known ≡ recorded (told ∷ []) before.known → after.ceiling ≡ lower_of before.ceiling (missed told)
+    → after.missed ≡ min before.missed told.guided.window.no → after.searches ≡ filter (is_needed after.ceiling after.missed) (told ∷ []) → IsRound verdicts before after
+one-round verdicts before after one next told front half is known ceiling least searches = record {
+  asked = told ∷ [];
+  each = subst (λ (it : List OpenSearch). AllZip (IsHalved verdicts) it (told ∷ [])) (sym front) (subst (IsHalved verdicts one) (sym is) half, tt);
+  known = known;
+  ceiling = ceiling;
+  missed = least;
+  searches = searches;
+}

@@ -20,10 +20,9 @@ use Rattle.muni_sched.specs.FigureKind.{Yield}
 use Rattle.muni_sched.specs.declared.outcome.CandidateOutcome.{CandidateOutcome}
 use Rattle.muni_sched.specs.declared.outcome.CandidateOutcome.TheVariants.{Print, Unsure, Below, Above, NoTime}
 use Rattle.muni_sched.specs.declared.search.OpenSearch.{OpenSearch}
-use Rattle.muni_sched.specs.declared.search.Search.{Search}
 use Rattle.muni_sched.specs.Figures.{IsOf}
 use Rattle.muni_sched.specs.Ranks.{rank}
-use Rattle.muni_sched.specs.Search.{CanRefine, IsHalved, IsRound, noted, recorded, missed, missed_after, lower_of, ceiling_after, is_at_ceiling, is_passed, is_needed}
+use Rattle.muni_sched.specs.Search.{SearchState, CanRefine, IsHalved, IsRound, noted, recorded, missed, missed_after, lower_of, ceiling_after, is_at_ceiling, is_passed, is_needed}
 use Rattle.muni_sched.specs.YieldOutcome.{many_yield}
 use Rattle.muni_sched.proofs.IntLemmas.{equal_or_not, less_or_not}
 use Rattle.muni_sched.proofs.RoundLemmas.{length-noted, length-recorded}
@@ -91,8 +90,8 @@ pub record IsLeft (verdicts : PaymentSeries → ℕ → ℕ → Verdict) (finals
   pub few : length searches ≤ 41
   pub covered : (k : ℕ) → IsCovered finals known ceiling missed searches k
 
-abbrev pub IsRefined : (verdicts : PaymentSeries → ℕ → ℕ → Verdict) (finals : List CandidateOutcome) (r : ℕ) (search : Search) → Type 0
-IsRefined verdicts finals r search = IsLeft verdicts finals r search.known.items search.ceiling search.missed search.searches.items
+abbrev pub IsRefined : (verdicts : PaymentSeries → ℕ → ℕ → Verdict) (finals : List CandidateOutcome) (r : ℕ) (search : SearchState) → Type 0
+IsRefined verdicts finals r search = IsLeft verdicts finals r search.known search.ceiling search.missed search.searches
 
 -- ---- one halving
 answered-again : (verdicts : PaymentSeries → ℕ → ℕ → Verdict) (bracket next : YieldBracket) → next.series ≡ bracket.series → next.price ≡ bracket.price → IsAnswered (verdicts bracket.series bracket.price) next → IsAnswered (verdicts next.series next.price) next
@@ -386,36 +385,36 @@ behind-after ceiling missed searches rank behind =
     behind
 
 -- what is known after one round, by the searches as it leaves them
-refined-by : (verdicts : PaymentSeries → ℕ → ℕ → Verdict) (finals : List CandidateOutcome) (r : ℕ) (search : Search) (asked : List OpenSearch) → r < 19 → AllZip (IsHalved verdicts) search.searches.items asked → IsRefined verdicts finals r search
-    → IsLeft verdicts finals (r + 1) (recorded asked search.known.items) (ceiling_after search.ceiling asked) (missed_after search.missed asked) (filter (is_needed (ceiling_after search.ceiling asked) (missed_after search.missed asked)) asked)
+refined-by : (verdicts : PaymentSeries → ℕ → ℕ → Verdict) (finals : List CandidateOutcome) (r : ℕ) (search : SearchState) (asked : List OpenSearch) → r < 19 → AllZip (IsHalved verdicts) search.searches asked → IsRefined verdicts finals r search
+    → IsLeft verdicts finals (r + 1) (recorded asked search.known) (ceiling_after search.ceiling asked) (missed_after search.missed asked) (filter (is_needed (ceiling_after search.ceiling asked) (missed_after search.missed asked)) asked)
 refined-by verdicts finals r search asked few zip is =
     let ceiling = ceiling_after search.ceiling asked in
     let missed = missed_after search.missed asked in
-    let all = all-asked verdicts finals r search.searches.items asked few zip is.each in
+    let all = all-asked verdicts finals r search.searches asked few zip is.each in
     let most : r + 1 ≤ 19 = omega arith in
     let room = is.few in
     let place = missed-holds verdicts finals (r + 1) search.missed asked most all is.missed_is in
     record {
-      lengths = length-recorded asked search.known.items ∙ is.lengths;
+      lengths = length-recorded asked search.known ∙ is.lengths;
       of = is.of;
       ceiling_is = ceiling-holds verdicts finals (r + 1) search.ceiling asked most all is.ceiling_is;
       missed_is = place;
       each = λ k d inside. needed-running verdicts finals (r + 1) ceiling missed (get_or (filter (is_needed ceiling missed) asked) k d) (All-filter (is_needed ceiling missed) (IsAsked verdicts finals (r + 1)) asked all k d inside) (filter_passes (is_needed ceiling missed) asked k d inside);
-      few = omega (arith, length-filter_most (is_needed ceiling missed) asked, AllZip-long (IsHalved verdicts) search.searches.items asked zip, room);
-      covered = λ k. covered-next verdicts finals search.known.items (r + 1) search.ceiling ceiling search.missed missed search.searches.items asked k most place.some (behind-after search.ceiling search.missed asked) is.lengths all (searched-asked verdicts search.searches.items asked k zip) (is.covered k);
+      few = omega (arith, length-filter_most (is_needed ceiling missed) asked, AllZip-long (IsHalved verdicts) search.searches asked zip, room);
+      covered = λ k. covered-next verdicts finals search.known (r + 1) search.ceiling ceiling search.missed missed search.searches asked k most place.some (behind-after search.ceiling search.missed asked) is.lengths all (searched-asked verdicts search.searches asked k zip) (is.covered k);
     }
 
-pub refined-keeps : (verdicts : PaymentSeries → ℕ → ℕ → Verdict) (finals : List CandidateOutcome) (r : ℕ) (search after : Search) → r < 19 → IsRound verdicts search after → IsRefined verdicts finals r search → IsRefined verdicts finals (r + 1) after
+pub refined-keeps : (verdicts : PaymentSeries → ℕ → ℕ → Verdict) (finals : List CandidateOutcome) (r : ℕ) (search after : SearchState) → r < 19 → IsRound verdicts search after → IsRefined verdicts finals r search → IsRefined verdicts finals (r + 1) after
 refined-keeps verdicts finals r search after few round is =
     let left = refined-by verdicts finals r search round.asked few round.each is in
-    subst (λ known. IsLeft verdicts finals (r + 1) known after.ceiling after.missed after.searches.items) (sym round.known)
-    (subst (λ searches. IsLeft verdicts finals (r + 1) (recorded round.asked search.known.items) after.ceiling after.missed searches) (sym round.searches)
-    (subst (λ missed. IsLeft verdicts finals (r + 1) (recorded round.asked search.known.items) after.ceiling missed (filter (is_needed after.ceiling missed) round.asked)) (sym round.missed)
-    (subst (λ ceiling. IsLeft verdicts finals (r + 1) (recorded round.asked search.known.items) ceiling (missed_after search.missed round.asked) (filter (is_needed ceiling (missed_after search.missed round.asked)) round.asked)) (sym round.ceiling)
+    subst (λ known. IsLeft verdicts finals (r + 1) known after.ceiling after.missed after.searches) (sym round.known)
+    (subst (λ searches. IsLeft verdicts finals (r + 1) (recorded round.asked search.known) after.ceiling after.missed searches) (sym round.searches)
+    (subst (λ missed. IsLeft verdicts finals (r + 1) (recorded round.asked search.known) after.ceiling missed (filter (is_needed after.ceiling missed) round.asked)) (sym round.missed)
+    (subst (λ ceiling. IsLeft verdicts finals (r + 1) (recorded round.asked search.known) ceiling (missed_after search.missed round.asked) (filter (is_needed ceiling (missed_after search.missed round.asked)) round.asked)) (sym round.ceiling)
     left)))
 
 -- what a round asks for
-pub can-refine : (verdicts : PaymentSeries → ℕ → ℕ → Verdict) (finals : List CandidateOutcome) (r : ℕ) (search : Search) → IsRefined verdicts finals r search → CanRefine verdicts search
+pub can-refine : (verdicts : PaymentSeries → ℕ → ℕ → Verdict) (finals : List CandidateOutcome) (r : ℕ) (search : SearchState) → IsRefined verdicts finals r search → CanRefine verdicts search
 can-refine verdicts finals r search is = record {
   each = λ k d inside. let running = is.each k d inside in (running.is, running.pending, running.guided);
   candidates = λ k d inside. let running = is.each k d inside in let within = running.within in omega (arith, within, is.lengths);
@@ -433,5 +432,5 @@ few-rounds verdicts finals r (one ∷ rest) all some =
 not-over : (searches : List OpenSearch) → (length searches == 0) ≡ false → searches ≢ []
 not-over searches pending none = let over : (length searches == 0) ≡ true = rw none refl in let never : true ≡ false = sym over ∙ pending in cc
 
-pub round-few : (verdicts : PaymentSeries → ℕ → ℕ → Verdict) (finals : List CandidateOutcome) (r : ℕ) (search : Search) → IsRefined verdicts finals r search → (length search.searches.items == 0) ≡ false → r < 19
-round-few verdicts finals r search is pending = few-rounds verdicts finals r search.searches.items is.each (not-over search.searches.items pending)
+pub round-few : (verdicts : PaymentSeries → ℕ → ℕ → Verdict) (finals : List CandidateOutcome) (r : ℕ) (search : SearchState) → IsRefined verdicts finals r search → (length search.searches == 0) ≡ false → r < 19
+round-few verdicts finals r search is pending = few-rounds verdicts finals r search.searches is.each (not-over search.searches pending)

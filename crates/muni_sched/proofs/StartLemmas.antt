@@ -20,11 +20,10 @@ use Rattle.muni_sched.specs.FigureKind.{Yield}
 use Rattle.muni_sched.specs.declared.outcome.CandidateOutcome.{CandidateOutcome}
 use Rattle.muni_sched.specs.declared.outcome.CandidateOutcome.TheVariants.{Print, Unsure, Below, Above, NoTime}
 use Rattle.muni_sched.specs.declared.search.OpenSearch.{OpenSearch}
-use Rattle.muni_sched.specs.declared.search.Search.{Search}
 use Rattle.muni_sched.specs.Candidates.{IsCandidate}
 use Rattle.muni_sched.specs.Figures.{IsOf}
 use Rattle.muni_sched.specs.Lowest as lowest
-use Rattle.muni_sched.specs.Search.{IsKnownYield, missed_first, lower_of, ceiling_first, searches_for, searches_from, IsStarted, IsRound, is_over, outcomes_of}
+use Rattle.muni_sched.specs.Search.{SearchState, IsKnownYield, missed_first, lower_of, ceiling_first, searches_for, searches_from, IsStarted, IsRound, is_over, outcomes_of}
 use Rattle.muni_sched.specs.SearchedOut.{AreSearchedOut}
 use Rattle.muni_sched.specs.Shape.{IsPriceable}
 use Rattle.muni_sched.specs.ToCome.{ToCome, many, one, to_come_of}
@@ -189,14 +188,14 @@ ceiling-from finals c ceiling (it ∷ known) from is =
     (lower-ceiling finals ceiling (missed_first it) is (printed-ceiling finals (c + 0) it (from 0)))
 
 -- so they are refined no times
-pub record IsFinal (verdicts : PaymentSeries → ℕ → ℕ → Verdict) (price : ℕ) (list : List Candidate) (r : ℕ) (search : Search) : Type 0 where
+pub record IsFinal (verdicts : PaymentSeries → ℕ → ℕ → Verdict) (price : ℕ) (list : List Candidate) (r : ℕ) (search : SearchState) : Type 0 where
   pub finals : List CandidateOutcome
   pub outcomes : AllZip (IsYieldOutcome verdicts price) list finals
   pub refined : IsRefined verdicts finals r search
 
-pub started-final : (verdicts : PaymentSeries → ℕ → ℕ → Verdict) (price : ℕ) (list : List Candidate) (search : Search) → AreFirstKnown verdicts price → 0 < price → All IsCandidate list → length list ≤ 41 → IsStarted price list search → IsFinal verdicts price list 0 search
+pub started-final : (verdicts : PaymentSeries → ℕ → ℕ → Verdict) (price : ℕ) (list : List Candidate) (search : SearchState) → AreFirstKnown verdicts price → 0 < price → All IsCandidate list → length list ≤ 41 → IsStarted price list search → IsFinal verdicts price list 0 search
 started-final verdicts price list search first some all few is =
-    let known = search.known.items in
+    let known = search.known in
     let finals = finals-of verdicts price list known in
     let lengths = length-finals verdicts price list known is.known in
     let zero_more : (j : ℕ) → at finals (0 + j) ≡ at finals j = λ j. let same : 0 + j ≡ j = omega arith in ap (at finals) same in
@@ -228,7 +227,7 @@ started-final verdicts price list search first some all few is =
     }
 
 -- one more round
-pub next-final : (verdicts : PaymentSeries → ℕ → ℕ → Verdict) (price : ℕ) (list : List Candidate) (r : ℕ) (search next : Search) → r < 19 → IsRound verdicts search next → IsFinal verdicts price list r search → IsFinal verdicts price list (r + 1) next
+pub next-final : (verdicts : PaymentSeries → ℕ → ℕ → Verdict) (price : ℕ) (list : List Candidate) (r : ℕ) (search next : SearchState) → r < 19 → IsRound verdicts search next → IsFinal verdicts price list r search → IsFinal verdicts price list (r + 1) next
 next-final verdicts price list r search next few is before = record {
   finals = before.finals;
   outcomes = before.outcomes;
@@ -236,9 +235,9 @@ next-final verdicts price list r search next few is before = record {
 }
 
 -- and when nothing is left to ask
-pub searched-out : (ends : PaymentSeries → ℤ → WorthEnds) (price : ℕ) (list : List Candidate) (r : ℕ) (search : Search) → is_over search ≡ true → IsFinal (place_verdict ends) price list r search → AreSearchedOut ends price list (outcomes_of search.known.items)
+pub searched-out : (ends : PaymentSeries → ℤ → WorthEnds) (price : ℕ) (list : List Candidate) (r : ℕ) (search : SearchState) → is_over search ≡ true → IsFinal (place_verdict ends) price list r search → AreSearchedOut ends price list (outcomes_of search.known)
 searched-out ends price list r search over is =
-    let none = over-none search.searches.items over in
+    let none = over-none search.searches over in
     record {
       outcomes = is.finals;
       each = is.outcomes;

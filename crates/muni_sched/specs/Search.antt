@@ -1,5 +1,5 @@
 -- One round of the search for the lowest yield, over lists.
-use Rattle.std.specs.Prelude.{◌≡◌, ℕ, ◌+◌, ◌<◌, ◌≤◌, List, [], ◌∷◌, Bool, false, not, ◌&&◌, ◌==◌, if◌then◌else◌, nat_le, nat_lt, min, map, length, All, slice_set, Option, Some, None, unwrap_or, IfSome, ℤ, pos, ◌+ℤ◌, int_le}
+use Rattle.std.specs.Prelude.{◌≡◌, ℕ, ◌+◌, ◌<◌, ◌≤◌, List, [], ◌∷◌, Bool, false, not, ◌&&◌, ◌==◌, if◌then◌else◌, nat_le, nat_lt, min, map, take, length, All, slice_set, Option, Some, None, unwrap_or, IfSome, ℤ, pos, ◌+ℤ◌, int_le}
 use Rattle.std.specs.Int.{int_min}
 use Rattle.std.specs.List.{filter, AllZip}
 use Rattle.muni_rule.specs.Payments.{PaymentSeries}
@@ -112,39 +112,54 @@ searches_from price c (candidate ∷ rest) =
 abbrev pub IsKnownYield : Option CandidateOutcome → Type 0
 IsKnownYield known = IfSome known (IsOf Yield)
 
+-- what is known of the yields of all candidates
+pub record SearchState : Type 0 where
+  pub known : List (Option CandidateOutcome)
+  pub searches : List OpenSearch
+  pub ceiling : Option ℤ
+  pub missed : ℕ
+
+-- the searches that are still needed are in the first slots
+abbrev pub state : Search → List OpenSearch → SearchState
+state search slots = record {
+  known = search.known.items;
+  searches = take search.left slots;
+  ceiling = search.ceiling;
+  missed = search.missed;
+}
+
 -- before there are candidates
 abbrev pub IsNew : Search → Type 0
-IsNew search =
-    (search.known.items ≡ []) × (search.searches.items ≡ []) × (search.missed ≡ 105_003)
+IsNew search = (search.known.items ≡ []) × (search.left ≡ 0) × (search.missed ≡ 105_003)
 
 -- all that is known before the first round
-pub record IsStarted (price : ℕ) (list : List Candidate) (search : Search) : Type 0 where
-  pub known : AllZip (IsKnownFirst price) list search.known.items
-  pub range : All IsKnownYield search.known.items
-  pub searches : search.searches.items ≡ searches_from price 0 list
-  pub ceiling : search.ceiling ≡ ceiling_first None search.known.items
+pub record IsStarted (price : ℕ) (list : List Candidate) (search : SearchState) : Type 0 where
+  pub known : AllZip (IsKnownFirst price) list search.known
+  pub range : All IsKnownYield search.known
+  pub searches : search.searches ≡ searches_from price 0 list
+  pub ceiling : search.ceiling ≡ ceiling_first None search.known
   pub missed : search.missed ≡ 105_003
 
 -- one round: each search is halved, what is known then is recorded, and those are kept that are
 -- still needed
-pub record IsRound (verdicts : PaymentSeries → ℕ → ℕ → Verdict) (before after : Search) : Type 0 where
+pub record IsRound (verdicts : PaymentSeries → ℕ → ℕ → Verdict) (before after : SearchState) : Type 0 where
   pub asked : List OpenSearch
-  pub each : AllZip (IsHalved verdicts) before.searches.items asked
-  pub known : after.known.items ≡ recorded asked before.known.items
+  pub each : AllZip (IsHalved verdicts) before.searches asked
+  pub known : after.known ≡ recorded asked before.known
   pub ceiling : after.ceiling ≡ ceiling_after before.ceiling asked
   pub missed : after.missed ≡ missed_after before.missed asked
-  pub searches : after.searches.items ≡ filter (is_needed after.ceiling after.missed) asked
+  pub searches : after.searches ≡ filter (is_needed after.ceiling after.missed) asked
 
 -- nothing is left to ask
-abbrev pub is_over : Search → Bool
-is_over search = length search.searches.items == 0
+abbrev pub is_over : SearchState → Bool
+is_over search = length search.searches == 0
 
 -- each open search belongs to a candidate
-pub record CanRefine (verdicts : PaymentSeries → ℕ → ℕ → Verdict) (search : Search) : Type 0 where
-  pub each : All (IsOpen verdicts) search.searches.items
-  pub candidates : All (λ (it : OpenSearch). it.candidate < length search.known.items)
-      search.searches.items
-  pub few : length search.searches.items ≤ 41
+pub record CanRefine (verdicts : PaymentSeries → ℕ → ℕ → Verdict) (search : SearchState) : Type 0 where
+  pub each : All (IsOpen verdicts) search.searches
+  pub candidates : All (λ (it : OpenSearch). it.candidate < length search.known)
+      search.searches
+  pub few : length search.searches ≤ 41
 
 -- a candidate whose outcome is not known is above the figure that is the lowest
 abbrev pub outcomes_of : List (Option CandidateOutcome) → List CandidateOutcome

@@ -1,6 +1,6 @@
 //! What the searches of a round ask.
 
-ghost use Rattle.std.specs.Prelude.{◌≡◌, ◌<◌, ◌≤◌, length, All};
+ghost use Rattle.std.specs.Prelude.{◌<◌, ◌≤◌, All};
 ghost use Rattle.std.specs.List.{AllZip};
 ghost use Rattle.muni_yield.specs.Places.{place_verdict};
 ghost use Rattle.muni_sched.specs.Search.{IsPending, IsOpen, IsHalved};
@@ -69,17 +69,15 @@ fn ask_one<E: Encloser, G: Gate>(search: &mut OpenSearch, round: &Round<'_>, enc
 
 /// Halves the one search that is left, and answers whether it asks at the aim.
 pub(crate) fn ask_alone<E: Encloser, G: Gate>(
-    searches: &mut [OpenSearch],
+    search: &mut OpenSearch,
     number: u32,
     aim: Aim,
     encloser: &E,
     gate: &G,
 ) -> bool
-    requires one { length searches.old ≡ 1 }
-    requires each { All (IsOpen (place_verdict (E.ends encloser.now))) searches.old }
-    ensures { AllZip (IsHalved (place_verdict (E.ends encloser.now))) searches.old searches.new }
+    requires { IsOpen (place_verdict (E.ends encloser.now)) search.old }
+    ensures { IsHalved (place_verdict (E.ends encloser.now)) search.old search.new }
 {
-    let search = &mut searches[0];
     let is_asked = search.guided.window().is_wide() && search.guided.asks_at(aim.place());
     let round = Round {
         number,

@@ -1,6 +1,6 @@
 //! The searches for the yields of all candidates, side by side.
 
-ghost use Rattle.std.specs.Prelude.{◌≡◌, ◌<◌, ◌≤◌, ◌+◌, ℕ, ℤ, List, [], length, All, map, Option, None, option_map};
+ghost use Rattle.std.specs.Prelude.{◌≡◌, ◌<◌, ◌≤◌, ◌+◌, ℕ, ℤ, List, [], ◌==◌, take, length, All, Option, None, option_map};
 ghost use Rattle.std.specs.List.{filter, AllZip};
 ghost use Rattle.muni_yield.specs.Bracket.{IsBracket};
 ghost use Rattle.muni_yield.specs.Places.{place_verdict};
@@ -8,7 +8,7 @@ ghost use Rattle.muni_yield.specs.Settled.{settled_as};
 ghost use Rattle.muni_sched.specs.Candidates.{IsCandidate};
 ghost use Rattle.muni_sched.specs.Figures.{IsOf};
 ghost use Rattle.muni_sched.specs.Search as spec;
-ghost use Rattle.muni_sched.specs.Search.{IsSearch, IsKnownYield, CanRefine, IsNew, IsStarted, IsRound, noted, recorded, missed, missed_first, missed_after, ceiling_after, ceiling_first, searches_from};
+ghost use Rattle.muni_sched.specs.Search.{IsSearch, IsKnownYield, CanRefine, IsNew, IsStarted, IsRound, state, noted, recorded, missed, missed_first, missed_after, ceiling_after, ceiling_first, searches_from};
 ghost use Rattle.muni_sched.specs.YieldOutcome.{IsKnownFirst, many_yield};
 ghost use Rattle.muni_sched.specs.FigureKind.{Yield};
 
@@ -87,8 +87,8 @@ fn is_at_ceiling(ceiling: Option<i32>, thousandths: i32) -> bool
 pub(crate) struct Search {
     /// The outcome of each candidate, if it is known.
     known: ArrayVec<Option<CandidateOutcome>, 41>,
-    /// The searches that are still needed.
-    searches: ArrayVec<OpenSearch, 41>,
+    /// How many searches are left. They are in the first slots of the caller.
+    left: usize,
     /// The least figure that a candidate is known not to reach, by its questions.
     ceiling: Option<i32>,
     /// The least place that a search knows not to be reached, or 105,003.
@@ -104,7 +104,7 @@ impl Search {
     {
         Search {
             known: ArrayVec::new(),
-            searches: ArrayVec::new(),
+            left: 0,
             ceiling: None,
             missed: 105_003,
             aim: Aim::START,
@@ -112,17 +112,19 @@ impl Search {
     }
 
     /// Adds the candidates, before the first round.
-    pub(crate) fn start(&mut self, list: &[Candidate], price: Price)
+    pub(crate) fn start(&mut self, slots: &mut [OpenSearch], list: &[Candidate], price: Price)
         requires new { IsNew self.old }
+        requires room { 41 ≤ length slots.old }
         requires few { length list.now ≤ 41 }
         requires candidates { All IsCandidate list.now }
         requires price { 0 < price }
-        ensures { IsStarted price list.now self.new }
+        ensures started { IsStarted price list.now (state self.new slots.new) }
+        ensures fits { self.new.left ≤ length slots.new }
     {
         push_known_first(&mut self.known, list, price);
-        push_searches(&mut self.searches, list, price);
+        self.left = put_searches(slots, list, price);
         self.ceiling = ceiling_first(self.known.as_slice());
-        self.aim = Aim::first(self.searches.as_slice());
+        self.aim = Aim::first(&slots[..self.left]);
     }
 
     /// The outcome of each candidate, if it is known.
@@ -134,15 +136,16 @@ impl Search {
 
     /// Whether nothing is left to ask.
     pub(crate) fn is_over(&self) -> bool
-        ensures { result ≡ spec.is_over self.now }
+        ensures { result ≡ (self.now.left == 0) }
     {
-        self.searches.as_slice().is_empty()
+        self.left == 0
     }
 
     /// One round: each search is halved once. Then those are dropped whose outcome is known or
     /// cannot be the lowest.
     pub(crate) fn refine<R: Threads + Sync, E: Encloser + Sync, G: Gate + Sync>(
         &mut self,
+        slots: &mut [OpenSearch],
         rt: &R,
         workers: usize,
         round: u32,
@@ -150,18 +153,22 @@ impl Search {
         gate: &G,
     )
         requires workers { 0 < workers }
-        requires can { CanRefine (place_verdict (E.ends encloser.now)) self.old }
-        ensures { IsRound (place_verdict (E.ends encloser.now)) self.old self.new }
+        requires fits { self.old.left ≤ length slots.old }
+        requires can { CanRefine (place_verdict (E.ends encloser.now)) (state self.old slots.old) }
+        ensures round { IsRound (place_verdict (E.ends encloser.now))
+            (state self.old slots.old) (state self.new slots.new) }
+        ensures fits { self.new.left ≤ length slots.new }
     {
-        if self.searches.as_slice().len() == 1 {
-            self.refine_one(round, encloser, gate);
+        if self.left == 1 {
+            self.refine_one(slots, round, encloser, gate);
         } else {
-            self.refine_each(rt, workers, round, encloser, gate);
+            self.refine_each(slots, rt, workers, round, encloser, gate);
         }
     }
 
     fn refine_each<R: Threads + Sync, E: Encloser + Sync, G: Gate + Sync>(
         &mut self,
+        slots: &mut [OpenSearch],
         rt: &R,
         workers: usize,
         round: u32,
@@ -169,53 +176,52 @@ impl Search {
         gate: &G,
     )
         requires workers { 0 < workers }
-        requires can { CanRefine (place_verdict (E.ends encloser.now)) self.old }
-        ensures { IsRound (place_verdict (E.ends encloser.now)) self.old self.new }
+        requires fits { self.old.left ≤ length slots.old }
+        requires can { CanRefine (place_verdict (E.ends encloser.now)) (state self.old slots.old) }
+        ensures round { IsRound (place_verdict (E.ends encloser.now))
+            (state self.old slots.old) (state self.new slots.new) }
+        ensures fits { self.new.left ≤ length slots.new }
     {
+        let searches = &mut slots[..self.left];
         let mut discounts = Discounts::new();
-        add_discounts(&mut discounts, self.searches.as_slice(), self.aim.place());
+        add_discounts(&mut discounts, searches, self.aim.place());
         let asking = Round {
             number: round,
             aim: self.aim,
             discounts: &discounts,
         };
-        ask_each(
-            rt,
-            self.searches.as_mut_slice(),
-            workers,
-            &asking,
-            encloser,
-            gate,
-        );
-        let searches = self.searches.as_slice();
+        ask_each(rt, searches, workers, &asking, encloser, gate);
         record_settled(searches, self.known.as_mut_slice());
         self.ceiling = least_ceiling(searches, self.ceiling);
         self.missed = least_missed(searches, self.missed);
-        keep_needed(&mut self.searches, self.ceiling, self.missed);
-        self.aim = self.aim.next(self.searches.as_slice(), discounts.has_aim());
+        self.left = keep_needed(searches, self.ceiling, self.missed);
+        self.aim = self.aim.next(&slots[..self.left], discounts.has_aim());
     }
 
     // The same, if one search is left, as in most rounds. No thread is started.
-    fn refine_one<E: Encloser, G: Gate>(&mut self, round: u32, encloser: &E, gate: &G)
-        requires one { length self.old.searches.items ≡ 1 }
-        requires can { CanRefine (place_verdict (E.ends encloser.now)) self.old }
-        ensures { IsRound (place_verdict (E.ends encloser.now)) self.old self.new }
+    fn refine_one<E: Encloser, G: Gate>(
+        &mut self,
+        slots: &mut [OpenSearch],
+        round: u32,
+        encloser: &E,
+        gate: &G,
+    )
+        requires one { self.old.left ≡ 1 }
+        requires fits { self.old.left ≤ length slots.old }
+        requires can { CanRefine (place_verdict (E.ends encloser.now)) (state self.old slots.old) }
+        ensures round { IsRound (place_verdict (E.ends encloser.now))
+            (state self.old slots.old) (state self.new slots.new) }
+        ensures fits { self.new.left ≤ length slots.new }
     {
-        let is_asked = ask_alone(
-            self.searches.as_mut_slice(),
-            round,
-            self.aim,
-            encloser,
-            gate,
-        );
-        let search = &self.searches.as_slice()[0];
+        let is_asked = ask_alone(&mut slots[0], round, self.aim, encloser, gate);
+        let search = &slots[0];
         note_settled(search, self.known.as_mut_slice());
         self.ceiling = lower_of(self.ceiling, search.missed());
         self.missed = self.missed.min(search.guided.window().no());
         if !search.is_needed(self.ceiling, self.missed) {
-            self.searches.clear();
+            self.left = 0;
         } else if search.guided.window().is_wide() {
-            self.aim = self.aim.next(self.searches.as_slice(), is_asked);
+            self.aim = self.aim.next(&slots[..1], is_asked);
         }
     }
 }
@@ -237,21 +243,26 @@ fn push_known_first(
     }
 }
 
-fn push_searches(searches: &mut ArrayVec<OpenSearch, 41>, list: &[Candidate], price: Price)
-    requires empty { searches.old.items ≡ [] }
+// Answers how many searches there are.
+fn put_searches(slots: &mut [OpenSearch], list: &[Candidate], price: Price) -> usize
+    requires room { 41 ≤ length slots.old }
     requires few { length list.now ≤ 41 }
     requires candidates { All IsCandidate list.now }
     requires price { 0 < price }
-    ensures { searches.new.items ≡ searches_from price 0 list.now }
+    ensures searches { take result slots.new ≡ searches_from price 0 list.now }
+    ensures fits { result ≤ length slots.new }
 {
+    let mut count = 0;
     for (candidate, redemption) in list.iter().enumerate() {
         if let Shape::Many(flows) = redemption.shape {
-            searches.push(OpenSearch {
+            slots[count] = OpenSearch {
                 candidate,
                 guided: GuidedSearch::start(flows, price),
-            });
+            };
+            count += 1;
         }
     }
+    count
 }
 
 // A yield that is printed is not reached at the next figure.
@@ -328,13 +339,18 @@ fn least_missed(searches: &[OpenSearch], before: u32) -> u32
     missed
 }
 
-fn keep_needed(searches: &mut ArrayVec<OpenSearch, 41>, ceiling: Option<i32>, missed: u32)
-    ensures { searches.new.items ≡ filter (spec.is_needed ceiling missed) searches.old.items }
+// Moves the searches that are needed to the front, and answers how many they are.
+fn keep_needed(searches: &mut [OpenSearch], ceiling: Option<i32>, missed: u32) -> usize
+    ensures needed { take result searches.new
+        ≡ filter (spec.is_needed ceiling missed) searches.old }
+    ensures fits { result ≤ length searches.new }
 {
-    searches.retain(
-        |search: &mut OpenSearch| -> bool
-            ensures { (result ≡ spec.is_needed ceiling missed search.entry.now)
-                × (search.exit.now ≡ search.entry.now) }
-        { search.is_needed(ceiling, missed) },
-    );
+    let mut kept = 0;
+    for place in 0..searches.len() {
+        if searches[place].is_needed(ceiling, missed) {
+            searches[kept] = searches[place];
+            kept += 1;
+        }
+    }
+    kept
 }

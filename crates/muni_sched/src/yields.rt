@@ -15,7 +15,7 @@ ghost use Rattle.muni_sched.specs.SearchedOut.{AreSearchedOut, CountsRounds};
 ghost use Rattle.muni_sched.specs.declared.outcome.CandidateOutcome.TheVariants.{Unsure};
 
 use crate::lowest::lowest_of;
-use crate::search::Search;
+use crate::search::{OpenSearch, Search};
 use crate::{Candidate, CandidateOutcome, LowAnswer, LowestYield, NoYield};
 use muni_dec::{Price, Yield};
 use muni_edge::{Gate, Steps};
@@ -49,7 +49,17 @@ pub fn lowest_yield<R: Threads + Sync, E: Encloser + Sync, G: Gate + Sync, L: Le
     ensures few { steps.new ≤ steps.old + 19 }
 {
     let mut search = Search::new();
-    let rounds = searched(&mut search, rt, list, price, workers, encloser, gate);
+    let mut slots = [OpenSearch::default(); 41];
+    let rounds = searched(
+        &mut search,
+        &mut slots,
+        rt,
+        list,
+        price,
+        workers,
+        encloser,
+        gate,
+    );
     for _round in 0..rounds {
         steps.tick();
     }
@@ -72,13 +82,24 @@ pub fn yield_to_worst<R: Threads + Sync, E: Encloser + Sync, G: Gate + Sync>(
     ensures { IsLowestAnswer (E.ends encloser.now) (at_price price) list.now (low_yield result) }
 {
     let mut search = Search::new();
-    let _rounds = searched(&mut search, rt, list, price, workers, encloser, gate);
+    let mut slots = [OpenSearch::default(); 41];
+    let _rounds = searched(
+        &mut search,
+        &mut slots,
+        rt,
+        list,
+        price,
+        workers,
+        encloser,
+        gate,
+    );
     lowest_found(&search, list, price, encloser)
 }
 
 // Round by round, until nothing is left to ask. Answers how many rounds there were.
 fn searched<R: Threads + Sync, E: Encloser + Sync, G: Gate + Sync>(
     search: &mut Search,
+    slots: &mut [OpenSearch],
     rt: &R,
     list: &[Candidate],
     price: Price,
@@ -87,6 +108,7 @@ fn searched<R: Threads + Sync, E: Encloser + Sync, G: Gate + Sync>(
     gate: &G,
 ) -> u32
     requires new { IsNew search.old }
+    requires room { 41 ≤ length slots.old }
     requires few { length list.now ≤ 41 }
     requires candidates { All IsCandidate list.now }
     requires price { 0 < price }
@@ -96,10 +118,10 @@ fn searched<R: Threads + Sync, E: Encloser + Sync, G: Gate + Sync>(
     ensures rounds { CountsRounds (E.ends encloser.now) price list.now 0 result }
     ensures few { result ≤ 19 }
 {
-    search.start(list, price);
+    search.start(slots, list, price);
     let mut rounds = 0;
     while !search.is_over() {
-        search.refine(rt, workers as usize, rounds, encloser, gate);
+        search.refine(slots, rt, workers as usize, rounds, encloser, gate);
         rounds += 1;
     }
     rounds

@@ -1,6 +1,10 @@
-use Rattle.std.proofs.Common.{rules, arith, ◌≡◌, ◌+◌, ◌-◌, ◌<◌, ◌∙◌, ap, sym, false, true}
+use Rattle.std.specs.Prelude.{◌==◌}
+use Rattle.std.proofs.Common.{List, Bool, ◌≤◌, length, rules, arith, ◌≡◌, ◌+◌, ◌-◌, ◌<◌, ◌∙◌, ap, sym, false, true}
 use Rattle.muni_yield.specs.Places.{place_verdict}
-use Rattle.muni_sched.specs.Search.{is_over}
+use Rattle.std.proofs.lemmas.List.{length-take-le}
+use Rattle.muni_sched.specs.declared.search.OpenSearch.{OpenSearch}
+use Rattle.muni_sched.specs.declared.search.Search.{Search}
+use Rattle.muni_sched.specs.Search.{state, is_over}
 use Rattle.muni_yield.proofs.KnownLemmas.{first-window}
 use Rattle.muni_sched.proofs.SearchLemmas.{round-few}
 use Rattle.muni_sched.proofs.OverLemmas.{over-none}
@@ -24,20 +28,26 @@ loop-search-init g c =
       };
     }) in
     record {
-      final = started-final verdicts c.args.price c.args.list.now c.start.new.self first c.requires.price c.requires.candidates c.requires.few c.start.ensures;
+      final = started-final verdicts c.args.price c.args.list.now (state c.start.new.self c.start.new.slots) first c.requires.price c.requires.candidates c.requires.few c.start.ensures.started;
+      fits = c.start.ensures.fits;
       most = omega arith;
-      counted = counted-first verdicts c.args.price c.args.list.now c.start.new.self c.requires.price c.requires.candidates c.start.ensures;
+      counted = counted-first verdicts c.args.price c.args.list.now (state c.start.new.self c.start.new.slots) c.requires.price c.requires.candidates c.start.ensures.started;
     }
 
 pub overflow_add-rounds : goal.overflow_add-rounds
 overflow_add-rounds g c = let most = c.loop-search.invariant.most in omega (arith, most)
+
+-- nothing is left to ask if no search is left
+over-as : (search : Search) (slots : List OpenSearch) (over : Bool) → search.left ≤ length slots → (search.left == 0) ≡ over → is_over (state search slots) ≡ over
+over-as search slots over fits is = ap (λ n. n == 0) (length-take-le search.left slots fits) ∙ is
 
 pub loop-search-smaller : goal.loop-search-smaller
 loop-search-smaller g c =
     let verdicts = place_verdict (g.E.Encloser.ends c.args.encloser.now) in
     let is = c.loop-search.invariant.final in
     let some : c.is_over.result ≡ false = search rules in
-    let few = round-few verdicts is.finals c.loop-search.rounds c.loop-search.search is.refined (sym c.is_over.ensures ∙ some) in
+    let pending = over-as c.loop-search.search c.loop-search.slots false c.loop-search.invariant.fits (sym c.is_over.ensures ∙ some) in
+    let few = round-few verdicts is.finals c.loop-search.rounds (state c.loop-search.search c.loop-search.slots) is.refined pending in
     let less : 19 - (c.loop-search.rounds + 1) < 19 - c.loop-search.rounds = omega (arith, few) in
     less
 
@@ -46,30 +56,33 @@ loop-search-preserved g c =
     let verdicts = place_verdict (g.E.Encloser.ends c.args.encloser.now) in
     let known = c.loop-search.invariant in
     let some : c.is_over.result ≡ false = search rules in
-    let few = round-few verdicts known.final.finals c.loop-search.rounds c.loop-search.search known.final.refined (sym c.is_over.ensures ∙ some) in
-    let pending = sym c.is_over.ensures ∙ some in
+    let before = state c.loop-search.search c.loop-search.slots in
+    let after = state c.refine.new.self c.refine.new.slots in
+    let pending = over-as c.loop-search.search c.loop-search.slots false known.fits (sym c.is_over.ensures ∙ some) in
+    let few = round-few verdicts known.final.finals c.loop-search.rounds before known.final.refined pending in
     record {
-      final = next-final verdicts c.args.price c.args.list.now c.loop-search.rounds c.loop-search.search c.refine.new.self few c.refine.ensures known.final;
+      final = next-final verdicts c.args.price c.args.list.now c.loop-search.rounds before after few c.refine.ensures.round known.final;
+      fits = c.refine.ensures.fits;
       most = omega (arith, few);
-      counted = counted-next verdicts known.final.finals c.args.price c.args.list.now c.start.new.self.ceiling c.loop-search.rounds c.loop-search.search c.refine.new.self few pending known.final.refined c.refine.ensures known.counted;
+      counted = counted-next verdicts known.final.finals c.args.price c.args.list.now c.start.new.self.ceiling c.loop-search.rounds before after few pending known.final.refined c.refine.ensures.round known.counted;
     }
 
 pub returns-clause-found : goal.returns-clause-found
 returns-clause-found g c =
-    let last = c.loop-search.search in
-    let over : is_over last ≡ true = sym c.is_over.ensures ∙ search rules in
+    let last = state c.loop-search.search c.loop-search.slots in
+    let over = over-as c.loop-search.search c.loop-search.slots true c.loop-search.invariant.fits (sym c.is_over.ensures ∙ search rules) in
     searched-out (g.E.Encloser.ends c.args.encloser.now) c.args.price c.args.list.now c.loop-search.rounds last over c.loop-search.invariant.final
 
 pub returns-clause-rounds : goal.returns-clause-rounds
 returns-clause-rounds g c =
     let verdicts = place_verdict (g.E.Encloser.ends c.args.encloser.now) in
-    let last = c.loop-search.search in
-    let over : is_over last ≡ true = sym c.is_over.ensures ∙ search rules in
-    let all = counted-last verdicts c.args.price c.args.list.now c.start.new.self.ceiling c.loop-search.rounds last (over-none last.searches.items over) c.loop-search.invariant.counted in
+    let last = state c.loop-search.search c.loop-search.slots in
+    let over = over-as c.loop-search.search c.loop-search.slots true c.loop-search.invariant.fits (sym c.is_over.ensures ∙ search rules) in
+    let all = counted-last verdicts c.args.price c.args.list.now c.start.new.self.ceiling c.loop-search.rounds last (over-none last.searches over) c.loop-search.invariant.counted in
     record {
       known = c.start.new.self.known.items;
-      first = c.start.ensures.known;
-      counted = omega (arith, all, ap (λ ceiling. rounds 19 verdicts ceiling (brackets_from c.args.price c.args.list.now)) c.start.ensures.ceiling);
+      first = c.start.ensures.started.known;
+      counted = omega (arith, all, ap (λ ceiling. rounds 19 verdicts ceiling (brackets_from c.args.price c.args.list.now)) c.start.ensures.started.ceiling);
     }
 
 pub returns-clause-few : goal.returns-clause-few

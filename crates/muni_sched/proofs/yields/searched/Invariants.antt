@@ -1,14 +1,16 @@
-use Rattle.std.proofs.Common.{◌≤◌, ◌-◌}
+use Rattle.std.proofs.Common.{◌≤◌, ◌-◌, length}
 use Rattle.muni_yield.specs.Places.{place_verdict}
+use Rattle.muni_sched.specs.Search.{state}
 use Rattle.muni_sched.proofs.CountLemmas.{IsCounted}
 use Rattle.muni_sched.proofs.StartLemmas.{IsFinal}
 use Rattle.muni_sched.proofs.yields.searched.Given as goal
 
 abbrev pub invariant-loop-search : goal.invariant-loop-search
 invariant-loop-search g l = let verdicts = place_verdict (g.E.Encloser.ends l.encloser) in record {
-  final : IsFinal verdicts l.fn.price l.list l.rounds l.search;
+  final : IsFinal verdicts l.fn.price l.list l.rounds (state l.search l.slots);
+  fits : l.search.left ≤ length l.slots;
   most : l.rounds ≤ 19;
-  counted : IsCounted verdicts l.fn.price l.list l.initial.search.ceiling l.rounds l.search;
+  counted : IsCounted verdicts l.fn.price l.list l.initial.search.ceiling l.rounds (state l.search l.slots);
 }
 
 abbrev pub decreases-loop-search : goal.decreases-loop-search
