@@ -85,9 +85,10 @@ impl<K: Keeper> Keeper for Following<K> {
         ensures edits { EditsTables ⟦<Following<K> as Keeper>⟧ (with_version key.now version.now) result
             self.old self.new }
 
-        // The watch ends only if the desk has no room.
+        // The watch ends only if the desk has no room, and no other desk is watched then.
         ensures watch { self.new.positioned.desk ≢ self.old.positioned.desk
             → IfSome (K.tables self.old.positioned.inner) (λ t. HasNoRoomFor self.old.positioned.desk key.now version.now t) }
+        ensures none { self.new.positioned.desk ≢ self.old.positioned.desk → self.new.positioned.desk ≡ None }
     {
         match self.positioned.put(key, number, version) {
             Ok(()) => Ok(()),
