@@ -167,7 +167,7 @@ IsShown row asked (Ok found) answer =
     × (answer ≡ Ok (figures_of row asked days found))
 IsShown row asked (Err refused) answer = answer ≡ Err refused
 
--- what is found so, as it is answered
+-- a price and a yield, or a refusal, are found so, and the answer shows them
 pub record ShowsFound (Finds : Result PriceAndYield Refusal → Type 0) (row : IssueRow) (asked : Asked) (answer : Result Figures Refusal) : Type 0 where
   pub found : Result PriceAndYield Refusal
   pub is_found : Finds found
