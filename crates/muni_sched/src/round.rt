@@ -13,6 +13,15 @@ use muni_yield::Discounts;
 use std::thread;
 use std::thread::Threads;
 
+/// Who asks: so many threads at once, the encloser, and the gate that is called before each question.
+#[derive(Drop)]
+pub(crate) struct Asker<'a, R, E, G> {
+    pub(crate) rt: &'a R,
+    pub(crate) workers: usize,
+    pub(crate) encloser: &'a E,
+    pub(crate) gate: &'a G,
+}
+
 /// What all searches of a round have in common. They ask at two places at most, so two discounts
 /// serve them. A search that asks at another one computes its own.
 #[derive(Clone, Copy)]
@@ -79,11 +88,9 @@ pub(crate) fn ask_alone<E: Encloser, G: Gate>(
     ensures { IsHalved (place_verdict (E.ends encloser.now)) search.old search.new }
 {
     let is_asked = search.guided.window().is_wide() && search.guided.asks_at(aim.place());
-    let round = Round {
-        number,
-        aim,
-        discounts: &Discounts::new(),
-    };
-    ask_one(search, &round, encloser, gate);
+    gate.start(number, search.candidate);
+    search
+        .guided
+        .halve(encloser, aim.place(), &Discounts::new());
     is_asked
 }

@@ -13,7 +13,7 @@ ghost use Rattle.muni_sched.specs.YieldOutcome.{IsKnownFirst, many_yield};
 ghost use Rattle.muni_sched.specs.FigureKind.{Yield};
 
 use crate::aim::Aim;
-use crate::round::{Round, add_discounts, ask_alone, ask_each};
+use crate::round::{Asker, Round, add_discounts, ask_alone, ask_each};
 use crate::yield_outcome::{known_first, many_yield};
 use crate::{Candidate, CandidateOutcome, Shape};
 use arrayvec::ArrayVec;
@@ -146,39 +146,33 @@ impl Search {
     pub(crate) fn refine<R: Threads + Sync, E: Encloser + Sync, G: Gate + Sync>(
         &mut self,
         slots: &mut [OpenSearch],
-        rt: &R,
-        workers: usize,
         round: u32,
-        encloser: &E,
-        gate: &G,
+        asker: &Asker<'_, R, E, G>,
     )
-        requires workers { 0 < workers }
+        requires workers { 0 < asker.now.workers }
         requires fits { self.old.left ≤ length slots.old }
-        requires can { CanRefine (place_verdict (E.ends encloser.now)) (state self.old slots.old) }
-        ensures round { IsRound (place_verdict (E.ends encloser.now))
+        requires can { CanRefine (place_verdict (E.ends asker.now.encloser.now)) (state self.old slots.old) }
+        ensures round { IsRound (place_verdict (E.ends asker.now.encloser.now))
             (state self.old slots.old) (state self.new slots.new) }
         ensures fits { self.new.left ≤ length slots.new }
     {
         if self.left == 1 {
-            self.refine_one(slots, round, encloser, gate);
+            self.refine_one(slots, round, asker.encloser, asker.gate);
         } else {
-            self.refine_each(slots, rt, workers, round, encloser, gate);
+            self.refine_each(slots, round, asker);
         }
     }
 
     fn refine_each<R: Threads + Sync, E: Encloser + Sync, G: Gate + Sync>(
         &mut self,
         slots: &mut [OpenSearch],
-        rt: &R,
-        workers: usize,
         round: u32,
-        encloser: &E,
-        gate: &G,
+        asker: &Asker<'_, R, E, G>,
     )
-        requires workers { 0 < workers }
+        requires workers { 0 < asker.now.workers }
         requires fits { self.old.left ≤ length slots.old }
-        requires can { CanRefine (place_verdict (E.ends encloser.now)) (state self.old slots.old) }
-        ensures round { IsRound (place_verdict (E.ends encloser.now))
+        requires can { CanRefine (place_verdict (E.ends asker.now.encloser.now)) (state self.old slots.old) }
+        ensures round { IsRound (place_verdict (E.ends asker.now.encloser.now))
             (state self.old slots.old) (state self.new slots.new) }
         ensures fits { self.new.left ≤ length slots.new }
     {
@@ -190,7 +184,14 @@ impl Search {
             aim: self.aim,
             discounts: &discounts,
         };
-        ask_each(rt, searches, workers, &asking, encloser, gate);
+        ask_each(
+            asker.rt,
+            searches,
+            asker.workers,
+            &asking,
+            asker.encloser,
+            asker.gate,
+        );
         record_settled(searches, self.known.as_mut_slice());
         self.ceiling = least_ceiling(searches, self.ceiling);
         self.missed = least_missed(searches, self.missed);

@@ -15,6 +15,7 @@ ghost use Rattle.muni_sched.specs.SearchedOut.{AreSearchedOut, CountsRounds};
 ghost use Rattle.muni_sched.specs.declared.outcome.CandidateOutcome.TheVariants.{Unsure};
 
 use crate::lowest::lowest_of;
+use crate::round::Asker;
 use crate::search::{OpenSearch, Search};
 use crate::{Candidate, CandidateOutcome, LowAnswer, LowestYield, NoYield};
 use muni_dec::{Price, Yield};
@@ -49,17 +50,13 @@ pub fn lowest_yield<R: Threads + Sync, E: Encloser + Sync, G: Gate + Sync, L: Le
     ensures few { steps.new ≤ steps.old + 19 }
 {
     let mut search = Search::new();
-    let mut slots = [OpenSearch::default(); 41];
-    let rounds = searched(
-        &mut search,
-        &mut slots,
+    let asker = Asker {
         rt,
-        list,
-        price,
-        workers,
+        workers: workers as usize,
         encloser,
         gate,
-    );
+    };
+    let rounds = searched(&mut search, list, price, &asker);
     for _round in 0..rounds {
         steps.tick();
     }
@@ -82,46 +79,38 @@ pub fn yield_to_worst<R: Threads + Sync, E: Encloser + Sync, G: Gate + Sync>(
     ensures { IsLowestAnswer (E.ends encloser.now) (at_price price) list.now (low_yield result) }
 {
     let mut search = Search::new();
-    let mut slots = [OpenSearch::default(); 41];
-    let _rounds = searched(
-        &mut search,
-        &mut slots,
+    let asker = Asker {
         rt,
-        list,
-        price,
-        workers,
+        workers: workers as usize,
         encloser,
         gate,
-    );
+    };
+    let _rounds = searched(&mut search, list, price, &asker);
     lowest_found(&search, list, price, encloser)
 }
 
 // Round by round, until nothing is left to ask. Answers how many rounds there were.
 fn searched<R: Threads + Sync, E: Encloser + Sync, G: Gate + Sync>(
     search: &mut Search,
-    slots: &mut [OpenSearch],
-    rt: &R,
     list: &[Candidate],
     price: Price,
-    workers: u32,
-    encloser: &E,
-    gate: &G,
+    asker: &Asker<'_, R, E, G>,
 ) -> u32
     requires new { IsNew search.old }
-    requires room { 41 ≤ length slots.old }
     requires few { length list.now ≤ 41 }
     requires candidates { All IsCandidate list.now }
     requires price { 0 < price }
-    requires workers { 1 ≤ workers }
-    ensures found { AreSearchedOut (E.ends encloser.now) price list.now
+    requires workers { 1 ≤ asker.now.workers }
+    ensures found { AreSearchedOut (E.ends asker.now.encloser.now) price list.now
         (outcomes_of search.new.known.items) }
-    ensures rounds { CountsRounds (E.ends encloser.now) price list.now 0 result }
+    ensures rounds { CountsRounds (E.ends asker.now.encloser.now) price list.now 0 result }
     ensures few { result ≤ 19 }
 {
-    search.start(slots, list, price);
+    let mut slots = [OpenSearch::default(); 41];
+    search.start(&mut slots, list, price);
     let mut rounds = 0;
     while !search.is_over() {
-        search.refine(slots, rt, workers as usize, rounds, encloser, gate);
+        search.refine(&mut slots, rounds, asker);
         rounds += 1;
     }
     rounds
