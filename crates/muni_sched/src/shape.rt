@@ -18,6 +18,8 @@ use muni_simple::Single;
 use muni_terms::{Flows, Issue, Kind};
 
 /// How a redemption after a settlement is priced.
+// Inlined as `Issue::flows` is.
+#[inline(always)]
 pub(crate) fn shape_at(issue: &Issue, settlement: Day, date: Day, price: Price) -> Shape
     requires settled { settles issue.now settlement ≡ true }
     requires later { order_of (civil settlement) < order_of (civil date) }

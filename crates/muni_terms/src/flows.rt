@@ -193,6 +193,8 @@ fn redemption_amount(price: Price) -> u64
 
 /// The payments of an issue with coupons. The first pays the interest of all days of 30/360 since
 /// the dated date (SIA, Standard Securities Calculation Methods).
+// Inlined as `Issue::flows` is.
+#[inline(always)]
 pub fn coupon_flows(
     dated: Day,
     first: Day,

@@ -113,6 +113,8 @@ impl Issue {
     /// (MSRB Rule G-33(b); an odd first coupon by SIA, Standard Securities Calculation Methods).
     ///
     /// The issue is of a kind with quasi-coupon dates, and not a note.
+    // Inlined, so that a loop over redemptions finds only once what they have in common.
+    #[inline(always)]
     pub fn flows(&self, settlement: Day, redemption: Day, price: Price) -> Flows
         requires kind { IsSome (anchor_of self.now) }
         requires settled { spec.settles self.now settlement ≡ true }
