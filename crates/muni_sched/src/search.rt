@@ -151,7 +151,8 @@ impl Search {
     )
         requires workers { 0 < asker.now.workers }
         requires fits { self.old.left ≤ length slots.old }
-        requires can { CanRefine (place_verdict (E.ends asker.now.encloser.now)) (state self.old slots.old) }
+        requires can { CanRefine (place_verdict (E.ends asker.now.encloser.now))
+            (state self.old slots.old) }
         ensures round { IsRound (place_verdict (E.ends asker.now.encloser.now))
             (state self.old slots.old) (state self.new slots.new) }
         ensures fits { self.new.left ≤ length slots.new }
@@ -171,7 +172,8 @@ impl Search {
     )
         requires workers { 0 < asker.now.workers }
         requires fits { self.old.left ≤ length slots.old }
-        requires can { CanRefine (place_verdict (E.ends asker.now.encloser.now)) (state self.old slots.old) }
+        requires can { CanRefine (place_verdict (E.ends asker.now.encloser.now))
+            (state self.old slots.old) }
         ensures round { IsRound (place_verdict (E.ends asker.now.encloser.now))
             (state self.old slots.old) (state self.new slots.new) }
         ensures fits { self.new.left ≤ length slots.new }
