@@ -1,5 +1,8 @@
 -- What a call does over a file that may be opened anew.
-use Rattle.std.specs.Prelude.{Option, Some, None, IfSome, IsSome}
+use Rattle.std.specs.Prelude.{Option, Some, None, Result, IfSome, IsSome, OnOk}
+use Rattle.muni_keep.specs.declared.fault.KeepFault.{KeepFault}
+use Rattle.muni_store.specs.Faults.{CountsFailure}
+use Rattle.muni_store.specs.declared.file_keeper.FileKeeper.{FileKeeper}
 use Rattle.muni_store.specs.declared.file_keeper.FileState.{FileState}
 use Rattle.muni_store.specs.declared.file_keeper.FileState.TheVariants.{Open, Anew, Shut}
 
@@ -23,3 +26,8 @@ WhileOpen old new Does = IfSome (in_hand old) (Î» before. IfSome (ran_on new) (Î
 pub record IsOpen {Keeper : Type 0} (old new : FileState Keeper) : Type 0 where
   pub before : IsSome (in_hand old)
   pub after : IsSome (ran_on new)
+
+-- An answer comes of a file that was open, and a failure is counted.
+pub record Ends {S F T : Type 0} (result : Result T KeepFault) (old new : FileKeeper S F) : Type 0 where
+  pub answered : OnOk result (IsOpen old.state new.state)
+  pub counted : CountsFailure result old.faults new.faults

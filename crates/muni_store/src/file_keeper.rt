@@ -5,9 +5,9 @@ ghost use Rattle.sqlite.specs.Held.{state};
 ghost use Rattle.muni_store_rows.specs.Issue as issues;
 ghost use Rattle.muni_store_rows.specs.Version as versions;
 ghost use Rattle.muni_store.specs.Calls.{CountsTrades, Looks, Puts};
-ghost use Rattle.muni_store.specs.Counts.{count_of, after_put};
+ghost use Rattle.muni_store.specs.Counts.{after_put};
 ghost use Rattle.muni_store.specs.Faults.{CountsFailure};
-ghost use Rattle.muni_store.specs.Open.{IsOpen, WhileOpen, in_hand, ran_on};
+ghost use Rattle.muni_store.specs.Open.{Ends, WhileOpen, in_hand, ran_on};
 ghost use Rattle.muni_store.specs.Page.{IsPage};
 ghost use Rattle.muni_store.specs.Rows as rows;
 ghost use Rattle.muni_store.specs.Statements as spec;
@@ -141,11 +141,9 @@ impl<S: Alter + Drop, F: OpensAnew<S> + Drop> Keeper for FileKeeper<S, F> {
     ghost lent_as = { λ _. 0 };
 
     fn issue(&mut self, cusip: &[u8; 9]) -> Result<Option<Issue>, KeepFault>
-        ensures looks { WhileOpen self.old.state self.new.state (λ was is. Looks (state S.Store) rows.issue_in
-            spec.select_issue (spec.cusip_values cusip.now) result was.database is.database) }
-        ensures counts { WhileOpen self.old.state self.new.state (λ was is. is.trades ≡ was.trades) }
-        ensures open { OnOk result (IsOpen self.old.state self.new.state) }
-        ensures counted { CountsFailure result self.old.faults self.new.faults }
+        ensures looks { WhileOpen self.old.state self.new.state (Looks (state S.Store) rows.issue_in
+            spec.select_issue (spec.cusip_values cusip.now) result) }
+        ensures ends { Ends result self.old self.new }
     {
         let mut keeper = self.take()?;
         let found = keeper.issue(cusip);
@@ -153,11 +151,10 @@ impl<S: Alter + Drop, F: OpensAnew<S> + Drop> Keeper for FileKeeper<S, F> {
     }
 
     fn put_issue(&mut self, issue: &Issue) -> Result<(), KeepFault>
-        ensures puts { WhileOpen self.old.state self.new.state (λ was is. Puts (state S.Store) spec.insert_issue
-            (spec.issue_values (issues.columns_of issue.now)) result was.database is.database) }
+        ensures puts { WhileOpen self.old.state self.new.state (Puts (state S.Store) spec.insert_issue
+            (spec.issue_values (issues.columns_of issue.now)) result) }
         ensures counts { WhileOpen self.old.state self.new.state (λ was is. is.trades ≡ was.trades) }
-        ensures open { OnOk result (IsOpen self.old.state self.new.state) }
-        ensures counted { CountsFailure result self.old.faults self.new.faults }
+        ensures ends { Ends result self.old self.new }
     {
         let mut keeper = self.take()?;
         let put = keeper.put_issue(issue);
@@ -165,11 +162,9 @@ impl<S: Alter + Drop, F: OpensAnew<S> + Drop> Keeper for FileKeeper<S, F> {
     }
 
     fn version(&mut self, key: &Key, number: u32) -> Result<Option<Version>, KeepFault>
-        ensures looks { WhileOpen self.old.state self.new.state (λ was is. Looks (state S.Store) rows.version_in
-            spec.select_version (spec.numbered_key_values key.now number) result was.database is.database) }
-        ensures counts { WhileOpen self.old.state self.new.state (λ was is. is.trades ≡ was.trades) }
-        ensures open { OnOk result (IsOpen self.old.state self.new.state) }
-        ensures counted { CountsFailure result self.old.faults self.new.faults }
+        ensures looks { WhileOpen self.old.state self.new.state (Looks (state S.Store) rows.version_in
+            spec.select_version (spec.numbered_key_values key.now number) result) }
+        ensures ends { Ends result self.old self.new }
     {
         let mut keeper = self.take()?;
         let found = keeper.version(key, number);
@@ -177,11 +172,9 @@ impl<S: Alter + Drop, F: OpensAnew<S> + Drop> Keeper for FileKeeper<S, F> {
     }
 
     fn last(&mut self, key: &Key) -> Result<Option<(u32, Version)>, KeepFault>
-        ensures looks { WhileOpen self.old.state self.new.state (λ was is. Looks (state S.Store) rows.last_in
-            spec.select_last (spec.key_values key.now) result was.database is.database) }
-        ensures counts { WhileOpen self.old.state self.new.state (λ was is. is.trades ≡ was.trades) }
-        ensures open { OnOk result (IsOpen self.old.state self.new.state) }
-        ensures counted { CountsFailure result self.old.faults self.new.faults }
+        ensures looks { WhileOpen self.old.state self.new.state (Looks (state S.Store) rows.last_in
+            spec.select_last (spec.key_values key.now) result) }
+        ensures ends { Ends result self.old self.new }
     {
         let mut keeper = self.take()?;
         let found = keeper.last(key);
@@ -189,12 +182,11 @@ impl<S: Alter + Drop, F: OpensAnew<S> + Drop> Keeper for FileKeeper<S, F> {
     }
 
     fn put_version(&mut self, key: &Key, number: u32, version: &Version) -> Result<(), KeepFault>
-        ensures puts { WhileOpen self.old.state self.new.state (λ was is. Puts (state S.Store) spec.insert_version
-            (spec.version_values (versions.columns_of key.now number version.now)) result was.database is.database) }
+        ensures puts { WhileOpen self.old.state self.new.state (Puts (state S.Store) spec.insert_version
+            (spec.version_values (versions.columns_of key.now number version.now)) result) }
         ensures counts { WhileOpen self.old.state self.new.state (λ was is.
             is.trades ≡ after_put key.now.desk number (is_ok result) was.trades) }
-        ensures open { OnOk result (IsOpen self.old.state self.new.state) }
-        ensures counted { CountsFailure result self.old.faults self.new.faults }
+        ensures ends { Ends result self.old self.new }
     {
         let mut keeper = self.take()?;
         let put = keeper.put_version(key, number, version);
@@ -202,13 +194,9 @@ impl<S: Alter + Drop, F: OpensAnew<S> + Drop> Keeper for FileKeeper<S, F> {
     }
 
     fn trades(&mut self, desk: &DeskName) -> Result<u32, KeepFault>
-        // A count that is kept is the answer, and nothing changes.
-        ensures kept { WhileOpen self.old.state self.new.state (λ was is.
-            IfSome (count_of desk.now was.trades) (λ count. (result ≡ Ok count) × (is ≡ was))) }
-        ensures counts { WhileOpen self.old.state self.new.state (λ was is.
-            CountsTrades (state S.Store) desk.now result was.database is.database was.trades is.trades) }
-        ensures open { OnOk result (IsOpen self.old.state self.new.state) }
-        ensures counted { CountsFailure result self.old.faults self.new.faults }
+        ensures counts { WhileOpen self.old.state self.new.state (CountsTrades (state S.Store) desk.now
+            result) }
+        ensures ends { Ends result self.old self.new }
     {
         let mut keeper = self.take()?;
         let count = keeper.trades(desk);
@@ -223,8 +211,7 @@ impl<S: Alter + Drop, F: OpensAnew<S> + Drop> Keeper for FileKeeper<S, F> {
         ensures read { IfOk result (λ lines. WhileOpen self.old.state self.new.state (λ was is.
             IsPage (state S.Store) desk.now after.now was.database is.database lines.items)) }
         ensures counts { WhileOpen self.old.state self.new.state (λ was is. is.trades ≡ was.trades) }
-        ensures open { OnOk result (IsOpen self.old.state self.new.state) }
-        ensures counted { CountsFailure result self.old.faults self.new.faults }
+        ensures ends { Ends result self.old self.new }
     {
         let mut keeper = self.take()?;
         let lines = keeper.page(desk, after);

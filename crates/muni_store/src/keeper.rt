@@ -1,11 +1,11 @@
 //! A keeper over a database.
 
-ghost use Rattle.std.specs.Prelude.{◌≡◌, [], None, Ok, Some, IfOk, IfSome, is_ok};
+ghost use Rattle.std.specs.Prelude.{◌≡◌, [], None, Ok, Some, IfOk, is_ok};
 ghost use Rattle.sqlite.specs.Held.{state};
 ghost use Rattle.muni_store_rows.specs.Issue as issues;
 ghost use Rattle.muni_store_rows.specs.Version as versions;
 ghost use Rattle.muni_store.specs.Calls.{CountsTrades, Looks, Puts};
-ghost use Rattle.muni_store.specs.Counts.{count_of, after_put};
+ghost use Rattle.muni_store.specs.Counts.{after_put};
 ghost use Rattle.muni_store.specs.Faults.{CountsFailure};
 ghost use Rattle.muni_store.specs.Page.{IsPage};
 ghost use Rattle.muni_store.specs.Rows as rows;
@@ -83,9 +83,8 @@ impl<S: Alter + Drop> Keeper for SqlKeeper<S> {
     ghost lent_as = { λ _. 0 };
 
     fn issue(&mut self, cusip: &[u8; 9]) -> Result<Option<Issue>, KeepFault>
-        ensures looks { Looks (state S.Store) rows.issue_in spec.select_issue (spec.cusip_values cusip.now) result
-            self.old.database self.new.database }
-        ensures counts { self.new.trades ≡ self.old.trades }
+        ensures looks { Looks (state S.Store) rows.issue_in spec.select_issue (spec.cusip_values cusip.now)
+            result self.old self.new }
         ensures counted { CountsFailure result self.old.faults self.new.faults }
     {
         let found = find_issue(&mut self.database, cusip);
@@ -94,8 +93,8 @@ impl<S: Alter + Drop> Keeper for SqlKeeper<S> {
     }
 
     fn put_issue(&mut self, issue: &Issue) -> Result<(), KeepFault>
-        ensures puts { Puts (state S.Store) spec.insert_issue (spec.issue_values (issues.columns_of issue.now))
-            result self.old.database self.new.database }
+        ensures puts { Puts (state S.Store) spec.insert_issue (spec.issue_values (issues.columns_of
+            issue.now)) result self.old self.new }
         ensures counts { self.new.trades ≡ self.old.trades }
         ensures counted { CountsFailure result self.old.faults self.new.faults }
     {
@@ -106,9 +105,8 @@ impl<S: Alter + Drop> Keeper for SqlKeeper<S> {
     }
 
     fn version(&mut self, key: &Key, number: u32) -> Result<Option<Version>, KeepFault>
-        ensures looks { Looks (state S.Store) rows.version_in spec.select_version
-            (spec.numbered_key_values key.now number) result self.old.database self.new.database }
-        ensures counts { self.new.trades ≡ self.old.trades }
+        ensures looks { Looks (state S.Store) rows.version_in spec.select_version (spec.numbered_key_values
+            key.now number) result self.old self.new }
         ensures counted { CountsFailure result self.old.faults self.new.faults }
     {
         let found = find_version(&mut self.database, key, number);
@@ -118,8 +116,7 @@ impl<S: Alter + Drop> Keeper for SqlKeeper<S> {
 
     fn last(&mut self, key: &Key) -> Result<Option<(u32, Version)>, KeepFault>
         ensures looks { Looks (state S.Store) rows.last_in spec.select_last (spec.key_values key.now) result
-            self.old.database self.new.database }
-        ensures counts { self.new.trades ≡ self.old.trades }
+            self.old self.new }
         ensures counted { CountsFailure result self.old.faults self.new.faults }
     {
         let found = find_last(&mut self.database, key);
@@ -128,9 +125,8 @@ impl<S: Alter + Drop> Keeper for SqlKeeper<S> {
     }
 
     fn put_version(&mut self, key: &Key, number: u32, version: &Version) -> Result<(), KeepFault>
-        ensures puts { Puts (state S.Store) spec.insert_version
-            (spec.version_values (versions.columns_of key.now number version.now)) result
-            self.old.database self.new.database }
+        ensures puts { Puts (state S.Store) spec.insert_version (spec.version_values (versions.columns_of
+            key.now number version.now)) result self.old self.new }
         ensures counts { self.new.trades
             ≡ after_put key.now.desk number (is_ok result) self.old.trades }
         ensures counted { CountsFailure result self.old.faults self.new.faults }
@@ -143,11 +139,7 @@ impl<S: Alter + Drop> Keeper for SqlKeeper<S> {
     }
 
     fn trades(&mut self, desk: &DeskName) -> Result<u32, KeepFault>
-        // A count that is kept is the answer, and nothing changes.
-        ensures kept { IfSome (count_of desk.now self.old.trades)
-            (λ count. (result ≡ Ok count) × (self.new ≡ self.old)) }
-        ensures counts { CountsTrades (state S.Store) desk.now result self.old.database self.new.database
-            self.old.trades self.new.trades }
+        ensures counts { CountsTrades (state S.Store) desk.now result self.old self.new }
         ensures counted { CountsFailure result self.old.faults self.new.faults }
     {
         if let Some(count) = self.trades.of(desk) {

@@ -12,7 +12,6 @@ returns-clause-puts g c =
     let taken : in_hand c.args.self.now.state ≡ Some c.in_ok-keeper.keeper = search rules in
     rw c.put_back.ensures.same
     (while_open c.args.self.now.state c.put_back.new.self.state
-    (λ was is. Puts (state g.S.Store) insert_version
-    (version_values (columns_of c.args.key.now c.args.number c.args.version.now)) c.put_version-put.result was.database is.database)
+    (Puts (state g.S.Store) insert_version (version_values (columns_of c.args.key.now c.args.number c.args.version.now)) c.put_version-put.result)
     c.in_ok-keeper.keeper c.put_version-put.new.self
     taken c.put_back.ensures.kept c.put_version-put.ensures.puts)
