@@ -11,7 +11,7 @@ ghost use Rattle.muni_book.specs.Answers.{IsRightAnswer, IsComputed, ShowsFound,
 ghost use Rattle.muni_book.specs.Trade as trades;
 
 use crate::trade::{is_wrong_basis, net_price, side_left, total};
-use crate::{Calculator, Workers};
+use crate::Calculator;
 use muni_days::Basis;
 use muni_dec::{
     Price, Price3, Yield, Yield3, accrued_cents, commission_cents, principal_cents, round_yield,
@@ -20,9 +20,7 @@ use muni_dec::{
 use muni_edge::Gate;
 use muni_msg::{Asked, Figures, Given, Range, Refusal, Side};
 use muni_multi::Encloser;
-use muni_sched::{
-    Boundary, Candidate, NoPrice, NoYield, Shape, price_to_worst, put_candidates, yield_to_worst,
-};
+use muni_sched::{Boundary, Candidate, NoPrice, NoYield, Schedule, Shape, price_to_worst};
 use muni_simple::{SimpleYield, rate_price, rate_return};
 use muni_terms::Issue;
 use std::thread::Threads;
@@ -35,23 +33,20 @@ struct DaysLeft {
 }
 
 /// The figures of a trade, or the refusal that applies first: of the basis, the settlement, what is
-/// given, and then of the figure that is asked for.
+/// given, and then of the figure that is asked for. The schedule is filled anew.
 ///
 /// At a yield the redemption candidate with the lowest price is disclosed, and at a price that with
 /// the lowest yield (MSRB Rule G-15(a)), which is computed from the net price in full: what a buyer
 /// pays with the commission, and what it leaves to a seller. The price that is shown, and the
 /// principal, are those of the given price.
-// Up to `workers` threads, from 1 to 16, look for the yields (tested).
+// Up to so many threads as the calculator has workers look for the yields (tested).
 pub fn figures<R: Threads + Sync, E: Encloser + Sync, G: Gate + Sync>(
-    rt: &R,
+    calculator: &Calculator<'_, R, E, G>,
     issue: &Issue,
     asked: &Asked,
-    workers: u32,
-    encloser: &E,
-    gate: &G,
+    schedule: &mut Schedule,
 ) -> Result<Figures, Refusal>
-    requires { (1 ≤ workers) × (workers ≤ 16) }
-    ensures right { IsRightAnswer (E.ends encloser.now) issue.now asked.now result }
+    ensures right { IsRightAnswer (E.ends calculator.now.encloser.now) issue.now asked.now result }
     ensures covered { IfOk result (λ figures. asked.now.side ≡ Side.Sell
         → figures.commission ≤ figures.principal) }
     ensures accrued { IfOk result (λ figures. figures.accrued ≤ 60_000_000_000) }
@@ -62,19 +57,11 @@ pub fn figures<R: Threads + Sync, E: Encloser + Sync, G: Gate + Sync>(
     if !issue.settles(asked.settle) {
         return Err(Refusal::SettleOutside);
     }
-    let mut slots = [Candidate::default(); 41];
-    let count = put_candidates(&mut slots, issue, asked.settle);
-    let list = &slots[..count];
-    if let Some(side) = side_left(asked, list) {
+    schedule.fill(issue, asked.settle);
+    if let Some(side) = side_left(asked, schedule.candidates()) {
         return Err(Refusal::GivenOutOfRange(side));
     }
-    let calculator = Calculator {
-        rt,
-        workers: Workers::new(workers),
-        encloser,
-        gate,
-    };
-    find(&calculator, issue, asked, list)
+    find(calculator, issue, asked, schedule)
 }
 
 // At each basis one of the two figures is given or computed first, and the other from it.
@@ -82,17 +69,17 @@ fn find<R: Threads + Sync, E: Encloser + Sync, G: Gate + Sync>(
     calculator: &Calculator<'_, R, E, G>,
     issue: &Issue,
     asked: &Asked,
-    list: &[Candidate],
+    schedule: &mut Schedule,
 ) -> Result<Figures, Refusal>
-    requires { IsAskable issue.now asked.now list.now }
-    ensures computed { IsComputed (E.ends calculator.now.encloser.now) issue.now asked.now list.now
-        result }
+    requires { IsAskable issue.now asked.now schedule.old }
+    ensures computed { IsComputed (E.ends calculator.now.encloser.now) issue.now asked.now
+        schedule.old result }
     ensures payable { IfOk result (IsPayable asked.now.side) }
 {
     match asked.given {
-        Given::AtYield(y) => at_yield(issue, asked, list, y, calculator.encloser),
-        Given::AtPrice(price) => at_price(calculator, issue, asked, list, price),
-        Given::AtRate(rate) => at_rate(issue, asked, list, rate),
+        Given::AtYield(y) => at_yield(issue, asked, schedule.candidates(), y, calculator.encloser),
+        Given::AtPrice(price) => at_price(calculator, issue, asked, schedule, price),
+        Given::AtRate(rate) => at_rate(issue, asked, schedule.candidates(), rate),
     }
 }
 
@@ -135,26 +122,27 @@ fn at_price<R: Threads + Sync, E: Encloser + Sync, G: Gate + Sync>(
     calculator: &Calculator<'_, R, E, G>,
     issue: &Issue,
     asked: &Asked,
-    list: &[Candidate],
+    schedule: &mut Schedule,
     price: Price,
 ) -> Result<Figures, Refusal>
-    requires askable { IsAskable issue.now asked.now list.now }
+    requires askable { IsAskable issue.now asked.now schedule.old }
     requires given { asked.now.given ≡ Given.AtPrice price }
     ensures found { ShowsFound (IsFoundAtPrice (E.ends calculator.now.encloser.now) price
-        (trades.net_price asked.now.side price asked.now.fee) list.now) issue.now asked.now result }
+        (trades.net_price asked.now.side price asked.now.fee) schedule.old)
+        issue.now asked.now result }
     ensures payable { IfOk result (IsPayable asked.now.side) }
 {
     let net = Price::new(net_price(price, asked.side, asked.fee));
     let workers = calculator.workers.count();
-    match yield_to_worst(
+    match schedule.yield_to_worst(
         calculator.rt,
-        list,
         net,
         workers,
         calculator.encloser,
         calculator.gate,
     ) {
         Ok(lowest) => {
+            let list = schedule.candidates();
             let redemption = list[lowest.candidate];
             Ok(figures_of(issue, asked, trunc3(price), lowest.yld, redemption))
         }

@@ -9,12 +9,13 @@ ghost use Rattle.muni_book_step.specs.Step.{CanKeep};
 ghost use Rattle.muni_book_step.specs.CarriedOut.{IsCarriedOut, KeepsIssue, KeepsVersion};
 ghost use Rattle.muni_book.specs.Answers.{IsRightAnswer};
 
-use crate::{BookFault, Workers, figures};
+use crate::{BookFault, Calculator, Workers, figures};
 use muni_book_step::{Plan, plan_of};
 use muni_edge::Gate;
 use muni_keep::{KeepFault, Keeper};
 use muni_msg::{Command, Key, Reply, Version};
 use muni_multi::Encloser;
+use muni_sched::Schedule;
 use muni_terms::Issue;
 use std::thread::Threads;
 
@@ -43,28 +44,31 @@ pub fn apply<R: Threads + Sync, K: Keeper, E: Encloser + Sync, G: Gate + Sync>(
     ensures same { SameKeeper K.Keeper BookFault.Failed result keeper.old keeper.new }
 {
     let plan = plan_of(keeper, command)?;
-    let workers = Workers::new(workers);
-    Ok(carry_out(rt, keeper, plan, workers, encloser, gate)?)
+    let calculator = Calculator {
+        rt,
+        workers: Workers::new(workers),
+        encloser,
+        gate,
+    };
+    Ok(carry_out(keeper, plan, &calculator)?)
 }
 
 fn carry_out<R: Threads + Sync, K: Keeper, E: Encloser + Sync, G: Gate + Sync>(
-    rt: &R,
     keeper: &mut K,
     plan: Plan,
-    workers: Workers,
-    encloser: &E,
-    gate: &G,
+    calculator: &Calculator<'_, R, E, G>,
 ) -> Result<Reply, KeepFault>
     requires can_keep { IfSome (K.tables keeper.old) (λ t. CanKeep t plan) }
     ensures done { IfOk result (λ reply. IfSome (K.tables keeper.old) (λ t.
-        IsCarriedOut (IsRightAnswer (E.ends encloser.now)) plan t reply (K.tables keeper.new))) }
+        IsCarriedOut (IsRightAnswer (E.ends calculator.now.encloser.now)) plan t reply
+        (K.tables keeper.new))) }
     ensures unchanged { OnErr result (K.tables keeper.new ≡ K.tables keeper.old) }
     ensures same { SameKeeper K.Keeper KeepFault.Failed result keeper.old keeper.new }
 {
     match plan {
         Plan::Answer(reply) => Ok(reply),
         Plan::Quote { issue, asked } => {
-            match figures(rt, &issue, &asked, workers.count(), encloser, gate) {
+            match figures(calculator, &issue, &asked, &mut Schedule::new()) {
                 Ok(figures) => Ok(Reply::Quoted { asked, figures }),
                 Err(why) => Ok(Reply::Refused(why)),
             }
@@ -82,7 +86,7 @@ fn carry_out<R: Threads + Sync, K: Keeper, E: Encloser + Sync, G: Gate + Sync>(
             number,
             act,
             terms,
-        } => match figures(rt, &issue, &terms.asked, workers.count(), encloser, gate) {
+        } => match figures(calculator, &issue, &terms.asked, &mut Schedule::new()) {
             Ok(figures) => {
                 let version = Version {
                     act,

@@ -18,6 +18,7 @@ use muni_dec::text::push;
 use muni_edge::Gate;
 use muni_msg::{Asked, Figures, Refusal};
 use muni_multi::Encloser;
+use muni_sched::Schedule;
 use std::thread::Threads;
 
 /// The price, or the refusal that applies first.
@@ -38,7 +39,7 @@ pub fn quote_answer<R: Threads + Sync, E: Encloser + Sync, G: Gate + Sync>(
     ensures { spec.IsQuoteText (E.ends calculator.now.encloser.now) request result.status result.text.items }
 {
     let QuoteRequest { row, asked } = request;
-    match answer_of(calculator, row, &asked) {
+    match answer_of(calculator, row, &asked, &mut Schedule::new()) {
         Ok(figures) => done(figures_text(&figures, &asked)),
         Err(refusal) => refused(&refusal),
     }

@@ -15,6 +15,7 @@ use generator::Generator;
 use muni_book::{Calculator, Workers};
 use muni_edge::Gate;
 use muni_multi::Encloser;
+use muni_sched::Schedule;
 pub use options::{DrillRequest, read_drill};
 use std::thread;
 use std::thread::Threads;
@@ -91,12 +92,13 @@ fn share<R: Threads + Sync, E: Encloser + Sync, G: Gate + Sync>(
     ensures { IsShare (E.ends calculator.now.encloser.now) (is_dealt workers worker) seed count result }
 {
     let mut generator = Generator::new(seed);
+    let mut schedule = Schedule::new();
     let mut sums = Sums::new();
     for place in 0..count as usize {
         if place % workers == worker {
             let QuoteRequest { row, asked } = generator.trade();
             let maturity = row.maturity;
-            let answer = answer_of(calculator, row, &asked);
+            let answer = answer_of(calculator, row, &asked, &mut schedule);
             sums.add(maturity, &answer);
         } else {
             generator.pass();

@@ -8,6 +8,7 @@ use muni_book::{Calculator, figures};
 use muni_edge::Gate;
 use muni_msg::{Asked, Figures, Refusal};
 use muni_multi::Encloser;
+use muni_sched::Schedule;
 use muni_terms::{IssueRow, check};
 use std::thread::Threads;
 
@@ -32,23 +33,18 @@ pub fn issue_name(text: &[u8]) -> ArrayVec<u8, 60>
 }
 
 /// The figures, or the refusal that applies first: the first fault of the terms, or that of
-/// `muni_book`.
+/// `muni_book`. The schedule is filled anew.
 pub fn answer_of<R: Threads + Sync, E: Encloser + Sync, G: Gate + Sync>(
     calculator: &Calculator<'_, R, E, G>,
     row: IssueRow,
     asked: &Asked,
+    schedule: &mut Schedule,
 ) -> Result<Figures, Refusal>
     ensures right { IsAnswered (E.ends calculator.now.encloser.now) row asked.now result }
     ensures accrued { IfOk result (λ figures. figures.accrued ≤ 60_000_000_000) }
 {
-    let &Calculator {
-        rt,
-        workers,
-        encloser,
-        gate,
-    } = calculator;
     match check(row) {
-        Ok(issue) => figures(rt, &issue, asked, workers.count(), encloser, gate),
+        Ok(issue) => figures(calculator, &issue, asked, schedule),
         Err(fault) => Err(Refusal::BadTerms(fault)),
     }
 }

@@ -9,13 +9,14 @@ ghost use Rattle.muni_book.specs.Answers.{IsRightAnswer};
 ghost use Rattle.muni_keep.specs.Trades.{by_bytes};
 ghost use Rattle.muni_marks.specs.Marks as spec;
 
-use muni_book::figures;
+use muni_book::{Calculator, Workers, figures};
 use muni_days::Day;
 use muni_dec::{Cents, Price3};
 use muni_edge::{NoGate, NoMemory};
 use muni_import::RowFault;
 use muni_msg::{Asked, Refusal};
 use muni_multi::Encloser;
+use muni_sched::Schedule;
 use muni_terms::Issue;
 use rayon::prelude::*;
 use std::alloc::Global;
@@ -43,12 +44,12 @@ pub enum MarkSaid {
 // What is said of one row, by nothing but the row and its issue.
 #[tactic(auto, unfolding(crate::specs::Marks::IsMark))]
 fn mark<R: Threads + Sync, E: Encloser + Sync>(
-    rt: &R,
+    calculator: &Calculator<'_, R, E, NoGate>,
     row: &Result<Asked, RowFault>,
     issues: &BTreeMap<[u8; 9], Issue>,
-    encloser: &E,
+    schedule: &mut Schedule,
 ) -> MarkSaid
-    ensures { spec.IsMark (IsRightAnswer (E.ends encloser.now)) (tree.get by_bytes issues.now) row.now result }
+    ensures { spec.IsMark (IsRightAnswer (E.ends calculator.now.encloser.now)) (tree.get by_bytes issues.now) row.now result }
 {
     match row {
         Err(fault) => MarkSaid::Bad(*fault),
@@ -56,20 +57,20 @@ fn mark<R: Threads + Sync, E: Encloser + Sync>(
             None => MarkSaid::Refused {
                 number: Refusal::UnknownIssue.number(),
             },
-            Some(issue) => priced(rt, issue, asked, encloser),
+            Some(issue) => priced(calculator, issue, asked, schedule),
         },
     }
 }
 
 fn priced<R: Threads + Sync, E: Encloser + Sync>(
-    rt: &R,
+    calculator: &Calculator<'_, R, E, NoGate>,
     issue: &Issue,
     asked: &Asked,
-    encloser: &E,
+    schedule: &mut Schedule,
 ) -> MarkSaid
-    ensures { spec.IsPriced (IsRightAnswer (E.ends encloser.now)) issue.now asked.now result }
+    ensures { spec.IsPriced (IsRightAnswer (E.ends calculator.now.encloser.now)) issue.now asked.now result }
 {
-    match figures(rt, issue, asked, 1, encloser, &NoGate) {
+    match figures(calculator, issue, asked, schedule) {
         Ok(figures) => MarkSaid::Marked {
             cusip: asked.cusip,
             price: figures.price,
@@ -150,8 +151,16 @@ fn marks_of_block<R: Threads + Sync, E: Encloser + Sync>(
     let Ok(mut said) = Vec::with_capacity(alloc, rows.len()) else {
         return Err(NoMemory);
     };
+    let calculator = Calculator {
+        rt,
+        workers: Workers::ONE,
+        encloser,
+        gate: &NoGate,
+    };
+    let mut schedule = Schedule::new();
     for row in rows {
-        if said.push(mark(rt, row, issues, encloser)).is_err() {
+        let mark = mark(&calculator, row, issues, &mut schedule);
+        if said.push(mark).is_err() {
             return Err(NoMemory);
         }
     }

@@ -4,6 +4,7 @@
 ghost use Rattle.std.specs.Prelude.{◌≤◌};
 
 use crate::search::OpenSearch;
+use muni_yield::RoughYield;
 
 /// A place, and the guess that it comes from: the highest place that a candidate reaches.
 #[derive(Clone, Copy, Debug, PartialEq, Eq)]
@@ -25,7 +26,8 @@ impl Aim {
     pub(crate) fn first(searches: &[OpenSearch]) -> Aim {
         match lowest_roughly(searches) {
             Some(search) => {
-                let guess = search.guided.guess(search.guided.rough_yield());
+                let rough = search.guided.rough_yield();
+                let guess = search.guided.guess(rough.millionths());
                 Aim::at(search, guess, 0)
             }
             None => Aim::START,
@@ -103,11 +105,11 @@ impl Aim {
 // Of those with more than one verdict open, the search whose rough yield is the lowest.
 fn lowest_roughly(searches: &[OpenSearch]) -> Option<&OpenSearch> {
     let mut lowest = None;
-    let mut least = i64::MAX;
+    let mut least = RoughYield::HIGHEST;
     for search in searches {
         if search.guided.window().is_wide() {
             let rough = search.guided.rough_yield();
-            if rough < least {
+            if rough.is_below(least) {
                 lowest = Some(search);
                 least = rough;
             }

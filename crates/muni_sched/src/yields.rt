@@ -49,6 +49,7 @@ pub fn lowest_yield<R: Threads + Sync, E: Encloser + Sync, G: Gate + Sync, L: Le
     ensures rounds { CountsRounds (E.ends encloser.now) price list.now steps.old steps.new }
     ensures few { steps.new ≤ steps.old + 19 }
 {
+    let mut slots = [OpenSearch::default(); 41];
     let mut search = Search::new();
     let asker = Asker {
         rt,
@@ -56,47 +57,43 @@ pub fn lowest_yield<R: Threads + Sync, E: Encloser + Sync, G: Gate + Sync, L: Le
         encloser,
         gate,
     };
-    let rounds = searched(&mut search, list, price, &asker);
+    let rounds = searched(&mut search, &mut slots, list, price, &asker);
     for _round in 0..rounds {
         steps.tick();
     }
     LowAnswer::of_yield(lowest_found(&search, list, price, encloser))
 }
 
-/// The same, with the yield as such, and no count of the rounds.
-pub fn yield_to_worst<R: Threads + Sync, E: Encloser + Sync, G: Gate + Sync>(
-    rt: &R,
+/// The same, with the yield as such, and no count of the rounds. The searches stand in slots.
+pub(crate) fn yield_to_worst<R: Threads + Sync, E: Encloser + Sync, G: Gate + Sync>(
+    slots: &mut [OpenSearch],
     list: &[Candidate],
     price: Price,
-    workers: u32,
-    encloser: &E,
-    gate: &G,
+    asker: &Asker<'_, R, E, G>,
 ) -> Result<LowestYield, NoYield>
+    requires room { 41 ≤ length slots.old }
     requires few { length list.now ≤ 41 }
     requires candidates { All IsCandidate list.now }
     requires price { 0 < price }
-    requires workers { (1 ≤ workers) × (workers ≤ 16) }
-    ensures { IsLowestAnswer (E.ends encloser.now) (at_price price) list.now (low_yield result) }
+    requires workers { 1 ≤ asker.now.workers }
+    ensures { IsLowestAnswer (E.ends asker.now.encloser.now) (at_price price) list.now
+        (low_yield result) }
 {
     let mut search = Search::new();
-    let asker = Asker {
-        rt,
-        workers: workers as usize,
-        encloser,
-        gate,
-    };
-    let _rounds = searched(&mut search, list, price, &asker);
-    lowest_found(&search, list, price, encloser)
+    let _rounds = searched(&mut search, slots, list, price, asker);
+    lowest_found(&search, list, price, asker.encloser)
 }
 
 // Round by round, until nothing is left to ask. Answers how many rounds there were.
 fn searched<R: Threads + Sync, E: Encloser + Sync, G: Gate + Sync>(
     search: &mut Search,
+    slots: &mut [OpenSearch],
     list: &[Candidate],
     price: Price,
     asker: &Asker<'_, R, E, G>,
 ) -> u32
     requires new { IsNew search.old }
+    requires room { 41 ≤ length slots.old }
     requires few { length list.now ≤ 41 }
     requires candidates { All IsCandidate list.now }
     requires price { 0 < price }
@@ -106,11 +103,10 @@ fn searched<R: Threads + Sync, E: Encloser + Sync, G: Gate + Sync>(
     ensures rounds { CountsRounds (E.ends asker.now.encloser.now) price list.now 0 result }
     ensures few { result ≤ 19 }
 {
-    let mut slots = [OpenSearch::default(); 41];
-    search.start(&mut slots, list, price);
+    search.start(slots, list, price);
     let mut rounds = 0;
     while !search.is_over() {
-        search.refine(&mut slots, rounds, asker);
+        search.refine(slots, rounds, asker);
         rounds += 1;
     }
     rounds

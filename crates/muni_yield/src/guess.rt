@@ -6,6 +6,28 @@ use muni_terms::Flows;
 /// One, in units of 2^-58, in which fractions are counted.
 const ONE: i64 = 1 << 58;
 
+/// One divided by 1, 2 and so on up to 18, in units of 2^-58.
+const PARTS: [i64; 18] = [
+    ONE,
+    ONE / 2,
+    ONE / 3,
+    ONE / 4,
+    ONE / 5,
+    ONE / 6,
+    ONE / 7,
+    ONE / 8,
+    ONE / 9,
+    ONE / 10,
+    ONE / 11,
+    ONE / 12,
+    ONE / 13,
+    ONE / 14,
+    ONE / 15,
+    ONE / 16,
+    ONE / 17,
+    ONE / 18,
+];
+
 /// One payment, in units of 2^-40.
 const PAYMENT: i64 = 1 << 40;
 
@@ -14,15 +36,44 @@ const LEAST: i64 = -50_005;
 
 const GREATEST: i64 = 1_000_005;
 
-/// A rough yield, in 10^-6: interest and the pull to the redemption over a price between.
-pub(crate) fn rough_yield(flows: &Flows, price: Price) -> i64 {
-    let redemption = flows.redemption() as i64;
-    let price = 360_000 * price.units() as i64;
-    let days = 180 * i64::from(flows.n()) - i64::from(flows.a());
-    let pull = (redemption - price) * 180;
-    let interest = (flows.regular() as i64).wrapping_mul(days);
-    let between = (2 * redemption + 3 * price) / 10_000_000;
-    part(pull.wrapping_add(interest), between.wrapping_mul(days))
+/// A rough yield: interest and the pull to the redemption over a price between. It stays a fraction,
+/// since a division costs more than the comparison of two.
+#[derive(Clone, Copy, Debug, PartialEq, Eq)]
+pub struct RoughYield {
+    earned: i64,
+    invested: i64,
+}
+
+impl RoughYield {
+    /// Above all others.
+    pub const HIGHEST: RoughYield = RoughYield {
+        earned: i64::MAX,
+        invested: 1,
+    };
+
+    pub(crate) fn of(flows: &Flows, price: Price) -> RoughYield {
+        let redemption = flows.redemption() as i64;
+        let price = 360_000 * price.units() as i64;
+        let days = 180 * i64::from(flows.n()) - i64::from(flows.a());
+        let pull = (redemption - price) * 180;
+        let interest = (flows.regular() as i64).wrapping_mul(days);
+        let between = (2 * redemption + 3 * price) / 10_000_000;
+        RoughYield {
+            earned: pull.wrapping_add(interest),
+            invested: between.wrapping_mul(days),
+        }
+    }
+
+    /// Whether it is below another one.
+    pub fn is_below(self, other: RoughYield) -> bool {
+        let own = (self.earned as i128).wrapping_mul(other.invested as i128);
+        own < (other.earned as i128).wrapping_mul(self.invested as i128)
+    }
+
+    /// In 10^-6.
+    pub fn millionths(self) -> i64 {
+        part(self.earned, self.invested)
+    }
 }
 
 /// The highest place that is reached, nearly, by Newton's method from a yield in 10^-6.
@@ -154,14 +205,13 @@ impl Level {
 // series.
 fn growth(y: i64, days: i64) -> i64 {
     let half_yield = y.wrapping_mul(ONE / 2_000_000);
-    let exponent = days.wrapping_mul(ONE / 180);
+    let mut exponent = days.wrapping_mul(ONE / 180);
     let mut term = ONE;
     let mut sum = ONE;
-    for i in 0u32..23 {
-        let i = i64::from(i);
-        let factor = part(exponent.wrapping_sub(i.wrapping_mul(ONE)), i + 1);
-        term = times(times(term, half_yield), factor);
+    for part in PARTS {
+        term = times(times(term, half_yield), times(exponent, part));
         sum = sum.wrapping_add(term);
+        exponent = exponent.wrapping_sub(ONE);
         if -PAYMENT < term && term < PAYMENT {
             break;
         }

@@ -6,8 +6,9 @@ ghost use Rattle.muni_yield.specs.Known.{IsGuided, guided_start};
 ghost use Rattle.muni_yield.specs.Places.{place_verdict};
 
 use crate::laws::searches_are_in_order;
+use crate::guess::{RoughYield, place_near};
 use crate::place::boundary_at;
-use crate::{Bracket, Discounts, Window, guess};
+use crate::{Bracket, Discounts, Window};
 use muni_dec::Price;
 use muni_multi::{Discount, Encloser, Verdict};
 use muni_terms::Flows;
@@ -94,14 +95,14 @@ impl GuidedSearch {
         Discount::at(boundary_at(place), self.bracket.flows().a())
     }
 
-    /// A rough yield, in 10^-6.
-    pub fn rough_yield(&self) -> i64 {
-        guess::rough_yield(self.bracket.flows(), self.bracket.price())
+    /// A rough yield.
+    pub fn rough_yield(&self) -> RoughYield {
+        RoughYield::of(self.bracket.flows(), self.bracket.price())
     }
 
     /// A guess at the highest place that is reached, from a yield in 10^-6.
     pub fn guess(&self, from: i64) -> u32 {
-        guess::place_near(self.bracket.flows(), self.bracket.price(), from)
+        place_near(self.bracket.flows(), self.bracket.price(), from)
     }
 
     // The verdict on the bracket's next question.

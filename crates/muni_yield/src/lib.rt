@@ -13,6 +13,7 @@ mod window;
 
 pub use bracket::Bracket;
 pub use discounts::Discounts;
+pub use guess::RoughYield;
 pub use guided::GuidedSearch;
 pub use outcome::Outcome;
 pub use printed::printed_yield;

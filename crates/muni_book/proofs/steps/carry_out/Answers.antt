@@ -6,18 +6,18 @@ use Rattle.muni_book.proofs.steps.carry_out.Goals as goal
 pub returns-in-KeepIssue-clause-done : goal.returns-in-KeepIssue-clause-done
 returns-in-KeepIssue-clause-done g c =
     IfOk-weaker c.keep_issue.result _ _
-    (λ reply keeps. issue-carried (IsRightAnswer (g.E.Encloser.ends c.args.encloser.now)) _ _ c.args.plan c.in-KeepIssue.issue reply c.in-KeepIssue.is keeps)
+    (λ reply keeps. issue-carried (IsRightAnswer (g.E.Encloser.ends c.args.calculator.now.encloser.now)) _ _ c.args.plan c.in-KeepIssue.issue reply c.in-KeepIssue.is keeps)
     c.keep_issue.ensures.kept
 
 pub returns-in-KeepVersion-clause-done : goal.returns-in-KeepVersion-clause-done
 returns-in-KeepVersion-clause-done g c =
     IfOk-weaker c.keep_version.result _ _
-    (λ reply keeps. version-carried (IsRightAnswer (g.E.Encloser.ends c.args.encloser.now)) _ _ c.args.plan c.in-KeepVersion.issue c.in-KeepVersion.key c.in-KeepVersion.number c.in-KeepVersion.version reply c.in-KeepVersion.is keeps)
+    (λ reply keeps. version-carried (IsRightAnswer (g.E.Encloser.ends c.args.calculator.now.encloser.now)) _ _ c.args.plan c.in-KeepVersion.issue c.in-KeepVersion.key c.in-KeepVersion.number c.in-KeepVersion.version reply c.in-KeepVersion.is keeps)
     c.keep_version.ensures.kept
 
 pub returns-in-Ok-figures-clause-done : goal.returns-in-Ok-figures-clause-done
 returns-in-Ok-figures-clause-done g c =
     IfOk-weaker c.keep_version-in-Ok-figures.result _ _
-    (λ reply keeps. priced-carried (IsRightAnswer (g.E.Encloser.ends c.args.encloser.now)) _ _ c.args.plan c.in-KeepPriced.issue c.in-KeepPriced.key c.in-KeepPriced.number c.in-KeepPriced.act c.in-KeepPriced.terms
+    (λ reply keeps. priced-carried (IsRightAnswer (g.E.Encloser.ends c.args.calculator.now.encloser.now)) _ _ c.args.plan c.in-KeepPriced.issue c.in-KeepPriced.key c.in-KeepPriced.number c.in-KeepPriced.act c.in-KeepPriced.terms
     c.in-Ok-figures.figures c.figures-in-KeepPriced.result reply c.in-KeepPriced.is c.in-Ok-figures.is c.figures-in-KeepPriced.ensures.right keeps)
     c.keep_version-in-Ok-figures.ensures.kept

@@ -13,8 +13,8 @@ use Rattle.muni_sched.proofs.CountLemmas.{counted-first, counted-next, counted-l
 use Rattle.muni_sched.proofs.StartLemmas.{AreFirstKnown, started-final, next-final, searched-out}
 use Rattle.muni_sched.proofs.yields.searched.Goals as goal
 
-pub loop-slots-init : goal.loop-slots-init
-loop-slots-init g c =
+pub loop-search-init : goal.loop-search-init
+loop-search-init g c =
     let verdicts = place_verdict (g.E.Encloser.ends c.args.asker.now.encloser.now) in
     let ends = g.E.Encloser.ends c.args.asker.now.encloser.now in
     let law = g.met.E.Encloser g.world.𝓛 g.world.𝓜 g.world.𝓡 ((λ s x. x), (λ x. x), (λ x. x), λ x. x) in
@@ -35,50 +35,50 @@ loop-slots-init g c =
     }
 
 pub overflow_add-rounds : goal.overflow_add-rounds
-overflow_add-rounds g c = let most = c.loop-slots.invariant.most in omega (arith, most)
+overflow_add-rounds g c = let most = c.loop-search.invariant.most in omega (arith, most)
 
 -- nothing is left to ask if no search is left
 over-as : (search : Search) (slots : List OpenSearch) (over : Bool) → search.left ≤ length slots → (search.left == 0) ≡ over → is_over (state search slots) ≡ over
 over-as search slots over fits is = ap (λ n. n == 0) (length-take-le search.left slots fits) ∙ is
 
-pub loop-slots-smaller : goal.loop-slots-smaller
-loop-slots-smaller g c =
+pub loop-search-smaller : goal.loop-search-smaller
+loop-search-smaller g c =
     let verdicts = place_verdict (g.E.Encloser.ends c.args.asker.now.encloser.now) in
-    let is = c.loop-slots.invariant.final in
+    let is = c.loop-search.invariant.final in
     let some : c.is_over.result ≡ false = search rules in
-    let pending = over-as c.loop-slots.search c.loop-slots.slots false c.loop-slots.invariant.fits (sym c.is_over.ensures ∙ some) in
-    let few = round-few verdicts is.finals c.loop-slots.rounds (state c.loop-slots.search c.loop-slots.slots) is.refined pending in
-    let less : 19 - (c.loop-slots.rounds + 1) < 19 - c.loop-slots.rounds = omega (arith, few) in
+    let pending = over-as c.loop-search.search c.loop-search.slots false c.loop-search.invariant.fits (sym c.is_over.ensures ∙ some) in
+    let few = round-few verdicts is.finals c.loop-search.rounds (state c.loop-search.search c.loop-search.slots) is.refined pending in
+    let less : 19 - (c.loop-search.rounds + 1) < 19 - c.loop-search.rounds = omega (arith, few) in
     less
 
-pub loop-slots-preserved : goal.loop-slots-preserved
-loop-slots-preserved g c =
+pub loop-search-preserved : goal.loop-search-preserved
+loop-search-preserved g c =
     let verdicts = place_verdict (g.E.Encloser.ends c.args.asker.now.encloser.now) in
-    let known = c.loop-slots.invariant in
+    let known = c.loop-search.invariant in
     let some : c.is_over.result ≡ false = search rules in
-    let before = state c.loop-slots.search c.loop-slots.slots in
+    let before = state c.loop-search.search c.loop-search.slots in
     let after = state c.refine.new.self c.refine.new.slots in
-    let pending = over-as c.loop-slots.search c.loop-slots.slots false known.fits (sym c.is_over.ensures ∙ some) in
-    let few = round-few verdicts known.final.finals c.loop-slots.rounds before known.final.refined pending in
+    let pending = over-as c.loop-search.search c.loop-search.slots false known.fits (sym c.is_over.ensures ∙ some) in
+    let few = round-few verdicts known.final.finals c.loop-search.rounds before known.final.refined pending in
     record {
-      final = next-final verdicts c.args.price c.args.list.now c.loop-slots.rounds before after few c.refine.ensures.round known.final;
+      final = next-final verdicts c.args.price c.args.list.now c.loop-search.rounds before after few c.refine.ensures.round known.final;
       fits = c.refine.ensures.fits;
       most = omega (arith, few);
-      counted = counted-next verdicts known.final.finals c.args.price c.args.list.now c.start.new.self.ceiling c.loop-slots.rounds before after few pending known.final.refined c.refine.ensures.round known.counted;
+      counted = counted-next verdicts known.final.finals c.args.price c.args.list.now c.start.new.self.ceiling c.loop-search.rounds before after few pending known.final.refined c.refine.ensures.round known.counted;
     }
 
 pub returns-clause-found : goal.returns-clause-found
 returns-clause-found g c =
-    let last = state c.loop-slots.search c.loop-slots.slots in
-    let over = over-as c.loop-slots.search c.loop-slots.slots true c.loop-slots.invariant.fits (sym c.is_over.ensures ∙ search rules) in
-    searched-out (g.E.Encloser.ends c.args.asker.now.encloser.now) c.args.price c.args.list.now c.loop-slots.rounds last over c.loop-slots.invariant.final
+    let last = state c.loop-search.search c.loop-search.slots in
+    let over = over-as c.loop-search.search c.loop-search.slots true c.loop-search.invariant.fits (sym c.is_over.ensures ∙ search rules) in
+    searched-out (g.E.Encloser.ends c.args.asker.now.encloser.now) c.args.price c.args.list.now c.loop-search.rounds last over c.loop-search.invariant.final
 
 pub returns-clause-rounds : goal.returns-clause-rounds
 returns-clause-rounds g c =
     let verdicts = place_verdict (g.E.Encloser.ends c.args.asker.now.encloser.now) in
-    let last = state c.loop-slots.search c.loop-slots.slots in
-    let over = over-as c.loop-slots.search c.loop-slots.slots true c.loop-slots.invariant.fits (sym c.is_over.ensures ∙ search rules) in
-    let all = counted-last verdicts c.args.price c.args.list.now c.start.new.self.ceiling c.loop-slots.rounds last (over-none last.searches over) c.loop-slots.invariant.counted in
+    let last = state c.loop-search.search c.loop-search.slots in
+    let over = over-as c.loop-search.search c.loop-search.slots true c.loop-search.invariant.fits (sym c.is_over.ensures ∙ search rules) in
+    let all = counted-last verdicts c.args.price c.args.list.now c.start.new.self.ceiling c.loop-search.rounds last (over-none last.searches over) c.loop-search.invariant.counted in
     record {
       known = c.start.new.self.known.items;
       first = c.start.ensures.started.known;
@@ -86,4 +86,4 @@ returns-clause-rounds g c =
     }
 
 pub returns-clause-few : goal.returns-clause-few
-returns-clause-few g c = c.loop-slots.invariant.most
+returns-clause-few g c = c.loop-search.invariant.most
