@@ -135,13 +135,13 @@ call-by_kind AtRedemption dated maturity anchor date is_anchor on_calendar = abs
 call-by_kind Discount dated maturity anchor date is_anchor on_calendar = absurd (cc)
 
 -- a redemption is a quasi-coupon date up to maturity, at a price in its range
-record IsRedeemed (row : IssueRow) (anchor : Civil) (date : Day) (price : ℕ) : Type 0 where
+pub record IsRedeemed (row : IssueRow) (anchor : Civil) (date : Day) (price : ℕ) : Type 0 where
   pub quasi : is_quasi_date anchor (civil date) ≡ true
   pub up_to : order_of (civil date) ≤ order_of (civil row.maturity)
   pub price_from : 1_000_000 ≤ price
   pub price_to : price ≤ 200_000_000
 
-is_redeemed : (row : IssueRow) (anchor : Civil) (date : Day) (price : ℕ) → IsIssue row → anchor_of row ≡ Some anchor → IsRedemption row date price → IsRedeemed row anchor date price
+pub is_redeemed : (row : IssueRow) (anchor : Civil) (date : Day) (price : ℕ) → IsIssue row → anchor_of row ≡ Some anchor → IsRedemption row date price → IsRedeemed row anchor date price
 is_redeemed row anchor date price issue there (inl at_maturity) =
     let Is : Day → Type 0 = λ it. IsRedeemed row anchor it price in
     let at_100 = at_maturity.1 in

@@ -1,3 +1,4 @@
 pub mod IssueLemmas
 pub mod LastMonthLemmas
+pub mod BesideLemmas
 pub mod RowLemmas

@@ -1,6 +1,6 @@
 //! The payments after a settlement, up to a redemption.
 
-ghost use Rattle.std.specs.Prelude.{◌≡◌, ◌<◌, ◌≤◌, ◌≤ℤ◌, Some, pos};
+ghost use Rattle.std.specs.Prelude.{◌≡◌, ◌+◌, ◌-◌, ◌<◌, ◌≤◌, ◌≤ℤ◌, Some, pos};
 ghost use Rattle.muni_rule.specs.Civil.{order_of};
 ghost use Rattle.muni_rule.specs.DayCount as count;
 ghost use Rattle.muni_rule.specs.QuasiDates as dates;
@@ -134,6 +134,24 @@ impl Flows {
         ensures bounds { IsSeries self.now }
     {
         self.a
+    }
+
+    /// The same up to a redemption some payments earlier, at a price.
+    // Inlined as `Issue::flows` is.
+    #[inline(always)]
+    pub(crate) fn redeemed_earlier(&self, payments: u32, price: Price) -> Flows
+        requires paid { self.now.skip + payments < self.now.n }
+        requires price { (1_000_000 ≤ price) × (price ≤ 200_000_000) }
+        ensures { result ≡ record self.now {
+          n = self.now.n - payments;
+          redemption = rule.redemption_amount price;
+        } }
+    {
+        Flows {
+            n: self.n - payments,
+            redemption: redemption_amount(price),
+            ..*self
+        }
     }
 }
 

@@ -5,6 +5,7 @@ ghost use Rattle.std.specs.Cmp.Rules.{comparing};
 ghost use Rattle.std.proofs.Common.{rules};
 ghost use Rattle.muni_rule.specs.Civil.{order_of};
 ghost use Rattle.muni_rule.specs.Payments.{payments_of};
+ghost use Rattle.muni_rule.specs.Redemptions.{par_price};
 ghost use Rattle.muni_days.specs.Day.{civil};
 ghost use Rattle.muni_terms.specs.Check.{checked, fault_of};
 ghost use Rattle.muni_terms.specs.Issue as spec;
@@ -13,6 +14,7 @@ ghost use Rattle.muni_terms.specs.Issue.{anchor_of, series_of, payments, IsRedem
 use crate::accrued::coupon_accrued_days;
 use crate::checks::fault_of;
 use crate::flows::{Flows, coupon_flows, zero_flows};
+use crate::quasi_dates::half_years;
 use crate::row::{IssueRow, Kind, TermsFault};
 use muni_days::{Day, days_by};
 use muni_dec::Price;
@@ -136,5 +138,25 @@ impl Issue {
             Kind::Zero => zero_flows(self.row.maturity, settlement, redemption, price),
             Kind::AtRedemption | Kind::Discount => unreachable!(),
         }
+    }
+
+    /// The same up to any redemption, if the payments up to maturity are known.
+    // Inlined as `flows` is.
+    #[inline(always)]
+    pub fn flows_beside(
+        &self,
+        known: &Flows,
+        settlement: Day,
+        redemption: Day,
+        price: Price,
+    ) -> Flows
+        requires known { Some known.now
+            ≡ series_of self.now settlement self.now.maturity par_price }
+        requires settled { spec.settles self.now settlement ≡ true }
+        requires later { order_of (civil settlement) < order_of (civil redemption) }
+        requires redeemed { IsRedemption self.now redemption price }
+        ensures { Some result ≡ series_of self.now settlement redemption price }
+    {
+        known.redeemed_earlier(half_years(redemption, self.row.maturity), price)
     }
 }

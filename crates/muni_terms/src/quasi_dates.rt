@@ -1,6 +1,6 @@
 //! The calendar of quasi-coupon dates, computed with months.
 
-ghost use Rattle.std.specs.Prelude.{◌≡◌, ◌<◌, ◌≤◌, Some, pos};
+ghost use Rattle.std.specs.Prelude.{◌≡◌, ◌-◌, ◌/◌, ◌<◌, ◌≤◌, Some, pos};
 ghost use Rattle.muni_rule.specs.Civil as rule;
 ghost use Rattle.muni_rule.specs.Civil.{order_of};
 ghost use Rattle.muni_rule.specs.QuasiDates as dates;
@@ -49,6 +49,14 @@ pub fn quasi_count(anchor: Day, start: Day, end: Day) -> u32
     ensures { result ≡ dates.quasi_count (civil anchor) (civil start) (civil end) }
 {
     (last_month(anchor, end) - last_month(anchor, start)) / 6
+}
+
+/// The half years from the month of one day to that of another.
+pub fn half_years(start: Day, end: Day) -> u32
+    requires { order_of (civil start) ≤ order_of (civil end) }
+    ensures { result ≡ (rule.month_index (civil end) - rule.month_index (civil start)) / 6 }
+{
+    (month_index(end) - month_index(start)) / 6
 }
 
 /// The days from the last quasi-coupon date not after a settlement up to the settlement.
