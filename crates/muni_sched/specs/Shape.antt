@@ -1,8 +1,9 @@
 -- How a redemption is priced.
-use Rattle.std.specs.Prelude.{ℕ, ◌≤◌, if◌then◌else◌, Option, Some, option_map, pos, ◌≤ℤ◌}
+use Rattle.std.specs.Prelude.{◌≡◌, ℕ, ◌≤◌, if◌then◌else◌, Option, Some, option_map, pos, ◌≤ℤ◌}
 use Rattle.muni_rule.specs.DayCount.{days_by}
 use Rattle.muni_rule.specs.LastPayment.{is_last_period, last_payment, note_payment}
 use Rattle.muni_rule.specs.Payments.{PaymentSeries, IsSeries}
+use Rattle.muni_rule.specs.Redemptions.{par_price}
 use Rattle.muni_rule.specs.SinglePayment.{SinglePayment}
 use Rattle.muni_days.specs.Day.{civil}
 use Rattle.muni_days.specs.declared.day.Day.{Day}
@@ -15,6 +16,8 @@ use Rattle.muni_terms.specs.declared.row.Kind.TheVariants as kind
 use Rattle.muni_terms.specs.declared.row.IssueRow.{IssueRow}
 use Rattle.muni_sched.specs.declared.candidate.Shape.{Shape}
 use Rattle.muni_sched.specs.declared.candidate.Shape.TheVariants.{Many, One, AtRedemption, Discount}
+use Rattle.muni_sched.specs.declared.shape.Pricing.{Pricing}
+use Rattle.muni_sched.specs.declared.shape.Pricing.TheVariants.{Series, Note}
 
 -- a payment to come as the calculators take it
 abbrev pub single : SinglePayment → Single
@@ -51,3 +54,11 @@ IsPriceable (Many series) = IsSeries series × (2 ≤ series.n)
 IsPriceable (One payment) = IsSingle single_shape.OnePeriod payment
 IsPriceable (AtRedemption payment) = IsSingle single_shape.AtRedemption payment
 IsPriceable (Discount days basis) = (pos 0 ≤ℤ days) × (days ≤ℤ pos 720)
+
+-- the payments up to maturity, or the shape that a note has at every redemption
+abbrev pub IsPricing : IssueRow → Day → Pricing → Type 0
+IsPricing row settlement (Series known) =
+    Some known ≡ series_of row settlement row.maturity par_price
+IsPricing row settlement (Note shape) =
+    IsPriceable shape
+    × ((date : Day) (price : ℕ) → Some shape ≡ shape_at row settlement date price)

@@ -7,9 +7,10 @@ ghost use Rattle.muni_days.specs.Day.{civil};
 ghost use Rattle.muni_terms.specs.Issue.{settles};
 ghost use Rattle.muni_sched.specs.Candidates as spec;
 ghost use Rattle.muni_sched.specs.Candidates.{redemption_of, label_of, call_redemption, calls_to_come, HasShape, IsCandidate, AreCandidates, IsEarlier};
+ghost use Rattle.muni_sched.specs.Shape.{IsPricing};
 
 use crate::Candidate;
-use crate::shape::shape_at;
+use crate::shape::{Pricing, pricing_at, shape_at};
 use arrayvec::ArrayVec;
 use muni_days::Day;
 use muni_dec::Price;
@@ -39,21 +40,23 @@ pub fn put_candidates(slots: &mut [Candidate], issue: &Issue, settlement: Day) -
     ensures rising { AllPairs IsEarlier (take result slots.new) }
     ensures len { length slots.new ≡ length slots.old }
 {
-    let calls = put_calls(slots, issue, settlement);
+    let pricing = pricing_at(issue, settlement);
+    let calls = put_calls(slots, issue, settlement, &pricing);
     let date = issue.row().maturity;
     slots[calls] = Candidate {
         date,
         price: Price::PAR,
         label: Label::Maturity,
-        shape: shape_at(issue, settlement, date, Price::PAR),
+        shape: shape_at(issue, &pricing, settlement, date, Price::PAR),
     };
     calls + 1
 }
 
 // Answers how many calls are to come.
-fn put_calls(slots: &mut [Candidate], issue: &Issue, settlement: Day) -> usize
+fn put_calls(slots: &mut [Candidate], issue: &Issue, settlement: Day, pricing: &Pricing) -> usize
     requires settled { settles issue.now settlement ≡ true }
     requires room { 41 ≤ length slots.old }
+    requires pricing { IsPricing issue.now settlement pricing.now }
     ensures redemptions { map redemption_of (take result slots.new)
         ≡ calls_to_come settlement issue.now.calls.items }
     ensures labels { map label_of (take result slots.new)
@@ -71,7 +74,7 @@ fn put_calls(slots: &mut [Candidate], issue: &Issue, settlement: Day) -> usize
                 date: call.date,
                 price: call.price,
                 label: call_label(call.price),
-                shape: shape_at(issue, settlement, call.date, call.price),
+                shape: shape_at(issue, pricing, settlement, call.date, call.price),
             };
             calls += 1;
         }

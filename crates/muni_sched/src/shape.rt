@@ -8,7 +8,7 @@ ghost use Rattle.muni_simple.specs.Single.{IsSingle};
 ghost use Rattle.muni_simple.specs.declared.single.Shape1.TheVariants as single;
 ghost use Rattle.muni_terms.specs.Issue.{IsRedemption, settles};
 ghost use Rattle.muni_sched.specs.Shape as spec;
-ghost use Rattle.muni_sched.specs.Shape.{IsPriceable};
+ghost use Rattle.muni_sched.specs.Shape.{IsPriceable, IsPricing};
 
 use crate::Shape;
 use crate::note::{days_left, note_payment};
@@ -17,25 +17,54 @@ use muni_dec::Price;
 use muni_simple::Single;
 use muni_terms::{Flows, Issue, Kind};
 
-/// How a redemption after a settlement is priced.
-// Inlined as `Issue::flows` is.
+/// How the redemptions of an issue after a settlement are priced.
+#[derive(Clone, Copy)]
+pub(crate) enum Pricing {
+    /// Each by its part of the payments up to maturity.
+    Series(Flows),
+    /// All in one way, that of a note.
+    Note(Shape),
+}
+
+/// How the redemptions of an issue after a settlement are priced.
+pub(crate) fn pricing_at(issue: &Issue, settlement: Day) -> Pricing
+    requires { settles issue.now settlement ≡ true }
+    ensures { IsPricing issue.now settlement result }
+{
+    match issue.row().kind {
+        Kind::Periodic { .. } | Kind::Zero => {
+            Pricing::Series(issue.flows(settlement, issue.row().maturity, Price::PAR))
+        }
+        Kind::AtRedemption => Pricing::Note(Shape::AtRedemption(note_payment(issue, settlement))),
+        Kind::Discount => Pricing::Note(Shape::Discount {
+            days: days_left(issue, settlement),
+            basis: issue.row().basis,
+        }),
+    }
+}
+
+/// How one of them is priced.
+// Inlined, so that a loop over redemptions does for each only what its date and price ask for.
 #[inline(always)]
-pub(crate) fn shape_at(issue: &Issue, settlement: Day, date: Day, price: Price) -> Shape
+pub(crate) fn shape_at(
+    issue: &Issue,
+    pricing: &Pricing,
+    settlement: Day,
+    date: Day,
+    price: Price,
+) -> Shape
+    requires pricing { IsPricing issue.now settlement pricing.now }
     requires settled { settles issue.now settlement ≡ true }
     requires later { order_of (civil settlement) < order_of (civil date) }
     requires redeemed { IsRedemption issue.now date price }
     ensures shape { Some result ≡ spec.shape_at issue.now settlement date price }
     ensures range { IsPriceable result }
 {
-    match issue.row().kind {
-        Kind::Periodic { .. } | Kind::Zero => {
-            series_shape(&issue.flows(settlement, date, price))
+    match pricing {
+        Pricing::Series(known) => {
+            series_shape(&issue.flows_beside(known, settlement, date, price))
         }
-        Kind::AtRedemption => Shape::AtRedemption(note_payment(issue, settlement)),
-        Kind::Discount => Shape::Discount {
-            days: days_left(issue, settlement),
-            basis: issue.row().basis,
-        },
+        Pricing::Note(shape) => *shape,
     }
 }
 
