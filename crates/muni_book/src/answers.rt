@@ -10,8 +10,8 @@ ghost use Rattle.muni_book.specs.Answers as spec;
 ghost use Rattle.muni_book.specs.Answers.{IsRightAnswer, IsComputed, ShowsFound, IsFoundAtYield, IsFoundAtPrice, IsFoundAtRate, IsPayable};
 ghost use Rattle.muni_book.specs.Trade as trades;
 
-use crate::trade::{is_wrong_basis, net_price, side_left, total};
 use crate::Calculator;
+use crate::trade::{is_wrong_basis, net_price, side_left, total};
 use muni_days::Basis;
 use muni_dec::{
     Price, Price3, Yield, Yield3, accrued_cents, commission_cents, principal_cents, round_yield,

@@ -159,8 +159,10 @@ fn marks_of_block<R: Threads + Sync, E: Encloser + Sync>(
     };
     let mut schedule = Schedule::new();
     for row in rows {
-        let mark = mark(&calculator, row, issues, &mut schedule);
-        if said.push(mark).is_err() {
+        if said
+            .push(mark(&calculator, row, issues, &mut schedule))
+            .is_err()
+        {
             return Err(NoMemory);
         }
     }

@@ -90,11 +90,6 @@ impl Schedule {
             encloser,
             gate,
         };
-        yield_to_worst(
-            &mut self.searches,
-            &self.slots[..self.count],
-            price,
-            &asker,
-        )
+        yield_to_worst(&mut self.searches, &self.slots[..self.count], price, &asker)
     }
 }

@@ -26,7 +26,7 @@ pub(crate) enum Pricing {
     Note(Shape),
 }
 
-/// How the redemptions of an issue after a settlement are priced.
+/// Computes what all redemptions of an issue after a settlement have in common.
 pub(crate) fn pricing_at(issue: &Issue, settlement: Day) -> Pricing
     requires { settles issue.now settlement ≡ true }
     ensures { IsPricing issue.now settlement result }
@@ -43,8 +43,8 @@ pub(crate) fn pricing_at(issue: &Issue, settlement: Day) -> Pricing
     }
 }
 
-/// How one of them is priced.
-// Inlined, so that a loop over redemptions does for each only what its date and price ask for.
+/// How one redemption after the settlement is priced.
+// Inlined as `Issue::flows_beside` is.
 #[inline(always)]
 pub(crate) fn shape_at(
     issue: &Issue,

@@ -137,7 +137,7 @@ impl Flows {
     }
 
     /// The same up to a redemption some payments earlier, at a price.
-    // Inlined as `Issue::flows` is.
+    // Inlined as `Issue::flows_beside` is.
     #[inline(always)]
     pub(crate) fn redeemed_earlier(&self, payments: u32, price: Price) -> Flows
         requires paid { self.now.skip + payments < self.now.n }
@@ -211,8 +211,6 @@ fn redemption_amount(price: Price) -> u64
 
 /// The payments of an issue with coupons. The first pays the interest of all days of 30/360 since
 /// the dated date (SIA, Standard Securities Calculation Methods).
-// Inlined as `Issue::flows` is.
-#[inline(always)]
 pub fn coupon_flows(
     dated: Day,
     first: Day,

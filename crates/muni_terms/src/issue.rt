@@ -115,8 +115,6 @@ impl Issue {
     /// (MSRB Rule G-33(b); an odd first coupon by SIA, Standard Securities Calculation Methods).
     ///
     /// The issue is of a kind with quasi-coupon dates, and not a note.
-    // Inlined, so that a loop over redemptions finds only once what they have in common.
-    #[inline(always)]
     pub fn flows(&self, settlement: Day, redemption: Day, price: Price) -> Flows
         requires kind { IsSome (anchor_of self.now) }
         requires settled { spec.settles self.now settlement ≡ true }
@@ -141,7 +139,7 @@ impl Issue {
     }
 
     /// The same up to any redemption, if the payments up to maturity are known.
-    // Inlined as `flows` is.
+    // Inlined, since it is called for each redemption of an issue.
     #[inline(always)]
     pub fn flows_beside(
         &self,

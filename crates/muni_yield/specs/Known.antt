@@ -1,5 +1,5 @@
 -- The verdicts at places that are known without a question.
-use Rattle.std.specs.Prelude.{◌≡◌, ℕ, ◌+◌, ◌*◌, ◌<◌, ◌≤◌, true, Bool, nat_le, nat_lt, if◌then◌else◌, Option, Some, None, ℤ}
+use Rattle.std.specs.Prelude.{◌≡◌, ℕ, ◌+◌, ◌*◌, ◌≤◌, nat_le, nat_lt, if◌then◌else◌, Option, Some, None, ℤ}
 use Rattle.muni_rule.specs.ManyPeriods.{to_come, sum_to}
 use Rattle.muni_rule.specs.Payments.{PaymentSeries, payment_at}
 use Rattle.muni_rule.specs.Ranges.{IsManyPeriodsBoundary}

@@ -5,8 +5,8 @@ ghost use Rattle.muni_yield.specs.Bracket as bracket;
 ghost use Rattle.muni_yield.specs.Known.{IsGuided, guided_start};
 ghost use Rattle.muni_yield.specs.Places.{place_verdict};
 
-use crate::laws::searches_are_in_order;
 use crate::guess::{RoughYield, place_near};
+use crate::laws::searches_are_in_order;
 use crate::place::boundary_at;
 use crate::{Bracket, Discounts, Window};
 use muni_dec::Price;

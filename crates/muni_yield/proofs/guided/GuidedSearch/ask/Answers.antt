@@ -1,4 +1,4 @@
-use Rattle.std.proofs.Common.{◌≡◌, subst, sym}
+use Rattle.std.proofs.Common.{subst, sym}
 use Rattle.muni_yield.specs.Known.{IsWindow}
 use Rattle.muni_yield.specs.Places.{place_verdict}
 use Rattle.muni_yield.proofs.KnownLemmas.{MayBeAsked, learnt-window}

@@ -1,6 +1,5 @@
 use Rattle.std.proofs.Common.{◌≡◌, ◌∙◌, ap, sym, subst}
 use Rattle.muni_yield.specs.Bracket.{YieldBracket, question, halved}
-use Rattle.muni_yield.specs.Known.{IsWindow}
 use Rattle.muni_yield.specs.Places.{place_verdict}
 use Rattle.muni_yield.proofs.guided.GuidedSearch.halve.Goals as goal
 
