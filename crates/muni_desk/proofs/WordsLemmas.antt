@@ -1,8 +1,12 @@
 -- Options among the words of the program, which are seen as their bytes.
-use Rattle.std.proofs.Common.{◌≡◌, ℕ, Bool, true, false, ◌||◌, List, [], ◌∷◌, map, Some, refl, ap, Bor, String, Global}
-use Rattle.std.specs.Prelude.{find, option_map, Option, if◌then◌else◌, string_bytes, nat_le}
-use Rattle.std.specs.List.{list_all, list_any}
+use Rattle.std.proofs.Common.{◌≡◌, ℕ, ◌<◌, Bool, true, false, ◌||◌, List, [], ◌∷◌, length, drop, map, Some, refl, ap, ◌∙◌, Bor, String, Global}
+use Rattle.std.specs.Prelude.{find, option_map, Option, if◌then◌else◌, string_bytes, nat_eq, nat_le, slice_index_or}
+use Rattle.std.specs.List.{starts_with, list_all, list_any}
+use Rattle.std.proofs.Math.ListN.{get_or-append}
+use Rattle.std.proofs.lemmas.Bool.{eq-eqb}
+use Rattle.std.proofs.lemmas.Bool.Decides.{Decides-eqb}
 use Rattle.std.proofs.lemmas.List.Folds.{list_all-map}
+use Rattle.std.proofs.lemmas.Slice.Eq.{starts_is}
 use Rattle.muni_desk.specs.Words.{is_option, are_known, are_single, count_of}
 
 found-map : {X Y : Type 0} (f : X → Y) (x : X) (test : Bool) (rest : Option X) (mapped : Option Y) → mapped ≡ option_map f rest → (if test then Some (f x) else mapped) ≡ option_map f (if test then Some x else rest)
@@ -25,3 +29,8 @@ known-strings names words = simp (list_all-map, list_any-map)
 
 pub single-strings : (names : List (Bor (List ℕ))) (words : List (String Global)) → are_single (map (λ name. name.now) names) (map string_bytes words) ≡ list_all (λ name. nat_le (count_of name.now (map string_bytes words)) 1) names
 single-strings names words = simp list_all-map
+
+-- a word that starts with a name has its letters
+pub same_letter : (word name : List ℕ) (place : ℕ) → place < length name → starts_with nat_eq word name ≡ true → nat_eq (slice_index_or word place 0) (slice_index_or name place 0) ≡ true
+same_letter word name place within starts =
+    eq-eqb _ _ (ap (λ w. slice_index_or w place 0) ((starts_is Decides-eqb word name _ refl).0 starts) ∙ get_or-append name (drop (length name) word) 0 place within)

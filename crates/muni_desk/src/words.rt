@@ -5,6 +5,10 @@ ghost use Rattle.std.specs.List.{list_all, list_any};
 ghost use Rattle.std.specs.Option.{option_map};
 ghost use Rattle.muni_desk.specs.Words as spec;
 
+// The third letter of an option is looked at first. A quote may have many calls, and none of its other
+// options has the third letter of a call.
+const TELLING: usize = 4;
+
 /// The word at a place.
 pub fn word_at(words: &[String], place: usize) -> &[u8]
     requires { place < length words.now }
@@ -21,10 +25,13 @@ pub fn value_in<'a>(word: &'a [u8], name: &[u8]) -> Option<&'a [u8]>
     word.strip_prefix(name).filter(|value| !value.is_empty())
 }
 
+#[tactic(auto, using(crate::proofs::WordsLemmas::same_letter))]
 fn is_option(word: &[u8], name: &[u8]) -> bool
     ensures { result ≡ spec.is_option name.now word.now }
 {
-    word.starts_with(name) && name.len() < word.len()
+    name.len() < word.len()
+        && (name.len() <= TELLING || word[TELLING] == name[TELLING])
+        && word.starts_with(name)
 }
 
 fn is_any_option(word: &[u8], names: &[&[u8]]) -> bool
