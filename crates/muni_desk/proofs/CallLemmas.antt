@@ -1,14 +1,12 @@
 -- The calls among words, read from the front.
-use Rattle.std.proofs.Common.{◌≡◌, ℕ, ◌+◌, ◌<◌, ◌≤◌, nat_le, Bool, true, false, cond, List, [], ◌∷◌, ◌++◌, Option, Some, None, length, drop, map, get_or, refl, sym, ap, ◌∙◌, arith, String, Global}
+use Rattle.std.proofs.Common.{◌≡◌, ℕ, ◌+◌, ◌<◌, ◌≤◌, nat_le, Bool, true, false, List, [], ◌∷◌, ◌++◌, Option, Some, None, length, drop, map, get_or, refl, sym, ap, ◌∙◌, arith, String, Global}
 use Rattle.std.specs.Prelude.{codes, string_bytes, if◌then◌else◌}
-use Rattle.std.specs.List.{cons_option}
 use Rattle.std.proofs.lemmas.Bool.Decides.{nat_tests}
-use Rattle.std.proofs.lemmas.List.Sums.{sum_by-cons}
 use Rattle.std.proofs.lemmas.List.{at_drop_more, append_assoc, append-nil, drop-map}
 use Rattle.muni_terms.specs.declared.row.Call.{Call}
 use Rattle.muni_msg.specs.Fields.{call_reading}
 use Rattle.muni_desk.specs.QuoteOptions.{calls_reading, calls_of}
-use Rattle.muni_desk.specs.Words.{◌>>=◌, is_option, value_in, count_of, values_of}
+use Rattle.muni_desk.specs.Words.{◌>>=◌, value_in, values_of}
 
 -- calls that were read, and then others, if those read
 abbrev pub with_more : List Call → Option (List Call) → Option (List Call)
@@ -22,17 +20,6 @@ rest-at words place word inside is =
     ∙ at_drop_more (map string_bytes) words place word inside
     ∙ (λ i. string_bytes (sym is i) ∷ map string_bytes (drop (place + 1) words))
     ∙ ap (λ rest. string_bytes word ∷ rest) (sym (drop-map string_bytes (place + 1) words))
-
--- how often an option is given, and its values
-count-by : (name word : List ℕ) (words : List (List ℕ)) (test : Bool) (rest : ℕ) → rest ≡ length (values_of name words) → cond test 1 0 + rest ≡ length (cons_option (if test then Some (drop (length name) word) else None) (values_of name words))
-count-by name word words true rest same = omega arith
-count-by name word words false rest same = omega arith
-
-pub count-values : (name : List ℕ) (words : List (List ℕ)) → count_of name words ≡ length (values_of name words)
-count-values name [] = refl
-count-values name (word ∷ words) =
-    sum_by-cons (λ w. cond (is_option name w) 1 0) word words
-    ∙ count-by name word words (is_option name word) (count_of name words) (count-values name words)
 
 -- a word that is another option
 pub values-other : (name : List ℕ) (words : List (String Global)) (place : ℕ) (word : String Global) → place < length words → word ≡ get_or words place word → value_in name (string_bytes word) ≡ None → values_of name (drop place (map string_bytes words)) ≡ values_of name (drop (place + 1) (map string_bytes words))
@@ -57,15 +44,22 @@ pub calls-read : (calls : List Call) → with_more calls (calls_reading []) ≡ 
 calls-read calls = ap Some (append-nil calls)
 
 -- how many calls there may be
-pub calls-few : (words : List (List ℕ)) → count_of (codes "--call=") words ≤ 40 → calls_of words ≡ calls_reading (values_of (codes "--call=") words)
+pub calls-few : (words : List (List ℕ)) → length (values_of (codes "--call=") words) ≤ 40 → calls_of words ≡ calls_reading (values_of (codes "--call=") words)
 calls-few words few =
-    let test : nat_le (length (values_of (codes "--call=") words)) 40 ≡ true = rw (← count-values (codes "--call=") words) (grind (arith, nat_tests)) in
+    let test : nat_le (length (values_of (codes "--call=") words)) 40 ≡ true = grind (arith, nat_tests) in
     rw test refl
 
-pub calls-many : (words : List (List ℕ)) → 40 < count_of (codes "--call=") words → calls_of words ≡ None
+pub calls-many : (words : List (List ℕ)) → 40 < length (values_of (codes "--call=") words) → calls_of words ≡ None
 calls-many words many =
-    let test : nat_le (length (values_of (codes "--call=") words)) 40 ≡ false = rw (← count-values (codes "--call=") words) (grind (arith, nat_tests)) in
+    let test : nat_le (length (values_of (codes "--call=") words)) 40 ≡ false = grind (arith, nat_tests) in
     rw test refl
+
+none-either : (test : Bool) (calls : Option (List Call)) → calls ≡ None → (if test then calls else None) ≡ None
+none-either true calls none = none
+none-either false calls none = refl
+
+pub calls-none : (words : List (List ℕ)) → calls_reading (values_of (codes "--call=") words) ≡ None → calls_of words ≡ None
+calls-none words none = none-either (nat_le (length (values_of (codes "--call=") words)) 40) _ none
 
 -- nothing in front
 pub calls-first : (calls : Option (List Call)) → with_more [] calls ≡ calls

@@ -4,11 +4,10 @@ ghost use Rattle.std.specs.Prelude.{◌≡◌, map, codes, string_bytes};
 ghost use Rattle.std.specs.Option.{option_map};
 ghost use Rattle.muni_terms.specs.Check as terms;
 ghost use Rattle.muni_desk.specs.QuoteOptions as spec;
-ghost use Rattle.muni_desk.specs.Words.{count_of, values_of};
 
 use crate::command::{CommandLine, DeskCommand};
 use crate::request::{NO_CUSIP, QuoteRequest, issue_name};
-use crate::words::{are_options, count_of, value_in, value_of};
+use crate::words::{are_options, value_in, value_of};
 use arrayvec::ArrayVec;
 use muni_book::Workers;
 use muni_days::{Basis, Day};
@@ -145,12 +144,12 @@ fn read_calls(words: &[String]) -> Option<ArrayVec<Call, 40>>
     ensures { option_map (λ calls. calls.items) result
         ≡ spec.calls_of (map string_bytes words.now) }
 {
-    if count_of(words, CALL) > 40 {
-        return None;
-    }
     let mut calls = ArrayVec::new();
     for word in words {
         if let Some(text) = value_in(word.as_bytes(), CALL) {
+            if calls.is_full() {
+                return None;
+            }
             calls.push(read_call(text)?);
         }
     }

@@ -49,8 +49,8 @@ fn are_known(words: &[String], names: &[&[u8]]) -> bool
         .all(|word| is_any_option(word.as_bytes(), names))
 }
 
-/// How often the option of a name stands among words.
-pub fn count_of(words: &[String], name: &[u8]) -> usize
+// How often the option of a name stands among words.
+fn count_of(words: &[String], name: &[u8]) -> usize
     ensures { result ≡ spec.count_of name.now (map string_bytes words.now) }
 {
     words

@@ -12,6 +12,7 @@ invariant-loop-word l =
     let words = map string_bytes l.words in
     let left = values_of (codes "--call=") (drop l.word-index words) in
     record {
-      room : array_vec_len l.calls + length left ≤ 40;
+      room : array_vec_len l.calls ≤ 40;
+      count : array_vec_len l.calls + length left ≡ length (values_of (codes "--call=") words);
       read : with_more l.calls.items (calls_reading left) ≡ calls_reading (values_of (codes "--call=") words);
     }
