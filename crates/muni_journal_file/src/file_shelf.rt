@@ -6,15 +6,15 @@ ghost use Rattle.std.specs.Option.{option_map};
 use crate::file_disk::FileDisk;
 use muni_edge::Faults;
 use muni_journal_disk::{DiskFault, Shelf};
-use std::fs::{File, OpenOptions};
+use std::fs::{self, File};
 use std::io::{self, ErrorKind};
 use std::os::unix::fs::FileExt;
 
 /// A shelf over files: the journal of a name is the file of that name with `.journal` added.
 ///
 /// A file is locked while its disk is out, and one that another process has is refused at once. So is one
-/// that is not empty and begins with another byte than 0 or 1, which no journal does. A file that is not
-/// there is made.
+/// that is not empty and begins with another byte than 0 or 1, which no journal does, and one that was
+/// renamed or replaced before it was locked. A file that is not there is made.
 #[derive(Drop)]
 pub struct FileShelf<'a> {
     rt: &'a HostRuntime,
@@ -33,12 +33,13 @@ fn folder(path: &str) -> &str {
 
 /// Looks whether a file may be a journal: it is empty, or it begins with a gate.
 ///
-/// An empty file may be a new one. Its folder is synced then, since a power cut could else take its name
-/// and all that was put into it.
+/// An empty file may be a new one. The folder in which it is, wherever a link leads, is synced then, since a
+/// power cut could else take its name and all that was put into it.
 fn look_at(rt: &HostRuntime, path: &str, file: &File) -> io::Result<()> {
     let mut gate = [0u8];
     if file.read_at(&mut gate, 0)? == 0 {
-        return File::open(rt, folder(path))?.sync_all();
+        let real = fs::canonicalize(rt, path)?;
+        return File::open(rt, folder(real.as_str()))?.sync_all();
     }
     if gate[0] > 1 {
         return Err(io::Error::from(ErrorKind::InvalidData));
@@ -64,15 +65,15 @@ impl<'a> FileShelf<'a> {
             return Err(io::Error::from(ErrorKind::InvalidInput));
         };
         let path = format!(in self.rt.alloc(); "{name}.journal")?;
-        let file = OpenOptions::new()
-            .read(true)
-            .write(true)
-            .create(true)
-            .open(self.rt, &path)?;
+        let file = muni_file::open_or_make(self.rt, &path)?;
         if file.try_lock().is_err() {
             return Err(io::Error::from(ErrorKind::WouldBlock));
         }
         look_at(self.rt, &path, &file)?;
+        // Before it was locked another program may have given its name to another file.
+        if !muni_file::is_at(self.rt, &path, &file)? {
+            return Err(io::Error::from(ErrorKind::NotFound));
+        }
         Ok(file)
     }
 }

@@ -9,6 +9,7 @@ mod keeper;
 pub mod laws;
 mod look;
 mod moving;
+mod new_log;
 mod page;
 mod rows;
 mod schema;

@@ -1,4 +1,4 @@
-//! What is at the path of a store, before it is opened. Nothing is written here.
+//! What is at the path of a store, before it is opened. Nothing is written to a file that is there.
 
 ghost use Rattle.std.specs.Prelude.{◌≡◌};
 ghost use Rattle.std.specs.List.{list_any};
@@ -6,6 +6,7 @@ ghost use Rattle.sqlite_value.specs.Value.{owned};
 ghost use Rattle.muni_store.specs.Kinds as spec;
 
 use crate::fault::StoreFault;
+use crate::new_log::NewLog;
 use sqlite::types::ValueRef;
 use sqlite_disk::{Disk, Files, Memory};
 use sqlite_pager::{Options, Pager};
@@ -14,16 +15,19 @@ use sqlite_value::row::Row;
 use sqlite_wal::{probe_first_page, probe_page_size};
 use std::alloc::Global;
 use std::fs::{self, File};
-use std::io::ErrorKind;
+use std::io::{self, ErrorKind, Read, Seek, SeekFrom};
 use std::os::unix::fs::FileExt;
+use std::path::PathBuf;
 
-/// What is at the path of a store.
-#[derive(Drop)]
-pub enum Found {
-    /// No file, an empty one, or one whose making was cut off.
-    Nothing,
-    /// A store, and the path of its log if it has none yet.
-    Store(Option<String>),
+/// What the file of a store is.
+#[derive(Clone, Copy)]
+pub(crate) enum Found {
+    /// Empty, or its making was cut off.
+    Unmade,
+    /// A store that has a log.
+    Logged,
+    /// A store that has none.
+    Unlogged,
 }
 
 /// What kind of file begins so.
@@ -34,37 +38,109 @@ enum Kind {
     Other,
 }
 
-/// Looks what is at a path. A file of another kind is refused, and so is a database that lists something
-/// and no table of a store.
-pub(crate) fn look_at(rt: &HostRuntime, path: &str) -> Result<Found, StoreFault> {
-    let file = match fs::metadata(rt, path) {
-        Ok(about) if about.is_file() => fs::canonicalize(rt, path)?,
-        Err(error) if error.kind() == ErrorKind::NotFound => return Ok(Found::Nothing),
-        _ => return Err(StoreFault::Failed),
-    };
-    let log = format!(in rt.alloc(); "{}-wal", file.as_str())?;
-    let has_log = fs::exists(rt, &log)?;
-    match kind_of_file(rt, file.as_str(), has_log)? {
-        Kind::Unmade => Ok(Found::Nothing),
-        Kind::Database if is_store_file(rt, file.as_str(), &log, has_log)? => {
-            Ok(Found::Store(if has_log { None } else { Some(log) }))
+/// The file at the path of a store. It is open, and may not be locked yet.
+#[derive(Drop)]
+pub(crate) struct Place {
+    file: File,
+    path: PathBuf,
+    log: String,
+}
+
+impl Place {
+    /// Opens the file at a path, and makes it if it is missing. What is no file is refused.
+    pub(crate) fn open(rt: &HostRuntime, path: &str) -> Result<Place, StoreFault> {
+        let file = open_or_make(rt, path)?;
+        if !file.metadata()?.is_file() {
+            return Err(StoreFault::Failed);
+        }
+        let path = fs::canonicalize(rt, path)?;
+        let log = format!(in rt.alloc(); "{}-wal", path.as_str())?;
+        Ok(Place { file, path, log })
+    }
+
+    /// The path with no link in it.
+    pub(crate) fn path(&self) -> &str {
+        self.path.as_str()
+    }
+
+    /// Looks what the file is. One of another kind is refused, and so is a database that lists something and
+    /// no table of a store.
+    pub(crate) fn look(&self, rt: &HostRuntime) -> Result<Found, StoreFault> {
+        let log = read_log(rt, &self.log)?;
+        let is_log_begun = log.as_ref().is_some_and(|bytes| !bytes.is_empty());
+        let found = match &log {
+            Some(_) => Found::Logged,
+            None => Found::Unlogged,
+        };
+        match kind_of_file(&self.file, is_log_begun)? {
+            Kind::Unmade => Ok(Found::Unmade),
+            Kind::Database if is_store_file(rt, &self.file, log)? => Ok(found),
+            _ => Err(StoreFault::Failed),
+        }
+    }
+
+    /// Looks once more, under the lock of the file that has this name. It has to be the file that was opened
+    /// before, and to pass the same look.
+    pub(crate) fn look_again(&self, rt: &HostRuntime) -> Result<(), StoreFault> {
+        if !muni_file::is_at(rt, self.path(), &self.file)? {
+            return Err(StoreFault::Failed);
+        }
+        let _ = self.look(rt)?;
+        Ok(())
+    }
+
+    /// Makes the log of a store that has none.
+    pub(crate) fn make_log(&self, rt: &HostRuntime) -> Result<Option<NewLog>, StoreFault> {
+        NewLog::make(rt, &self.log, &self.file)
+    }
+}
+
+// A link that leads nowhere is refused.
+fn open_or_make(rt: &HostRuntime, path: &str) -> Result<File, StoreFault> {
+    match fs::metadata(rt, path) {
+        Ok(about) if about.is_file() => Ok(muni_file::open(rt, path)?),
+        Err(error) if error.kind() == ErrorKind::NotFound => {
+            match muni_file::make(rt, path, 0o644) {
+                // Another program has made it meanwhile.
+                Err(error) if error.kind() == ErrorKind::AlreadyExists => {
+                    Ok(muni_file::open(rt, path)?)
+                }
+                made => Ok(made?),
+            }
         }
         _ => Err(StoreFault::Failed),
     }
 }
 
-fn kind_of_file(rt: &HostRuntime, path: &str, has_log: bool) -> Result<Kind, StoreFault> {
+/// What a log holds, if there is one.
+fn read_log(rt: &HostRuntime, path: &str) -> Result<Option<Vec<u8>>, StoreFault> {
+    match muni_file::open(rt, path) {
+        Ok(log) if log.metadata()?.is_file() => Ok(Some(read_all(rt.alloc(), &log)?)),
+        Ok(_) => Err(StoreFault::Failed),
+        Err(error) if error.kind() == ErrorKind::NotFound => Ok(None),
+        Err(error) => Err(error.into()),
+    }
+}
+
+fn read_all(alloc: Global, mut file: &File) -> io::Result<Vec<u8>> {
+    let mut bytes = Vec::new(alloc);
+    let _ = file.seek(SeekFrom::Start(0))?;
+    let _ = file.read_to_end(&mut bytes)?;
+    Ok(bytes)
+}
+
+fn kind_of_file(file: &File, is_log_begun: bool) -> Result<Kind, StoreFault> {
     let mut head = [0u8; 16];
-    let got = File::open(rt, path)?.read_at(&mut head, 0)?;
-    Ok(kind_of(&head[..got.min(16)], has_log))
+    let got = file.read_at(&mut head, 0)?;
+    Ok(kind_of(&head[..got.min(16)], is_log_begun))
 }
 
 /// The kind of a file by its first 16 bytes. The first byte of a database is written last when it is
 /// made, beside a log that is begun before.
-fn kind_of(head: &[u8], has_log: bool) -> Kind
-    ensures { result ≡ spec.kind_of head.now has_log }
+fn kind_of(head: &[u8], is_log_begun: bool) -> Kind
+    ensures { result ≡ spec.kind_of head.now is_log_begun }
 {
-    if head.is_empty() || (head[0] == 0 && has_log) {
+    if head.is_empty() || (head[0] == 0 && is_log_begun) {
         return Kind::Unmade;
     }
     if head == b"SQLite format 3\0".as_slice() {
@@ -73,17 +149,11 @@ fn kind_of(head: &[u8], has_log: bool) -> Kind
     Kind::Other
 }
 
-fn is_store_file(
-    rt: &HostRuntime,
-    path: &str,
-    log: &str,
-    has_log: bool,
-) -> Result<bool, StoreFault> {
-    let db = in_memory(rt.alloc(), &fs::read(rt, path)?)?;
-    let log = if has_log {
-        in_memory(rt.alloc(), &fs::read(rt, log)?)?
-    } else {
-        Memory::new(rt.alloc())
+fn is_store_file(rt: &HostRuntime, file: &File, log: Option<Vec<u8>>) -> Result<bool, StoreFault> {
+    let db = in_memory(rt.alloc(), &read_all(rt.alloc(), file)?)?;
+    let log = match log {
+        Some(bytes) => in_memory(rt.alloc(), &bytes)?,
+        None => Memory::new(rt.alloc()),
     };
     let rows = read_catalog(rt.alloc(), Files { log, db })?;
     Ok(is_store(rows.as_slice()))
@@ -110,7 +180,12 @@ fn read_catalog<D: Disk + Drop>(
     let Ok((_, reserved)) = probe_first_page(alloc, &mut files, size) else {
         return Err(StoreFault::Failed);
     };
-    let Ok(pager) = Pager::new(alloc, files, size, Options::new(0)) else {
+    // A list of some tables is on few pages.
+    let options = Options {
+        cache_pages: 16,
+        ..Options::new(0)
+    };
+    let Ok(pager) = Pager::new(alloc, files, size, options) else {
         return Err(StoreFault::NoMemory);
     };
     // Pages end in sums if eight bytes of each are reserved.

@@ -5,22 +5,20 @@ ghost use Rattle.std.specs.Prelude.{◌≡◌, false, IfOk, OnOk};
 use crate::fault::StoreFault;
 use crate::file_keeper::OpensAnew;
 use crate::keeper::SqlKeeper;
-use crate::look::{Found, look_at};
+use crate::look::{Found, Place};
 use crate::moving::move_old_rows;
+use crate::new_log::{HeldLock, NewLog};
 use crate::schema::{check_tables, make_tables, text};
-use sqlite::{Alter, Connection, File, FileStore, Unknown};
-use std::fs;
-
-/// A log of this length holds nothing.
-const EMPTY_LOG: u64 = 41;
+use sqlite::{Alter, Connection, File, FileStore, Options, Unknown};
+use std::hash::{BuildHasher, RandomState};
 
 /// The file of a store, by its path.
 #[derive(Drop)]
 pub struct StoreFile {
     rt: HostRuntime,
     path: Vec<u8>,
-    // What was there when it was opened.
-    found: Found,
+    // Its log, if the last open has made it.
+    new_log: Option<NewLog>,
 }
 
 impl StoreFile {
@@ -30,34 +28,39 @@ impl StoreFile {
         StoreFile {
             rt,
             path,
-            found: Found::Nothing,
+            new_log: None,
         }
     }
 
+    // Until the file is locked other programs may change or replace it. So what was seen before is looked at
+    // again under the lock, before anything is written.
     fn connect(&mut self) -> Result<Connection<FileStore<File>>, StoreFault>
         ensures path { self.new.path ≡ self.old.path }
     {
-        let path = text(&self.path)?;
-        self.found = look_at(&self.rt, path)?;
-        match Connection::open_from(&self.rt, path, false, Unknown) {
+        let options = Options::new(RandomState::new(&self.rt)?.hash_one(&0u8));
+        let place = Place::open(&self.rt, text(&self.path)?)?;
+        self.new_log = match place.look(&self.rt)? {
+            Found::Unlogged => place.make_log(&self.rt)?,
+            Found::Logged | Found::Unmade => None,
+        };
+        let files = sqlite_std_file::open(&self.rt, place.path(), Unknown)?;
+        if let Err(fault) = place.look_again(&self.rt) {
+            self.remove_new_log(HeldLock::Files(&files));
+            return Err(fault);
+        }
+        match Connection::open_files_with(self.rt.alloc(), files, options, false) {
             Ok(database) => Ok(database),
-            Err((error, _left)) => {
-                // What is left holds the lock.
-                self.remove_new_log();
+            Err((error, left)) => {
+                self.remove_new_log(HeldLock::Leftover(&left));
                 Err(error.into())
             }
         }
     }
 
-    // Removes the log if the open has made it and nothing is in it. The database has to be open, so that
-    // no other process can be writing the log.
-    fn remove_new_log(&self) {
-        if let Found::Store(Some(log)) = &self.found {
-            if let Ok(about) = fs::metadata(&self.rt, log) {
-                if about.len() <= EMPTY_LOG {
-                    let _ = fs::remove_file(&self.rt, log);
-                }
-            }
+    // A log that cannot be removed stays beside the file, and nothing is lost.
+    fn remove_new_log(&self, lock: HeldLock<'_>) {
+        if let Some(log) = &self.new_log {
+            let _ = log.remove(&self.rt, lock);
         }
     }
 
@@ -69,7 +72,7 @@ impl StoreFile {
     {
         let mut database = self.connect()?;
         if let Err(fault) = check_tables(&mut database) {
-            self.remove_new_log();
+            self.remove_new_log(HeldLock::Database(&database));
             return Err(fault);
         }
         let is_changed = prepare_tables(&mut database)?;
@@ -82,7 +85,7 @@ impl StoreFile {
             // If the log cannot be copied into the file it stays beside it, and nothing is lost.
             let _ = database.close();
         } else {
-            self.remove_new_log();
+            self.remove_new_log(HeldLock::Database(&database));
         }
     }
 }

@@ -1,0 +1,51 @@
+//! Files that stay open for reading and writing, and their names: another program may give a name to another
+//! file at any time.
+//!
+//! A file gets none of the descriptors of the standard streams, of which some may be closed. What is written
+//! to such a stream would else get into the file.
+#![tactic(auto)]
+
+use std::fs::{self, File, OpenOptions};
+use std::io;
+use std::os::fd::AsRawFd;
+use std::os::unix::fs::{MetadataExt, OpenOptionsExt};
+
+/// Opens the file at a path.
+pub fn open(rt: &HostRuntime, path: &str) -> io::Result<File> {
+    open_as(rt, OpenOptions::new().read(true).write(true), path)
+}
+
+/// Opens the file at a path, and makes one if there is none, with the rights that the system gives new files.
+pub fn open_or_make(rt: &HostRuntime, path: &str) -> io::Result<File> {
+    open_as(
+        rt,
+        OpenOptions::new().read(true).write(true).create(true),
+        path,
+    )
+}
+
+/// Makes a file with these rights, less those that the system withholds. What is at the path already is an
+/// error.
+pub fn make(rt: &HostRuntime, path: &str, mode: u32) -> io::Result<File> {
+    let mut options = OpenOptions::new();
+    options.read(true).write(true).create_new(true).mode(mode);
+    open_as(rt, &options, path)
+}
+
+fn open_as(rt: &HostRuntime, options: &OpenOptions, path: &str) -> io::Result<File> {
+    let file = options.open(rt, path)?;
+    if file.as_raw_fd() > 2 {
+        return Ok(file);
+    }
+    file.try_clone()
+}
+
+/// Whether a path leads to the file that is open here, by its device and its inode.
+pub fn is_at(rt: &HostRuntime, path: &str, file: &File) -> io::Result<bool> {
+    let open = file.metadata()?;
+    match fs::metadata(rt, path) {
+        Ok(named) => Ok(named.dev() == open.dev() && named.ino() == open.ino()),
+        Err(error) if error.kind() == io::ErrorKind::NotFound => Ok(false),
+        Err(error) => Err(error),
+    }
+}
