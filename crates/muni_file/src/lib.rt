@@ -49,3 +49,22 @@ pub fn is_at(rt: &HostRuntime, path: &str, file: &File) -> io::Result<bool> {
         Err(error) => Err(error),
     }
 }
+
+/// Removes the file that is open here from a path. If another file has the name, that one stays.
+///
+/// The system removes by names alone, and the name may change its file at any time. So what has it is first
+/// moved to a name of its own, and put back if it is another file. If its place is taken by then, it keeps the
+/// name of its own, and the call fails.
+pub fn remove(rt: &HostRuntime, path: &str, file: &File) -> io::Result<()> {
+    if !is_at(rt, path, file)? {
+        return Ok(());
+    }
+    let aside = format!(in rt.alloc(); "{path}-{}", file.metadata()?.ino())?;
+    let _ = make(rt, &aside, 0o600)?;
+    let moved = fs::rename(rt, path, &aside);
+    if moved.is_ok() && !is_at(rt, &aside, file)? {
+        fs::hard_link(rt, &aside, path)?;
+    }
+    fs::remove_file(rt, &aside)?;
+    moved
+}

@@ -2,7 +2,7 @@
 
 use crate::fault::StoreFault;
 use sqlite::{Connection, File as StoreDisk, FileStore, Files, Leftover};
-use std::fs::{self, File, Permissions};
+use std::fs::{File, Permissions};
 use std::io::{self, ErrorKind};
 use std::os::unix::fs::{MetadataExt, PermissionsExt, fchown};
 
@@ -46,12 +46,10 @@ impl NewLog {
 
     /// Removes the log if nothing is in it and its name still leads to it.
     pub(crate) fn remove(&self, rt: &HostRuntime, _lock: HeldLock<'_>) -> io::Result<()> {
-        if self.file.metadata()?.len() <= EMPTY_LOG
-            && muni_file::is_at(rt, &self.path, &self.file)?
-        {
-            fs::remove_file(rt, &self.path)?;
+        if self.file.metadata()?.len() > EMPTY_LOG {
+            return Ok(());
         }
-        Ok(())
+        muni_file::remove(rt, &self.path, &self.file)
     }
 }
 
