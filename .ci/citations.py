@@ -173,14 +173,15 @@ class Sources:
         return count
 
     def calls(self, callers, name):
-        """The functions of this name that one of the callers calls."""
+        """The functions of this name that one of the callers calls. One that is named with its type may stand above
+        its caller, which knows it by a trait."""
         parts = name.split("::")
         called = re.compile(r"\b%s(?:::<[^>]*>)?\(" % re.escape(parts[-1]))
         found = []
         for function in self.functions.get(parts[-1], ()):
             for caller in callers:
-                below = function.crate == caller.crate or function.crate in self.reached(caller.crate)
-                if holds(function, parts) and below and called.search("".join(caller.body[1:])):
+                known = len(parts) > 1 or function.crate in {caller.crate} | self.reached(caller.crate)
+                if holds(function, parts) and known and called.search("".join(caller.body[1:])):
                     found.append(function)
                     break
         return found
@@ -247,9 +248,9 @@ def faults_of_line(sources, line):
         cases = sources.cases(path)
         if cases != int(number.replace(",", "")):
             faults.append("`%s` has %d lines, and not %s" % (path, cases, number))
-    for number, walk in re.findall(r"(\d+) calls: (%s(?: → %s)+)" % (SPAN, SPAN), line):
+    for found in re.finditer(r"(?P<number>\d+) calls: (?P<walk>%s(?: → %s)+)" % (SPAN, SPAN), line):
         count += 1
-        fault = fault_of_walk(sources, int(number), re.findall(SPAN, walk))
+        fault = fault_of_walk(sources, int(found["number"]), re.findall(SPAN, found["walk"]))
         if fault:
             faults.append(fault)
     return count, faults
