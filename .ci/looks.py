@@ -32,7 +32,7 @@ for (const node of document.querySelectorAll("body *")) {
     const hasText = [...node.childNodes].some(each => each.nodeType === 3 && each.data.trim());
     if (node.closest("svg")) {
         if (node.tagName === "text") hold(node, style.fill, 4.5, "text");
-        if (node.matches("g.way")) hold(node, style.color, 3, "line");
+        if (node.matches("g.redemption")) hold(node, style.color, 3, "line");
         continue;
     }
     if (isField) hold(node, style.borderTopColor, 3, "edge");
@@ -111,5 +111,5 @@ return [...document.querySelectorAll(".figure, .value")].filter(each => {
 # The points of the curve: their group, and yield and price as texts.
 POINTS = """
 return [...document.querySelectorAll("#curve-plot circle[data-x]")]
-    .map(each => [each.parentElement.dataset.way, each.dataset.x, each.dataset.y]);
+    .map(each => [each.parentElement.dataset.redemption, each.dataset.x, each.dataset.y]);
 """

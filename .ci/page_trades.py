@@ -15,7 +15,7 @@ const box = document.getElementById("ticket-told");
 new MutationObserver(() => window.heard.push(box.innerText)).observe(box, { childList: true });
 """
 HEARD = "return window.heard.splice(0).join('\\n')"
-COLOURS = "return [...document.querySelectorAll('#curve-plot g.way')].map(each => getComputedStyle(each).color)"
+COLOURS = "return [...document.querySelectorAll('#curve-plot g.redemption')].map(each => getComputedStyle(each).color)"
 
 
 def quotes(day):
@@ -66,17 +66,17 @@ def curve(day):
     page.fill("ticket", basis="yield", value="3.65", fee="")
     day.has("a curve", ["Quoted, with its curve"], page.press("ticket-curve"))
     points = page.curve()
-    ways = sorted({way for way, _, _ in points})
-    day.check("points of the curve", True, len(points) >= 41 and len(ways) >= 2)
-    for way, x, y in points[::6]:
+    redemptions = sorted({redemption for redemption, _, _ in points})
+    day.check("points of the curve", True, len(points) >= 41 and len(redemptions) >= 2)
+    for redemption, x, y in points[::6]:
         figures = day.desk.quote("990034AA8", 25_000, APRIL, Basis.YIELD, Decimal(x))
-        day.check("the point at " + x, (str(figures.price), str(figures.redemption.day)), (y, way[:10]))
+        day.check("the point at " + x, (str(figures.price), str(figures.redemption.day)), (y, redemption[:10]))
     for scheme in ("dark", "light"):
         day.browser.scheme(scheme)
         colours = page.js(COLOURS)
-        day.check("a colour for each redemption, " + scheme, (len(ways), len(ways)), (len(colours), len(set(colours))))
+        day.check("a colour for each redemption, " + scheme, (len(redemptions), len(redemptions)), (len(colours), len(set(colours))))
     legend = page.rows("#curve-legend tbody tr")
-    day.check("the legend has each redemption", [way[:10] for way in ways], sorted(row[0][:10] for row in legend))
+    day.check("the legend has each redemption", [redemption[:10] for redemption in redemptions], sorted(row[0][:10] for row in legend))
     ends = sorted([float(each) for each in row[1].split(" to ")] for row in legend)
     gaps = [high[0] - low[1] for low, high in zip(ends, ends[1:])]
     day.check("each yield has one redemption", [], [gap for gap in gaps if not 0 < gap < 0.0015])

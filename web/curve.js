@@ -15,7 +15,7 @@ const text = number => unscaled(BigInt(number), 3);
 const fixed = number => (number / 1000).toFixed(3);
 
 function pointOf(lines, at) {
-  return { at, x: thousandths(lines.get("YIELD")), y: thousandths(lines.get("PRICE")), way: lines.get("REDEMPTION") };
+  return { at, x: thousandths(lines.get("YIELD")), y: thousandths(lines.get("PRICE")), redemption: lines.get("REDEMPTION") };
 }
 
 async function quoteAt(body, by, at) {
@@ -39,7 +39,7 @@ async function quoteAll(places, quote, isCurrent) {
 
 // The points between two of other redemptions, halved down to the thousandth at which it changes.
 async function changes(low, high, quote, isCurrent) {
-  if (low.way === high.way || high.at - low.at <= 1 || !isCurrent()) return [];
+  if (low.redemption === high.redemption || high.at - low.at <= 1 || !isCurrent()) return [];
   const middle = await quote(Math.floor((low.at + high.at) / 2));
   if (middle.refused) return [];
   return [...await changes(low, middle, quote, isCurrent), middle, ...await changes(middle, high, quote, isCurrent)];
@@ -102,20 +102,20 @@ function axes(svg, scale, ends, size) {
     make("text", { class: "axis", x: right, y: size.height - 6, "text-anchor": "end" }, "Yield, percent"));
 }
 
-function lowest(points, member) {
+function range(points, member) {
   const all = points.map(point => point[member]);
   return [Math.min(...all), Math.max(...all)];
 }
 
 // The line and the points of one redemption.
-function drawn(way, place, points, scale) {
-  const group = make("g", { class: `way way${place % COLOURS}`, "data-way": way });
-  const line = points.filter(point => point.way === way)
+function drawn(redemption, place, points, scale) {
+  const group = make("g", { class: `redemption redemption${place % COLOURS}`, "data-redemption": redemption });
+  const line = points.filter(point => point.redemption === redemption)
     .map(({ x, y }) => ({ x, y, cx: scale.x(x).toFixed(1), cy: scale.y(y).toFixed(1) }));
   group.append(make("polyline", { points: line.map(({ cx, cy }) => `${cx},${cy}`).join(" ") }));
   for (const { x, y, cx, cy } of line) {
     const dot = make("circle", { cx, cy, r: 1.8, "data-x": fixed(x), "data-y": fixed(y) });
-    dot.append(make("title", {}, `${fixed(x)} percent: ${fixed(y)}, ${way}`));
+    dot.append(make("title", {}, `${fixed(x)} percent: ${fixed(y)}, ${redemption}`));
     group.append(dot);
   }
   return group;
@@ -131,9 +131,9 @@ function quotedMark(quoted, scale, size) {
 
 function draw() {
   if (!shown) return;
-  const { points, quoted, ways } = shown;
+  const { points, quoted, redemptions } = shown;
   const size = { width: Math.max(280, $("curve-plot").clientWidth), height: 270 };
-  const ends = { x: lowest([...points, quoted], "x"), y: lowest([...points, quoted], "y") };
+  const ends = { x: range([...points, quoted], "x"), y: range([...points, quoted], "y") };
   const part = (value, low, high) => high === low ? 0.5 : (value - low) / (high - low);
   const slope = (low, high, from, to) => value => from + part(value, low, high) * (to - from);
   const scale = {
@@ -144,7 +144,7 @@ function draw() {
   const svg = make("svg", { ...size, viewBox: `0 0 ${size.width} ${size.height}`, role: "img",
     "aria-label": `Price over ${yields}. The table below has the redemptions.` });
   axes(svg, scale, ends, size);
-  svg.append(...ways.map((way, place) => drawn(way, place, points, scale)), ...quotedMark(quoted, scale, size));
+  svg.append(...redemptions.map((redemption, place) => drawn(redemption, place, points, scale)), ...quotedMark(quoted, scale, size));
   $("curve-plot").replaceChildren(svg);
 }
 
@@ -155,13 +155,13 @@ function legend() {
     head.append(element("th", word, name, { scope: "col" }));
   }
   const body = table.createTBody();
-  shown.ways.forEach((way, place) => {
-    const line = shown.points.filter(point => point.way === way);
-    const [x0, x1] = lowest(line, "x");
-    const [y0, y1] = lowest(line, "y");
-    const [day, price, ...label] = way.split(" ");
+  shown.redemptions.forEach((redemption, place) => {
+    const line = shown.points.filter(point => point.redemption === redemption);
+    const [x0, x1] = range(line, "x");
+    const [y0, y1] = range(line, "y");
+    const [day, price, ...label] = redemption.split(" ");
     const row = body.insertRow();
-    const colour = `swatch way way${place % COLOURS}`;
+    const colour = `swatch redemption redemption${place % COLOURS}`;
     const swatch = make("svg", { class: colour, width: 24, height: 10, "aria-hidden": "true" });
     swatch.append(make("line", { x1: 0, x2: 24, y1: 5, y2: 5 }));
     const name = element("td");
@@ -179,7 +179,7 @@ function legend() {
 }
 
 export function showCurve(curve) {
-  shown = { ...curve, ways: [...new Set(curve.points.map(point => point.way))] };
+  shown = { ...curve, redemptions: [...new Set(curve.points.map(point => point.redemption))] };
   $("curve").classList.add("has");
   draw();
   legend();

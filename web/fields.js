@@ -68,8 +68,8 @@ export function dress(form) {
   const idle = help?.textContent;
   for (const field of form.querySelectorAll("input[data-form]")) dressField(field);
   form.addEventListener("focusin", event => {
-    const way = FORMS[event.target.dataset?.form];
-    if (help) help.textContent = way ? `${labelOf(event.target)}: ${way.words}.` : idle;
+    const rule = FORMS[event.target.dataset?.form];
+    if (help) help.textContent = rule ? `${labelOf(event.target)}: ${rule.words}.` : idle;
   });
   form.addEventListener("input", event => unmark(event.target));
   form.addEventListener("change", event => {
@@ -94,11 +94,11 @@ export function read(form, names, optional = []) {
     if (field.disabled) continue;
     const text = cleaned(field);
     if (text === "" && optional.includes(name)) continue;
-    const way = FORMS[field.dataset.form];
-    if (!way || way.takes(text)) {
+    const rule = FORMS[field.dataset.form];
+    if (!rule || rule.takes(text)) {
       body[name] = text;
     } else {
-      mark(field, (text === "" ? "Missing: " : "Not of its form: ") + way.words + ".");
+      mark(field, (text === "" ? "Missing: " : "Not of its form: ") + rule.words + ".");
       first ??= field;
     }
   }

@@ -69,9 +69,9 @@ function readCalls() {
     for (const field of [date, price]) {
       unmark(field);
       field.value = field.value.trim();
-      const way = FORMS[field.dataset.form];
-      if (way.takes(field.value)) continue;
-      mark(field, `Not of its form: ${way.words}.`);
+      const rule = FORMS[field.dataset.form];
+      if (rule.takes(field.value)) continue;
+      mark(field, `Not of its form: ${rule.words}.`);
       first ??= field;
     }
     calls.push({ date: date.value, price: price.value });

@@ -35,12 +35,12 @@ const money = (lines, name, label) => lines.has(name) && row(label, grouped(line
 
 // The rows of figures, as they stand in a quote and at the end of a confirmation.
 export function figureRows(lines) {
-  const [day, way] = redeemed(lines.get("REDEMPTION"));
+  const [day, terms] = redeemed(lines.get("REDEMPTION"));
   return [
     figure(lines, "PRICE", "Price per 100"),
     figure(lines, "YIELD", "Yield", " %"),
     figure(lines, "RATE", "Discount rate", " %"),
-    row("Redemption", day, way),
+    row("Redemption", day, terms),
     row("Days accrued", lines.get("ACCRUED DAYS")),
     money(lines, "PRINCIPAL", "Principal"),
     money(lines, "ACCRUED", "Accrued interest"),

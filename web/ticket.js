@@ -15,7 +15,7 @@ const TRADED = ["reference", "cusip", "side", "par", "settle", "basis", "value",
 const VALUES = { price: "Price per 100", yield: "Yield, percent", rate: "Rate, percent" };
 const WORDS = { price: "a price", yield: "a yield", rate: "a discount rate" };
 
-let house = null;
+let opened = null;
 let asked = 0;
 let isBusy = false;
 // What this window sent and the desk kept, by desk, reference and number: it alone is known in full.
@@ -112,10 +112,10 @@ async function curve() {
 
 // What may be done at once about a refusal.
 function buttons(answer) {
-  if (answer.number === 1) return [["Go to new issue", () => house.addIssue(form.elements.cusip.value)]];
+  if (answer.number === 1) return [["Go to new issue", () => opened.addIssue(form.elements.cusip.value)]];
   if ([11, 12, 13].includes(answer.number) || (answer.number === 3 && answer.rest !== "issue")) {
     const reference = form.elements.reference.value.trim();
-    return [["Show last version", () => openTrade(house.desk(), reference, $("sheet-told"))]];
+    return [["Show last version", () => openTrade(opened.desk(), reference, $("sheet-told"))]];
   }
   return [];
 }
@@ -145,7 +145,7 @@ function nextNumber(last) {
 
 async function act(path, names, optional) {
   const typed = read(form, names, optional);
-  const desk = house.desk();
+  const desk = opened.desk();
   if (!typed || !desk) return;
   hush(told);
   const waiting = waitingIn(told);
@@ -174,7 +174,7 @@ async function act(path, names, optional) {
   const last = showSheet(after.text);
   sayKept(answer, made, old, last);
   nextNumber(last);
-  house.refresh();
+  opened.refresh();
 }
 
 // One act at a time: a second press meanwhile is passed over.
@@ -194,8 +194,8 @@ function once(does) {
 
 async function cancel() {
   const typed = read(form, ["reference", "number"]);
-  if (!typed || !house.desk()) return;
-  const rows = [["Desk", house.desk()], ["Reference", typed.reference], ["Next version", typed.number]];
+  if (!typed || !opened.desk()) return;
+  const rows = [["Desk", opened.desk()], ["Reference", typed.reference], ["Next version", typed.number]];
   const isSure = await sure("Cancel this trade? Nothing follows a cancel.", rows, "Cancel trade");
   if (isSure) await act("/cancels", ["reference", "number"]);
 }
@@ -272,9 +272,9 @@ export function quoteIssue(cusip) {
   form.elements.par.focus();
 }
 
-// `house` has the desk at hand, what reads the list again, and what goes to a new issue.
+// `opened` has the desk at hand, what reads the list again, and what goes to a new issue.
 export function startTicket(given) {
-  house = given;
+  opened = given;
   dress(form);
   basisChanged();
   form.addEventListener("input", event => {
