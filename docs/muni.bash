@@ -1,5 +1,9 @@
 # Completions of bash for the commands muni and ./muni: the commands, the options of each that are not given
-# yet, the values of those that have a few, and the files of stores.
+# yet, the values of those that have a few, the files of stores, and files after < and >. An install puts them in
+# their place; from a clone `. docs/muni.bash` loads them.
+
+# Made of the launcher's tables by .ci/options.
+_muni_commands='quote-one quote import confirm serve drill positions mark help'
 
 _muni_options() {
     case $1 in
@@ -7,9 +11,9 @@ _muni_options() {
     import) echo --store --workers --positions ;;
     confirm) echo --store --desk --ref ;;
     serve) echo --store --port --connections --workers ;;
+    drill) echo --count --seed --workers ;;
     positions) echo --store --desk ;;
     mark) echo --store ;;
-    drill) echo --count --seed --workers ;;
     esac
 }
 
@@ -33,8 +37,13 @@ _muni_complete_value() {
 _muni() {
     local word=${COMP_WORDS[COMP_CWORD]} before=${COMP_WORDS[COMP_CWORD - 1]} choices='' option place
     COMPREPLY=()
-    if [ "$COMP_CWORD" -eq 1 ]; then
-        choices='quote-one quote import confirm serve drill positions mark help --help --version'
+    if [[ $before == [\<\>] || $before == '>>' || $before == '2>' ]]; then
+        # A file for the input, the output or the words on standard error.
+        compopt -o filenames 2>/dev/null
+        mapfile -t COMPREPLY < <(compgen -f -- "$word")
+        return
+    elif [ "$COMP_CWORD" -eq 1 ]; then
+        choices="$_muni_commands --help --version"
         # What is installed has no sources to build.
         case ${COMP_WORDS[0]} in
         */*) choices+=' build dist install package' ;;
@@ -60,6 +69,7 @@ _muni() {
             done
             choices+=" $option="
         done
+        choices+=' --help'
         compopt -o nospace 2>/dev/null
     fi
     mapfile -t COMPREPLY < <(compgen -W "$choices" -- "$word")
