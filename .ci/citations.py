@@ -108,7 +108,9 @@ class Sources:
     def read_crate(self, folder):
         crate = os.path.basename(folder)
         names = self.of_crate[crate]
-        for path in glob.glob(folder + "/**/*.*", recursive=True):
+        # What is built stands in out/.
+        for path in [path for part in ("must-fail", "proofs", "specs", "src")
+                     for path in glob.glob("%s/%s/**/*.*" % (folder, part), recursive=True)]:
             self.files.add(os.path.basename(path))
             if path.endswith(".rt"):
                 names.add(os.path.splitext(os.path.basename(path))[0])

@@ -12,7 +12,7 @@ use sqlite_disk::{Disk, Files, Memory};
 use sqlite_pager::{Options, Pager};
 use sqlite_store::{OpenError, Unopened};
 use sqlite_value::row::Row;
-use sqlite_wal::{probe_first_page, probe_page_size};
+use sqlite_wal::{Error as LogError, probe_first_page, probe_page_size};
 use std::alloc::Global;
 use std::fs::{self, File};
 use std::io::{self, ErrorKind, Read, Seek, SeekFrom};
@@ -47,8 +47,12 @@ pub(crate) struct Place {
 }
 
 impl Place {
-    /// Opens the file at a path, and makes it if it is missing. What is no file is refused.
+    /// Opens the file at a path, and makes it if it is missing. What is no file is refused, and so is a name
+    /// by which sqlite would open another database.
     pub(crate) fn open(rt: &HostRuntime, path: &str) -> Result<Place, StoreFault> {
+        if path == ":memory:" || path.starts_with("file:") {
+            return Err(StoreFault::Failed);
+        }
         let file = open_or_make(rt, path)?;
         if !file.metadata()?.is_file() {
             return Err(StoreFault::Failed);
@@ -177,8 +181,10 @@ fn read_catalog<D: Disk + Drop>(
     let Some(size) = probe_page_size(&mut files)? else {
         return Err(StoreFault::Failed);
     };
-    let Ok((_, reserved)) = probe_first_page(alloc, &mut files, size) else {
-        return Err(StoreFault::Failed);
+    let reserved = match probe_first_page(alloc, &mut files, size) {
+        Ok((_, reserved)) => reserved,
+        Err(LogError::OutOfMemory) => return Err(StoreFault::NoMemory),
+        Err(_) => return Err(StoreFault::Failed),
     };
     // A list of some tables is on few pages.
     let options = Options {
