@@ -6,7 +6,7 @@ mod amount;
 mod decimal;
 pub mod digits;
 mod fault;
-pub mod grammar;
+pub mod laws;
 mod par;
 mod percent;
 pub mod text;

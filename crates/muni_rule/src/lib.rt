@@ -7,14 +7,9 @@
 #![tactic(auto)]
 
 mod basis;
-pub mod civil_days;
-pub mod many_periods;
-pub mod payments;
-pub mod printed;
-pub mod quasi_dates;
-pub mod ranges;
+pub mod laws;
+mod ranges;
 mod verdict;
-pub mod yields;
 
 pub use basis::Basis;
 pub use ranges::YieldRange;

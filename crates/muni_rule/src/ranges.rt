@@ -6,7 +6,8 @@ ghost use Rattle.muni_rule.specs.Ranges.{IsWithin};
 
 use std::cmp::Ordering;
 
-/// A range of yields or rates with both ends, in units of 0.0001 percent.
+/// A range of yields or rates with both ends, in units of 0.0001 percent, or of printed yields in
+/// units of 0.001 percent.
 #[derive(Clone, Copy, Debug, PartialEq, Eq)]
 pub struct YieldRange {
     pub least: i64,
@@ -52,11 +53,3 @@ impl YieldRange {
         None
     }
 }
-
-/// The ranges are those of the definitions.
-pub fn ranges_are_the_desks()
-    ensures many_periods { YieldRange.MANY_PERIODS ≡ spec.many_periods_yields }
-    ensures one_period { YieldRange.ONE_PERIOD ≡ spec.one_period_yields }
-    ensures at_redemption { YieldRange.AT_REDEMPTION ≡ spec.at_redemption_yields }
-    ensures discount_rates { YieldRange.DISCOUNT_RATES ≡ spec.discount_rates }
-{}

@@ -2,6 +2,7 @@
 #![tactic(auto)]
 
 mod discount;
+pub mod laws;
 mod price;
 mod single;
 mod units;
@@ -9,5 +10,5 @@ mod yields;
 
 pub use discount::{discount_return, rate_price, rate_return};
 pub use price::{SimplePrice, single_price};
-pub use single::{Shape1, Single, growth_is_above_zero};
-pub use yields::{SimpleYield, one_yield_is_answered, single_yield};
+pub use single::{Shape1, Single};
+pub use yields::{SimpleYield, single_yield};

@@ -1,7 +1,5 @@
 //! One payment to come.
 
-ghost use Rattle.muni_simple.specs.GrowthLaw.{GrowthIsAboveZero};
-
 use muni_rule::Basis;
 
 /// One payment to come, which ends a security.
@@ -28,9 +26,3 @@ pub enum Shape1 {
     /// Not at all: it is paid at redemption.
     AtRedemption,
 }
-
-/// A law of the definitions: one and the yield of the days left stay above zero at every yield at
-/// which a price is asked for, so that the comparisons of the rule are those of its fraction.
-pub fn growth_is_above_zero()
-    ensures { GrowthIsAboveZero }
-{}

@@ -4,7 +4,7 @@ ghost use Rattle.std.specs.Prelude.{◌≡◌, ◌+◌, ◌*◌, ◌<◌, ◌≤
 ghost use Rattle.muni_rule.specs.Accuracy.{price_amount};
 ghost use Rattle.muni_simple.specs.Single.{IsSingle, payment_of};
 ghost use Rattle.muni_simple.specs.Shown.{natural_payment, printed_from, shown_above, shown_below};
-ghost use Rattle.muni_simple.specs.Yields.{IsYieldAnswer, least_printed, printed_range, PrintsWithin, AnswersOneYield};
+ghost use Rattle.muni_simple.specs.Yields.{IsYieldAnswer, least_printed, printed_range, PrintsWithin};
 
 use crate::units::{amount_of, no_growth};
 use crate::{Shape1, Single};
@@ -118,9 +118,3 @@ fn shown_from_below(y: u64, least: u64) -> SimpleYield
     }
     SimpleYield::Print(Yield3::new(-(magnitude as i64)))
 }
-
-/// A law of the definitions: an answer that the contracts allow is the only one. The four answers
-/// exclude each other.
-pub fn one_yield_is_answered()
-    ensures { AnswersOneYield }
-{}
