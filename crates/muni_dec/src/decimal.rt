@@ -1,12 +1,13 @@
 //! Decimals with a fixed number of places, as whole numbers of their last place.
 
-ghost use Rattle.std.specs.Prelude.{◌≡◌, ◌+◌, ◌^◌, ◌<◌, ◌≤◌, ◌++◌, ◌==◌, length, IfSome, IfErr, position};
+ghost use Rattle.std.specs.Prelude.{◌≡◌, ◌+◌, ◌^◌, ◌<◌, ◌≤◌, ◌++◌, length, IfErr};
 ghost use Rattle.arrayvec.specs.ArrayVec.{array_vec_len};
 ghost use Rattle.muni_dec.specs.Decimal.{reading_at, reading, behind_sign, signed_reading, place_of, digits_reading, decimal_text, sign_text, signed_text};
 ghost use Rattle.muni_dec.specs.Capped.{capped, capped_signed};
 
 use crate::DecFault;
 use crate::digits::{LIMIT, push_digits, push_last_digits, read_digits};
+use crate::text::find;
 use arrayvec::ArrayVec;
 
 fn power_of_ten(places: usize) -> u64
@@ -24,13 +25,6 @@ fn power_of_ten(places: usize) -> u64
         6 => 1_000_000,
         _ => 10_000_000,
     }
-}
-
-fn find_point(text: &[u8]) -> Option<usize>
-    ensures value { result ≡ position (λ b. b == 46) text.now }
-    ensures inside { IfSome result (λ point. point < length text.now) }
-{
-    text.iter().position(|b| *b == b'.')
 }
 
 fn read_without_point(text: &[u8], places: usize) -> Result<u64, DecFault>
@@ -87,7 +81,7 @@ pub fn read_decimal(text: &[u8], places: usize) -> Result<u64, DecFault>
     if text.is_empty() {
         return Err(DecFault::Empty);
     }
-    match find_point(text) {
+    match find(text, b'.') {
         None => read_without_point(text, places),
         Some(point) => read_with_point(text, point, places),
     }

@@ -1,11 +1,19 @@
-//! Appending parts and lines to a text of a fixed room.
+//! Finding a byte in a text, and appending parts and lines to one of a fixed room.
 
-ghost use Rattle.std.specs.Prelude.{◌≡◌, ◌+◌, ◌≤◌, ◌++◌, [], ◌∷◌, length};
+ghost use Rattle.std.specs.Prelude.{◌≡◌, ◌+◌, ◌<◌, ◌≤◌, ◌++◌, ◌==◌, [], ◌∷◌, length, position, IfSome};
 ghost use Rattle.arrayvec.specs.ArrayVec.{array_vec_len};
 ghost use Rattle.muni_dec.specs.Line.{behind_blanks, line};
 
 use arrayvec::ArrayVec;
 use itoa::{Buffer, Integer};
+
+/// Where a byte first is in a text, counted from 0.
+pub fn find(text: &[u8], byte: u8) -> Option<usize>
+    ensures place { result ≡ position (λ b. b == byte) text.now }
+    ensures inside { IfSome result (λ at. at < length text.now) }
+{
+    text.iter().position(|b| *b == byte)
+}
 
 /// Appends bytes.
 pub fn push<const ROOM: usize>(text: &mut ArrayVec<u8, ROOM>, bytes: &[u8])

@@ -1,11 +1,12 @@
 //! The calls of an issue in one field.
 
-ghost use Rattle.std.specs.Prelude.{◌≡◌, ◌==◌, ◌<◌, ◌∷◌, length, position, IfSome};
+ghost use Rattle.std.specs.Prelude.{◌≡◌, ◌∷◌};
 ghost use Rattle.std.specs.Option.{option_map};
 ghost use Rattle.muni_msg.specs.Calls as spec;
 
 use crate::read_call;
 use arrayvec::ArrayVec;
+use muni_dec::text::find;
 use muni_terms::Call;
 
 /// At most 40 calls, as `2027-01-01:102 2028-01-01:100`. An empty text names none.
@@ -26,6 +27,7 @@ fn read_some_calls(text: &[u8]) -> Option<ArrayVec<Call, 40>>
     let mut calls = ArrayVec::new();
     let mut rest = text;
     for count in 0..40usize {
+        // Proofs alone read the count.
         let _count = count;
         let (call, behind) = split_at_blank(rest);
         calls.push(read_call(call)?);
@@ -43,15 +45,8 @@ fn split_at_blank(text: &[u8]) -> (&[u8], Option<&[u8]>)
     ensures { spec.cut_at_blanks text.now
         ≡ result.0.now ∷ spec.cut_behind (option_map (λ behind. behind.now) result.1) }
 {
-    match find_blank(text) {
+    match find(text, b' ') {
         Some(blank) => (&text[..blank], Some(&text[blank + 1..])),
         None => (text, None),
     }
-}
-
-fn find_blank(text: &[u8]) -> Option<usize>
-    ensures value { result ≡ position (λ b. b == 32) text.now }
-    ensures inside { IfSome result (λ blank. blank < length text.now) }
-{
-    text.iter().position(|b| *b == b' ')
 }

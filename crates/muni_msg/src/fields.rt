@@ -1,12 +1,13 @@
 //! The texts of fields, which words, rows and messages share.
 
-ghost use Rattle.std.specs.Prelude.{◌≡◌, ◌==◌, ◌<◌, length, position, IfSome};
+ghost use Rattle.std.specs.Prelude.{◌≡◌};
 ghost use Rattle.std.specs.Option.{option_map};
 ghost use Rattle.muni_msg.specs.Fields as spec;
 
 use crate::{Given, Side};
 use muni_days::{Basis, Day};
 use muni_dec::digits::read_number;
+use muni_dec::text::find;
 use muni_dec::{Fee, Price, Yield};
 use muni_terms::{Call, Kind};
 
@@ -45,17 +46,10 @@ fn read_plain_kind(text: &[u8]) -> Option<Kind>
 pub fn read_call(text: &[u8]) -> Option<Call>
     ensures { result ≡ spec.call_reading text.now }
 {
-    let colon = find_colon(text)?;
+    let colon = find(text, b':')?;
     let date = Day::read(&text[..colon]).ok()?;
     let price = Price::read(&text[colon + 1..]).ok()?;
     Some(Call { date, price })
-}
-
-fn find_colon(text: &[u8]) -> Option<usize>
-    ensures value { result ≡ position (λ b. b == 58) text.now }
-    ensures inside { IfSome result (λ colon. colon < length text.now) }
-{
-    text.iter().position(|b| *b == b':')
 }
 
 /// The day count basis that a text names: `30/360` or `actual/365`.

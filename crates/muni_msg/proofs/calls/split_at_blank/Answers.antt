@@ -10,4 +10,4 @@ returns-in-Some c =
     let next = c.in-Some.blank + 1 in
     let behind : take (length text - next) (drop next text) ≡ drop next text =
     ap (λ count. take count (drop next text)) (sym (length-drop next text)) ∙ take-length (drop next text) in
-    rw behind (cut_at text c.in-Some.blank (sym c.find_blank.ensures.value ∙ c.in-Some.is))
+    rw behind (cut_at text c.in-Some.blank (sym c.find.ensures.place ∙ c.in-Some.is))
