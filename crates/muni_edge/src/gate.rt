@@ -1,9 +1,9 @@
-//! Who is told when a worker begins.
+//! A watcher of the search for the lowest yield.
 
-/// Is told by the workers of a search when they begin.
+/// Watches the workers of a search: each calls it before it asks about a candidate.
 pub trait Gate {
-    /// A worker begins the candidate at this place of the list, in this round. Of the call no more
-    /// is known than that it returns.
+    /// The round, and the place in the list of the candidate that is asked about. A search needs no
+    /// more of the call than that it returns.
     fn start(&self, round: u32, place: usize);
 }
 
