@@ -7,8 +7,8 @@ use Rattle.muni_days.specs.Calendar.{is_day}
 use Rattle.muni_days.specs.Day.{civil, place_of, day_reading, day_text}
 
 -- one date is before another: its year is, or in one year its month, or in one month its day
-abbrev pub IsEarlier : Civil → Civil → Type 0
-IsEarlier date other =
+abbrev pub IsEarlierDate : Civil → Civil → Type 0
+IsEarlierDate date other =
     (date.year < other.year)
     ⊎ ((date.year ≡ other.year) × ((date.month < other.month)
     ⊎ ((date.month ≡ other.month) × (date.day < other.day))))
@@ -24,7 +24,7 @@ DaysAreDates = (day other : Day) → (day ≡ other) ↔ (civil day ≡ civil ot
 -- and their order is that of their dates
 abbrev pub DaysAreInOrder : Type 0
 DaysAreInOrder =
-    (day other : Day) → (place_of day < place_of other) ↔ IsEarlier (civil day) (civil other)
+    (day other : Day) → (place_of day < place_of other) ↔ IsEarlierDate (civil day) (civil other)
 
 -- the text is four digits, a dash, two digits, a dash and two digits, whether or not these are a day
 pub record IsFormed (text : List ℕ) : Type 0 where
