@@ -15,7 +15,7 @@ use Rattle.muni_rule.proofs.EnclosedLemmas.{IsEnclosed, divisor-least, at_least-
 use Rattle.muni_rule.proofs.OnePriceLemmas.{many_periods-price}
 use Rattle.muni_multi.specs.declared.price.PriceAnswer.{PriceAnswer}
 use Rattle.muni_multi.specs.declared.price.PriceAnswer.TheVariants.{Price, BelowZero, Undecided}
-use Rattle.muni_multi.specs.Prices.{IsPriceAnswer, IsDoubtfulAnswer, IsPriceOutcome, whole_verdict, IsDecided, OnePriceIsRight}
+use Rattle.muni_multi.specs.Prices.{IsPriceAnswer, IsDoubtfulAnswer, IsPriceOutcome, whole_verdict, IsDecidedPrice, OnePriceIsRight}
 
 chosen : (a b p q : Bool) → a ≡ p → b ≡ q → (if a then Yes else (if b then No else Unsure)) ≡ (if p then Yes else (if q then No else Unsure))
 chosen a b p q first second = rw (first, second) refl
@@ -82,7 +82,7 @@ outcome-doubtful series y enclosure BelowZero given outcome = tt
 outcome-doubtful series y enclosure (Undecided boundary) given outcome = at_least-doubtful series y enclosure (360000000 * boundary) _ given refl outcome.unsure
 
 -- at a yield one price is right
-one-price : (Reaches : ℤ → Type 0) (one other : PriceAnswer) → HasOnePrice Reaches → IsDecided one → IsDecided other → IsPriceAnswer Reaches one → IsPriceAnswer Reaches other → one ≡ other
+one-price : (Reaches : ℤ → Type 0) (one other : PriceAnswer) → HasOnePrice Reaches → IsDecidedPrice one → IsDecidedPrice other → IsPriceAnswer Reaches one → IsPriceAnswer Reaches other → one ≡ other
 one-price Reaches (Price t) (Price u) has sure settled is also = ap Price (has.one_is_printed t u is also)
 one-price Reaches (Price t) BelowZero has sure settled is also = absurd (has.none_below_zero t is also)
 one-price Reaches (Price t) (Undecided b) has sure settled is also = absurd settled

@@ -42,16 +42,16 @@ abbrev pub whole_verdict : ℕ → ℕ → ℕ → Verdict
 whole_verdict low high x = if nat_le x low then Yes else (if nat_lt high x then No else Unsure)
 
 -- an answer that is not open
-abbrev pub IsDecided : PriceAnswer → Type 0
-IsDecided (Price t) = ⊤
-IsDecided BelowZero = ⊤
-IsDecided (Undecided boundary) = ⊥
+abbrev pub IsDecidedPrice : PriceAnswer → Type 0
+IsDecidedPrice (Price t) = ⊤
+IsDecidedPrice BelowZero = ⊤
+IsDecidedPrice (Undecided boundary) = ⊥
 
 -- two answers that are decided and right at a yield are the same
 abbrev pub OnePriceIsRight : Type 0
 OnePriceIsRight =
     (series : PaymentSeries) (y : ℤ) (one other : PriceAnswer)
-    → IsManyPeriodsBoundary y → IsDecided one → IsDecided other
+    → IsManyPeriodsBoundary y → IsDecidedPrice one → IsDecidedPrice other
     → IsPriceAnswer (AtLeast (to_come series) y) one
     → IsPriceAnswer (AtLeast (to_come series) y) other
     → one ≡ other
