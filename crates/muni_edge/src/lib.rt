@@ -8,9 +8,9 @@ mod fault;
 mod faults;
 mod gate;
 mod link;
+mod outside;
 mod sink;
 mod source;
-mod steps;
 
 pub use calls::Calls;
 pub use door::{Door, MemDoor};
@@ -18,6 +18,6 @@ pub use fault::{Failed, NoMemory};
 pub use faults::Faults;
 pub use gate::{Gate, NoGate};
 pub use link::{Link, MemLink};
+pub use outside::Steps;
 pub use sink::{MemSink, Sink};
 pub use source::{MemSource, Source};
-pub use steps::Steps;

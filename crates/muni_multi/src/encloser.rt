@@ -5,7 +5,6 @@ ghost use Rattle.muni_rule.specs.ManyPeriods.{to_come};
 ghost use Rattle.muni_rule.specs.Payments.{PaymentSeries, IsSeries};
 ghost use Rattle.muni_rule.specs.Ranges.{IsManyPeriodsBoundary};
 ghost use Rattle.muni_rule.specs.WorthEnds.{WorthEnds, HoldsWorth, IsNarrow, enclosure_ends};
-ghost use Rattle.muni_multi.specs.Agreement.{EnclosuresAgree};
 
 use crate::Discount;
 use muni_span::worth::Worth;
@@ -42,9 +41,3 @@ pub trait Encloser {
         → IsSeries series → 2 ≤ series.n → IsManyPeriodsBoundary y
         → IsNarrow (ends e series y) };
 }
-
-/// A law of the definitions: two enclosures of one worth never contradict each other. If one says
-/// that the price reaches another price, or is more, the other does not say that it is not.
-pub fn enclosures_agree()
-    ensures { EnclosuresAgree }
-{}

@@ -2,7 +2,7 @@
 
 ghost use Rattle.std.specs.Prelude.{◌≡◌, ◌+◌, ◌*◌, ◌^◌, ◌≤◌, IfSome};
 ghost use Rattle.muni_rule.specs.ExactCases as cases;
-ghost use Rattle.muni_rule.specs.ManyPeriods.{discount_divisor, sum_to, discounted_sum};
+ghost use Rattle.muni_rule.specs.ManyPeriods.{sum_to, discounted_sum};
 ghost use Rattle.muni_rule.specs.Payments as series;
 ghost use Rattle.muni_rule.specs.Ranges.{IsManyPeriodsBoundary};
 ghost use Rattle.muni_rule.specs.WorthEnds as rule;
@@ -11,6 +11,7 @@ ghost use Rattle.muni_rule.specs.WorthEnds.{more_half_years, ends_of};
 use crate::ends::Ends;
 use crate::payments::{payment_at, total};
 use crate::{Discount, Encloser};
+use muni_span::span::divisor_of;
 use muni_terms::Flows;
 
 /// The ends that verdicts are read off: the worth itself in an exact case, and else an enclosure.
@@ -31,15 +32,6 @@ pub(crate) fn ends<E: Encloser>(encloser: &E, flows: &Flows, discount: &Discount
         hi: worth.hi(),
         unit: 4096,
     }
-}
-
-// Two million and the yield.
-fn divisor_of(y: i32) -> u64
-    requires { IsManyPeriodsBoundary y }
-    ensures value { result ≡ discount_divisor y }
-    ensures range { result ≤ 3_000_005 }
-{
-    (2_000_000 + y) as u64
 }
 
 fn exact_worth(flows: &Flows, divisor: u64) -> Option<Ends>

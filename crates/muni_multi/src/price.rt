@@ -2,14 +2,13 @@
 
 ghost use Rattle.std.specs.Prelude.{◌≡◌, ◌+◌, ◌*◌, ◌/◌, ◌<◌, ◌≤◌};
 ghost use Rattle.muni_rule.specs.ManyPeriods.{to_come, AtLeast};
-ghost use Rattle.muni_rule.specs.Ranges.{IsManyPeriodsBoundary};
 ghost use Rattle.muni_rule.specs.Verdicts.{at_least_verdict, dirty_thousandths};
 ghost use Rattle.muni_rule.specs.WorthEnds.{ends_of};
-ghost use Rattle.muni_multi.specs.Prices.{figure, whole_verdict, IsPriceOutcome, IsPriceAnswer, IsDoubtfulAnswer, OnePriceIsRight};
+ghost use Rattle.muni_multi.specs.Prices.{figure, whole_verdict, IsPriceOutcome, IsPriceAnswer, IsDoubtfulAnswer};
 
 use crate::exact::ends;
 use crate::{Discount, Encloser};
-use muni_dec::{Price3, Yield};
+use muni_dec::Price3;
 use muni_terms::Flows;
 
 /// The price at a yield.
@@ -25,23 +24,9 @@ pub enum PriceAnswer {
     Undecided { boundary: Price3 },
 }
 
-/// The dollar price at a yield, from -5.0005 to 100.0005 percent (MSRB Rule G-33(b)(i)). Two
-/// payments or more are to come.
+/// The dollar price at the yield of a discount on the day of the settlement (MSRB Rule G-33(b)(i)).
+/// Two payments or more are to come.
 // The encloser is called once at most, and not at all in an exact case (tested).
-pub fn printed_price<E: Encloser>(encloser: &E, flows: &Flows, y: Yield) -> PriceAnswer
-    requires many { 2 ≤ flows.now.n }
-    requires y { IsManyPeriodsBoundary y }
-    ensures exact { IsPriceAnswer (AtLeast (to_come flows.now) y) result }
-    ensures undecided { IsDoubtfulAnswer flows.now y result }
-    ensures outcome { IsPriceOutcome (λ t. at_least_verdict
-        (ends_of flows.now y (E.ends encloser.now flows.now y))
-        (dirty_thousandths flows.now.accrued t)) result }
-    ensures small { figure result ≤ 100_000_000 }
-{
-    printed_price_at(encloser, flows, &Discount::at(y.units() as i32, flows.a()))
-}
-
-/// The same at the yield of a discount on the day of the settlement.
 pub fn printed_price_at<E: Encloser>(
     encloser: &E,
     flows: &Flows,
@@ -86,9 +71,3 @@ fn price_between(low: u64, high: u64, accrued: u64) -> PriceAnswer
         }
     }
 }
-
-/// A law of the definitions: of the answers that are right at a yield at most one is not
-/// `Undecided`.
-pub fn at_most_one_price_is_right()
-    ensures { OnePriceIsRight }
-{}

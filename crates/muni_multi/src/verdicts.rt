@@ -1,9 +1,6 @@
 //! Verdicts on the price at a yield.
 
-ghost use Rattle.std.specs.Prelude.{◌≡◌, ◌+◌, ◌*◌, ◌^◌, ◌<◌, ◌≤◌, pos};
-ghost use Rattle.muni_rule.specs.Doubt.{IsDoubtful};
-ghost use Rattle.muni_rule.specs.ManyPeriods.{to_come, AtLeast, More};
-ghost use Rattle.muni_rule.specs.Ranges.{IsManyPeriodsBoundary};
+ghost use Rattle.std.specs.Prelude.{◌≡◌, ◌+◌, ◌*◌, ◌^◌, ◌<◌, ◌≤◌};
 ghost use Rattle.muni_rule.specs.Verdicts.{at_least_verdict, more_verdict};
 ghost use Rattle.muni_rule.specs.WorthEnds.{ends_of};
 ghost use Rattle.muni_multi.specs.Readings.{is_clear, told};
@@ -24,42 +21,10 @@ pub struct Reading {
     pub clear: bool,
 }
 
-/// Whether the exact price at a yield in 10^-6, from -50,005 to 1,000,005, is at least a price
-/// (MSRB Rule G-33(b)(i)). Two payments or more are to come.
+/// Whether the exact price at the yield of a discount, on the day of the settlement, is at least a
+/// price (MSRB Rule G-33(b)(i)). Two payments or more are to come.
 ///
-/// An exact case is decided by whole numbers, and any other by the ends of the enclosure. `Unsure`
-/// comes only if the exact price is within 10^-9 dollars of the price.
-pub fn at_least<E: Encloser>(encloser: &E, flows: &Flows, y: i32, price: Price) -> Verdict
-    requires many { 2 ≤ flows.now.n }
-    requires y { IsManyPeriodsBoundary y }
-    ensures verdict { result ≡ at_least_verdict
-        (ends_of flows.now y (E.ends encloser.now flows.now y))
-        (360_000 * price + flows.now.accrued) }
-    ensures yes { result ≡ Verdict.Yes → AtLeast (to_come flows.now) y (pos (360_000 * price)) }
-    ensures no { result ≡ Verdict.No →
-        ¬ (AtLeast (to_come flows.now) y (pos (360_000 * price))) }
-    ensures unsure { result ≡ Verdict.Unsure →
-        IsDoubtful flows.now y (pos (360_000 * price)) }
-{
-    at_least_at(encloser, flows, &Discount::at(y, flows.a()), price).verdict
-}
-
-/// Whether the exact price at a yield is more than a price, and else as `at_least`.
-pub fn more<E: Encloser>(encloser: &E, flows: &Flows, y: i32, price: Price) -> Verdict
-    requires many { 2 ≤ flows.now.n }
-    requires y { IsManyPeriodsBoundary y }
-    ensures verdict { result ≡ more_verdict
-        (ends_of flows.now y (E.ends encloser.now flows.now y))
-        (360_000 * price + flows.now.accrued) }
-    ensures yes { result ≡ Verdict.Yes → More (to_come flows.now) y (pos (360_000 * price)) }
-    ensures no { result ≡ Verdict.No → ¬ (More (to_come flows.now) y (pos (360_000 * price))) }
-    ensures unsure { result ≡ Verdict.Unsure →
-        IsDoubtful flows.now y (pos (360_000 * price)) }
-{
-    more_at(encloser, flows, &Discount::at(y, flows.a()), price).verdict
-}
-
-/// What `at_least` says at the yield of a discount on the day of the settlement.
+/// An exact case is decided by whole numbers, and any other by the ends of the enclosure.
 pub fn at_least_at<E: Encloser>(
     encloser: &E,
     flows: &Flows,
@@ -80,7 +45,7 @@ pub fn at_least_at<E: Encloser>(
     told(&ends, dirty, at_least_between(&ends, dirty))
 }
 
-/// What `more` says at the yield of a discount on the day of the settlement.
+/// Whether the exact price is more than a price, and else as `at_least_at`.
 pub fn more_at<E: Encloser>(
     encloser: &E,
     flows: &Flows,

@@ -8,7 +8,7 @@ ghost use Rattle.muni_span.specs.Holding.{HoldsPower};
 ghost use Rattle.muni_span.specs.Powers.{product_end, power_from_half, power_low, power_high};
 ghost use Rattle.muni_span.specs.Widths.{whole_above};
 
-use crate::rounding::{ONE, Rounding};
+use crate::rounding::Rounding;
 use std::marker::Model;
 
 /// The fractions from `lo` to `hi`, in units of 2^-60.
@@ -51,22 +51,6 @@ impl Span {
         ensures { result ≡ self.now.hi }
     {
         self.hi
-    }
-
-    /// The product. As fractions, the upper ends have a product of at most 15.
-    pub fn mul(self, other: Span) -> Span
-        requires bounded { self.hi * other.hi ≤ 15 * 2 ^ 120 }
-        ensures lo { result.lo ≡ self.lo * other.lo / 2 ^ 60 }
-        ensures hi { result.hi ≡ (self.hi * other.hi + (2 ^ 60 - 1)) / 2 ^ 60 }
-
-        // Whatever fractions the j-th powers hold, those of the product hold their product.
-        ensures encloses { (j n d m e : ℕ) → HoldsPower (2 ^ 60) self.lo self.hi j n d →
-            HoldsPower (2 ^ 60) other.lo other.hi j m e →
-            HoldsPower (2 ^ 60) result.lo result.hi j (n * m) (d * e) }
-    {
-        let lo = (self.lo as u128 * other.lo as u128) >> 60;
-        let hi = (self.hi as u128 * other.hi as u128 + (ONE - 1) as u128) >> 60;
-        Span::new(lo as u64, hi as u64)
     }
 
     /// The k-th power, by squaring. As a fraction, the power of the upper end is at most 15.
@@ -121,8 +105,9 @@ pub fn recip(y: i32) -> Span
     Span::new(lo as u64, hi as u64)
 }
 
-/// Two million and the yield.
-fn divisor_of(y: i32) -> u64
+/// The divisor of a half-year at a yield in millionths, from -50,005 to 1,000,005: two million and
+/// the yield. The discount factor is two million divided by it.
+pub fn divisor_of(y: i32) -> u64
     requires { IsManyPeriodsBoundary y }
     ensures value { result ≡ discount_divisor y }
     ensures at_least { 1_949_995 ≤ result }

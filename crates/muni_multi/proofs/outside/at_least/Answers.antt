@@ -2,8 +2,8 @@ use Rattle.std.proofs.Common.{◌≡◌, ◌+◌, ◌*◌, rules}
 use Rattle.muni_rule.specs.Verdicts.{at_least_verdict}
 use Rattle.muni_rule.specs.WorthEnds.{ends_of}
 use Rattle.muni_rule.proofs.EnclosedLemmas.{IsEnclosed, enclosed, at_least-true, at_least-false, at_least-doubtful}
-use Rattle.muni_multi.proofs.verdicts.at_least.Given as given
-use Rattle.muni_multi.proofs.verdicts.at_least.Goals as goal
+use Rattle.muni_multi.proofs.outside.at_least.Given as given
+use Rattle.muni_multi.proofs.outside.at_least.Goals as goal
 
 law : (g : given.Over) (c : goal.After-at_least_at g) → IsEnclosed c.args.flows.now c.args.y (g.E.Encloser.ends c.args.encloser.now c.args.flows.now c.args.y)
 law g c =

@@ -3,9 +3,9 @@ use Rattle.std.proofs.lemmas.Int.{ints}
 use Rattle.muni_rule.specs.Verdicts.{at_least_verdict, dirty_thousandths}
 use Rattle.muni_rule.specs.WorthEnds.{ends_of}
 use Rattle.muni_multi.specs.Prices.{IsPriceOutcome, IsDoubtfulAnswer}
-use Rattle.muni_multi.proofs.price.printed_price.Given as given
-use Rattle.muni_multi.proofs.price.printed_price.Goals.{After-printed_price_at}
-use Rattle.muni_multi.proofs.price.printed_price.Goals as goal
+use Rattle.muni_multi.proofs.outside.printed_price.Given as given
+use Rattle.muni_multi.proofs.outside.printed_price.Goals.{After-printed_price_at}
+use Rattle.muni_multi.proofs.outside.printed_price.Goals as goal
 
 same : (g : given.Over) (c : After-printed_price_at g) → c.at.result.y ≡ c.args.y
 same g c =

@@ -3,7 +3,7 @@ use Rattle.std.proofs.Math.Nat.{mul-le-mul}
 use Rattle.muni_rule.specs.Payments as rule
 use Rattle.muni_multi.specs.Horner.{sum_high}
 use Rattle.muni_multi.proofs.HornerTurns.{turn-low, turn-high, last-low, last-high, turn-fits, factor-small}
-use Rattle.muni_multi.proofs.horner.discounted_sum.Goals as goal
+use Rattle.muni_multi.proofs.outside.discounted_sum.Goals as goal
 
 pub loop-k-init : goal.loop-k-init
 loop-k-init c = record {

@@ -1,11 +1,11 @@
-//! A counter of steps that takes no bytes.
+//! For callers outside; the program goes by `Schedule::yield_to_worst`, which counts no steps.
 
 ghost use Rattle.std.specs.Prelude.{◌≡◌, ◌<◌, ◌+◌, ◌-◌, ◌^◌};
 
 use std::marker::Model;
 use std::sync::ledger::{Blank, Book, Ledger, Share};
 
-/// How many steps were taken. Contracts alone can read it.
+/// How many steps were taken. It takes no bytes, and contracts alone can read it.
 #[derive(Drop)]
 pub struct Steps<L: Ledger> {
     book: Book<L>,

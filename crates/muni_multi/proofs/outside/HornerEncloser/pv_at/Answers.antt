@@ -4,7 +4,7 @@ use Rattle.muni_span.specs.Roots.{root_low, root_high}
 use Rattle.muni_multi.specs.LastStep.{discount_low, discount_high, part_low, part_high, settled_low, settled_high}
 use Rattle.muni_multi.specs.Horner.{sum_low, sum_high, horner_ends}
 use Rattle.muni_multi.proofs.HornerTurns.{settled-low, settled-high}
-use Rattle.muni_multi.proofs.horner.HornerEncloser.pv_at.Goals as goal
+use Rattle.muni_multi.proofs.outside.HornerEncloser.pv_at.Goals as goal
 
 low : (c : goal.After-scale) → c.scale.result.lo ≡ settled_low (sum_low (rule.payment_at c.args.flows.now) (discount_low c.args.discount.now.y) c.args.flows.now.n 0) c.args.discount.now.y c.args.flows.now.a
 low c =

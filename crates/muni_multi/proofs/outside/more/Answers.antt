@@ -2,8 +2,8 @@ use Rattle.std.proofs.Common.{◌≡◌, ◌+◌, ◌*◌, rules}
 use Rattle.muni_rule.specs.Verdicts.{more_verdict}
 use Rattle.muni_rule.specs.WorthEnds.{ends_of}
 use Rattle.muni_rule.proofs.EnclosedLemmas.{IsEnclosed, enclosed, more-true, more-false, more-doubtful}
-use Rattle.muni_multi.proofs.verdicts.more.Given as given
-use Rattle.muni_multi.proofs.verdicts.more.Goals as goal
+use Rattle.muni_multi.proofs.outside.more.Given as given
+use Rattle.muni_multi.proofs.outside.more.Goals as goal
 
 law : (g : given.Over) (c : goal.After-more_at g) → IsEnclosed c.args.flows.now c.args.y (g.E.Encloser.ends c.args.encloser.now c.args.flows.now c.args.y)
 law g c =

@@ -1,5 +1,5 @@
 use Rattle.muni_multi.specs.HornerLaws.{sums-narrow, last_step-encloses}
-use Rattle.muni_multi.proofs.horner.sums_are_narrow.Goals as goal
+use Rattle.muni_multi.proofs.laws.sums_are_narrow.Goals as goal
 
 pub returns-clause-sums : goal.returns-clause-sums
 returns-clause-sums c = sums-narrow

@@ -6,7 +6,7 @@ use Rattle.muni_rule.proofs.EnclosedLemmas.{divisor-least}
 use Rattle.muni_rule.proofs.ExactLemmas.{ends-hold}
 use Rattle.muni_rule.proofs.VerdictLemmas.{at_least-yes, at_least-no, more-yes, more-no}
 use Rattle.muni_multi.specs.Agreement.{HoldOneWorth, NeverContradict}
-use Rattle.muni_multi.proofs.encloser.enclosures_agree.Goals as goal
+use Rattle.muni_multi.proofs.laws.enclosures_agree.Goals as goal
 
 agree : (series : PaymentSeries) (y : ℤ) (one other : WorthEnds) (price : ℕ) → HoldOneWorth series y one other → NeverContradict series y one other price
 agree series y one other price hold =

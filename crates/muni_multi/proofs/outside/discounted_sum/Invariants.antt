@@ -1,7 +1,7 @@
 use Rattle.std.proofs.Common.{◌≡◌, ◌-◌}
 use Rattle.muni_rule.specs.Payments as rule
 use Rattle.muni_multi.specs.Horner.{sum_low, sum_high}
-use Rattle.muni_multi.proofs.horner.discounted_sum.Given as goal
+use Rattle.muni_multi.proofs.outside.discounted_sum.Given as goal
 
 abbrev pub invariant-loop-k : goal.invariant-loop-k
 invariant-loop-k l = record {
