@@ -29,7 +29,7 @@ pub passed : {X : Type 0} (test : Bool) (fault : X) (behind : Option X) → cond
 passed true fault behind none = (refl, none)
 passed false fault behind none = absurd (cc)
 
-pub neither : (fault other : Option TermsFault) → Check.first_of fault other ≡ None → (fault ≡ None) × (other ≡ None)
+pub neither : (fault other : Option TermsFault) → Check.first_fault fault other ≡ None → (fault ≡ None) × (other ≡ None)
 neither None other none = (refl, none)
 neither (Some fault) other none = absurd (cc)
 

@@ -100,15 +100,15 @@ call_fault row before call =
     else None))
 
 -- the first fault, or else the second
-abbrev pub first_of : Option TermsFault → Option TermsFault → Option TermsFault
-first_of None other = other
-first_of (Some fault) other = Some fault
+abbrev pub first_fault : Option TermsFault → Option TermsFault → Option TermsFault
+first_fault None other = other
+first_fault (Some fault) other = Some fault
 
 -- what is wrong with the calls: the first fault of the first call that has one
 abbrev pub calls_fault : IssueRow → Option Day → List Call → Option TermsFault
 calls_fault row before [] = None
 calls_fault row before (call ∷ calls) =
-    first_of (call_fault row before call) (calls_fault row (Some call.date) calls)
+    first_fault (call_fault row before call) (calls_fault row (Some call.date) calls)
 
 -- what is wrong with the rest of a row
 unfoldable pub early_fault : IssueRow → Option TermsFault
@@ -125,7 +125,7 @@ early_fault row =
 
 -- what is wrong with a row: the fault of the first test that fails
 unfoldable pub fault_of : IssueRow → Option TermsFault
-fault_of row = first_of (early_fault row) (calls_fault row None row.calls.items)
+fault_of row = first_fault (early_fault row) (calls_fault row None row.calls.items)
 
 -- a row, or its fault
 abbrev pub unless_fault : IssueRow → Option TermsFault → Result IssueRow TermsFault
