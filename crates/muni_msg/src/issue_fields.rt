@@ -42,17 +42,8 @@ pub fn read_issue_name(text: &[u8]) -> Option<ArrayVec<u8, 60>>
 pub fn read_coupon(kind: Kind, text: &[u8]) -> Option<Coupon>
     ensures { result ≡ spec.coupon_by (terms.pays_interest kind) text.now }
 {
-    if text.is_empty() && !pays_interest(kind) {
+    if text.is_empty() && !kind.pays_interest() {
         return Some(Coupon::new(0));
     }
     Coupon::read(text).ok()
-}
-
-fn pays_interest(kind: Kind) -> bool
-    ensures { result ≡ terms.pays_interest kind }
-{
-    match kind {
-        Kind::Periodic { .. } | Kind::AtRedemption => true,
-        Kind::Zero | Kind::Discount => false,
-    }
 }

@@ -134,6 +134,7 @@ impl Issue {
                 price,
             ),
             Kind::Zero => zero_flows(self.row.maturity, settlement, redemption, price),
+            // `kind` excludes notes: they have no quasi-coupon dates.
             Kind::AtRedemption | Kind::Discount => unreachable!(),
         }
     }

@@ -3,6 +3,7 @@
 ghost use Rattle.std.specs.Prelude.{◌≡◌, ◌↔◌, true};
 ghost use Rattle.std.specs.Cmp.Rules.{comparing};
 ghost use Rattle.std.proofs.Common.{rules};
+ghost use Rattle.muni_terms.specs.Check.{pays_interest};
 ghost use Rattle.muni_terms.specs.Fault.{fault_number};
 
 use arrayvec::ArrayVec;
@@ -38,6 +39,18 @@ pub enum Kind {
     AtRedemption,
     /// Not at all: it is sold at a discount.
     Discount,
+}
+
+impl Kind {
+    /// Whether any interest is paid, periodically or at redemption.
+    pub fn pays_interest(self) -> bool
+        ensures { result ≡ pays_interest self }
+    {
+        match self {
+            Kind::Periodic { .. } | Kind::AtRedemption => true,
+            Kind::Zero | Kind::Discount => false,
+        }
+    }
 }
 
 /// The terms of an issue as they are given. At maturity it is redeemed at 100.
@@ -119,14 +132,6 @@ impl TermsFault {
     }
 }
 
-fn copy_name(name: &ArrayVec<u8, 60>) -> ArrayVec<u8, 60>
-    ensures { result ≡ name.now }
-{
-    let mut copy = ArrayVec::new();
-    let _ = copy.try_extend_from_slice(name);
-    copy
-}
-
 fn copy_calls(calls: &ArrayVec<Call, 40>) -> ArrayVec<Call, 40>
     ensures { result ≡ calls.now }
 {
@@ -194,7 +199,7 @@ impl IssueRow {
     {
         IssueRow {
             cusip: self.cusip,
-            name: copy_name(&self.name),
+            name: self.copy_name(),
             kind: self.kind,
             basis: self.basis,
             dated: self.dated,
@@ -202,5 +207,14 @@ impl IssueRow {
             coupon: self.coupon,
             calls: copy_calls(&self.calls),
         }
+    }
+
+    /// A name of equal value.
+    pub fn copy_name(&self) -> ArrayVec<u8, 60>
+        ensures { result ≡ self.now.name }
+    {
+        let mut copy = ArrayVec::new();
+        let _ = copy.try_extend_from_slice(&self.name);
+        copy
     }
 }
