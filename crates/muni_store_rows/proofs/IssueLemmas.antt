@@ -21,7 +21,7 @@ use Rattle.muni_terms.proofs.IssueLemmas.{passed, neither}
 use Rattle.muni_msg.specs.Codes.{basis_code, kind_code}
 use Rattle.muni_msg.specs.IssueFields.{cusip_reading, issue_name_reading}
 use Rattle.muni_store_rows.specs.Codes.{basis_of, code_in, coupon_of}
-use Rattle.muni_store_rows.specs.Issue.{columns_of, first_of, issue_of, kind_of}
+use Rattle.muni_store_rows.specs.Issue.{columns_of, first_text, issue_of, kind_of}
 use Rattle.muni_store_rows.proofs.TextLemmas.{ArePriced, day_again, calls-read-again}
 
 -- ---- what follows from the tests that an issue passes
@@ -70,7 +70,7 @@ issue_name-again name few is =
     let most : nat_le (length name.items) 60 ≡ true = grind (arith, nat_tests, few) in
     rw (least, most) refl
 
-kind-again : (kind : Kind) → kind_of (pos (kind_code kind)) (first_of kind) ≡ Some kind
+kind-again : (kind : Kind) → kind_of (pos (kind_code kind)) (first_text kind) ≡ Some kind
 kind-again (Periodic first) = rw (day_again first) refl
 kind-again Zero = refl
 kind-again AtRedemption = refl

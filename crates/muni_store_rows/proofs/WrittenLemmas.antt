@@ -39,7 +39,7 @@ use Rattle.muni_msg.specs.declared.version.Act.TheVariants.{Entered, Corrected, 
 use Rattle.muni_msg.specs.declared.version.Version.{Version}
 use Rattle.muni_store_rows.specs.Codes.{natural, code_in, count, signed_count, price_of, printed_price_of, par_of, fee_of, money_of, cusip_of, act_of, side_of, label_of, given_of, basis_of, coupon_of}
 use Rattle.muni_store_rows.specs.Calls.{calls_text, calls_of, if_written}
-use Rattle.muni_store_rows.specs.Issue.{first_of, plain_kind, kind_coded, kind_of}
+use Rattle.muni_store_rows.specs.Issue.{first_text, plain_kind, kind_coded, kind_of}
 use Rattle.muni_store_rows.specs.Issue as issues
 use Rattle.muni_store_rows.specs.Version.{AskedColumns, FigureColumns, Columns, asked_columns, figure_columns, columns_of, key_of, asked_of, figures_of, trade_of}
 
@@ -299,29 +299,29 @@ empty-is : (text : List ℕ) → (length text == 0) ≡ true → text ≡ []
 empty-is [] h = refl
 empty-is (byte ∷ text) h = absurd (omega (arith, equal (length (byte ∷ text)) 0 h))
 
-plain-is : (code : ℕ) (first : List ℕ) (kind : Kind) → first ≡ [] → plain_kind code ≡ Some kind → (code ≡ kind_code kind) × (first ≡ first_of kind)
+plain-is : (code : ℕ) (first : List ℕ) (kind : Kind) → first ≡ [] → plain_kind code ≡ Some kind → (code ≡ kind_code kind) × (first ≡ first_text kind)
 plain-is code first kind none h = elim (branch (code == 1) _ _ kind h) [
-  | inl one ↦ let same = some-is Zero kind one.1 in (equal code 1 one.0 ∙ ap kind_code same, none ∙ ap first_of same)
+  | inl one ↦ let same = some-is Zero kind one.1 in (equal code 1 one.0 ∙ ap kind_code same, none ∙ ap first_text same)
   | inr more ↦ elim (branch (code == 2) _ _ kind more.1) [
-    | inl two ↦ let same = some-is AtRedemption kind two.1 in (equal code 2 two.0 ∙ ap kind_code same, none ∙ ap first_of same)
+    | inl two ↦ let same = some-is AtRedemption kind two.1 in (equal code 2 two.0 ∙ ap kind_code same, none ∙ ap first_text same)
     | inr most ↦ elim (branch (code == 3) _ _ kind most.1) [
-      | inl three ↦ let same = some-is Discount kind three.1 in (equal code 3 three.0 ∙ ap kind_code same, none ∙ ap first_of same)
+      | inl three ↦ let same = some-is Discount kind three.1 in (equal code 3 three.0 ∙ ap kind_code same, none ∙ ap first_text same)
       | inr other ↦ absurd (let e = other.1 in cc)
     ]
   ]
 ]
 
-coded-is : (code : ℕ) (first : List ℕ) (kind : Kind) → kind_coded code first ≡ Some kind → (code ≡ kind_code kind) × (first ≡ first_of kind)
+coded-is : (code : ℕ) (first : List ℕ) (kind : Kind) → kind_coded code first ≡ Some kind → (code ≡ kind_code kind) × (first ≡ first_text kind)
 coded-is code first kind h = elim (branch (code == 0) _ _ kind h) [
   | inl periodic ↦ let m = mapped (λ date. Periodic date) (day_in first) kind periodic.1 in
-      (equal code 0 periodic.0 ∙ ap kind_code m.2, day-is first m.0 m.1 ∙ ap first_of m.2)
+      (equal code 0 periodic.0 ∙ ap kind_code m.2, day-is first m.0 m.1 ∙ ap first_text m.2)
   | inr other ↦ elim (branch (length first == 0) _ _ kind other.1) [
     | inl plain ↦ plain-is code first kind (empty-is first plain.0) plain.1
     | inr none ↦ absurd (let e = none.1 in cc)
   ]
 ]
 
-kind-is : (column : ℤ) (first : List ℕ) (kind : Kind) → kind_of column first ≡ Some kind → (column ≡ pos (kind_code kind)) × (first ≡ first_of kind)
+kind-is : (column : ℤ) (first : List ℕ) (kind : Kind) → kind_of column first ≡ Some kind → (column ≡ pos (kind_code kind)) × (first ≡ first_text kind)
 kind-is column first kind h =
     let b = bound (natural column) (λ code. kind_coded code first) kind h in
     let both = coded-is b.0 first kind b.2 in

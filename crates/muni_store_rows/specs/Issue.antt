@@ -44,11 +44,11 @@ columns_1 cusip name kind dated first maturity coupon calls =
     columns_2 cusip name kind dated first maturity coupon calls (pos 0)
 
 -- the first interest date, or nothing if there is none
-abbrev pub first_of : Kind → List ℕ
-first_of (Periodic first) = day_text (civil first)
-first_of Zero = []
-first_of AtRedemption = []
-first_of Discount = []
+abbrev pub first_text : Kind → List ℕ
+first_text (Periodic first) = day_text (civil first)
+first_text Zero = []
+first_text AtRedemption = []
+first_text Discount = []
 
 -- the columns of an issue
 unfoldable pub columns_of : IssueRow → Columns
@@ -57,7 +57,7 @@ columns_of row = record {
   name = row.name.items;
   kind = pos (kind_code row.kind);
   dated = day_text (civil row.dated);
-  first = first_of row.kind;
+  first = first_text row.kind;
   maturity = day_text (civil row.maturity);
   coupon = pos row.coupon;
   calls = calls_text row.calls.items;

@@ -67,7 +67,7 @@ pub fn issue_columns(issue: &Issue) -> IssueColumns
     let row = issue.row();
     IssueColumns {
         cusip: row.cusip,
-        name: copy_name(&row.name),
+        name: row.copy_name(),
         kind: i64::from(kind_code(row.kind)),
         dated: print_day(row.dated),
         first: print_first(row.kind),
@@ -78,16 +78,8 @@ pub fn issue_columns(issue: &Issue) -> IssueColumns
     }
 }
 
-fn copy_name(name: &ArrayVec<u8, 60>) -> ArrayVec<u8, 60>
-    ensures { result ≡ name.now }
-{
-    let mut copy = ArrayVec::new();
-    let _ = copy.try_extend_from_slice(name);
-    copy
-}
-
 fn print_first(kind: Kind) -> ArrayVec<u8, 32>
-    ensures { result.items ≡ spec.first_of kind }
+    ensures { result.items ≡ spec.first_text kind }
 {
     match kind {
         Kind::Periodic { first } => print_day(first),

@@ -5,9 +5,11 @@ mod calls;
 mod codes;
 mod issue;
 pub mod laws;
+mod outside;
 mod version;
 mod written_version;
 
 pub use issue::{IssueColumns, issue_1, issue_2, issue_columns};
-pub use version::{AskedRow, FigureRow, TradeRow, version_1, version_2};
+pub use outside::{version_1, version_2};
+pub use version::{AskedRow, FigureRow, TradeRow};
 pub use written_version::WrittenVersion;
