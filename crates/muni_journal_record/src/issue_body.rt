@@ -125,12 +125,7 @@ fn few_calls_of(count: u8, bytes: &[u8]) -> Option<ArrayVec<Call, 40>>
 fn name_of(text: &[u8]) -> Option<ArrayVec<u8, 60>>
     ensures { option_map (λ name. name.items) result ≡ spec.name_of text.now }
 {
-    if text.len() > 60 {
-        return None;
-    }
-    let mut name = ArrayVec::new();
-    let _ = name.try_extend_from_slice(text);
-    Some(name)
+    ArrayVec::try_from(text).ok()
 }
 
 fn first_size(code: u8) -> usize
