@@ -4,12 +4,12 @@
 pub mod columns;
 pub mod laws;
 pub mod line;
+mod outside;
 mod reader;
 mod report;
 mod row;
-mod rows;
 
+pub use outside::read_rows;
 pub use reader::RowReader;
 pub use report::report_row;
 pub use row::RowFault;
-pub use rows::read_rows;

@@ -2,7 +2,7 @@ use Rattle.std.proofs.Common.{◌≡◌, ◌++◌, ◌∷◌, [], rules, arith}
 use Rattle.std.proofs.lemmas.List.{length-append}
 use Rattle.muni_import.specs.Rows.{rows_of}
 use Rattle.muni_import.proofs.RowLemmas.{read-more, read-few, few-rows}
-use Rattle.muni_import.proofs.rows.read_rows.Goals as goal
+use Rattle.muni_import.proofs.outside.read_rows.Goals as goal
 
 pub loop-count-preserved : goal.loop-count-preserved
 loop-count-preserved c =

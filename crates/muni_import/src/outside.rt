@@ -1,4 +1,4 @@
-//! All rows of a text.
+//! For callers outside; the program goes by `RowReader`.
 
 ghost use Rattle.std.specs.Prelude.{◌≡◌, IfOk};
 ghost use Rattle.muni_import.specs.Rows.{rows_of};
@@ -9,14 +9,15 @@ use muni_edge::NoMemory;
 use muni_msg::Command;
 use std::alloc::Global;
 
-/// Reads all rows of a text: the command of each, or why it is none. Want of memory is the only
-/// refusal.
+/// Reads all rows of a text: the command of each, or why it is none. Running out of memory is the
+/// only refusal.
 pub fn read_rows(alloc: Global, text: &[u8]) -> Result<Vec<Result<Command, RowFault>>, NoMemory>
     ensures { IfOk result (λ rows. rows.items ≡ rows_of text.now) }
 {
     let mut rows = Vec::new(alloc);
     let mut reader = RowReader::new(alloc, text);
     for count in 0..text.len() + 1 {
+        // Proofs alone read the count.
         let _count = count;
         let Some(row) = reader.next_row()? else {
             return Ok(rows);
@@ -25,5 +26,6 @@ pub fn read_rows(alloc: Global, text: &[u8]) -> Result<Vec<Result<Command, RowFa
             return Err(NoMemory);
         }
     }
+    // Each row takes a byte at least, so the text is at its end before the count is.
     unreachable!()
 }

@@ -1,7 +1,7 @@
 use Rattle.std.proofs.Common.{◌≡◌, length}
 use Rattle.muni_import.specs.Rows.{rows_of}
 use Rattle.muni_import.proofs.RowLemmas.{HasRead}
-use Rattle.muni_import.proofs.rows.read_rows.Given as goal
+use Rattle.muni_import.proofs.outside.read_rows.Given as goal
 
 abbrev pub invariant-loop-count : goal.invariant-loop-count
 invariant-loop-count l = record {
