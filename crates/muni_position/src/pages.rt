@@ -34,6 +34,7 @@ pub(crate) fn sum_desk<K: Keeper>(
     let mut after = None;
     let mut count = 0;
     'pages: for turn in 0..MOST_TRADES + 1 {
+        // Proofs alone read the number of the turn.
         let _turn = turn;
         let page = keeper.page(desk, &after)?;
         let Some(last) = page.last() else {
@@ -46,6 +47,7 @@ pub(crate) fn sum_desk<K: Keeper>(
         }
         add_lines(&mut holdings, page.as_slice())?;
     }
+    // Each page but the last has a trade, so the count passes the limit before the turns end.
     unreachable!()
 }
 
