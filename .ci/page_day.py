@@ -201,7 +201,7 @@ class Day:
         told = page.press(button, form + "-told", sure)
         means, todo = page.words["refusals"][str(refused)][1:]
         if refused == 3:
-            todo = todo.removeprefix("an issue: ").split(". A trade: ")[form != "issue"]
+            todo = todo["issue" if form == "issue" else "trade"]
         words = [line + "\n", "What it means: %s." % means, "What to do: %s." % todo, "Nothing was changed."]
         self.has(name, words, told + "\n")
         self.check(name + ": what was typed stays", typed, page.typed())

@@ -66,7 +66,8 @@ def words(day):
     for number, name, _, means, todo in refusals:
         ours = page.words["refusals"].get(number, ["", "", ""])
         # What leads to RULES.md cannot be told here, nor what is of quote-one alone.
-        is_told = todo == ours[2] or ("RULES.md" in todo and ours[2] != "" and ours[2] in todo)
+        texts = ours[2].values() if isinstance(ours[2], dict) else [ours[2]]
+        is_told = todo == ours[2] or all(text and text in todo for text in texts)
         wanted = (name, means.split("; of quote-one")[0], True)
         day.check("the words of refusal " + number, wanted, (*ours[:2], is_told))
     statuses = [row for row in rows_of("docs/HTTP.md", 3) if row[0][:3].isdigit() and row[0][3] == " "]

@@ -263,7 +263,7 @@ class BadTerms(Refused):
 
     number = 4
     means = "the terms fail a test, so the desk cannot price the issue"
-    todo = "look the number up in docs/RULES.md and mend the terms"
+    todo = "mend the terms"
 
     @property
     def fault(self) -> int:
@@ -313,7 +313,7 @@ class NoTime(Refused):
 
     number = 9
     means = "the day count leaves no day up to this redemption, so there is no yield"
-    todo = "settle on another day; where interest is paid, a yield may be given"
+    todo = "settle on another day; if interest is paid, a yield may be given"
 
 
 class Undecided(Refused):
