@@ -16,6 +16,7 @@ pub struct Input<R> {
 }
 
 impl<R> Input<R> {
+    /// A source that reads from `reader`.
     pub fn new(reader: R) -> Input<R>
         ensures { result.faults ≡ 0 }
     {

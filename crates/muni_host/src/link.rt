@@ -19,6 +19,7 @@ pub struct StreamLink<S> {
 }
 
 impl<S> StreamLink<S> {
+    /// A connection that reads from `stream` and writes to it.
     pub fn new(stream: S) -> StreamLink<S>
         ensures reads { result.read_faults ≡ 0 }
         ensures writes { result.write_faults ≡ 0 }

@@ -16,6 +16,7 @@ pub struct Output<W> {
 }
 
 impl<W> Output<W> {
+    /// A sink that writes to `writer`.
     pub fn new(writer: W) -> Output<W>
         ensures { result.faults ≡ 0 }
     {

@@ -21,6 +21,7 @@ pub struct SqlCabinet<'a> {
 }
 
 impl<'a> SqlCabinet<'a> {
+    /// A cabinet of the files of this machine, none of which is open.
     pub fn new(rt: &'a HostRuntime) -> SqlCabinet<'a>
         ensures none_out { result.lent ≡ None }
         ensures faults { result.faults ≡ 0 }
