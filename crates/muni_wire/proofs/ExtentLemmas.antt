@@ -6,7 +6,8 @@ use Rattle.std.proofs.lemmas.List.{append_assoc, length-append, length-drop, tak
 use Rattle.httparse.specs.Grammar.{RequestHead, print_request, HasNoRequest, ReadsRequest}
 use Rattle.httparse.proofs.GrammarLemmas.{request_unique}
 use Rattle.muni_wire.specs.Awaited.{plan_of}
-use Rattle.muni_wire.specs.Extent.{TakesAtMost, TakesHead, IsNoFurther, ReadsNoFurther, awaited_size, piece_limit}
+use Rattle.muni_edge.specs.declared.source.Source as source
+use Rattle.muni_wire.specs.Extent.{IsTake, LastTake, TakesOnlyWhile, AwaitsMore, TakesAtMost, TakesHead, IsNoFurther, ReadsNoFurther, awaited_size, piece_limit}
 use Rattle.muni_wire.specs.Head.{HasHead, head_limit}
 use Rattle.muni_wire.specs.Taken.{IsWholeAt}
 use Rattle.muni_wire.specs.declared.routes.Form.{Form}
@@ -23,26 +24,44 @@ pub fewer : (count most : ℕ) (old new : Option (List ℕ)) → count ≤ most 
 fewer count most old new fits takes = record { piece = takes.piece; taken = takes.taken; few = omega (arith, fits, takes.few) }
 
 -- what was taken, and then a piece
-pub one-more : (had items piece : List ℕ) (limit count : ℕ) (old mid new : Option (List ℕ)) → Consumes old mid piece → items ≡ had ++ piece
-    → length items ≤ limit → count ≤ limit - length items → TakesAtMost count mid new → TakesAtMost (limit - length had) old new
-one-more had items piece limit count old mid new took is inside fits next =
+pub one-more : {L : Type 0} (takes : source.Ghosts L) (had items piece : List ℕ) (limit count : ℕ) (old mid new : L) → Consumes (takes.left old) (takes.left mid) piece → items ≡ had ++ piece
+    → length items ≤ limit → count ≤ limit - length items → IsTake takes count mid new → TakesAtMost (limit - length had) (takes.left old) (takes.left new)
+one-more takes had items piece limit count old mid new took is inside fits next =
     record {
       piece = piece ++ next.piece;
-      taken = both-taken old mid new piece next.piece (piece ++ next.piece) took next.taken refl;
+      taken = both-taken (takes.left old) (takes.left mid) (takes.left new) piece next.piece (piece ++ next.piece) took next.taken refl;
       few = omega (arith, length-append piece next.piece, ap length is, length-append had piece, inside, fits, next.few);
     }
 
-pub for-head : (before : List ℕ) (count : ℕ) (old mid new : Option (List ℕ)) → Consumes old mid before → HasNoRequest before → length before ≤ head_limit
-    → count ≤ piece_limit → count ≤ head_limit - length before → TakesAtMost count mid new → TakesHead old new
-for-head before count old mid new took none inside fits room next =
+abbrev wider : {L : Type 0} (takes : source.Ghosts L) (count most : ℕ) (old new : L) → count ≤ most → IsTake takes count old new → IsTake takes most old new
+wider takes count most old new fits next = record { piece = next.piece; taken = next.taken; few = omega (arith, fits, next.few); keeps = next.keeps }
+
+-- and while less than a limit was there
+pub one-ready : {L : Type 0} (takes : source.Ghosts L) (had items piece : List ℕ) (limit count : ℕ) (old mid new : L) → Consumes (takes.left old) (takes.left mid) piece → items ≡ had ++ piece
+    → length items < limit → count ≤ piece_limit → IsTake takes count mid new → TakesOnlyWhile takes (λ before. length had + length before < limit) old new
+one-ready takes had items piece limit count old mid new took is short fits next =
+    inr (record {
+      mid = mid;
+      before = piece;
+      taken = took;
+      such = omega (arith, ap length is, length-append had piece, short);
+      last = wider takes count piece_limit mid new fits next;
+    })
+
+pub for-head : {L : Type 0} (takes : source.Ghosts L) (before : List ℕ) (count : ℕ) (old mid new : L) → Consumes (takes.left old) (takes.left mid) before → HasNoRequest before
+    → length before ≤ head_limit → count ≤ piece_limit → count ≤ head_limit - length before → IsTake takes count mid new → TakesHead takes old new
+for-head takes before count old mid new took none inside fits room next =
+    let most : length (before ++ next.piece) ≤ head_limit = omega (arith, length-append before next.piece, inside, room, next.few) in
     record {
-      before = before;
-      last = next.piece;
-      taken = both-taken old mid new before next.piece (before ++ next.piece) took next.taken refl;
-      none = none;
-      few = omega (arith, fits, next.few);
-      most = omega (arith, length-append before next.piece, inside, room, next.few);
+      takes_last = record { mid = mid; before = before; taken = took; such = none; last = wider takes count piece_limit mid new fits next };
+      most = most;
     }
+
+-- all that was taken for a head
+head-taken : {L : Type 0} (takes : source.Ghosts L) (old new : L) (t : TakesHead takes old new) → Consumes (takes.left old) (takes.left new) (t.takes_last.before ++ t.takes_last.last.piece)
+head-taken takes old new t =
+    let last = t.takes_last in
+    both-taken (takes.left old) (takes.left last.mid) (takes.left new) last.before last.last.piece (last.before ++ last.last.piece) last.taken last.last.taken refl
 
 -- ---- no further than a request
 
@@ -73,12 +92,15 @@ told-head None new before last took none few most = tt
 told-head (Some all) None before last took none few most = absurd took
 told-head (Some all) (Some rest) before last took none few most = no-further all before last rest took none few most
 
-pub head_no_further : (old new : Option (List ℕ)) → TakesHead old new → ReadsNoFurther old new
-head_no_further old new takes = record {
-  piece = takes.before ++ takes.last;
-  taken = takes.taken;
-  few = told-head old new takes.before takes.last takes.taken takes.none takes.few takes.most;
-}
+pub head_no_further : {L : Type 0} (takes : source.Ghosts L) (old new : L) → TakesHead takes old new → ReadsNoFurther (takes.left old) (takes.left new)
+head_no_further takes old new t =
+    let last = t.takes_last in
+    let taken = head-taken takes old new t in
+    record {
+      piece = last.before ++ last.last.piece;
+      taken = taken;
+      few = told-head (takes.left old) (takes.left new) last.before last.last.piece taken last.such last.last.few t.most;
+    }
 
 -- a head and its body
 with-body : (all left before last items piece : List ℕ) (end size : ℕ) (form : Form)
@@ -113,10 +135,44 @@ told-body (Some all) None new before last items piece end size form took had non
 told-body (Some all) (Some left) new before last items piece end size form took had none short whole then few =
     with-body all left before last items piece end size form took had none short whole few
 
-pub body_no_further : (old mid new : Option (List ℕ)) (items : List ℕ) (end size : ℕ) (form : Form) → TakesHead old mid → Consumes old mid items
-    → IsWholeAt items end (plan.Read form size) → TakesAtMost (end + size - length items) mid new → ReadsNoFurther old new
-body_no_further old mid new items end size form head had whole body = record {
-  piece = (head.before ++ head.last) ++ body.piece;
-  taken = both-taken old mid new (head.before ++ head.last) body.piece ((head.before ++ head.last) ++ body.piece) head.taken body.taken refl;
-  few = told-body old mid new head.before head.last items body.piece end size form head.taken had head.none head.few whole body.taken body.few;
-}
+pub body_no_further : {L : Type 0} (takes : source.Ghosts L) (old mid new : L) (items : List ℕ) (end size : ℕ) (form : Form) → TakesHead takes old mid
+    → Consumes (takes.left old) (takes.left mid) items → IsWholeAt items end (plan.Read form size) → TakesAtMost (end + size - length items) (takes.left mid) (takes.left new)
+    → ReadsNoFurther (takes.left old) (takes.left new)
+body_no_further takes old mid new items end size form t had whole body =
+    let last = t.takes_last in
+    let taken = head-taken takes old mid t in
+    record {
+      piece = (last.before ++ last.last.piece) ++ body.piece;
+      taken = both-taken (takes.left old) (takes.left mid) (takes.left new) (last.before ++ last.last.piece) body.piece ((last.before ++ last.last.piece) ++ body.piece) taken body.taken refl;
+      few = told-body (takes.left old) (takes.left mid) (takes.left new) last.before last.last.piece items body.piece end size form taken had last.such last.last.few whole body.taken body.few;
+    }
+
+-- ---- only while more is awaited
+
+pub head_ready : {L : Type 0} (takes : source.Ghosts L) (old new : L) → TakesHead takes old new → TakesOnlyWhile takes AwaitsMore old new
+head_ready takes old new t =
+    let last = t.takes_last in
+    inr (record { mid = last.mid; before = last.before; taken = last.taken; such = λ h rest reads. absurd (last.such h rest reads); last = last.last })
+
+-- a head that has come, and less than its body
+awaits-body : (items piece : List ℕ) (end size : ℕ) (form : Form) → IsWholeAt items end (plan.Read form size) → length items + length piece < end + size → AwaitsMore (items ++ piece)
+awaits-body items piece end size form whole short h rest reads =
+    let w = whole piece in
+    let same = request_unique (items ++ piece) w.1 h (drop end items ++ piece) rest w.2.reads reads in
+    let wanted : size ≡ awaited_size (plan_of h) = ap awaited_size w.3 ∙ ap (λ (k : RequestHead). awaited_size (plan_of k)) same.0 in (
+      subst (λ l. HasHead (items ++ piece) h l) same.1 (subst (λ (k : RequestHead). HasHead (items ++ piece) k (drop end items ++ piece)) same.0 w.2),
+      omega (arith, w.0, short, wanted, ap length same.1, length-append (drop end items) piece, length-drop end items),
+    )
+
+pub body_ready : {L : Type 0} (takes : source.Ghosts L) (old mid new : L) (items : List ℕ) (end size : ℕ) (form : Form) → TakesHead takes old mid
+    → Consumes (takes.left old) (takes.left mid) items → IsWholeAt items end (plan.Read form size)
+    → TakesOnlyWhile takes (λ before. length items + length before < end + size) mid new → TakesOnlyWhile takes AwaitsMore old new
+body_ready takes old mid new items end size form t had whole (inl same) = subst (λ n. TakesOnlyWhile takes AwaitsMore old n) (sym same) (head_ready takes old mid t)
+body_ready takes old mid new items end size form t had whole (inr last) =
+    inr (record {
+      mid = last.mid;
+      before = items ++ last.before;
+      taken = both-taken (takes.left old) (takes.left mid) (takes.left last.mid) items last.before (items ++ last.before) had last.taken refl;
+      such = awaits-body items last.before end size form whole last.such;
+      last = last.last;
+    })

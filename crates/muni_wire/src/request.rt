@@ -1,8 +1,8 @@
 //! One request of a connection.
 
-ghost use Rattle.std.specs.Prelude.{◌≡◌, ◌≤◌, ◌+◌, ◌-◌, drop, ◌++◌, IfSome, vec_len};
+ghost use Rattle.std.specs.Prelude.{◌≡◌, ◌≤◌, ◌<◌, ◌+◌, ◌-◌, drop, ◌++◌, length, IfSome, vec_len};
 ghost use Rattle.muni_wire.specs.BodyLength.{body_limit};
-ghost use Rattle.muni_wire.specs.Extent.{ReadsNoFurther, TakesAtMost};
+ghost use Rattle.muni_wire.specs.Extent.{AwaitsMore, ReadsNoFurther, TakesAtMost, TakesOnlyWhile};
 ghost use Rattle.muni_wire.specs.Faults.{TakesAndTells};
 ghost use Rattle.muni_wire.specs.Head.{head_limit};
 ghost use Rattle.muni_wire.specs.Laws.{IsTheAnswer};
@@ -27,6 +27,7 @@ pub fn read_request<L: Link>(alloc: Global, link: &mut L) -> Result<Command, Wir
     ensures allowed { IfSome (L.left link.old) (λ bytes. Allows bytes result) }
     ensures only { IfSome (L.left link.old) (λ bytes. IsTheAnswer bytes result) }
     ensures no_further { ReadsNoFurther (L.left link.old) (L.left link.new) }
+    ensures ready { TakesOnlyWhile L.Source AwaitsMore link.old link.new }
     ensures takes { TakesAndTells L.Source L.Sink result link.old link.new }
 {
     read_by_head(alloc, link)
@@ -35,6 +36,7 @@ pub fn read_request<L: Link>(alloc: Global, link: &mut L) -> Result<Command, Wir
 fn read_by_head<L: Link>(alloc: Global, link: &mut L) -> Result<Command, WireFault>
     ensures allowed { IfSome (L.left link.old) (λ bytes. Allows bytes result) }
     ensures no_further { ReadsNoFurther (L.left link.old) (L.left link.new) }
+    ensures ready { TakesOnlyWhile L.Source AwaitsMore link.old link.new }
     ensures takes { TakesAndTells L.Source L.Sink result link.old link.new }
 {
     // The routes agree with one another, so that only memory can be missing for them.
@@ -70,6 +72,8 @@ fn take_body<L: Link>(
     ensures answer { IfSome (L.left link.old)
         (λ left. IsAnswerTo form size (drop end bytes.old.items ++ left) result) }
     ensures few { TakesAtMost (end + size - vec_len bytes.old) (L.left link.old) (L.left link.new) }
+    ensures ready { TakesOnlyWhile L.Source (λ before. length bytes.old.items + length before < end + size)
+        link.old link.new }
     ensures takes { TakesAndTells L.Source L.Sink result link.old link.new }
 {
     fill(link, bytes, end + size)?;

@@ -4,7 +4,7 @@ ghost use Rattle.std.specs.Prelude.{◌≡◌, ◌≤◌, ◌<◌, ◌+◌, ◌-
 ghost use Rattle.std.specs.Io.KnownBytes.{Consumes, IsAtEnd};
 ghost use Rattle.std.specs.List.{list_any};
 ghost use Rattle.httparse.specs.Grammar.{HasNoRequest};
-ghost use Rattle.muni_wire.specs.Extent.{TakesAtMost, TakesHead, piece_limit};
+ghost use Rattle.muni_wire.specs.Extent.{IsTake, TakesAtMost, TakesHead, TakesOnlyWhile, piece_limit};
 ghost use Rattle.muni_wire.specs.Faults.{TakesOnly};
 ghost use Rattle.muni_wire.specs.Head.{EndsInHead, head_limit};
 ghost use Rattle.muni_wire.specs.Routes.{routes as all_routes};
@@ -30,7 +30,7 @@ pub(crate) fn read_head<L: Link>(
     ensures head { IfOk result (λ read. IsHeadOf read.0 read.1.items (L.left link.new)) }
     ensures taken { IfOk result
         (λ read. Consumes (L.left link.old) (L.left link.new) read.1.items) }
-    ensures no_further { TakesHead (L.left link.old) (L.left link.new) }
+    ensures no_further { TakesHead L.Source link.old link.new }
     ensures takes { TakesOnly L.Source L.Sink result link.old link.new }
 {
     let mut bytes = Vec::new(alloc);
@@ -102,6 +102,8 @@ pub(crate) fn fill<L: Link>(
         × (bytes.new.items ≡ bytes.old.items ++ piece)) }
     ensures end { OnOk result (vec_len bytes.new < limit → IsAtEnd (L.left link.new)) }
     ensures few { TakesAtMost (limit - vec_len bytes.old) (L.left link.old) (L.left link.new) }
+    ensures ready { TakesOnlyWhile L.Source (λ before. length bytes.old.items + length before < limit)
+        link.old link.new }
     ensures takes { TakesOnly L.Source L.Sink result link.old link.new }
 {
     for turn in 0..81_921usize {
@@ -127,8 +129,7 @@ fn take_more<L: Link>(link: &mut L, bytes: &mut Vec<u8>, limit: usize) -> Result
         × Consumes (L.left link.old) (L.left link.new) piece
         × (bytes.new.items ≡ bytes.old.items ++ piece)) }
     ensures end { IfOk result (λ count. count ≡ 0 → IsAtEnd (L.left link.new)) }
-    ensures few { TakesAtMost (min piece_limit (limit - vec_len bytes.old))
-        (L.left link.old) (L.left link.new) }
+    ensures one { IsTake L.Source (min piece_limit (limit - vec_len bytes.old)) link.old link.new }
     ensures takes { TakesOnly L.Source L.Sink result link.old link.new }
 {
     let mut room = [0u8; 1024];

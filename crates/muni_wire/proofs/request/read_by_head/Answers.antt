@@ -1,5 +1,5 @@
 use Rattle.std.proofs.Common.{arith, ◌+◌, ◌-◌, length, vec_len, []}
-use Rattle.muni_wire.proofs.ExtentLemmas.{fewer, head_no_further, body_no_further}
+use Rattle.muni_wire.proofs.ExtentLemmas.{fewer, head_no_further, body_no_further, head_ready, body_ready}
 use Rattle.muni_wire.proofs.ReadingLemmas.{refused, asked, no-head, large-head, told-body}
 use Rattle.muni_wire.proofs.request.read_by_head.Goals as goal
 
@@ -40,28 +40,52 @@ returns-clause-allowed g c =
 
 pub returns-in_err-head-clause-no_further : goal.returns-in_err-head-clause-no_further
 returns-in_err-head-clause-no_further g c =
-    head_no_further (g.L.Source.left c.args.link.now) (g.L.Source.left c.read_head.new.link) c.read_head.ensures.no_further
+    head_no_further g.L.Source c.args.link.now c.read_head.new.link c.read_head.ensures.no_further
 
 pub returns-in-Never-clause-no_further : goal.returns-in-Never-clause-no_further
 returns-in-Never-clause-no_further g c =
-    head_no_further (g.L.Source.left c.args.link.now) (g.L.Source.left c.read_head.new.link) c.read_head.ensures.no_further
+    head_no_further g.L.Source c.args.link.now c.read_head.new.link c.read_head.ensures.no_further
 
 pub returns-in-TooLarge-clause-no_further : goal.returns-in-TooLarge-clause-no_further
 returns-in-TooLarge-clause-no_further g c =
-    head_no_further (g.L.Source.left c.args.link.now) (g.L.Source.left c.read_head.new.link) c.read_head.ensures.no_further
+    head_no_further g.L.Source c.args.link.now c.read_head.new.link c.read_head.ensures.no_further
 
 pub returns-in-Refuse-clause-no_further : goal.returns-in-Refuse-clause-no_further
 returns-in-Refuse-clause-no_further g c =
-    head_no_further (g.L.Source.left c.args.link.now) (g.L.Source.left c.read_head.new.link) c.read_head.ensures.no_further
+    head_no_further g.L.Source c.args.link.now c.read_head.new.link c.read_head.ensures.no_further
 
 pub returns-in-Ask-clause-no_further : goal.returns-in-Ask-clause-no_further
 returns-in-Ask-clause-no_further g c =
-    head_no_further (g.L.Source.left c.args.link.now) (g.L.Source.left c.read_head.new.link) c.read_head.ensures.no_further
+    head_no_further g.L.Source c.args.link.now c.read_head.new.link c.read_head.ensures.no_further
 
 pub returns-clause-no_further : goal.returns-clause-no_further
 returns-clause-no_further g c =
     let said = rw (c.in-Whole.is, c.in-Read.is) at c.in_ok-head.ensures in
-    body_no_further (g.L.Source.left c.args.link.now) (g.L.Source.left c.read_head.new.link) (g.L.Source.left c.take_body.new.link) c.in_ok-head.bytes.items c.in-Whole.end c.in-Read.size c.in-Read.form
+    body_no_further g.L.Source c.args.link.now c.read_head.new.link c.take_body.new.link c.in_ok-head.bytes.items c.in-Whole.end c.in-Read.size c.in-Read.form
     said.no_further said.taken said.head.0
     (fewer (c.in-Whole.end + c.in-Read.size - vec_len c.in_ok-head.bytes) (c.in-Whole.end + c.in-Read.size - length c.in_ok-head.bytes.items)
     (g.L.Source.left c.read_head.new.link) (g.L.Source.left c.take_body.new.link) (omega arith) c.take_body.ensures.few)
+
+pub returns-in_err-head-clause-ready : goal.returns-in_err-head-clause-ready
+returns-in_err-head-clause-ready g c = head_ready g.L.Source c.args.link.now c.read_head.new.link c.read_head.ensures.no_further
+
+pub returns-in-More-clause-ready : goal.returns-in-More-clause-ready
+returns-in-More-clause-ready g c = head_ready g.L.Source c.args.link.now c.read_head.new.link c.read_head.ensures.no_further
+
+pub returns-in-Never-clause-ready : goal.returns-in-Never-clause-ready
+returns-in-Never-clause-ready g c = head_ready g.L.Source c.args.link.now c.read_head.new.link c.read_head.ensures.no_further
+
+pub returns-in-TooLarge-clause-ready : goal.returns-in-TooLarge-clause-ready
+returns-in-TooLarge-clause-ready g c = head_ready g.L.Source c.args.link.now c.read_head.new.link c.read_head.ensures.no_further
+
+pub returns-in-Refuse-clause-ready : goal.returns-in-Refuse-clause-ready
+returns-in-Refuse-clause-ready g c = head_ready g.L.Source c.args.link.now c.read_head.new.link c.read_head.ensures.no_further
+
+pub returns-in-Ask-clause-ready : goal.returns-in-Ask-clause-ready
+returns-in-Ask-clause-ready g c = head_ready g.L.Source c.args.link.now c.read_head.new.link c.read_head.ensures.no_further
+
+pub returns-clause-ready : goal.returns-clause-ready
+returns-clause-ready g c =
+    let said = rw (c.in-Whole.is, c.in-Read.is) at c.in_ok-head.ensures in
+    body_ready g.L.Source c.args.link.now c.read_head.new.link c.take_body.new.link c.in_ok-head.bytes.items c.in-Whole.end c.in-Read.size c.in-Read.form
+    said.no_further said.taken said.head.0 c.take_body.ensures.ready

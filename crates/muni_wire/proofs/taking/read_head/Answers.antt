@@ -46,8 +46,8 @@ loop-turn-preserved g c =
 pub returns-in_err-count-clause-no_further : goal.returns-in_err-count-clause-no_further
 returns-in_err-count-clause-no_further g c =
     let count = min piece_limit (head_limit - vec_len c.loop-turn.bytes) in
-    for-head c.loop-turn.bytes.items count (g.L.Source.left c.args.link.now) (g.L.Source.left c.loop-turn.link) (g.L.Source.left c.take_more.new.link)
-    c.loop-turn.invariant.taken c.loop-turn.invariant.none (omega arith) (omega arith) (omega arith) c.take_more.ensures.few
+    for-head g.L.Source c.loop-turn.bytes.items count c.args.link.now c.loop-turn.link c.take_more.new.link
+    c.loop-turn.invariant.taken c.loop-turn.invariant.none (omega arith) (omega arith) (omega arith) c.take_more.ensures.one
 
 pub returns-then-is_settled-clause-taken : goal.returns-then-is_settled-clause-taken
 returns-then-is_settled-clause-taken g c =
@@ -58,8 +58,8 @@ returns-then-is_settled-clause-taken g c =
 pub returns-then-is_settled-clause-no_further : goal.returns-then-is_settled-clause-no_further
 returns-then-is_settled-clause-no_further g c =
     let count = min piece_limit (head_limit - vec_len c.loop-turn.bytes) in
-    for-head c.loop-turn.bytes.items count (g.L.Source.left c.args.link.now) (g.L.Source.left c.loop-turn.link) (g.L.Source.left c.take_more.new.link)
-    c.loop-turn.invariant.taken c.loop-turn.invariant.none (omega arith) (omega arith) (omega arith) c.take_more.ensures.few
+    for-head g.L.Source c.loop-turn.bytes.items count c.args.link.now c.loop-turn.link c.take_more.new.link
+    c.loop-turn.invariant.taken c.loop-turn.invariant.none (omega arith) (omega arith) (omega arith) c.take_more.ensures.one
 
 pub returns-then-is_settled-clause-head : goal.returns-then-is_settled-clause-head
 returns-then-is_settled-clause-head g c =
