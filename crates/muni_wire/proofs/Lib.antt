@@ -10,13 +10,10 @@ pub mod UniqueLemmas
 pub mod SomeReadingLemmas
 pub mod StatusLemmas
 pub mod CallLemmas
-pub mod RouteLemmas
 pub mod ListLemmas
 pub mod LeftOutLemmas
 pub mod AnswerLemmas
 pub mod PathLemmas
-pub mod PostLemmas
-pub mod OnePathLemmas
 pub mod FoundPathLemmas
 pub mod LengthLemmas
 pub mod MemberLemmas

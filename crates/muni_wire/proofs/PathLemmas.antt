@@ -1,6 +1,7 @@
 -- What a path is that leads to a request.
-use Rattle.std.proofs.Common.{◌≡◌, ◌+◌, ◌==◌, nat_lt, not, ℕ, suc, List, ◌∷◌, ◌++◌, length, take, drop, get_or, codes, bytes_eq, Bool, true, false, cond, Option, Some, None, Result, Err, position, refl, sym, ap, subst, ◌∙◌, arith}
+use Rattle.std.proofs.Common.{◌≡◌, ◌⊎◌, inl, inr, find, option_map, [], ◌+◌, ◌==◌, nat_lt, not, ℕ, suc, List, ◌∷◌, ◌++◌, length, take, drop, get_or, codes, bytes_eq, Bool, true, false, cond, Option, Some, None, Result, Err, position, refl, sym, ap, subst, ◌∙◌, arith}
 use Rattle.std.specs.Char.{is_ascii_alphanumeric}
+use Rattle.std.specs.Option.{option_or}
 use Rattle.std.specs.Result.{result_ok}
 use Rattle.std.proofs.Math.Seq.{split_at}
 use Rattle.std.proofs.lemmas.Bool.Decides.{nat_tests}
@@ -14,10 +15,9 @@ use Rattle.muni_msg.specs.declared.names.NameFault.{NameFault}
 use Rattle.muni_msg.specs.declared.names.NameFault.TheVariants.{Empty, TooLong}
 use Rattle.muni_msg.specs.declared.command.Command.TheVariants.{Confirm, List as ListTrades}
 use Rattle.muni_msg.specs.declared.command.Key.{Key}
-use Rattle.muni_wire.specs.Routes.{target_of, route_of, asked_on, trade_at, list_at, list_after_at, behind, key_of, key_at}
-use Rattle.muni_wire.specs.PathLaws.{IsKey}
-use Rattle.muni_wire.specs.declared.routes.Route.{Route}
-use Rattle.muni_wire.specs.declared.routes.Route.TheVariants as route
+use Rattle.muni_wire.specs.Routes.{target_of, post_at, trade_at, list_at, list_after_at, behind, key_of, key_at, form_of, forms, posted_under}
+use Rattle.muni_wire.specs.PathLaws.{IsKey, BodiesArePosted}
+use Rattle.muni_wire.specs.declared.routes.Form.{Form}
 use Rattle.muni_wire.specs.declared.routes.Target.{Target}
 use Rattle.muni_wire.specs.declared.routes.Target.TheVariants as target
 
@@ -46,7 +46,7 @@ passed : (b : Bool) (fault : NameFault) (rest : Result (List ℕ) NameFault) (na
 passed true fault rest name e = cc e
 passed false fault rest name e = (refl, e)
 
-text-is-name : (is_letter : ℕ → Bool) (most : ℕ) (text name : List ℕ) → result_ok (name_reading is_letter most text) ≡ Some name → IsName is_letter most text
+pub text-is-name : (is_letter : ℕ → Bool) (most : ℕ) (text name : List ℕ) → result_ok (name_reading is_letter most text) ≡ Some name → IsName is_letter most text
 text-is-name is_letter most text name e =
     let bad = position (λ b. not (is_letter b)) text in
     let some = passed (length text == 0) Empty (cond (nat_lt most (length text)) (Err TooLong) (unless_bad text bad)) name e in
@@ -149,40 +149,84 @@ no-list-after path c e =
     let second = both-there (key_of first.0) (λ k. Some (target.Get (ListTrades k.desk (Some k.reference)))) c first.2 in
     (second.0, cc second.2)
 
-confirms-on : (path : List ℕ) (way : Route) (key : Key) → asked_on path way ≡ Some (target.Get (Confirm key)) → IsKey key × (path ≡ codes "/trades/" ++ (key.desk ++ 47 ∷ key.reference))
-confirms-on path (route.Post form) key e = cc e
-confirms-on path route.Trade key e = trade-path path key e
-confirms-on path route.List key e = cc (no-list path (target.Get (Confirm key)) e).1
-confirms-on path route.ListAfter key e = cc (no-list-after path (target.Get (Confirm key)) e).1
+no-post : (path : List ℕ) (c : Target) → post_at path ≡ Some c → (form : Form) × (form_of path ≡ Some form) × (c ≡ target.Post form)
+no-post path c e = by (form_of path) refl e
+  where
+    by : (o : Option Form) → form_of path ≡ o → option_map (λ form. target.Post form) o ≡ Some c → (form : Form) × (form_of path ≡ Some form) × (c ≡ target.Post form)
+    by None is e = cc e
+    by (Some form) is e = (form, is, cc e)
 
-lists-on : (path desk : List ℕ) (way : Route) → asked_on path way ≡ Some (target.Get (ListTrades desk None)) → IsName is_desk_letter 16 desk × (path ≡ codes "/lists/" ++ desk)
-lists-on path desk (route.Post form) e = cc e
-lists-on path desk route.Trade e = cc (no-trade path (target.Get (ListTrades desk None)) e).1
-lists-on path desk route.List e = list-path path desk e
-lists-on path desk route.ListAfter e = cc (no-list-after path (target.Get (ListTrades desk None)) e).1
+-- the one of them that a path is
+either : {A : Type 0} (a b : Option A) (c : A) → option_or a b ≡ Some c → (a ≡ Some c) ⊎ (b ≡ Some c)
+either None b c e = inr e
+either (Some a) b c e = inl e
 
-goes-on : (path desk after : List ℕ) (way : Route) → asked_on path way ≡ Some (target.Get (ListTrades desk (Some after)))
+abbrev IsOneOf : List ℕ → Target → Type 0
+IsOneOf path c = (post_at path ≡ Some c) ⊎ (trade_at path ≡ Some c) ⊎ (list_at path ≡ Some c) ⊎ (list_after_at path ≡ Some c)
+
+later : {A B C : Type 0} → A ⊎ B → (B → C) → A ⊎ C
+later (inl a) next = inl a
+later (inr b) next = inr (next b)
+
+one-of : (path : List ℕ) (c : Target) → target_of path ≡ Some c → IsOneOf path c
+unfolding target_of
+one-of path c e =
+    later (either (post_at path) (option_or (trade_at path) (option_or (list_at path) (list_after_at path))) c e)
+    (λ e. later (either (trade_at path) (option_or (list_at path) (list_after_at path)) c e)
+    (λ e. either (list_at path) (list_after_at path) c e))
+
+confirms : (path : List ℕ) (key : Key) → IsOneOf path (target.Get (Confirm key)) → IsKey key × (path ≡ codes "/trades/" ++ (key.desk ++ 47 ∷ key.reference))
+confirms path key (inl e) = cc (no-post path (target.Get (Confirm key)) e).2
+confirms path key (inr (inl e)) = trade-path path key e
+confirms path key (inr (inr (inl e))) = cc (no-list path (target.Get (Confirm key)) e).1
+confirms path key (inr (inr (inr e))) = cc (no-list-after path (target.Get (Confirm key)) e).1
+
+lists : (path desk : List ℕ) → IsOneOf path (target.Get (ListTrades desk None)) → IsName is_desk_letter 16 desk × (path ≡ codes "/lists/" ++ desk)
+lists path desk (inl e) = cc (no-post path (target.Get (ListTrades desk None)) e).2
+lists path desk (inr (inl e)) = cc (no-trade path (target.Get (ListTrades desk None)) e).1
+lists path desk (inr (inr (inl e))) = list-path path desk e
+lists path desk (inr (inr (inr e))) = cc (no-list-after path (target.Get (ListTrades desk None)) e).1
+
+goes-on : (path desk after : List ℕ) → IsOneOf path (target.Get (ListTrades desk (Some after)))
     → IsName is_desk_letter 16 desk × IsName is_ascii_alphanumeric 20 after × (path ≡ codes "/lists/" ++ (desk ++ 47 ∷ after))
-goes-on path desk after (route.Post form) e = cc e
-goes-on path desk after route.Trade e = cc (no-trade path (target.Get (ListTrades desk (Some after))) e).1
-goes-on path desk after route.List e = cc (no-list path (target.Get (ListTrades desk (Some after))) e).1
-goes-on path desk after route.ListAfter e = list-after-path path desk after e
+goes-on path desk after (inl e) = cc (no-post path (target.Get (ListTrades desk (Some after))) e).2
+goes-on path desk after (inr (inl e)) = cc (no-trade path (target.Get (ListTrades desk (Some after))) e).1
+goes-on path desk after (inr (inr (inl e))) = cc (no-list path (target.Get (ListTrades desk (Some after))) e).1
+goes-on path desk after (inr (inr (inr e))) = list-after-path path desk after e
+
+posts : (path : List ℕ) (form : Form) → IsOneOf path (target.Post form) → form_of path ≡ Some form
+posts path form (inl e) = let post = no-post path (target.Post form) e in let same : post.0 ≡ form = cc post.2 in post.1 ∙ ap Some same
+posts path form (inr (inl e)) = cc (no-trade path (target.Post form) e).1
+posts path form (inr (inr (inl e))) = cc (no-list path (target.Post form) e).1
+posts path form (inr (inr (inr e))) = cc (no-list-after path (target.Post form) e).1
 
 pub trades-confirmed : (path : List ℕ) (key : Key) → target_of path ≡ Some (target.Get (Confirm key)) → IsKey key × (path ≡ codes "/trades/" ++ (key.desk ++ 47 ∷ key.reference))
-unfolding target_of
-trades-confirmed path key e =
-    let way = both-there (route_of path) (asked_on path) (target.Get (Confirm key)) e in
-    confirms-on path way.0 key way.2
+trades-confirmed path key e = confirms path key (one-of path (target.Get (Confirm key)) e)
 
 pub lists-given : (path desk : List ℕ) → target_of path ≡ Some (target.Get (ListTrades desk None)) → IsName is_desk_letter 16 desk × (path ≡ codes "/lists/" ++ desk)
-unfolding target_of
-lists-given path desk e =
-    let way = both-there (route_of path) (asked_on path) (target.Get (ListTrades desk None)) e in
-    lists-on path desk way.0 way.2
+lists-given path desk e = lists path desk (one-of path (target.Get (ListTrades desk None)) e)
 
 pub lists-go-on : (path desk after : List ℕ) → target_of path ≡ Some (target.Get (ListTrades desk (Some after)))
     → IsName is_desk_letter 16 desk × IsName is_ascii_alphanumeric 20 after × (path ≡ codes "/lists/" ++ (desk ++ 47 ∷ after))
+lists-go-on path desk after e = goes-on path desk after (one-of path (target.Get (ListTrades desk (Some after))) e)
+
+-- a form is found by its path
+found-by : (v : Bool) (here form : Form) (rest : Option Form) (path : List ℕ) → bytes_eq path (posted_under here) ≡ v → (rest ≡ Some form → path ≡ posted_under form)
+    → cond v (Some here) rest ≡ Some form → path ≡ posted_under form
+found-by true here form rest path is others e =
+    let same : path ≡ posted_under here = grind (arith, bytes_eq-Decides path (posted_under here), is) in
+    let form : here ≡ form = cc e in
+    same ∙ ap posted_under form
+found-by false here form rest path is others e = others e
+
+form-found : (path : List ℕ) (form : Form) (forms : List Form) → find (λ form. bytes_eq path (posted_under form)) forms ≡ Some form → path ≡ posted_under form
+form-found path form [] e = cc e
+form-found path form (here ∷ others) e =
+    found-by (bytes_eq path (posted_under here)) here form (find (λ form. bytes_eq path (posted_under form)) others) path refl (form-found path form others) e
+
+pub bodies-have-one-path : (path : List ℕ) (posted : Form) → target_of path ≡ Some (target.Post posted) → path ≡ posted_under posted
+bodies-have-one-path path posted e = form-found path posted forms (posts path posted (one-of path (target.Post posted) e))
+
+pub bodies-posted : BodiesArePosted
 unfolding target_of
-lists-go-on path desk after e =
-    let way = both-there (route_of path) (asked_on path) (target.Get (ListTrades desk (Some after))) e in
-    goes-on path desk after way.0 way.2
+bodies-posted = record { issues = refl; trades = refl; corrections = refl; cancels = refl; quotes = refl }

@@ -4,7 +4,7 @@ use Rattle.std.specs.Char.{is_ascii_alphanumeric}
 use Rattle.muni_msg.specs.Names.{IsName, is_desk_letter}
 use Rattle.muni_msg.specs.declared.command.Command.TheVariants.{Confirm, List as ListTrades}
 use Rattle.muni_msg.specs.declared.command.Key.{Key}
-use Rattle.muni_wire.specs.Routes.{target_of}
+use Rattle.muni_wire.specs.Routes.{posted_under, target_of}
 use Rattle.muni_wire.specs.declared.routes.Form.{Form}
 use Rattle.muni_wire.specs.declared.routes.Form.TheVariants as form
 use Rattle.muni_wire.specs.declared.routes.Target.TheVariants as target
@@ -39,14 +39,6 @@ ListsGoOn =
     (path desk after : List ℕ) → target_of path ≡ Some (target.Get (ListTrades desk (Some after)))
     → IsName is_desk_letter 16 desk × IsName is_ascii_alphanumeric 20 after
     × (path ≡ codes "/lists/" ++ (desk ++ 47 ∷ after))
-
--- the path under which a body of a form is posted
-abbrev pub posted_under : Form → List ℕ
-posted_under form.Issue = codes "/issues"
-posted_under form.Trade = codes "/trades"
-posted_under form.Correction = codes "/corrections"
-posted_under form.Cancellation = codes "/cancels"
-posted_under form.Quote = codes "/quotes"
 
 -- under no other path a body of that form is posted
 abbrev pub BodiesHaveOnePath : Type 0

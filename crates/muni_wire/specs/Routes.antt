@@ -1,65 +1,41 @@
--- Where the target of a request leads.
-use Rattle.std.specs.Prelude.{ℕ, ◌+◌, ◌==◌, List, [], ◌∷◌, ◌++◌, length, take, drop, position, codes, Option, Some, None, option_map, if◌then◌else◌}
+-- What is asked under the path of a request.
+use Rattle.std.specs.Prelude.{ℕ, ◌+◌, ◌==◌, List, [], ◌∷◌, length, take, drop, find, position, codes, Option, Some, None, option_map, if◌then◌else◌}
 use Rattle.std.specs.Char.{is_ascii_alphanumeric}
 use Rattle.std.specs.List.{before_first}
+use Rattle.std.specs.Option.{option_or}
 use Rattle.std.specs.Result.{result_ok}
-use Rattle.std.specs.Str.{bytes_eq, is_utf8}
-use Rattle.matchit.specs.Rows.{RowsOf, param_token}
-use Rattle.matchit.specs.Router.{RouteOf}
-use Rattle.matchit.specs.Seek.{first}
+use Rattle.std.specs.Str.{bytes_eq}
 use Rattle.muni_msg.specs.Fields.{◌>>=◌}
 use Rattle.muni_msg.specs.Names.{is_desk_letter}
 use Rattle.muni_msg.specs.NameReading.{name_reading}
 use Rattle.muni_msg.specs.declared.command.Command.TheVariants.{Confirm, List as ListTrades}
 use Rattle.muni_msg.specs.declared.command.Key.{Key}
+use Rattle.muni_wire.specs.declared.routes.Form.{Form}
 use Rattle.muni_wire.specs.declared.routes.Form.TheVariants as form
-use Rattle.muni_wire.specs.declared.routes.Route.{Route}
-use Rattle.muni_wire.specs.declared.routes.Route.TheVariants as route
 use Rattle.muni_wire.specs.declared.routes.Target.{Target}
 use Rattle.muni_wire.specs.declared.routes.Target.TheVariants as target
-
--- the row of a route: what a path has to be, the text of the route, where the names of its parts stand in
--- that text, and what stands there
-abbrev pub row : List ℕ → List ℕ → List (ℕ × ℕ) → Route → List ℕ × RouteOf Route
-row pattern text names value =
-    (pattern, record { pattern = pattern; text = text; names = names; value = value })
-
-abbrev pub plain : List ℕ → Route → List ℕ × RouteOf Route
-plain text value = row text text [] value
-
--- the paths to which a body is posted
-abbrev pub posts : RowsOf (RouteOf Route)
-posts =
-    plain (codes "/cancels") (route.Post form.Cancellation)
-    ∷ plain (codes "/corrections") (route.Post form.Correction)
-    ∷ plain (codes "/issues") (route.Post form.Issue)
-    ∷ plain (codes "/quotes") (route.Post form.Quote)
-    ∷ plain (codes "/trades") (route.Post form.Trade)
-    ∷ []
-
--- all routes, in the order in which a router keeps them
-abbrev pub routes : RowsOf (RouteOf Route)
-routes =
-    plain (codes "/cancels") (route.Post form.Cancellation)
-    ∷ plain (codes "/corrections") (route.Post form.Correction)
-    ∷ plain (codes "/issues") (route.Post form.Issue)
-    ∷ row (codes "/lists/" ++ param_token ∷ codes "/" ++ param_token ∷ []) (codes "/lists/{desk}/{after}") ((8, 12) ∷ (15, 20) ∷ []) route.ListAfter
-    ∷ row (codes "/lists/" ++ param_token ∷ []) (codes "/lists/{desk}") ((8, 12) ∷ []) route.List
-    ∷ plain (codes "/quotes") (route.Post form.Quote)
-    ∷ row (codes "/trades/" ++ param_token ∷ codes "/" ++ param_token ∷ []) (codes "/trades/{desk}/{reference}") ((9, 13) ∷ (16, 25) ∷ []) route.Trade
-    ∷ plain (codes "/trades") (route.Post form.Trade)
-    ∷ []
 
 -- the path of a target: what stands before its first `?`
 abbrev pub path_of : List ℕ → List ℕ
 path_of target = before_first (λ b. b == 63) target
 
--- the route that a path takes; each route is a text
-abbrev pub route_of_text : List ℕ → Option Route
-route_of_text path = option_map (λ found. found.value) (first routes path)
+-- the forms of a body, and the path to which one is posted
+abbrev pub forms : List Form
+forms = form.Issue ∷ form.Trade ∷ form.Correction ∷ form.Cancellation ∷ form.Quote ∷ []
 
-unfoldable pub route_of : List ℕ → Option Route
-route_of path = if is_utf8 path then route_of_text path else None
+abbrev pub posted_under : Form → List ℕ
+posted_under form.Issue = codes "/issues"
+posted_under form.Trade = codes "/trades"
+posted_under form.Correction = codes "/corrections"
+posted_under form.Cancellation = codes "/cancels"
+posted_under form.Quote = codes "/quotes"
+
+-- the form of the bodies that are posted to a path
+abbrev pub form_of : List ℕ → Option Form
+form_of path = find (λ form. bytes_eq path (posted_under form)) forms
+
+abbrev pub post_at : List ℕ → Option Target
+post_at path = option_map (λ form. target.Post form) (form_of path)
 
 -- what follows a prefix
 abbrev pub behind : List ℕ → List ℕ → Option (List ℕ)
@@ -97,13 +73,6 @@ list_after_at path = do
   key ← key_of text
   Some (target.Get (ListTrades key.desk (Some key.reference)))
 
--- what is asked on a route
-abbrev pub asked_on : List ℕ → Route → Option Target
-asked_on path (route.Post form) = Some (target.Post form)
-asked_on path route.Trade = trade_at path
-asked_on path route.List = list_at path
-asked_on path route.ListAfter = list_after_at path
-
--- what is asked under a path
+-- what is asked under a path: the one of these that it is
 unfoldable pub target_of : List ℕ → Option Target
-target_of path = route_of path >>= λ way. asked_on path way
+target_of path = option_or (post_at path) (option_or (trade_at path) (option_or (list_at path) (list_after_at path)))

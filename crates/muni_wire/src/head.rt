@@ -4,15 +4,13 @@ ghost use Rattle.std.specs.Prelude.{◌≡◌, ◌≤◌, ◌<◌, ℕ, List, tr
 ghost use Rattle.httparse.specs.Spans.{IsRequestWithin, header_bytes, span_bytes};
 ghost use Rattle.muni_wire.specs.Head.{EndsInHead, head_limit};
 ghost use Rattle.muni_wire.specs.Awaited as spec;
-ghost use Rattle.muni_wire.specs.Routes.{routes as all_routes};
 ghost use Rattle.muni_wire.specs.Taken.{IsSeenIn, IsWithinLimit};
 
 use crate::Bad;
 use crate::length::body_length;
-use crate::routes::{Form, Route, Target, find_target, path_of};
+use crate::routes::{Form, Target, find_target, path_of};
 use httparse::spans::{EMPTY_HEADER_SPAN, HeaderSpan, RequestSpans, parse_request};
 use httparse::{Error, Status};
-use matchit::Router;
 use muni_msg::Command;
 
 /// What is to be done about a request, by its head alone.
@@ -50,8 +48,7 @@ impl Head {
 }
 
 /// Looks at what has come. The answer stays right whatever comes after it.
-pub(crate) fn look(routes: &Router<Route>, bytes: &[u8]) -> Head
-    requires routes { routes.now ≡ all_routes }
+pub(crate) fn look(bytes: &[u8]) -> Head
     requires limit { length bytes.now ≤ head_limit }
 
     ensures seen { IsSeenIn bytes.now result }
@@ -61,7 +58,7 @@ pub(crate) fn look(routes: &Router<Route>, bytes: &[u8]) -> Head
     match parse_request(bytes, &mut headers) {
         Ok(Status::Complete(head)) => Head::Whole {
             end: head.len,
-            plan: plan_for(routes, bytes, &head, &headers),
+            plan: plan_for(bytes, &head, &headers),
         },
         Ok(Status::Partial) => {
             if bytes.len() < 16_384 {
@@ -75,13 +72,7 @@ pub(crate) fn look(routes: &Router<Route>, bytes: &[u8]) -> Head
     }
 }
 
-fn plan_for(
-    routes: &Router<Route>,
-    bytes: &[u8],
-    head: &RequestSpans,
-    headers: &[HeaderSpan],
-) -> Awaited
-    requires routes { routes.now ≡ all_routes }
+fn plan_for(bytes: &[u8], head: &RequestSpans, headers: &[HeaderSpan]) -> Awaited
     requires head { IsRequestWithin bytes.now headers.now head.now }
 
     ensures plan { result
@@ -90,7 +81,7 @@ fn plan_for(
     ensures limit { IsWithinLimit result }
 {
     let method = head.method.of(bytes);
-    match find_target(routes, path_of(head.path.of(bytes))) {
+    match find_target(path_of(head.path.of(bytes))) {
         None => Awaited::Refuse(Bad::NotFound),
         Some(Target::Get(command)) => {
             if method == b"GET".as_slice() {

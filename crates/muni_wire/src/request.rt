@@ -11,7 +11,7 @@ ghost use Rattle.muni_wire.specs.Taken.{IsAnswerTo};
 
 use crate::body::read_body;
 use crate::head::{Awaited, Head};
-use crate::routes::{Form, routes};
+use crate::routes::Form;
 use crate::taking::{fill, read_head};
 use crate::{Bad, WireFault};
 use muni_edge::Link;
@@ -30,20 +30,7 @@ pub fn read_request<L: Link>(alloc: Global, link: &mut L) -> Result<Command, Wir
     ensures ready { TakesOnlyWhile L.Source AwaitsMore link.old link.new }
     ensures takes { TakesAndTells L.Source L.Sink result link.old link.new }
 {
-    read_by_head(alloc, link)
-}
-
-fn read_by_head<L: Link>(alloc: Global, link: &mut L) -> Result<Command, WireFault>
-    ensures allowed { IfSome (L.left link.old) (λ bytes. Allows bytes result) }
-    ensures no_further { ReadsNoFurther (L.left link.old) (L.left link.new) }
-    ensures ready { TakesOnlyWhile L.Source AwaitsMore link.old link.new }
-    ensures takes { TakesAndTells L.Source L.Sink result link.old link.new }
-{
-    // The routes agree with one another, so that only memory can be missing for them.
-    let Ok(routes) = routes(alloc) else {
-        return Err(WireFault::NoMemory);
-    };
-    let (head, mut bytes) = read_head(alloc, &routes, link)?;
+    let (head, mut bytes) = read_head(alloc, link)?;
     match head {
         Head::More => Err(WireFault::Gone),
         Head::Never => Err(WireFault::Bad(Bad::BadRequest)),

@@ -1,13 +1,9 @@
-//! Where the target of a request leads.
+//! What is asked under the path of a request.
 
-ghost use Rattle.std.specs.Prelude.{◌≡◌, ◌==◌, ◌<◌, [], length, position, IfOk, IfSome, OnOk};
-ghost use Rattle.matchit.specs.Route.{parse_route};
+ghost use Rattle.std.specs.Prelude.{◌≡◌, ◌==◌, ◌<◌, length, position, IfSome};
 ghost use Rattle.muni_wire.specs.Routes as spec;
 
-use matchit::{InsertError, Router};
 use muni_msg::{Command, DeskName, Key, Reference};
-use std::alloc::Global;
-use std::str;
 
 /// What a body asks for.
 #[derive(Clone, Copy, Debug, PartialEq, Eq)]
@@ -19,56 +15,11 @@ pub(crate) enum Form {
     Quote,
 }
 
-/// What is under a path.
-#[derive(Clone, Copy, Debug, PartialEq, Eq)]
-pub(crate) enum Route {
-    /// A body is posted.
-    Post(Form),
-    /// A trade of a desk, to be confirmed.
-    Trade,
-    /// The trades of a desk.
-    List,
-    /// The trades of a desk after a reference.
-    ListAfter,
-}
-
-/// What is asked under a path.
+/// What is asked under a path: a body of a form is posted, or a trade or a list is got.
 #[derive(Drop)]
 pub(crate) enum Target {
     Post(Form),
     Get(Command),
-}
-
-/// The routes of the desk.
-pub(crate) fn routes(alloc: Global) -> Result<Router<Route>, InsertError>
-    ensures { IfOk result (λ routes. routes ≡ spec.routes) }
-{
-    let mut routes = Router::new(alloc);
-    add_posts(&mut routes)?;
-    add_gets(&mut routes)?;
-    Ok(routes)
-}
-
-fn add_posts(routes: &mut Router<Route>) -> Result<(), InsertError>
-    requires { routes.old ≡ [] }
-    ensures { OnOk result (routes.new ≡ spec.posts) }
-{
-    routes.insert("/issues", Route::Post(Form::Issue))?;
-    routes.insert("/trades", Route::Post(Form::Trade))?;
-    routes.insert("/corrections", Route::Post(Form::Correction))?;
-    routes.insert("/cancels", Route::Post(Form::Cancellation))?;
-    routes.insert("/quotes", Route::Post(Form::Quote))?;
-    Ok(())
-}
-
-fn add_gets(routes: &mut Router<Route>) -> Result<(), InsertError>
-    requires { routes.old ≡ spec.posts }
-    ensures { OnOk result (routes.new ≡ spec.routes) }
-{
-    routes.insert("/trades/{desk}/{reference}", Route::Trade)?;
-    routes.insert("/lists/{desk}", Route::List)?;
-    routes.insert("/lists/{desk}/{after}", Route::ListAfter)?;
-    Ok(())
 }
 
 /// The path of a target: what comes before the first `?`.
@@ -83,36 +34,37 @@ pub(crate) fn path_of(target: &[u8]) -> &[u8]
 
 /// What is asked under a path.
 #[tactic(auto, unfolding(crate::specs::Routes::target_of))]
-pub(crate) fn find_target(routes: &Router<Route>, path: &[u8]) -> Option<Target>
-    requires { routes.now ≡ spec.routes }
+pub(crate) fn find_target(path: &[u8]) -> Option<Target>
     ensures { result ≡ spec.target_of path.now }
 {
-    match find_route(routes, path)? {
-        Route::Post(form) => Some(Target::Post(form)),
-        Route::Trade => trade(path),
-        Route::List => list(path),
-        Route::ListAfter => list_after(path),
-    }
+    post(path)
+        .or_else(|| trade(path))
+        .or_else(|| list(path))
+        .or_else(|| list_after(path))
 }
 
-#[tactic(auto, using(crate::proofs::RouteLemmas::route_of_utf8, crate::proofs::RouteLemmas::route_of_bytes))]
-fn find_route(routes: &Router<Route>, path: &[u8]) -> Option<Route>
-    requires { routes.now ≡ spec.routes }
-    ensures { result ≡ spec.route_of path.now }
+fn post(path: &[u8]) -> Option<Target>
+    ensures { result ≡ spec.post_at path.now }
 {
-    match str::from_utf8(path) {
-        Ok(text) => find_route_of_text(routes, text),
-        Err(_) => None,
-    }
+    Some(Target::Post(find_form(path)?))
 }
 
-fn find_route_of_text(routes: &Router<Route>, path: &str) -> Option<Route>
-    requires { routes.now ≡ spec.routes }
-    ensures { result ≡ spec.route_of_text path.now }
+// The form of the bodies that are posted to a path.
+fn find_form(path: &[u8]) -> Option<Form>
+    ensures { result ≡ spec.form_of path.now }
 {
-    match routes.at(path) {
-        Ok(found) => Some(*found.value),
-        Err(_) => None,
+    if path == b"/issues".as_slice() {
+        Some(Form::Issue)
+    } else if path == b"/trades".as_slice() {
+        Some(Form::Trade)
+    } else if path == b"/corrections".as_slice() {
+        Some(Form::Correction)
+    } else if path == b"/cancels".as_slice() {
+        Some(Form::Cancellation)
+    } else if path == b"/quotes".as_slice() {
+        Some(Form::Quote)
+    } else {
+        None
     }
 }
 

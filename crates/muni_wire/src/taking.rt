@@ -7,25 +7,16 @@ ghost use Rattle.httparse.specs.Grammar.{HasNoRequest};
 ghost use Rattle.muni_wire.specs.Extent.{IsTake, TakesAtMost, TakesHead, TakesOnlyWhile, piece_limit};
 ghost use Rattle.muni_wire.specs.Faults.{TakesOnly};
 ghost use Rattle.muni_wire.specs.Head.{EndsInHead, head_limit};
-ghost use Rattle.muni_wire.specs.Routes.{routes as all_routes};
 ghost use Rattle.muni_wire.specs.Taken as spec;
 ghost use Rattle.muni_wire.specs.Taken.{AreBefore, IsHeadOf, IsSeenIn};
 
 use crate::WireFault;
 use crate::head::{Head, look};
-use crate::routes::Route;
-use matchit::Router;
 use muni_edge::{Failed, Link};
 use std::alloc::Global;
 
 /// Reads the head of a request, and returns it with all that was taken.
-pub(crate) fn read_head<L: Link>(
-    alloc: Global,
-    routes: &Router<Route>,
-    link: &mut L,
-) -> Result<(Head, Vec<u8>), WireFault>
-    requires { routes.now ≡ all_routes }
-
+pub(crate) fn read_head<L: Link>(alloc: Global, link: &mut L) -> Result<(Head, Vec<u8>), WireFault>
     ensures limit { IfOk result (λ read. vec_len read.1 ≤ head_limit) }
     ensures head { IfOk result (λ read. IsHeadOf read.0 read.1.items (L.left link.new)) }
     ensures taken { IfOk result
@@ -35,10 +26,9 @@ pub(crate) fn read_head<L: Link>(
 {
     let mut bytes = Vec::new(alloc);
     let mut has_begun = false;
-    for turn in 0..16_385usize {
-        let _turn = turn;
+    for _turn in 0..16_385usize {
         let count = take_more(link, &mut bytes, 16_384)?;
-        let head = look_behind_lines(routes, &bytes, count, &mut has_begun);
+        let head = look_behind_lines(&bytes, count, &mut has_begun);
         if head.is_settled(count) {
             return Ok((head, bytes));
         }
@@ -48,13 +38,7 @@ pub(crate) fn read_head<L: Link>(
 
 // Looks at what has come, if a line has ended in the last `count` bytes. A head ends with a line, and
 // empty lines may come before it. So a head that comes byte by byte is not looked at byte by byte.
-fn look_behind_lines(
-    routes: &Router<Route>,
-    bytes: &[u8],
-    count: usize,
-    has_begun: &mut bool,
-) -> Head
-    requires routes { routes.now ≡ all_routes }
+fn look_behind_lines(bytes: &[u8], count: usize, has_begun: &mut bool) -> Head
     requires limit { length bytes.now ≤ head_limit }
     requires count { count ≤ length bytes.now }
     requires before { AreBefore (take (length bytes.now - count) bytes.now) has_begun.old }
@@ -68,7 +52,7 @@ fn look_behind_lines(
     if is_within_line(bytes, count, *has_begun) {
         return Head::More;
     }
-    look(routes, bytes)
+    look(bytes)
 }
 
 // Whether some bytes came, but no end of a line of a head that has begun, and more may come.
@@ -106,8 +90,7 @@ pub(crate) fn fill<L: Link>(
         link.old link.new }
     ensures takes { TakesOnly L.Source L.Sink result link.old link.new }
 {
-    for turn in 0..81_921usize {
-        let _turn = turn;
+    for _turn in 0..81_921usize {
         if bytes.len() >= limit {
             return Ok(());
         }

@@ -1,5 +1,4 @@
-use Rattle.muni_wire.proofs.PathLemmas.{trades-confirmed, lists-given, lists-go-on}
-use Rattle.muni_wire.proofs.PostLemmas.{bodies-posted}
+use Rattle.muni_wire.proofs.PathLemmas.{bodies-posted, trades-confirmed, lists-given, lists-go-on}
 use Rattle.muni_wire.proofs.laws.paths_lead_to_requests.Goals as goal
 
 pub returns : goal.returns

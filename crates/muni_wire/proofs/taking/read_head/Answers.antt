@@ -1,4 +1,5 @@
-use Rattle.std.proofs.Common.{arith, ◌≡◌, ◌-◌, ◌∙◌, [], ap, refl, sym, subst, length, min, vec_len}
+use Rattle.std.proofs.Common.{take, ◌++◌, arith, ◌≡◌, ◌-◌, ◌∙◌, [], ap, refl, sym, subst, length, min, vec_len}
+use Rattle.std.proofs.Math.Seq.{take-append_seam}
 use Rattle.std.specs.Io.KnownBytes.{Consumes}
 use Rattle.httparse.specs.Grammar.{HasNoRequest}
 use Rattle.muni_wire.specs.Extent.{piece_limit}
@@ -42,6 +43,17 @@ loop-turn-preserved g c =
       keeps_bytes = took.takes.tells.only.keeps_bytes ∙ had.keeps_bytes;
       keeps_puts = took.takes.tells.only.keeps_puts ∙ had.keeps_puts;
     }
+
+pub look_behind_lines-head-requires-clause-before : goal.look_behind_lines-head-requires-clause-before
+look_behind_lines-head-requires-clause-before g c =
+    let had = c.loop-turn.invariant in
+    let took = c.in_ok-count.ensures in
+    let place : length c.take_more.new.bytes.items - c.in_ok-count.count ≡ length c.loop-turn.bytes.items = omega (arith, took.count) in
+    let before : take (length c.take_more.new.bytes.items - c.in_ok-count.count) c.take_more.new.bytes.items ≡ c.loop-turn.bytes.items =
+    ap (λ l. take (length c.take_more.new.bytes.items - c.in_ok-count.count) l) took.taken.2
+    ∙ ap (λ n. take n (c.loop-turn.bytes.items ++ took.taken.0)) place
+    ∙ take-append_seam c.loop-turn.bytes.items took.taken.0 in
+    rw c.deref.ensures.value (record { begun = had.begun ∙ ap has_text (sym before); none = subst HasNoRequest (sym before) had.none })
 
 pub returns-in_err-count-clause-no_further : goal.returns-in_err-count-clause-no_further
 returns-in_err-count-clause-no_further g c =

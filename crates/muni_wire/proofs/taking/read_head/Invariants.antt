@@ -8,7 +8,7 @@ use Rattle.muni_wire.proofs.taking.read_head.Given as goal
 abbrev pub invariant-loop-turn : goal.invariant-loop-turn
 invariant-loop-turn g l = record {
   taken : Consumes (g.L.Source.left l.fn.link) (g.L.Source.left l.link) l.bytes.items;
-  each : l.turn ≤ length l.bytes.items;
+  each : l._turn ≤ length l.bytes.items;
   room : length l.bytes.items < head_limit;
   begun : l.has_begun ≡ has_text l.bytes.items;
   none : HasNoRequest l.bytes.items;

@@ -1,7 +1,10 @@
-use Rattle.std.proofs.Common.{arith, ◌+◌, ◌-◌, length, vec_len, []}
+use Rattle.std.proofs.Common.{Ok, Err, arith, ◌+◌, ◌-◌, length, vec_len, []}
 use Rattle.muni_wire.proofs.ExtentLemmas.{fewer, head_no_further, body_no_further, head_ready, body_ready}
-use Rattle.muni_wire.proofs.ReadingLemmas.{refused, asked, no-head, large-head, told-body}
-use Rattle.muni_wire.proofs.request.read_by_head.Goals as goal
+use Rattle.muni_wire.proofs.ReadingLemmas.{refused, asked, no-head, large-head, short-head, told-body}
+use Rattle.muni_wire.proofs.UniqueLemmas.{told_answer}
+use Rattle.muni_wire.specs.declared.fault.Bad.TheVariants as bad
+use Rattle.muni_wire.specs.declared.fault.WireFault.TheVariants as fault
+use Rattle.muni_wire.proofs.request.read_request.Goals as goal
 
 pub returns-in-Never-clause-allowed : goal.returns-in-Never-clause-allowed
 returns-in-Never-clause-allowed g c =
@@ -22,6 +25,11 @@ pub returns-in-Ask-clause-allowed : goal.returns-in-Ask-clause-allowed
 returns-in-Ask-clause-allowed g c =
     let said = rw (c.in-Whole.is, c.in-Ask.is) at c.in_ok-head.ensures in
     asked (g.L.Source.left c.args.link.now) (g.L.Source.left c.read_head.new.link) c.in_ok-head.bytes.items c.in-Whole.end c.in-Ask.command said.taken said.head.0
+
+pub returns-in-More-clause-allowed : goal.returns-in-More-clause-allowed
+returns-in-More-clause-allowed g c =
+    let said = rw c.in-More.is at c.in_ok-head.ensures in
+    short-head (g.L.Source.left c.args.link.now) (g.L.Source.left c.read_head.new.link) c.in_ok-head.bytes.items said.taken said.head
 
 pub take_body-requires-clause-inside : goal.take_body-requires-clause-inside
 take_body-requires-clause-inside g c =
@@ -89,3 +97,21 @@ returns-clause-ready g c =
     let said = rw (c.in-Whole.is, c.in-Read.is) at c.in_ok-head.ensures in
     body_ready g.L.Source c.args.link.now c.read_head.new.link c.take_body.new.link c.in_ok-head.bytes.items c.in-Whole.end c.in-Read.size c.in-Read.form
     said.no_further said.taken said.head.0 c.take_body.ensures.ready
+
+pub returns-in-More-clause-only : goal.returns-in-More-clause-only
+returns-in-More-clause-only g c = told_answer (g.L.Source.left c.args.link.now) (Err fault.Gone) (returns-in-More-clause-allowed g c)
+
+pub returns-in-Never-clause-only : goal.returns-in-Never-clause-only
+returns-in-Never-clause-only g c = told_answer (g.L.Source.left c.args.link.now) (Err (fault.Bad bad.BadRequest)) (returns-in-Never-clause-allowed g c)
+
+pub returns-in-TooLarge-clause-only : goal.returns-in-TooLarge-clause-only
+returns-in-TooLarge-clause-only g c = told_answer (g.L.Source.left c.args.link.now) (Err (fault.Bad bad.HeadTooLarge)) (returns-in-TooLarge-clause-allowed g c)
+
+pub returns-in-Refuse-clause-only : goal.returns-in-Refuse-clause-only
+returns-in-Refuse-clause-only g c = told_answer (g.L.Source.left c.args.link.now) (Err (fault.Bad c.in-Refuse.bad)) (returns-in-Refuse-clause-allowed g c)
+
+pub returns-in-Ask-clause-only : goal.returns-in-Ask-clause-only
+returns-in-Ask-clause-only g c = told_answer (g.L.Source.left c.args.link.now) (Ok c.in-Ask.command) (returns-in-Ask-clause-allowed g c)
+
+pub returns-clause-only : goal.returns-clause-only
+returns-clause-only g c = told_answer (g.L.Source.left c.args.link.now) c.take_body.result (returns-clause-allowed g c)
