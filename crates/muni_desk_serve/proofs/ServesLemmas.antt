@@ -1,17 +1,39 @@
 -- One connection.
-use Rattle.std.proofs.Common.{◌≡◌, ◌≤◌, ℕ, Option, IfSome, inl, inr, refl, arith}
+use Rattle.std.proofs.Common.{List, Result, Ok, Err, ap, ◌≡◌, ◌≤◌, ℕ, Option, IfSome, inl, inr, refl, arith}
 use Rattle.muni_edge.specs.Faults.{Rose}
+use Rattle.muni_edge.specs.Sink.{HasWritten, HasWrittenPart}
+use Rattle.muni_edge.specs.declared.fault.Failed.{Failed}
+use Rattle.muni_edge.specs.declared.sink.Sink as sink
+use Rattle.muni_edge.specs.declared.source.Source as source
 use Rattle.muni_keep.specs.Tables.{Tables}
 use Rattle.muni_msg.specs.declared.command.Command.{Command}
 use Rattle.muni_msg.specs.declared.command.Reply.{Reply}
 use Rattle.muni_book_step.specs.Runs.{StepsTo}
 use Rattle.muni_book_step.specs.Step.{Pricing}
+use Rattle.muni_wire.specs.Answers.{Answers}
+use Rattle.muni_wire.specs.HttpStatus.{code}
 use Rattle.muni_wire.specs.Reading.{Whole, Faulty, Short}
 use Rattle.muni_wire.specs.declared.fault.Bad.{Bad}
-use Rattle.muni_desk_serve.specs.Answer.{Answer, reply_answer, bad_answer, unavailable_answer, IsWritten}
+use Rattle.muni_wire.specs.declared.status.HttpStatus.{HttpStatus}
+use Rattle.muni_desk_serve.specs.Answer.{Answer, reply_answer, bad_answer, unavailable_answer, came_of}
 use Rattle.muni_desk_serve.specs.Serves.{Traffic, Asks, IsDue, Serves, WasServed}
 use Rattle.muni_desk_serve.specs.declared.served.Served.{Served}
 use Rattle.muni_desk_serve.specs.declared.served.Served.TheVariants as served
+
+-- the answer was written and no put failed, or a part of it was and one has
+abbrev pub IsWritten : Answer → Served → Option (List ℕ) → Option (List ℕ) → ℕ → ℕ → Type 0
+IsWritten answer (served.Answered status) had has before now =
+    (status ≡ answer.status) × HasWritten had has answer.bytes × (now ≡ before)
+IsWritten answer served.Gone had has before now = ⊥
+IsWritten answer served.LinkFault had has before now =
+    Rose before now × HasWrittenPart had has answer.bytes
+IsWritten answer served.NoMemory had has before now = ⊥
+
+pub wrote : {L : Type 0} (takes : source.Ghosts L) (puts : sink.Ghosts L) (status : HttpStatus) (bytes : List ℕ) (result : Result HttpStatus Failed) (old new : L)
+    → Answers takes puts status bytes result old new
+    → IsWritten (record { status = code status; bytes = bytes }) (came_of result) (puts.bytes old) (puts.bytes new) (puts.faults old) (puts.faults new)
+wrote takes puts status bytes (Ok answered) old new a = (ap code a.told, a.puts.written, a.uncounted)
+wrote takes puts status bytes (Err failed) old new a = (a.puts.failed, a.puts.part)
 
 -- an answer that is due was written, or a part of it
 due-written : (Prices : Pricing) (old new : Option Tables) (link mid after : Traffic) (answer : Answer) (came : Served) (faults : ℕ)

@@ -11,6 +11,7 @@ use Rattle.muni_msg.specs.declared.command.Command.{Command}
 use Rattle.muni_msg.specs.declared.command.Reply.{Reply}
 use Rattle.muni_book_step.specs.Runs.{StepsTo}
 use Rattle.muni_book_step.specs.Step.{Pricing}
+use Rattle.muni_wire.specs.Extent.{AwaitsMore, TakesOnlyWhile}
 use Rattle.muni_wire.specs.Reading.{Reading, Whole, Faulty, Short, Reads}
 use Rattle.muni_wire.specs.declared.fault.Bad.{Bad}
 use Rattle.muni_desk_serve.specs.Answer.{Answer, reply_answer, bad_answer, unavailable_answer}
@@ -104,6 +105,12 @@ pub record WasServed (Prices : Pricing) (old : Option Tables) (before : ℕ) (li
   pub faults : ℕ
   pub serves : Serves Prices old link answer new after faults
   pub rose : RoseBy faults before now
+
+-- Bytes of a connection are taken only while more of its request is awaited, and none after it.
+pub record TakesRequest {L : Type 0} (takes : source.Ghosts L) (old new : L) : Type 0 where
+  pub mid : L
+  pub ready : TakesOnlyWhile takes AwaitsMore old mid
+  pub none_after : takes.left new ≡ takes.left mid
 
 -- A take or a put that failed is counted and is a fault of the connection; after any other end none has
 -- failed.

@@ -1,19 +1,16 @@
 //! One connection.
 
-ghost use Rattle.std.specs.Prelude.{◌≤◌};
+ghost use Rattle.std.specs.Prelude.{◌≡◌, ◌≤◌};
 ghost use Rattle.muni_book.specs.Answers.{IsRightAnswer};
-ghost use Rattle.muni_desk_serve.specs.Answer.{reply_answer, bad_answer, unavailable_answer, WritesAnswer};
-ghost use Rattle.muni_desk_serve.specs.Serves.{LeavesCounted, WasServed, traffic};
+ghost use Rattle.muni_desk_serve.specs.Answer as spec;
+ghost use Rattle.muni_desk_serve.specs.Serves.{LeavesCounted, TakesRequest, WasServed, traffic};
 
 use crate::served::Served;
 use muni_book::{BookFault, apply};
 use muni_edge::{Failed, Gate, Link};
 use muni_keep::Keeper;
-use muni_msg::Reply;
 use muni_multi::Encloser;
-use muni_wire::{
-    Bad, HttpStatus, WireFault, read_request, write_bad, write_reply, write_unavailable,
-};
+use muni_wire::{HttpStatus, WireFault, read_request, write_bad, write_reply, write_unavailable};
 use std::alloc::Global;
 use std::thread::Threads;
 
@@ -40,53 +37,31 @@ pub fn answer_one<R: Threads + Sync, L: Link, K: Keeper, E: Encloser + Sync, G: 
         (traffic L.left L.bytes L.Source.faults L.Sink.faults link.old) result
         (K.tables keeper.new) (K.faults keeper.new)
         (traffic L.left L.bytes L.Source.faults L.Sink.faults link.new) }
+    // A take is made only while more of the request is awaited, and none after it.
+    ensures ready { TakesRequest L.Source link.old link.new }
     ensures leaves { LeavesCounted K.Keeper L.Source L.Sink result keeper.old keeper.new link.old link.new }
 {
     let command = match read_request(alloc, link) {
         Ok(command) => command,
-        Err(WireFault::Bad(bad)) => return answer_bad(link, bad),
+        Err(WireFault::Bad(bad)) => return came_of(write_bad(link, bad)),
         Err(WireFault::Gone) => return Served::Gone,
         Err(WireFault::LinkFault) => return Served::LinkFault,
         Err(WireFault::NoMemory) => return Served::NoMemory,
     };
     match apply(rt, keeper, &command, workers, encloser, gate) {
-        Ok(reply) => answer_reply(link, &reply),
-        Err(BookFault::Failed) => answer_unavailable(link),
+        Ok(reply) => came_of(write_reply(link, &reply)),
+        Err(BookFault::Failed) => came_of(write_unavailable(link)),
         Err(BookFault::NoMemory) => Served::NoMemory,
     }
 }
 
-// Writes the answer to a command.
-fn answer_reply<L: Link>(link: &mut L, reply: &Reply) -> Served
-    ensures { WritesAnswer L.Source L.Sink (reply_answer reply.now) result link.old link.new }
+// What came of a connection to which an answer was to be written.
+fn came_of(written: Result<HttpStatus, Failed>) -> Served
+    ensures { result ≡ spec.came_of written }
 {
-    match write_reply(link, reply) {
-        Ok(()) => Served::Answered {
-            status: HttpStatus::of_reply(reply).code(),
-        },
-        Err(Failed) => Served::LinkFault,
-    }
-}
-
-// Writes the answer to what is no command.
-fn answer_bad<L: Link>(link: &mut L, bad: Bad) -> Served
-    ensures { WritesAnswer L.Source L.Sink (bad_answer bad) result link.old link.new }
-{
-    match write_bad(link, bad) {
-        Ok(()) => Served::Answered {
-            status: HttpStatus::of_bad(bad).code(),
-        },
-        Err(Failed) => Served::LinkFault,
-    }
-}
-
-// Writes that the store has failed.
-fn answer_unavailable<L: Link>(link: &mut L) -> Served
-    ensures { WritesAnswer L.Source L.Sink unavailable_answer result link.old link.new }
-{
-    match write_unavailable(link) {
-        Ok(()) => Served::Answered {
-            status: HttpStatus::Unavailable.code(),
+    match written {
+        Ok(status) => Served::Answered {
+            status: status.code(),
         },
         Err(Failed) => Served::LinkFault,
     }

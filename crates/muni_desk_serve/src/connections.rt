@@ -68,8 +68,7 @@ fn serve_links<R: Threads + Sync, K: Keeper, D: Door, E: Encloser + Sync, G: Gat
         return Err(ServeFault::Door);
     }
     let mut end = Ok(());
-    for count in 0..connections {
-        let _count = count;
+    for _count in 0..connections {
         match serve_next(calculator, alloc, keeper, door) {
             Ok(Some(served)) => end = after(end, served),
             Ok(None) => return end,

@@ -7,7 +7,7 @@ use Rattle.httparse.specs.Grammar.{RequestHead, print_request, HasNoRequest, Rea
 use Rattle.httparse.proofs.GrammarLemmas.{request_unique}
 use Rattle.muni_wire.specs.Awaited.{plan_of}
 use Rattle.muni_edge.specs.declared.source.Source as source
-use Rattle.muni_wire.specs.Extent.{IsTake, LastTake, TakesOnlyWhile, AwaitsMore, TakesAtMost, TakesHead, IsNoFurther, ReadsNoFurther, awaited_size, piece_limit}
+use Rattle.muni_wire.specs.Extent.{IsTake, TakesOnlyWhile, AwaitsMore, TakesAtMost, TakesHead, IsNoFurther, ReadsNoFurther, awaited_size, piece_limit}
 use Rattle.muni_wire.specs.Head.{HasHead, head_limit}
 use Rattle.muni_wire.specs.Taken.{IsWholeAt}
 use Rattle.muni_wire.specs.declared.routes.Form.{Form}

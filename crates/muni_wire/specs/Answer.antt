@@ -46,9 +46,17 @@ answer status allow text = head status allow (length text) ++ text
 abbrev pub status_answer : HttpStatus → List ℕ → List ℕ
 status_answer status allow = answer status allow (status_text status ++ 10 ∷ [])
 
+-- the answer to a command that was done
+abbrev pub success : List ℕ → List ℕ
+success text = answer status.Success [] text
+
+-- the text of an issue that is kept
+abbrev pub added_text : List ℕ → List ℕ
+added_text cusip = line (codes "ADDED" ∷ cusip ∷ [])
+
 -- the text of a reply
 abbrev pub reply_text : Reply → List ℕ
-reply_text (Added cusip) = line (codes "ADDED" ∷ cusip ∷ [])
+reply_text (Added cusip) = added_text cusip
 reply_text (Quoted asked figures) = figure_text figures asked.given asked.fee
 reply_text (Listed lines) = list_text lines.items
 reply_text (Confirmed issue key number version) = confirmation_text issue key number version

@@ -1,12 +1,14 @@
 //! The answers to requests.
 
-ghost use Rattle.std.specs.Prelude.{◌≡◌, ◌≤◌, ◌+◌, ◌++◌, decimal, length};
+ghost use Rattle.std.specs.Prelude.{◌≡◌, ◌≤◌, ◌+◌, ◌++◌, [], decimal, length};
 ghost use Rattle.arrayvec.specs.ArrayVec.{array_vec_len};
 ghost use Rattle.muni_confirm.specs.Confirmation.{confirmation_text};
 ghost use Rattle.muni_confirm.specs.Figures.{figure_text};
 ghost use Rattle.muni_confirm.specs.Refusal.{refusal_text};
 ghost use Rattle.muni_wire.specs.Answer as spec;
 ghost use Rattle.muni_wire.specs.Answers.{Answers};
+ghost use Rattle.muni_wire.specs.HttpStatus.{status_of_bad, status_of_refusal, status_of_reply};
+ghost use Rattle.muni_wire.specs.List.{list_text};
 
 use crate::Bad;
 use crate::list::push_list;
@@ -14,40 +16,108 @@ use crate::status::HttpStatus;
 use arrayvec::ArrayVec;
 use itoa::Buffer;
 use muni_confirm::{confirmation, figure_lines, refusal_line};
-use muni_dec::text::push;
+use muni_dec::text::{push, push_line};
 use muni_edge::{Failed, Link};
-use muni_msg::{Asked, Figures, Key, Refusal, Reply, Version};
+use muni_msg::{Asked, Figures, Key, Line, Refusal, Reply, Version};
 use muni_terms::Issue;
 
 /// Answers a reply: its status and its text. A confirmation, the lines of figures, the lines of a
-/// list, each a trade of the desk, or the line of a refusal.
+/// list, each a trade of the desk, or the line of a refusal. Returns the status.
 ///
 /// After a failure the connection may hold a part of the answer.
-pub fn write_reply<L: Link>(link: &mut L, reply: &Reply) -> Result<(), Failed>
-    ensures { Answers L.Source L.Sink (spec.answer_to_reply reply.now) result link.old link.new }
+pub fn write_reply<L: Link>(link: &mut L, reply: &Reply) -> Result<HttpStatus, Failed>
+    ensures { Answers L.Source L.Sink (status_of_reply reply.now) (spec.answer_to_reply reply.now) result
+        link.old link.new }
 {
-    let mut text = ArrayVec::new();
-    push_reply(&mut text, reply);
-    write(link, HttpStatus::of_reply(reply), b"", &text)
+    match reply {
+        Reply::Added { cusip } => write_added(link, cusip),
+        Reply::Quoted { asked, figures } => write_figures(link, asked, figures),
+        Reply::Listed(lines) => write_list(link, lines),
+        Reply::Confirmed {
+            issue,
+            key,
+            number,
+            version,
+        } => write_confirmation(link, issue, key, *number, version),
+        Reply::Refused(refusal) => write_refusal(link, refusal),
+    }
 }
 
 /// Answers a request that is no command: its status, and that with its phrase as the text. If the
-/// method is not allowed, the answer names the one that is.
+/// method is not allowed, the answer names the one that is. Returns the status.
 ///
 /// After a failure the connection may hold a part of the answer.
-pub fn write_bad<L: Link>(link: &mut L, bad: Bad) -> Result<(), Failed>
-    ensures { Answers L.Source L.Sink (spec.answer_to_bad bad) result link.old link.new }
+pub fn write_bad<L: Link>(link: &mut L, bad: Bad) -> Result<HttpStatus, Failed>
+    ensures { Answers L.Source L.Sink (status_of_bad bad) (spec.answer_to_bad bad) result link.old link.new }
 {
     write_status(link, HttpStatus::of_bad(bad), allowed(bad))
 }
 
-/// Answers that the store has failed: 503, and that with its phrase as the text.
+/// Answers that the store has failed: 503, and that with its phrase as the text. Returns the status.
 ///
 /// After a failure the connection may hold a part of the answer.
-pub fn write_unavailable<L: Link>(link: &mut L) -> Result<(), Failed>
-    ensures { Answers L.Source L.Sink spec.unavailable result link.old link.new }
+pub fn write_unavailable<L: Link>(link: &mut L) -> Result<HttpStatus, Failed>
+    ensures { Answers L.Source L.Sink HttpStatus.Unavailable spec.unavailable result link.old link.new }
 {
     write_status(link, HttpStatus::Unavailable, b"")
+}
+
+fn write_added<L: Link>(link: &mut L, cusip: &[u8; 9]) -> Result<HttpStatus, Failed>
+    ensures { Answers L.Source L.Sink HttpStatus.Success
+        (spec.success (spec.added_text cusip.now)) result link.old link.new }
+{
+    let mut text = ArrayVec::<u8, 16>::new();
+    push_line(&mut text, b"ADDED", cusip);
+    write(link, HttpStatus::Success, b"", &text)
+}
+
+fn write_figures<L: Link>(
+    link: &mut L,
+    asked: &Asked,
+    figures: &Figures,
+) -> Result<HttpStatus, Failed>
+    ensures { Answers L.Source L.Sink HttpStatus.Success
+        (spec.success (figure_text figures.now asked.now.given asked.now.fee)) result link.old link.new }
+{
+    let mut lines = ArrayVec::new();
+    figure_lines(figures, &asked.given, asked.fee, &mut lines);
+    write(link, HttpStatus::Success, b"", &lines)
+}
+
+fn write_list<L: Link>(link: &mut L, trades: &[Line]) -> Result<HttpStatus, Failed>
+    requires { length trades.now ≤ 50 }
+    ensures { Answers L.Source L.Sink HttpStatus.Success
+        (spec.success (list_text trades.now)) result link.old link.new }
+{
+    let mut lines = ArrayVec::new();
+    push_list(&mut lines, trades);
+    write(link, HttpStatus::Success, b"", &lines)
+}
+
+fn write_confirmation<L: Link>(
+    link: &mut L,
+    issue: &Issue,
+    key: &Key,
+    number: u32,
+    version: &Version,
+) -> Result<HttpStatus, Failed>
+    ensures { Answers L.Source L.Sink HttpStatus.Success
+        (spec.success (confirmation_text issue.now key.now number version.now)) result
+        link.old link.new }
+{
+    let mut lines = ArrayVec::new();
+    confirmation(issue, key, number, version, &mut lines);
+    write(link, HttpStatus::Success, b"", &lines)
+}
+
+fn write_refusal<L: Link>(link: &mut L, refusal: &Refusal) -> Result<HttpStatus, Failed>
+    ensures { Answers L.Source L.Sink (status_of_refusal refusal.now)
+        (spec.answer (status_of_refusal refusal.now) [] (refusal_text refusal.now)) result
+        link.old link.new }
+{
+    let mut line = ArrayVec::new();
+    refusal_line(refusal, &mut line);
+    write(link, HttpStatus::of_refusal(refusal), b"", &line)
 }
 
 // The header line that names the method that is allowed.
@@ -63,32 +133,39 @@ fn allowed(bad: Bad) -> &'static [u8]
 }
 
 // Writes an answer whose text is its status and phrase.
-fn write_status<L: Link>(link: &mut L, status: HttpStatus, allow: &[u8]) -> Result<(), Failed>
+fn write_status<L: Link>(
+    link: &mut L,
+    status: HttpStatus,
+    allow: &[u8],
+) -> Result<HttpStatus, Failed>
     requires { length allow.now ≤ 13 }
 
-    ensures { Answers L.Source L.Sink (spec.status_answer status allow.now) result link.old link.new }
+    ensures { Answers L.Source L.Sink status (spec.status_answer status allow.now) result link.old link.new }
 {
-    let mut text = ArrayVec::new();
+    let mut text = ArrayVec::<u8, 64>::new();
     push_status(&mut text, status);
     push(&mut text, b"\n");
     write(link, status, allow, &text)
 }
 
-// Writes an answer with a header line more, or none, and a text.
+// Writes an answer with a header line more, or none, and a text. A head has room for 256 bytes, and a text
+// for 8,192.
 fn write<L: Link>(
     link: &mut L,
     status: HttpStatus,
     allow: &[u8],
-    text: &ArrayVec<u8, 8192>,
-) -> Result<(), Failed>
-    requires { length allow.now ≤ 13 }
+    text: &[u8],
+) -> Result<HttpStatus, Failed>
+    requires allow { length allow.now ≤ 13 }
+    requires text { length text.now ≤ 8192 }
 
-    ensures { Answers L.Source L.Sink (spec.answer status allow.now text.now.items) result link.old link.new }
+    ensures { Answers L.Source L.Sink status (spec.answer status allow.now text.now) result link.old link.new }
 {
     let mut answer = ArrayVec::new();
     push_head(&mut answer, status, allow, text.len());
     push(&mut answer, text);
-    link.put(&answer)
+    link.put(&answer)?;
+    Ok(status)
 }
 
 // The head of an answer, with the length of its text.
@@ -97,7 +174,7 @@ fn push_head(answer: &mut ArrayVec<u8, 8448>, status: HttpStatus, allow: &[u8], 
     requires allow { length allow.now ≤ 13 }
 
     ensures items { answer.new.items ≡ answer.old.items ++ spec.head status allow.now size }
-    ensures len { array_vec_len answer.new ≤ 200 }
+    ensures len { array_vec_len answer.new ≤ 256 }
 {
     push_status_line(answer, status);
     push_text_lines(answer, size);
@@ -107,7 +184,7 @@ fn push_head(answer: &mut ArrayVec<u8, 8448>, status: HttpStatus, allow: &[u8], 
 
 #[tactic(auto, unfolding(crate::specs::Answer::status_line))]
 fn push_status_line(answer: &mut ArrayVec<u8, 8448>, status: HttpStatus)
-    requires { array_vec_len answer.old ≤ 1000 }
+    requires room { array_vec_len answer.old + 63 ≤ 8448 }
 
     ensures items { answer.new.items ≡ answer.old.items ++ spec.status_line status }
     ensures len { array_vec_len answer.new ≤ array_vec_len answer.old + 63 }
@@ -119,7 +196,7 @@ fn push_status_line(answer: &mut ArrayVec<u8, 8448>, status: HttpStatus)
 
 #[tactic(auto, unfolding(crate::specs::Answer::text_lines))]
 fn push_text_lines(answer: &mut ArrayVec<u8, 8448>, size: usize)
-    requires { array_vec_len answer.old ≤ 1000 }
+    requires room { array_vec_len answer.old + 64 ≤ 8448 }
 
     ensures items { answer.new.items ≡ answer.old.items ++ spec.text_lines size }
     ensures len { array_vec_len answer.new ≤ array_vec_len answer.old + 64 }
@@ -130,7 +207,7 @@ fn push_text_lines(answer: &mut ArrayVec<u8, 8448>, size: usize)
 }
 
 fn push_status<const ROOM: usize>(text: &mut ArrayVec<u8, ROOM>, status: HttpStatus)
-    requires { array_vec_len text.old + 60 ≤ ROOM }
+    requires room { array_vec_len text.old + 52 ≤ ROOM }
 
     ensures items { text.new.items ≡ text.old.items ++ spec.status_text status }
     ensures len { array_vec_len text.new ≤ array_vec_len text.old + 52 }
@@ -141,69 +218,11 @@ fn push_status<const ROOM: usize>(text: &mut ArrayVec<u8, ROOM>, status: HttpSta
 }
 
 fn push_decimal<const ROOM: usize>(text: &mut ArrayVec<u8, ROOM>, number: usize)
-    requires { array_vec_len text.old + 20 ≤ ROOM }
+    requires room { array_vec_len text.old + 20 ≤ ROOM }
 
     ensures items { text.new.items ≡ text.old.items ++ decimal number }
     ensures len { array_vec_len text.new ≤ array_vec_len text.old + 20 }
 {
     let mut buffer = Buffer::new();
     push(text, buffer.format(number).as_bytes());
-}
-
-// The text of a reply.
-fn push_reply(text: &mut ArrayVec<u8, 8192>, reply: &Reply)
-    requires { array_vec_len text.old ≡ 0 }
-    ensures { text.new.items ≡ text.old.items ++ spec.reply_text reply.now }
-{
-    match reply {
-        Reply::Added { cusip } => {
-            push(text, b"ADDED ");
-            push(text, cusip);
-            push(text, b"\n");
-        }
-        Reply::Quoted { asked, figures } => push_figures(text, asked, figures),
-        Reply::Listed(lines) => push_list(text, lines),
-        Reply::Confirmed {
-            issue,
-            key,
-            number,
-            version,
-        } => push_confirmation(text, issue, key, *number, version),
-        Reply::Refused(refusal) => push_refusal(text, refusal),
-    }
-}
-
-fn push_figures(text: &mut ArrayVec<u8, 8192>, asked: &Asked, figures: &Figures)
-    requires { array_vec_len text.old ≡ 0 }
-    ensures { text.new.items ≡ text.old.items
-        ++ figure_text figures.now asked.now.given asked.now.fee }
-{
-    let mut lines = ArrayVec::new();
-    figure_lines(figures, &asked.given, asked.fee, &mut lines);
-    push(text, &lines);
-}
-
-fn push_confirmation(
-    text: &mut ArrayVec<u8, 8192>,
-    issue: &Issue,
-    key: &Key,
-    number: u32,
-    version: &Version,
-)
-    requires { array_vec_len text.old ≡ 0 }
-    ensures { text.new.items ≡ text.old.items
-        ++ confirmation_text issue.now key.now number version.now }
-{
-    let mut lines = ArrayVec::new();
-    confirmation(issue, key, number, version, &mut lines);
-    push(text, &lines);
-}
-
-fn push_refusal(text: &mut ArrayVec<u8, 8192>, refusal: &Refusal)
-    requires { array_vec_len text.old ≡ 0 }
-    ensures { text.new.items ≡ text.old.items ++ refusal_text refusal.now }
-{
-    let mut line = ArrayVec::new();
-    refusal_line(refusal, &mut line);
-    push(text, &line);
 }

@@ -22,7 +22,7 @@ pub(crate) fn push_list(text: &mut ArrayVec<u8, 8192>, lines: &[Line])
 }
 
 fn push_list_line(text: &mut ArrayVec<u8, 8192>, line: &Line)
-    requires { array_vec_len text.old + 160 ≤ 8192 }
+    requires room { array_vec_len text.old + 160 ≤ 8192 }
 
     ensures items { text.new.items ≡ text.old.items ++ spec.list_line line.now }
     ensures len { array_vec_len text.new ≤ array_vec_len text.old + 160 }
@@ -46,7 +46,7 @@ fn state(act: Act) -> &'static [u8]
 
 // The par, the price and the yield.
 fn push_amounts(text: &mut ArrayVec<u8, 8192>, line: &Line)
-    requires { array_vec_len text.old + 100 ≤ 8192 }
+    requires room { array_vec_len text.old + 90 ≤ 8192 }
 
     ensures items { text.new.items ≡ text.old.items ++ spec.amounts line.now }
     ensures len { array_vec_len text.new ≤ array_vec_len text.old + 90 }

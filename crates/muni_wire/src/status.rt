@@ -6,7 +6,7 @@ ghost use Rattle.muni_wire.specs.HttpStatus as spec;
 
 use crate::Bad;
 use http::StatusCode;
-use muni_msg::{Refusal, Reply};
+use muni_msg::Refusal;
 
 /// The statuses of answers (RFC 9110, section 15).
 #[derive(Clone, Copy, Debug, PartialEq, Eq)]
@@ -24,19 +24,9 @@ pub enum HttpStatus {
 }
 
 impl HttpStatus {
-    /// The status of a reply: success, or by its refusal.
-    pub fn of_reply(reply: &Reply) -> HttpStatus
-        ensures { result ≡ spec.status_of_reply reply.now }
-    {
-        match reply {
-            Reply::Refused(refusal) => HttpStatus::of_refusal(refusal),
-            _ => HttpStatus::Success,
-        }
-    }
-
-    // What is unknown is not found, what contradicts the book is a conflict, and all else that is
-    // refused cannot be processed.
-    fn of_refusal(refusal: &Refusal) -> HttpStatus
+    /// The status of a refusal. What is unknown is not found, what contradicts the book is a conflict, and all
+    /// else that is refused cannot be processed.
+    pub(crate) fn of_refusal(refusal: &Refusal) -> HttpStatus
         ensures { result ≡ spec.status_of_refusal refusal.now }
     {
         match refusal {
@@ -51,7 +41,7 @@ impl HttpStatus {
     }
 
     /// The status of a bad request.
-    pub fn of_bad(bad: Bad) -> HttpStatus
+    pub(crate) fn of_bad(bad: Bad) -> HttpStatus
         ensures { result ≡ spec.status_of_bad bad }
     {
         match bad {

@@ -35,7 +35,7 @@ loop-count-preserved g c =
     let served = c.in-Ok-Some.served in
     record {
       run = rw c.after-end.ensures
-          (next-on (IsRightAnswer (g.E.Encloser.ends c.args.calculator.now.encloser.now)) told c.args.port c.loop-count.count
+          (next-on (IsRightAnswer (g.E.Encloser.ends c.args.calculator.now.encloser.now)) told c.args.port c.loop-count._count
           (g.D.Door.state c.args.door.now) (g.D.Door.state c.loop-count.door) (g.D.Door.state c.serve_next.new.door)
           (g.K.Keeper.tables c.args.keeper.now) (g.K.Keeper.tables c.loop-count.keeper) (g.K.Keeper.tables c.serve_next.new.keeper)
           (g.K.Keeper.faults c.args.keeper.now) (g.K.Keeper.faults c.loop-count.keeper) (g.K.Keeper.faults c.serve_next.new.keeper)

@@ -8,7 +8,7 @@ use Rattle.muni_desk_serve.proofs.connections.serve_links.Given as goal
 abbrev pub invariant-loop-count : goal.invariant-loop-count
 invariant-loop-count g l = record {
   run : IfSome (g.D.Door.state l.fn.door) (λ d. IsOn (IsRightAnswer (g.E.Encloser.ends l.fn.calculator.encloser.now))
-      (traffic g.D.L.Source.left g.D.L.Sink.bytes g.D.L.Source.faults g.D.L.Sink.faults) l.port l.count d (g.D.Door.state l.door)
+      (traffic g.D.L.Source.left g.D.L.Sink.bytes g.D.L.Source.faults g.D.L.Sink.faults) l.port l._count d (g.D.Door.state l.door)
       (g.K.Keeper.tables l.fn.keeper) (g.K.Keeper.tables l.keeper) (g.K.Keeper.faults l.fn.keeper) (g.K.Keeper.faults l.keeper) l.end);
   no_fault : (l.end ≡ (Ok tt)) ⊎ (l.end ≡ (Err fault.NoMemory));
   port : IfSome (g.D.Door.state l.door) (λ d. d.port ≡ Some l.port);
