@@ -12,6 +12,7 @@ pub(crate) fn read_on<R: Read>(reader: &mut R, room: &mut [u8]) -> io::Result<us
     ensures bytes { ReadConsumes (R.remaining reader.old) (R.remaining reader.new) result room.new }
     ensures uninterrupted { IfErr result (λ error. error_kind error ≢ ErrorKind.Interrupted) }
 {
+    // A loop has to end for its proof: these are more reads than are ever made.
     for _ in 0..u64::MAX {
         match reader.read(room) {
             Ok(count) => return Ok(count),

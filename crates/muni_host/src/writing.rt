@@ -9,6 +9,7 @@ pub(crate) fn write_on<W: Write>(writer: &mut W, piece: &[u8]) -> io::Result<()>
     ensures { AppendsPiece (W.contents writer.old) (W.contents writer.new) result piece.now }
 {
     let mut at = 0;
+    // A loop has to end for its proof: these are more writes than are ever made.
     for _ in 0..u64::MAX {
         if at >= piece.len() {
             return writer.flush();

@@ -19,7 +19,8 @@ use muni_msg::Command;
 use std::alloc::Global;
 
 /// Reads one request of HTTP/1.0 or HTTP/1.1 (RFC 9112), by all bytes of the connection, however
-/// they come. Less than one piece of the bytes after the request may have been taken too.
+/// they come. Less than one piece of the bytes after the request may have been taken too, and no take is
+/// made once the request is there.
 ///
 /// If memory runs out nothing is said of the bytes.
 #[tactic(auto, using(crate::proofs::UniqueLemmas::told_answer))]

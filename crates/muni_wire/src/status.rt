@@ -1,7 +1,6 @@
 //! The statuses of answers.
 
 ghost use Rattle.std.specs.Prelude.{◌≡◌, ◌≤◌, length};
-ghost use Rattle.muni_msg.specs.Refusal.{number_of};
 ghost use Rattle.muni_wire.specs.HttpStatus as spec;
 
 use crate::Bad;
@@ -24,8 +23,8 @@ pub enum HttpStatus {
 }
 
 impl HttpStatus {
-    /// The status of a refusal. What is unknown is not found, what contradicts the book is a conflict, and all
-    /// else that is refused cannot be processed.
+    /// The status of a refusal. What is unknown is not found, what contradicts the book is a
+    /// conflict, and all else that is refused cannot be processed.
     pub(crate) fn of_refusal(refusal: &Refusal) -> HttpStatus
         ensures { result ≡ spec.status_of_refusal refusal.now }
     {

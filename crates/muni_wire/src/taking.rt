@@ -26,6 +26,7 @@ pub(crate) fn read_head<L: Link>(alloc: Global, link: &mut L) -> Result<(Head, V
 {
     let mut bytes = Vec::new(alloc);
     let mut has_begun = false;
+    // Each take but the last brings a byte, so that no more of them than these are made.
     for _turn in 0..16_385usize {
         let count = take_more(link, &mut bytes, 16_384)?;
         let head = look_behind_lines(&bytes, count, &mut has_begun);
@@ -90,6 +91,7 @@ pub(crate) fn fill<L: Link>(
         link.old link.new }
     ensures takes { TakesOnly L.Source L.Sink result link.old link.new }
 {
+    // Each take but the last brings a byte here too.
     for _turn in 0..81_921usize {
         if bytes.len() >= limit {
             return Ok(());
