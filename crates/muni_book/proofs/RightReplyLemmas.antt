@@ -66,7 +66,8 @@ kept-right R t issue key number version sound there known =
     record {
       version_kept = there;
       issue_kept = known;
-      own_issue = sound.issues version.terms.asked.cusip issue known;
+      own_issue = (sound.issues version.terms.asked.cusip issue known).own_cusip;
+      passed = (sound.issues version.terms.asked.cusip issue known).passed;
       right = subst (λ i. R i version.terms.asked version.figures) same found.right;
     }
 
@@ -181,6 +182,7 @@ still-right R old new (Confirmed issue key number version) keeps is = record {
   version_kept = keeps.versions key number version is.version_kept;
   issue_kept = keeps.issues version.terms.asked.cusip issue is.issue_kept;
   own_issue = is.own_issue;
+  passed = is.passed;
   right = is.right;
 }
 still-right R old new (Refused why) keeps is = tt

@@ -1,5 +1,5 @@
 -- Sound tables stay sound.
-use Rattle.std.proofs.Common.{◌≡◌, ◌⊎◌, inl, inr, ℕ, ◌+◌, ◌≤◌, ◌<◌, arith, Bool, true, false, cond, refl, sym, ap, subst, ◌∙◌, Option, Some, None, List, [], ◌∷◌, ◌++◌, All}
+use Rattle.std.proofs.Common.{◌≡◌, ◌⊎◌, inl, inr, ℕ, ◌+◌, ◌≤◌, ◌<◌, arith, Bool, true, false, cond, refl, sym, ap, subst, ◌∙◌, Option, Some, None, Ok, Err, List, [], ◌∷◌, ◌++◌, All}
 use Rattle.std.specs.Prelude.{nat_le}
 use Rattle.std.specs.Option.{option_map, is_some}
 use Rattle.std.specs.Ordering.{eq_by_cmp}
@@ -8,6 +8,7 @@ use Rattle.std.specs.FinMap.{get, len, insert, contains_key, get-insert, len-ins
 use Rattle.std.proofs.lemmas.Bool.Decides.{nat_tests}
 use Rattle.std.proofs.lemmas.List.Elements.{All-head, All-tail, All-cons, All-nil}
 use Rattle.std.proofs.lemmas.Option.{same_Some}
+use Rattle.muni_terms.specs.Check.{fault_of, unless_fault, checked}
 use Rattle.muni_terms.specs.declared.row.IssueRow.{IssueRow}
 use Rattle.muni_msg.specs.declared.command.Command.{Command}
 use Rattle.muni_msg.specs.declared.command.Key.{Key}
@@ -18,7 +19,7 @@ use Rattle.muni_keep.specs.History.{History, versions, count, grown}
 use Rattle.muni_keep.specs.Tables.{Tables, trade_at, with_version}
 use Rattle.muni_keep.specs.Trades.{by_bytes, own, put_own}
 use Rattle.muni_book_step.specs.Plan.{Issues, is_full, is_canceled, cancel_of}
-use Rattle.muni_book_step.specs.Sound.{Rightness, IsRightVersion, Follows, AreFollowing, AreVersions, IsSoundTrade, IsSound}
+use Rattle.muni_book_step.specs.Sound.{Rightness, IsRightVersion, Follows, AreFollowing, AreVersions, IsSoundTrade, IsSoundIssue, IsSound}
 use Rattle.muni_book_step.specs.Step.{Pricing, Entry, NewIssue, NewVersion, after}
 use Rattle.muni_book_step.specs.Reasons.{IsReasoned, IsReasonFor}
 use Rattle.muni_book_step.proofs.OutcomeLemmas.{step-reason}
@@ -177,10 +178,19 @@ may-be-put P R priced t c issue key number version sound (inr (inr corrected, pr
     })
 
 -- ---- steps and runs
-own-issue : (issues : Issues) (added : IssueRow) (cusip : List ℕ) (issue : IssueRow) → ((q : List ℕ) (kept : IssueRow) → get issues q ≡ Some kept → kept.cusip ≡ q) → get (insert issues added.cusip added) cusip ≡ Some issue → issue.cusip ≡ cusip
-own-issue issues added cusip issue before found =
-    elim (eq_by_cmp by_bytes cusip added.cusip) as (λ b. eq_by_cmp by_bytes cusip added.cusip ≡ b → cond b (Some added) (get issues cusip) ≡ Some issue → issue.cusip ≡ cusip) [
-      | true ↦ λ same is. ap (λ (row : IssueRow). row.cusip) (sym (same_Some added issue is)) ∙ sym (same-name cusip added.cusip same)
+-- a row that is checked passes every test
+passed-row : (row issue : IssueRow) → checked row ≡ Ok issue → fault_of issue ≡ None
+passed-row row issue is =
+    elim (fault_of row) as (λ fault. fault_of row ≡ fault → unless_fault row fault ≡ Ok issue → fault_of issue ≡ None) [
+      | None ↦ λ none same. subst (λ r. fault_of r ≡ None) (let one : Ok row ≡ Ok issue = same in let e : row ≡ issue = cc in e) none
+      | Some fault ↦ λ some same. absurd (let never : Err fault ≡ Ok issue = same in cc)
+    ] refl is
+
+sound-issue : (issues : Issues) (added : IssueRow) (cusip : List ℕ) (issue : IssueRow) → ((q : List ℕ) (kept : IssueRow) → get issues q ≡ Some kept → IsSoundIssue q kept) → fault_of added ≡ None
+    → get (insert issues added.cusip added) cusip ≡ Some issue → IsSoundIssue cusip issue
+sound-issue issues added cusip issue before passed found =
+    elim (eq_by_cmp by_bytes cusip added.cusip) as (λ b. eq_by_cmp by_bytes cusip added.cusip ≡ b → cond b (Some added) (get issues cusip) ≡ Some issue → IsSoundIssue cusip issue) [
+      | true ↦ λ same is. subst (IsSoundIssue cusip) (same_Some added issue is) (record { own_cusip = sym (same-name cusip added.cusip same); passed = passed })
       | false ↦ λ other is. before cusip issue is
     ] refl (sym (get-insert nat_list_cmp_total issues added.cusip added cusip) ∙ found)
 
@@ -195,7 +205,7 @@ pub sound-after : (P : Pricing) (R : Rightness) → PricesRight P R → (t : Tab
     → IsReasoned P t c reply entry → IsSound R (after entry t)
 sound-after P R priced t c reply None sound keeps why = sound
 sound-after P R priced t c reply (Some (NewIssue issue)) sound keeps why = record {
-  issues = λ cusip other kept. own-issue t.issues issue cusip other sound.issues kept;
+  issues = λ cusip other kept. sound-issue t.issues issue cusip other sound.issues (passed-row why.0.row issue why.0.passed) kept;
   trades = λ key history kept. still-sound R t.issues _ history keeps.issues (sound.trades key history kept);
   few = sound.few;
 }

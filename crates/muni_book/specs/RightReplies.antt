@@ -1,5 +1,6 @@
 -- Over sound tables each reply carries figures that are right.
-use Rattle.std.specs.Prelude.{◌≡◌, ℕ, ⊤, List, All, Option, Some}
+use Rattle.std.specs.Prelude.{◌≡◌, ℕ, ⊤, List, All, Option, Some, None}
+use Rattle.muni_terms.specs.Check.{fault_of}
 use Rattle.muni_terms.specs.declared.row.IssueRow.{IssueRow}
 use Rattle.muni_msg.specs.declared.command.Command.{Command}
 use Rattle.muni_msg.specs.declared.command.Key.{Key}
@@ -12,11 +13,13 @@ use Rattle.muni_book_step.specs.Runs.{Runs}
 use Rattle.muni_book_step.specs.Sound.{Rightness, IsSound}
 use Rattle.muni_book_step.specs.Step.{Pricing, Entry, IsStepOver, after}
 
--- the version with this number and its issue are kept, and the figures of the version are right
+-- The version with this number is kept, and its issue, which passes every test of its terms. The figures of the version
+-- are right.
 pub record IsKeptRight (AreRight : Rightness) (tables : Tables) (issue : IssueRow) (key : Key) (number : ℕ) (version : Version) : Type 0 where
   pub version_kept : version_at tables key number ≡ Some version
   pub issue_kept : issue_at tables version.terms.asked.cusip ≡ Some issue
   pub own_issue : issue.cusip ≡ version.terms.asked.cusip
+  pub passed : fault_of issue ≡ None
   pub right : AreRight issue version.terms.asked version.figures
 
 -- What a reply confirms is kept, and its figures are right, as are those of a quote. A list has lines of its own.

@@ -1,6 +1,7 @@
 -- Sound tables.
-use Rattle.std.specs.Prelude.{◌≡◌, ◌⊎◌, ℕ, ◌≤◌, ⊤, false, List, [], ◌∷◌, All, Some}
+use Rattle.std.specs.Prelude.{◌≡◌, ◌⊎◌, ℕ, ◌≤◌, ⊤, false, List, [], ◌∷◌, All, Some, None}
 use Rattle.std.specs.FinMap.{len}
+use Rattle.muni_terms.specs.Check.{fault_of}
 use Rattle.muni_terms.specs.declared.row.IssueRow.{IssueRow}
 use Rattle.muni_msg.specs.declared.asked.Asked.{Asked}
 use Rattle.muni_msg.specs.declared.command.Key.{Key}
@@ -43,10 +44,15 @@ pub record IsSoundTrade (AreRight : Rightness) (issues : Issues) (history : Hist
   pub acts : AreVersions (versions history)
   pub right : All (IsRightVersion AreRight issues) (versions history)
 
--- Each issue is kept under its own CUSIP, and a desk has at most 100,000 trades.
+-- An issue is kept under its own CUSIP, and it passes every test of its terms.
+pub record IsSoundIssue (cusip : List ℕ) (issue : IssueRow) : Type 0 where
+  pub own_cusip : issue.cusip ≡ cusip
+  pub passed : fault_of issue ≡ None
+
+-- Each issue and each trade is sound, and a desk has at most 100,000 trades.
 pub record IsSound (AreRight : Rightness) (tables : Tables) : Type 0 where
   pub issues : (cusip : List ℕ) (issue : IssueRow) → issue_at tables cusip ≡ Some issue
-      → issue.cusip ≡ cusip
+      → IsSoundIssue cusip issue
   pub trades : (key : Key) (history : History Version) → trade_at tables key ≡ Some history
       → IsSoundTrade AreRight tables.issues history
   pub few : (desk : List ℕ) → len (own desk tables.desks) ≤ 100_000
