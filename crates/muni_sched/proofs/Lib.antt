@@ -4,6 +4,7 @@ pub mod SoundLemmas
 pub mod NoteLemmas
 pub mod CandidateLemmas
 pub mod RiseLemmas
+pub mod StandLemmas
 pub mod RangeLemmas
 pub mod ZipLemmas
 pub mod SameLemmas

@@ -1,12 +1,19 @@
 //! Laws of the candidates and of the lowest figure over them.
 
 ghost use Rattle.muni_sched.specs.AnswerLaws.{HasOneExactOutcome, HaveOneExactOutcomes, AllowsOneAnswer, OneAnswerIsRight};
-ghost use Rattle.muni_sched.specs.CandidateLaws.{AreOneList};
+ghost use Rattle.muni_sched.specs.CandidateLaws.{AreOneList, CandidatesStandForPayments};
 ghost use Rattle.muni_sched.specs.LowestLaws.{AllowsOneLowest, SoundIsRight, OneLowestIsRight, UndecidedIsUnsure, NoDoubtIsDecided};
 
 /// A law of the rule: an issue has one list of redemption candidates at a settlement.
 pub fn the_candidates_are_one()
     ensures { AreOneList }
+{}
+
+/// A law of the rule: the candidates of an issue are priced by what it pays after the settlement up to
+/// their redemptions: by all payments on their dates, or in the last six months by the one that is
+/// left (MSRB Rule G-33(b)).
+pub fn candidates_stand_for_their_payments()
+    ensures { CandidatesStandForPayments }
 {}
 
 /// A law of the definitions: a candidate has one exact yield at a price, and one exact price at a
