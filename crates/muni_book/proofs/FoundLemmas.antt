@@ -30,7 +30,7 @@ use Rattle.muni_msg.specs.declared.asked.Given.TheVariants.{AtYield, AtPrice, At
 use Rattle.muni_msg.specs.declared.asked.Side.{Side}
 use Rattle.muni_msg.specs.declared.refusal.Refusal.{Refusal}
 use Rattle.muni_book.specs.Trade.{net_price, price_side, side_left}
-use Rattle.muni_book.specs.Answers.{PriceAndYield, found_at_yield, found_at_price, found_at_rate, IsReturn, IsFound}
+use Rattle.muni_book.specs.Answers.{PriceAndYield, found_at_yield, found_at_price, found_at_rate, IsReturn, IsFoundAtRate, IsFound}
 use Rattle.muni_book.specs.GivenFor.{IsInRange, IsOnBasis}
 use Rattle.muni_book.proofs.CandidateLemmas.{of-first, rate-in_range}
 
@@ -76,16 +76,8 @@ return-unique basis rate days return other given range is also =
 at_most-closed : (price : ℤ) → IsClosed (Reaches price)
 at_most-closed price = λ amount smaller less reached. omega (arith, ints, less, reached)
 
--- ---- at each basis
-pub found-unique : (ends : PaymentSeries → ℤ → WorthEnds) (given : Given) (side : Side) (fee : ℕ) (list : List Candidate) (found other : Result PriceAndYield Refusal) → IsCase given side fee list → IsFound ends given side fee list found → IsFound ends given side fee list other → found ≡ other
-found-unique ends (AtYield y) side fee list found other case is also =
-    let askable : ArePriced y list = record { candidates = case.candidates; basis = case.basis.1; in_range = case.in_range } in
-    let low : is.0 ≡ also.0 = one-answer ends (at_yield y) list is.0 also.0 askable is.1.rule also.1.rule in
-    same_Some found other (is.2 ∙ ap (found_at_yield y list) low ∙ sym also.2)
-found-unique ends (AtPrice price) side fee list found other case is also =
-    let low : is.0 ≡ also.0 = one-answer ends (at_price (net_price side price fee)) list is.0 also.0 (case.in_range.0, case.candidates) is.1.rule also.1.rule in
-    same_Some found other (is.2 ∙ ap (found_at_price price list) low ∙ sym also.2)
-found-unique ends (AtRate rate) side fee list found other case is also =
+pub at_rate-unique : (rate : ℤ) (side : Side) (fee : ℕ) (list : List Candidate) (found other : Result PriceAndYield Refusal) → IsCase (AtRate rate) side fee list → IsFoundAtRate rate list found → IsFoundAtRate rate list other → found ≡ other
+at_rate-unique rate side fee list found other case is also =
     let note : is.note ≡ also.note = same_Some is.note also.note (sym is.there ∙ also.there) in
     let shapes : shape.Discount is.days is.basis ≡ shape.Discount also.days also.basis = sym is.shape ∙ ap (λ (c : Candidate). c.shape) note ∙ also.shape in
     let days : is.days ≡ also.days = cc in
@@ -97,3 +89,14 @@ found-unique ends (AtRate rate) side fee list found other case is also =
     let price : is.price ≡ also.price = printed-one is.basis (Reaches (discount_price is.basis rate is.days)) is.price also.price (at_most-closed (discount_price is.basis rate is.days)) is.truncated truncated in
     let return : is.return ≡ also.return = return-unique is.basis rate is.days is.return also.return given range is.exact exact in
     is.is_found ∙ (λ i. found_at_rate (note i) (price i) (return i)) ∙ sym also.is_found
+
+-- ---- at each basis
+pub found-unique : (ends : PaymentSeries → ℤ → WorthEnds) (given : Given) (side : Side) (fee : ℕ) (list : List Candidate) (found other : Result PriceAndYield Refusal) → IsCase given side fee list → IsFound ends given side fee list found → IsFound ends given side fee list other → found ≡ other
+found-unique ends (AtYield y) side fee list found other case is also =
+    let askable : ArePriced y list = record { candidates = case.candidates; basis = case.basis.1; in_range = case.in_range } in
+    let low : is.0 ≡ also.0 = one-answer ends (at_yield y) list is.0 also.0 askable is.1.rule also.1.rule in
+    same_Some found other (is.2 ∙ ap (found_at_yield y list) low ∙ sym also.2)
+found-unique ends (AtPrice price) side fee list found other case is also =
+    let low : is.0 ≡ also.0 = one-answer ends (at_price (net_price side price fee)) list is.0 also.0 (case.in_range.0, case.candidates) is.1.rule also.1.rule in
+    same_Some found other (is.2 ∙ ap (found_at_price price list) low ∙ sym also.2)
+found-unique ends (AtRate rate) side fee list found other case is also = at_rate-unique rate side fee list found other case is also

@@ -3,6 +3,7 @@ pub mod CandidateLemmas
 pub mod FoundLemmas
 pub mod UniqueLemmas
 pub mod RightLemmas
+pub mod OneFigureLemmas
 pub mod PutLemmas
 pub mod CauseLemmas
 pub mod RefusedLemmas

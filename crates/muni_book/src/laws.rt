@@ -1,6 +1,6 @@
 //! Laws of the answers, and of runs over every list of commands.
 
-ghost use Rattle.muni_book.specs.AnswerLaws.{AnswersAreUnique, AnsweredFiguresAreRight};
+ghost use Rattle.muni_book.specs.AnswerLaws.{AnswersAreUnique, AnsweredFiguresAreRight, RightFiguresAreOne, AnsweredFiguresAreOne, RightFiguresHaveOutcomes};
 ghost use Rattle.muni_book.specs.RunLaws.{TablesAreSound, ConfirmedFiguresAreRight, AcceptedCommandsActOnce, WhatIsKeptIsAnsweredAgain, NothingKeptIsLost, EachDeskIsIsolated, RepliesAreUnique, EachEntryHasItsReason, EachRefusalHasItsCause, ConfirmationsAreOfLastVersions, ListsArePages, QuotesAreRightAnswers};
 
 /// A law of the definitions: of one issue and one request they allow one answer, and so figures or a
@@ -13,6 +13,15 @@ pub fn the_answer_to_a_request_is_unique()
 /// whatever encloser computed them.
 pub fn answered_figures_are_right()
     ensures { AnsweredFiguresAreRight }
+{}
+
+/// A law of the definitions: figures that are right for one request are the same, whatever encloser
+/// computed them. So two firms that answer it by figures print the same. One of them may leave
+/// undecided what the other decides. The exact outcomes by which figures are right are always there.
+pub fn right_figures_are_one()
+    ensures one { RightFiguresAreOne }
+    ensures answered { AnsweredFiguresAreOne }
+    ensures outcomes { RightFiguresHaveOutcomes }
 {}
 
 /// A law of the definitions: the empty tables are sound, and a run leaves sound tables sound. So
