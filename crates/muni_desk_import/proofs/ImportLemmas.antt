@@ -36,7 +36,7 @@ came-told Prices old (Err fault) (Ok reply) now came = absurd came
 came-told Prices old (Err fault) (Err told) now (same, is) = (old, is)
 
 -- and its line
-report-then : (place : ℕ) (said : List Said) (last : Said) → report place (said ++ last ∷ []) ≡ report place said ++ row_line (place + length said) last
+pub report-then : (place : ℕ) (said : List Said) (last : Said) → report place (said ++ last ∷ []) ≡ report place said ++ row_line (place + length said) last
 report-then place [] last = let first : place + 0 ≡ place = omega arith in rw first (append-nil (row_line place last))
 report-then place (told ∷ said) last =
     let next : place + 1 + length said ≡ place + length (told ∷ said) = omega arith in

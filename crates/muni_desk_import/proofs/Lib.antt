@@ -4,3 +4,4 @@ pub mod ImportLemmas
 pub mod StoreLemmas
 pub mod TakenLemmas
 mod RunLemmas
+mod LineLemmas

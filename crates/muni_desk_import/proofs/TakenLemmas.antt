@@ -1,5 +1,5 @@
 -- What pieces that are taken one after another say of all bytes.
-use Rattle.std.proofs.Common.{◌≡◌, ◌<◌, ◌≤◌, ◌+◌, ◌⊎◌, inl, inr, ◌∙◌, ℕ, List, [], ◌++◌, Option, Some, None, Result, Err, length, refl, sym, ap, subst, IfErr, IfSome, arith}
+use Rattle.std.proofs.Common.{◌≡◌, ◌<◌, ◌≤◌, ◌+◌, inl, inr, ◌∙◌, ℕ, List, [], ◌++◌, Option, Some, None, Result, Err, length, refl, sym, ap, subst, IfErr, IfSome, arith}
 use Rattle.std.proofs.lemmas.List.{append-nil, append_assoc, length-append}
 use Rattle.std.specs.Io.KnownBytes.{Consumes, IsAtEnd}
 use Rattle.muni_edge.specs.Faults.{Rose}

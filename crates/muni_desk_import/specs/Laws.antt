@@ -23,6 +23,7 @@ use Rattle.muni_book.specs.SoundTables.{AreSoundTables}
 use Rattle.muni_desk_import.specs.Confirm.{Answer, confirmed}
 use Rattle.muni_desk_import.specs.declared.confirmations.Answered.TheVariants.{Confirmed, Refused}
 use Rattle.muni_desk_import.specs.Import.{Imports, report}
+use Rattle.muni_desk_import.specs.RightLines.{HasLinesOf}
 
 -- the commands among rows: those that are read
 abbrev pub commands_of : List Row → List Command
@@ -55,6 +56,13 @@ ReportsAreUnique =
     → Imports (IsRightAnswer ends) old rows said new
     → Imports (IsRightAnswer ends) old rows others other
     → AreAlike said others new other
+
+-- Over sound tables the report on an import has a line for each row, and that of a confirmation has figures that are right.
+abbrev pub ReportsAreRight : Type 0
+ReportsAreRight =
+    (ends : PaymentSeries → ℤ → WorthEnds) (old new : Tables) (rows : List Row) (said : List Said)
+    → AreSoundTables old → Imports (IsRightAnswer ends) old rows said new
+    → HasLinesOf new 1 said (report 1 said)
 
 -- how a reply of the book is written to whom asked for a confirmation
 abbrev pub answer_of : Reply → Option Answer

@@ -2,6 +2,7 @@ pub mod Confirm
 pub mod Confirmed
 pub mod Fault
 pub mod Import
+pub mod RightLines
 pub mod Imported
 pub mod Input
 pub mod Lent

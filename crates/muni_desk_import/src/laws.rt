@@ -1,6 +1,6 @@
 //! Laws of imports, over every list of rows, and of confirmations.
 
-ghost use Rattle.muni_desk_import.specs.Laws.{ImportsAreRuns, ReportsAreUnique, ConfirmationsAreSteps, ConfirmationsAreRight};
+ghost use Rattle.muni_desk_import.specs.Laws.{ImportsAreRuns, ReportsAreUnique, ReportsAreRight, ConfirmationsAreSteps, ConfirmationsAreRight};
 
 use muni_book::laws::{
     confirmations_are_of_last_versions, confirmed_figures_are_right, replies_are_unique,
@@ -19,6 +19,15 @@ pub fn reports_are_unique()
     ensures { ReportsAreUnique }
 {
     replies_are_unique();
+}
+
+/// A law of the definitions: over sound tables each line of a report that confirms a trade has the
+/// price, the yield, the date of the redemption and the total of a version that is kept, and these
+/// figures are right by the rule's exact formulas.
+pub fn reports_are_right()
+    ensures { ReportsAreRight }
+{
+    confirmed_figures_are_right();
 }
 
 /// A law of the definitions: a step of the book on a request for a confirmation and what `confirm`

@@ -4,3 +4,4 @@ pub mod StoreLemmas
 pub mod AnswerLemmas
 pub mod RunLemmas
 pub mod ResentLemmas
+pub mod RightAnswerLemmas

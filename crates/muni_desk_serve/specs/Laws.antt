@@ -1,6 +1,7 @@
 -- What is answered to what has come, and what connections make of the tables.
-use Rattle.std.specs.Prelude.{◌≡◌, ◌≢◌, ◌⊎◌, ℕ, ℤ, List, ◌∷◌, ◌++◌, Option, Some, IfSome}
+use Rattle.std.specs.Prelude.{◌≡◌, ◌≢◌, ◌⊎◌, ℕ, ℤ, List, ◌∷◌, ◌++◌, Option, Some, IfSome, All}
 use Rattle.muni_book.specs.Answers.{IsRightAnswer}
+use Rattle.muni_book.specs.SoundTables.{AreSoundTables}
 use Rattle.muni_edge.specs.Faults.{Rose}
 use Rattle.muni_keep.specs.Tables.{Tables}
 use Rattle.muni_msg.specs.declared.command.Command.{Command}
@@ -14,6 +15,7 @@ use Rattle.muni_wire.specs.Reading.{Reading, Whole, Faulty, Short, HeadAsks, Rea
 use Rattle.muni_desk_serve.specs.Answer.{reply_answer, bad_answer}
 use Rattle.muni_desk_serve.specs.Connections.{Exchange, AreServed}
 use Rattle.muni_desk_serve.specs.Follow.{Follow, IsAnswered, HasAnswer, WasAnswered, HasCome, RepliesAgain}
+use Rattle.muni_desk_serve.specs.RightAnswers.{IsAnsweredRight}
 use Rattle.muni_desk_serve.specs.Serves.{Traffic, WasServed}
 use Rattle.muni_desk_serve.specs.declared.served.Served.{Served}
 use Rattle.muni_desk_serve.specs.declared.served.Served.TheVariants as served
@@ -83,6 +85,13 @@ Ends = PaymentSeries → ℤ → WorthEnds
 pub record WhatHasComeIsAnswered : Type 0 where
   pub requests : (ends : Ends) → RequestsAreAnswered (IsRightAnswer ends)
   pub all : (ends : Ends) → BytesAreAnswered (IsRightAnswer ends)
+
+-- Connections that are served over sound tables have right answers.
+abbrev pub AnswersAreRight : Type 0
+AnswersAreRight =
+    (ends : Ends) (old : Tables) (exchanges : List Exchange) (new : Option Tables) (faults : ℕ)
+    → AreSoundTables old → AreServed (IsRightAnswer ends) (Some old) exchanges new faults
+    → (last : Tables) × (new ≡ Some last) × All (IsAnsweredRight last) exchanges
 
 abbrev pub ServingRunsTheBook : Type 0
 ServingRunsTheBook = (ends : Ends) → ConnectionsRunTheBook (IsRightAnswer ends)

@@ -4,4 +4,5 @@ pub mod Serving
 pub mod Fault
 pub mod Connections
 pub mod Follow
+pub mod RightAnswers
 pub mod Laws

@@ -1,6 +1,8 @@
 //! What holds of the definitions that the contracts of serving cite.
 
-ghost use Rattle.muni_desk_serve.specs.Laws.{WhatHasComeIsAnswered, ServingRunsTheBook, WhatIsSentAgainActsOnce};
+ghost use Rattle.muni_desk_serve.specs.Laws.{WhatHasComeIsAnswered, ServingRunsTheBook, AnswersAreRight, WhatIsSentAgainActsOnce};
+
+use muni_book::laws::confirmed_figures_are_right;
 
 /// A law of the definitions: if no count of faults rose, what has come is answered as one of its
 /// readings says, or no memory was left. A whole request gets the answer to what it asks for, with its
@@ -16,6 +18,15 @@ pub fn what_has_come_is_answered()
 pub fn serving_runs_the_book()
     ensures { ServingRunsTheBook }
 {}
+
+/// A law of the definitions: over sound tables each connection that is answered by a confirmation has as
+/// its body that of a version that is kept, with figures that are right by the rule's exact formulas, and
+/// each that is answered by a quote has right figures.
+pub fn answers_are_right()
+    ensures { AnswersAreRight }
+{
+    confirmed_figures_are_right();
+}
 
 /// A law of the definitions: of the connections of a run, what is sent again over a later one acts once.
 /// If it was accepted, it has the same answer again, unless that tells of a store that failed, and adds

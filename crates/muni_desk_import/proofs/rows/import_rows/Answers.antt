@@ -2,7 +2,7 @@ use Rattle.std.proofs.Common.{◌∙◌, Err, ap, refl, arith}
 use Rattle.std.proofs.lemmas.Result.{err_from_is_err_and}
 use Rattle.muni_book.specs.Answers.{IsRightAnswer}
 use Rattle.muni_desk_import.proofs.FaultLemmas.{unanswered}
-use Rattle.muni_desk_import.proofs.ImportLemmas.{at-start, row-done, next-done, before-done, all-done, few-done, all-reported, first-reported, next-reported}
+use Rattle.muni_desk_import.proofs.ImportLemmas.{at-start, row-done, next-done, before-done, all-done, few-done, all-reported, next-reported}
 use Rattle.muni_desk_import.proofs.rows.import_rows.Goals as goal
 
 pub loop-count-init : goal.loop-count-init

@@ -1,0 +1,47 @@
+-- Connections that are served over sound tables have right answers.
+use Rattle.std.proofs.Common.{List, refl, inl, inr}
+use Rattle.std.specs.Prelude.{All}
+use Rattle.std.proofs.lemmas.List.Elements.{All-nil, All-cons, All-head, All-tail}
+use Rattle.muni_msg.specs.declared.command.Command.{Command}
+use Rattle.muni_msg.specs.declared.command.Reply.{Reply}
+use Rattle.muni_msg.specs.declared.command.Reply.TheVariants.{Added, Quoted, Listed, Confirmed, Refused}
+use Rattle.muni_keep.specs.Tables.{Tables}
+use Rattle.muni_wire.specs.Answer.{reply_text}
+use Rattle.muni_book.specs.Answers.{IsRightAnswer}
+use Rattle.muni_book.specs.RightFigures.{AreRightFigures}
+use Rattle.muni_book.specs.RightReplies.{IsRightReply}
+use Rattle.muni_book.specs.RunLaws.{ConfirmedFiguresAreRight}
+use Rattle.muni_desk_serve.specs.Connections.{Exchange}
+use Rattle.muni_desk_serve.specs.Follow.{Follow, nothing, unreplied, replied}
+use Rattle.muni_desk_serve.specs.Laws.{AnswersAreRight}
+use Rattle.muni_desk_serve.specs.RightAnswers.{IsRightText, IsAnsweredRight}
+use Rattle.muni_desk_serve.proofs.RunLemmas.{connections-run}
+
+right-text : (t : Tables) (reply : Reply) → IsRightReply AreRightFigures t reply → IsRightText t reply (reply_text reply)
+right-text t (Added cusip) right = refl
+right-text t (Quoted asked figures) right = (right.0, right.1, right.2, refl)
+right-text t (Listed lines) right = refl
+right-text t (Confirmed issue key number version) right = (right, refl)
+right-text t (Refused why) right = refl
+
+answered-right : (t : Tables) {exchanges : List Exchange} {commands : List Command} {replies : List Reply} → Follow exchanges commands replies → All (IsRightReply AreRightFigures t) replies → All (IsAnsweredRight t) exchanges
+answered-right t nothing all = All-nil (IsAnsweredRight t)
+answered-right t (unreplied first others commands replies none follow) all =
+    All-cons (IsAnsweredRight t) first others (inl none) (answered-right t follow all)
+answered-right t (replied first command reply others commands replies has follow) all =
+    All-cons (IsAnsweredRight t) first others
+    (inr (record {
+      command = command;
+      reply = reply;
+      body = reply_text reply;
+      asks = has.asks;
+      right = right-text t reply (All-head (IsRightReply AreRightFigures t) reply replies all);
+      answered = has.answer;
+    }))
+    (answered-right t follow (All-tail (IsRightReply AreRightFigures t) reply replies all))
+
+pub answers-right : ConfirmedFiguresAreRight → AnswersAreRight
+answers-right right ends old exchanges new faults sound served =
+    let run = connections-run (IsRightAnswer ends) old exchanges new faults served in
+    let last = run.2.0 in
+    (last, run.2.1, answered-right last run.3 (right.runs ends old last run.0 run.1 sound run.2.2))
