@@ -1,5 +1,5 @@
 -- A command is completed if nothing failed.
-use Rattle.std.proofs.Common.{◌≡◌, ◌≤◌, ◌<◌, ◌⊎◌, inl, inr, ℕ, List, length, Option, Some, None, Result, Ok, Err, IfSome, refl, sym, subst, arith, ℤ}
+use Rattle.std.proofs.Common.{◌≡◌, ◌<◌, ◌⊎◌, inl, inr, ℕ, List, length, Some, None, Result, Ok, Err, IfSome, refl, sym, subst, arith, ℤ}
 use Rattle.muni_rule.specs.Payments.{PaymentSeries}
 use Rattle.muni_rule.specs.WorthEnds.{WorthEnds}
 use Rattle.muni_edge.specs.Faults.{Rose}
@@ -25,7 +25,7 @@ use Rattle.muni_desk_serve.specs.Serves.{Traffic}
 use Rattle.muni_desk_serve.specs.Serving.{ServedStore}
 use Rattle.muni_desk_serve.specs.declared.fault.ServeFault.TheVariants as serve
 use Rattle.muni_desk.specs.Answers.{IsQuoteOneText, IsQuoteText, IsDrillText, IsHelpText, IsAnswer}
-use Rattle.muni_desk.specs.CompletenessLaws.{NoneFailed, HasAtMost, IsAnswered, IsAnsweredOverStore, CommandsAreCompleted}
+use Rattle.muni_desk.specs.CompletenessLaws.{HasAtMost, IsAnswered, IsAnsweredOverStore, CommandsAreCompleted}
 use Rattle.muni_desk.specs.Does.{Says}
 use Rattle.muni_desk.specs.Status.{of_answered, of_done, of_served}
 use Rattle.muni_desk.specs.declared.command.DeskCommand.{DeskCommand}

@@ -1,5 +1,5 @@
 -- A law of completeness: which commands are answered.
-use Rattle.std.specs.Prelude.{◌≡◌, ◌≤◌, ⊤, ℕ, List, length, Some, None, ℤ}
+use Rattle.std.specs.Prelude.{◌≡◌, ◌≤◌, ⊤, ℕ, List, length, Some, ℤ}
 use Rattle.muni_rule.specs.Payments.{PaymentSeries}
 use Rattle.muni_rule.specs.WorthEnds.{WorthEnds}
 use Rattle.muni_edge.specs.Faults.{Rose}

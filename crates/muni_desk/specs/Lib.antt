@@ -18,4 +18,5 @@ pub mod Does
 pub mod AnswerLaws
 pub mod WordLaws
 pub mod CompletenessLaws
+pub mod PrintLaws
 pub mod FieldLaws

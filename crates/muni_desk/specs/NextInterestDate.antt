@@ -1,5 +1,5 @@
 -- The next interest date of a security in its last interest period.
-use Rattle.std.specs.Prelude.{ℕ, ◌&&◌, Bool, nat_le, if◌then◌else◌, Option, Some, None}
+use Rattle.std.specs.Prelude.{◌&&◌, Bool, nat_le, if◌then◌else◌, Option, Some, None}
 use Rattle.muni_rule.specs.Civil.{Civil}
 use Rattle.muni_days.specs.Day.{civil}
 use Rattle.muni_days.specs.declared.day.Day.{Day}

@@ -2,9 +2,12 @@
 
 ghost use Rattle.muni_desk.specs.AnswerLaws.{AnswersAreUnique, WorkersDoNotShow};
 ghost use Rattle.muni_desk.specs.CompletenessLaws.{CommandsAreCompleted};
+ghost use Rattle.muni_desk.specs.PrintLaws.{ImportsPrintRight, ConfirmationsPrintRight, ConnectionsAreAnsweredRight};
 
 mod words;
 
+use muni_desk_import::laws::{confirmations_are_right, reports_are_right};
+use muni_desk_serve::laws::answers_are_right;
 use muni_edge::{Door, Sink, Source};
 use muni_keep::Cabinet;
 pub use words::words_are_read_by_the_rule;
@@ -27,3 +30,17 @@ pub fn the_workers_do_not_show()
 pub fn commands_are_completed<I: Source, O: Sink, C: Cabinet, D: Door>()
     ensures { CommandsAreCompleted I.Source O.Sink C.Cabinet D.Door }
 {}
+
+/// A law of the definitions: over sound tables what the desk prints is right by the rule's exact
+/// formulas. Each line of an import that confirms a trade has the price, the yield, the date of the
+/// redemption and the total of a version that is kept. A confirmation, asked for by `confirm` or answered
+/// over HTTP, is the whole text of one.
+pub fn printed_figures_are_right<I: Source, O: Sink, C: Cabinet, D: Door>()
+    ensures imports { ImportsPrintRight I.Source O.Sink C.Cabinet D.Door }
+    ensures confirmations { ConfirmationsPrintRight I.Source O.Sink C.Cabinet D.Door }
+    ensures connections { ConnectionsAreAnsweredRight I.Source O.Sink C.Cabinet D.Door }
+{
+    reports_are_right();
+    confirmations_are_right();
+    answers_are_right();
+}
