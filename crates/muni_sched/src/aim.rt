@@ -1,25 +1,22 @@
-//! The place at which the searches of a round ask if they know the answer to their own question.
-//! Nothing rests on it.
-
-ghost use Rattle.std.specs.Prelude.{◌≤◌};
+//! What the searches of a round ask if they know the answer to their own question. Nothing rests on it.
 
 use crate::search::OpenSearch;
-use muni_yield::RoughYield;
+use muni_yield::{Place, Question, RoughYield, Window};
 
-/// A place, and the guess that it comes from: the highest place that a candidate reaches.
+/// A question, and the guess that it comes from: the highest place that a candidate reaches.
 #[derive(Clone, Copy, Debug, PartialEq, Eq)]
 pub(crate) struct Aim {
-    place: u32,
+    question: Question,
     candidate: usize,
-    guess: u32,
+    guess: Place,
 }
 
 impl Aim {
     /// Before any guess.
     pub(crate) const START: Aim = Aim {
-        place: 1,
+        question: Question::FIRST,
         candidate: 0,
-        guess: 0,
+        guess: Place::BELOW,
     };
 
     /// Next to a guess at the yield of the candidate whose rough yield is the lowest.
@@ -28,7 +25,7 @@ impl Aim {
             Some(search) => {
                 let rough = search.guided.rough_yield();
                 let guess = search.guided.guess(rough.millionths());
-                Aim::at(search, guess, 0)
+                Aim::at(search, guess, None)
             }
             None => Aim::START,
         }
@@ -37,7 +34,7 @@ impl Aim {
     /// After a round, next to the guess at hand if its candidate is still searched, and else to a
     /// new one.
     pub(crate) fn next(&self, searches: &[OpenSearch], is_asked: bool) -> Aim {
-        let asked = if is_asked { self.place } else { 0 };
+        let asked = if is_asked { Some(self.question) } else { None };
         if let Some(search) = self.own(searches) {
             return Aim::at(search, self.guess_of(search), asked);
         }
@@ -57,48 +54,48 @@ impl Aim {
         None
     }
 
-    /// The place.
-    pub(crate) fn place(&self) -> u32
-        ensures least { 1 ≤ result }
-        ensures most { result ≤ 105_002 }
-    {
-        self.place.clamp(1, 105_002)
+    /// What is asked.
+    pub(crate) fn question(&self) -> Question {
+        self.question
     }
 
     // The guess at hand, if it is of this search and what is known allows it.
-    fn guess_of(&self, search: &OpenSearch) -> u32 {
+    fn guess_of(&self, search: &OpenSearch) -> Place {
         let window = search.guided.window();
         if self.candidate == search.candidate
-            && window.yes() <= self.guess
-            && self.guess < window.no()
+            && !self.guess.is_below(window.yes())
+            && self.guess.is_below(window.no())
         {
             self.guess
         } else {
-            search.guided.guess(yield_near(self.place))
+            search.guided.guess(i64::from(self.question.boundary()))
         }
     }
 
-    // The place after a guess, or the guess itself if that one is known. A place that was asked and
-    // is too near to tell is passed by.
-    fn at(search: &OpenSearch, guess: u32, asked: u32) -> Aim {
+    // At the place after a guess, or at the guess itself if that one is known. A question that was
+    // asked and is too near to tell is passed by.
+    fn at(search: &OpenSearch, guess: Place, asked: Option<Question>) -> Aim {
         let window = search.guided.window();
-        let guess = guess.max(window.yes()).min(window.no().saturating_sub(1));
-        let place = if window.is_open_at(asked) {
-            if window.yes() < asked.saturating_sub(1) {
-                asked.saturating_sub(1)
-            } else {
-                asked.saturating_add(1)
-            }
-        } else if guess.saturating_add(1) < window.no() {
-            guess.saturating_add(1)
-        } else {
-            guess
+        let guess = guess.higher(window.yes()).lower(window.no().before());
+        let place = match asked {
+            Some(asked) if window.is_open_at(asked) => place_beside(asked.place(), window),
+            _ if guess.next().is_below(window.no()) => guess.next(),
+            _ => guess,
         };
         Aim {
-            place,
+            question: Question::near(place),
             candidate: search.candidate,
             guess,
         }
+    }
+}
+
+// The place before one, if that is open, and else the next one.
+fn place_beside(place: Place, window: &Window) -> Place {
+    if window.yes().is_below(place.before()) {
+        place.before()
+    } else {
+        place.next()
     }
 }
 
@@ -116,9 +113,4 @@ fn lowest_roughly(searches: &[OpenSearch]) -> Option<&OpenSearch> {
         }
     }
     lowest
-}
-
-// The boundary of a place, in 10^-6.
-fn yield_near(place: u32) -> i64 {
-    10 * i64::from(place) - 50_015
 }

@@ -9,7 +9,7 @@ use crate::aim::Aim;
 use crate::search::OpenSearch;
 use muni_edge::Gate;
 use muni_multi::Encloser;
-use muni_yield::Discounts;
+use muni_yield::{Discounts, Question};
 use std::thread;
 use std::thread::Threads;
 
@@ -22,8 +22,8 @@ pub(crate) struct Asker<'a, R, E, G> {
     pub(crate) gate: &'a G,
 }
 
-/// What all searches of a round have in common. They ask at two places at most, so two discounts
-/// serve them. A search that asks at another one computes its own.
+/// What all searches of a round have in common. They ask two questions at most, so two discounts
+/// serve them. A search that asks another one computes its own.
 #[derive(Clone, Copy)]
 pub(crate) struct Round<'a> {
     pub(crate) number: u32,
@@ -31,10 +31,9 @@ pub(crate) struct Round<'a> {
     pub(crate) discounts: &'a Discounts,
 }
 
-/// Adds the discounts of the places at which the searches ask.
-pub(crate) fn add_discounts(discounts: &mut Discounts, searches: &[OpenSearch], aim: u32)
+/// Adds the discounts of what the searches ask.
+pub(crate) fn add_discounts(discounts: &mut Discounts, searches: &[OpenSearch], aim: Question)
     requires each { All IsPending searches.now }
-    requires aim { (1 ≤ aim) × (aim ≤ 105_002) }
 {
     for search in searches {
         search.guided.add_discount(aim, discounts);
@@ -73,7 +72,7 @@ fn ask_one<E: Encloser, G: Gate>(search: &mut OpenSearch, round: &Round<'_>, enc
     gate.start(round.number, search.candidate);
     search
         .guided
-        .halve(encloser, round.aim.place(), round.discounts);
+        .halve(encloser, round.aim.question(), round.discounts);
 }
 
 /// Halves the one search that is left, and answers whether it asks at the aim.
@@ -87,10 +86,10 @@ pub(crate) fn ask_alone<E: Encloser, G: Gate>(
     requires { IsOpen (place_verdict (E.ends encloser.now)) search.old }
     ensures { IsHalved (place_verdict (E.ends encloser.now)) search.old search.new }
 {
-    let is_asked = search.guided.window().is_wide() && search.guided.asks_at(aim.place());
+    let is_asked = search.guided.window().is_wide() && search.guided.asks(aim.question());
     gate.start(number, search.candidate);
     search
         .guided
-        .halve(encloser, aim.place(), &Discounts::new());
+        .halve(encloser, aim.question(), &Discounts::new());
     is_asked
 }

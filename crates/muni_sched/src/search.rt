@@ -21,7 +21,7 @@ use muni_dec::Price;
 use muni_edge::Gate;
 use muni_multi::Encloser;
 use muni_yield::laws::searches_are_in_order;
-use muni_yield::{Discounts, GuidedSearch};
+use muni_yield::{Discounts, GuidedSearch, Place};
 use std::thread::Threads;
 
 /// The search for the yield of one candidate, which is counted from 0 in order of date.
@@ -53,13 +53,13 @@ impl OpenSearch {
     }
 
     // Whether the outcome is not known yet and may be the lowest.
-    fn is_needed(&self, ceiling: Option<i32>, missed: u32) -> bool
+    fn is_needed(&self, ceiling: Option<i32>, missed: Place) -> bool
         ensures { result ≡ spec.is_needed ceiling missed self.now }
     {
         searches_are_in_order(self.guided.bracket());
         self.guided.bracket().settled().is_none()
             && !self.is_passed(ceiling)
-            && self.guided.window().yes() < missed
+            && self.guided.window().yes().is_below(missed)
     }
 
     // Whether the lower yield was answered by yes, and is at the ceiling or above. At -5.001
@@ -91,9 +91,9 @@ pub(crate) struct Search {
     left: usize,
     /// The least figure that a candidate is known not to reach, by its questions.
     ceiling: Option<i32>,
-    /// The least place that a search knows not to be reached, or 105,003.
-    missed: u32,
-    /// The place at which the next round asks if an answer is known.
+    /// The least place that a search knows not to be reached, or the one above the range.
+    missed: Place,
+    /// What the next round asks if an answer is known.
     aim: Aim,
 }
 
@@ -106,7 +106,7 @@ impl Search {
             known: ArrayVec::new(),
             left: 0,
             ceiling: None,
-            missed: 105_003,
+            missed: Place::ABOVE,
             aim: Aim::START,
         }
     }
@@ -180,7 +180,7 @@ impl Search {
     {
         let searches = &mut slots[..self.left];
         let mut discounts = Discounts::new();
-        add_discounts(&mut discounts, searches, self.aim.place());
+        add_discounts(&mut discounts, searches, self.aim.question());
         let asking = Round {
             number: round,
             aim: self.aim,
@@ -220,7 +220,7 @@ impl Search {
         let search = &slots[0];
         note_settled(search, self.known.as_mut_slice());
         self.ceiling = lower_of(self.ceiling, search.missed());
-        self.missed = self.missed.min(search.guided.window().no());
+        self.missed = self.missed.lower(search.guided.window().no());
         if !search.is_needed(self.ceiling, self.missed) {
             self.left = 0;
         } else if search.guided.window().is_wide() {
@@ -332,18 +332,18 @@ fn least_ceiling(searches: &[OpenSearch], before: Option<i32>) -> Option<i32>
     ceiling
 }
 
-fn least_missed(searches: &[OpenSearch], before: u32) -> u32
+fn least_missed(searches: &[OpenSearch], before: Place) -> Place
     ensures { result ≡ missed_after before searches.now }
 {
     let mut missed = before;
     for search in searches {
-        missed = missed.min(search.guided.window().no());
+        missed = missed.lower(search.guided.window().no());
     }
     missed
 }
 
 // Moves the searches that are needed to the front, and answers how many they are.
-fn keep_needed(searches: &mut [OpenSearch], ceiling: Option<i32>, missed: u32) -> usize
+fn keep_needed(searches: &mut [OpenSearch], ceiling: Option<i32>, missed: Place) -> usize
     ensures needed { take result searches.new
         ≡ filter (spec.is_needed ceiling missed) searches.old }
     ensures fits { result ≤ length searches.new }

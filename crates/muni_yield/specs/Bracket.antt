@@ -4,8 +4,8 @@ use Rattle.muni_rule.specs.Payments.{PaymentSeries}
 use Rattle.muni_rule.specs.declared.verdict.Verdict.{Verdict}
 use Rattle.muni_rule.specs.declared.verdict.Verdict.TheVariants.{Yes, No, Unsure}
 
--- the payments and the price, the two places, what was answered at the higher one, and how many
--- questions were asked
+-- the payments and the price, the two places, what was answered at the higher one, and how often it
+-- was halved
 pub record YieldBracket : Type 0 where
   pub series : PaymentSeries
   pub price : ℕ
@@ -111,3 +111,10 @@ pub record IsAnswered (verdict : ℕ → Verdict) (bracket : YieldBracket) : Typ
   pub low : (bracket.low ≡ 0) ⊎ (verdict bracket.low ≡ Yes)
   pub high : ((bracket.high ≡ 105_003) × (bracket.at_high ≡ No))
       ⊎ IsMissed verdict bracket.high bracket.at_high
+
+-- one halving by these verdicts, which keeps what was answered
+pub record HalvesBy (verdicts : PaymentSeries → ℕ → ℕ → Verdict) (old new : YieldBracket) : Type 0 where
+  pub halved : new ≡ halved verdicts old
+  pub count : new.halvings ≡ old.halvings + 1
+  pub answered : IsAnswered (verdicts old.series old.price) old
+      → IsAnswered (verdicts old.series old.price) new

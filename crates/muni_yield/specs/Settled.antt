@@ -1,10 +1,12 @@
 -- The outcome of a search.
-use Rattle.std.specs.Prelude.{ℕ, ◌==◌, if◌then◌else◌, Option, Some, None}
+use Rattle.std.specs.Prelude.{◌≡◌, ℕ, ◌+◌, ◌≤◌, ◌==◌, if◌then◌else◌, Option, Some, None, ℤ}
 use Rattle.muni_rule.specs.Payments.{PaymentSeries}
 use Rattle.muni_rule.specs.declared.verdict.Verdict.{Verdict}
 use Rattle.muni_rule.specs.declared.verdict.Verdict.TheVariants as verdict
 use Rattle.muni_yield.specs.Bracket.{YieldBracket, start_of, is_settled, run}
-use Rattle.muni_yield.specs.Places.{yield_at}
+use Rattle.muni_rule.specs.WorthEnds.{WorthEnds}
+use Rattle.muni_yield.specs.Outcome.{IsVerdictOutcome}
+use Rattle.muni_yield.specs.Places.{yield_at, yield_verdict, place_verdict}
 use Rattle.muni_yield.specs.declared.outcome.Outcome.{Outcome}
 use Rattle.muni_yield.specs.declared.outcome.Outcome.TheVariants.{Print, Below, Above, Unsure}
 
@@ -29,3 +31,17 @@ settled_as bracket = if is_settled bracket then Some (outcome_of bracket) else N
 -- the outcome for a price, when all questions were asked
 unfoldable pub final_of : (PaymentSeries → ℕ → ℕ → Verdict) → PaymentSeries → ℕ → Outcome
 final_of verdicts series price = outcome_of (run 19 verdicts (start_of series price))
+
+-- the outcome that the verdicts by these ends leave, in the order of the questions
+pub record IsSearchOutcome
+    (ends : PaymentSeries → ℤ → WorthEnds) (series : PaymentSeries) (price : ℕ)
+    (outcome : Outcome) : Type 0 where
+  pub verdicts : IsVerdictOutcome (yield_verdict (ends series) series price) outcome
+  pub last : outcome ≡ final_of (place_verdict ends) series price
+
+-- a count rises by the halvings of the search, of which there are at most 19
+pub record CountsHalvings
+    (verdicts : PaymentSeries → ℕ → ℕ → Verdict) (series : PaymentSeries) (price : ℕ)
+    (before now : ℕ) : Type 0 where
+  pub counted : now ≡ before + (run 19 verdicts (start_of series price)).halvings
+  pub few : now ≤ before + 19

@@ -1,5 +1,6 @@
 //! A guess at a yield. Nothing rests on it: whichever place it names, the answer there is proved.
 
+use crate::Place;
 use muni_dec::Price;
 use muni_terms::Flows;
 
@@ -77,7 +78,7 @@ impl RoughYield {
 }
 
 /// The highest place that is reached, nearly, by Newton's method from a yield in 10^-6.
-pub(crate) fn place_near(flows: &Flows, price: Price, from: i64) -> u32 {
+pub(crate) fn place_near(flows: &Flows, price: Price, from: i64) -> Place {
     let dirty = (360_000 * price.units() + flows.accrued()) as i64;
     let mut y = from.clamp(LEAST, GREATEST);
     // In 10^-6 / 1024. The boundary of a place that is met nearly is taken as reached.
@@ -94,8 +95,7 @@ pub(crate) fn place_near(flows: &Flows, price: Price, from: i64) -> u32 {
         }
         y = next.clamp(LEAST, GREATEST);
     }
-    let place = finer.wrapping_add(512 + 50_015 * 1_024) / 10_240;
-    place.clamp(0, 105_002) as u32
+    Place::near(finer.wrapping_add(512 + 50_015 * 1_024) / 10_240)
 }
 
 // By how much a yield is too low, in 10^-6 / 1024, from the logarithms of two worths on the day of

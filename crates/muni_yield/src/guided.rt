@@ -7,8 +7,7 @@ ghost use Rattle.muni_yield.specs.Places.{place_verdict};
 
 use crate::guess::{RoughYield, place_near};
 use crate::laws::searches_are_in_order;
-use crate::place::boundary_at;
-use crate::{Bracket, Discounts, Window};
+use crate::{Bracket, Discounts, Place, Question, Window};
 use muni_dec::Price;
 use muni_multi::{Discount, Encloser, Verdict};
 use muni_terms::Flows;
@@ -51,13 +50,13 @@ impl GuidedSearch {
         &self.window
     }
 
-    /// Halves a search that is not settled, with one call of the encloser at most: at the bracket's
-    /// next question, or if that is known at the place `aim`. No discount is computed if the one at
-    /// hand is that of the place.
-    pub fn halve<E: Encloser>(&mut self, encloser: &E, aim: u32, discounts: &Discounts)
+    /// Halves a search that is not settled. It asks the bracket's next question, or if the answer to
+    /// that is known the question `aim`. No discount is computed if the one at hand is that of the
+    /// question.
+    // It calls the encloser once at most (tested).
+    pub fn halve<E: Encloser>(&mut self, encloser: &E, aim: Question, discounts: &Discounts)
         requires open { bracket.is_settled self.old.bracket ≡ false }
         requires known { IsGuided (place_verdict (E.ends encloser.now)) self.old }
-        requires aim { (1 ≤ aim) × (aim ≤ 105_002) }
         ensures halved { self.new.bracket
             ≡ bracket.halved (place_verdict (E.ends encloser.now)) self.old.bracket }
         ensures known { IsGuided (place_verdict (E.ends encloser.now)) self.new }
@@ -66,13 +65,12 @@ impl GuidedSearch {
         self.bracket.halve_known(verdict);
     }
 
-    /// Adds the discount of the place at which the next halving asks, if it does and none is at hand.
-    pub fn add_discount(&self, aim: u32, discounts: &mut Discounts)
+    /// Adds the discount of the question that the next halving asks, if it does and none is at hand.
+    pub fn add_discount(&self, aim: Question, discounts: &mut Discounts)
         requires open { bracket.is_settled self.now.bracket ≡ false }
-        requires aim { (1 ≤ aim) × (aim ≤ 105_002) }
     {
         let question = self.bracket.question();
-        if self.window.verdict_at(question).is_none() {
+        if self.window.verdict_at(question.place()).is_none() {
             if discounts.question.is_none() {
                 discounts.question = Some(self.discount_at(question));
             }
@@ -81,18 +79,18 @@ impl GuidedSearch {
         }
     }
 
-    /// Whether the next halving asks at the place `aim`.
-    pub fn asks_at(&self, aim: u32) -> bool
+    /// Whether the next halving asks the question `aim`.
+    pub fn asks(&self, aim: Question) -> bool
         requires { bracket.is_settled self.now.bracket ≡ false }
     {
-        self.window.verdict_at(self.bracket.question()).is_some() && self.window.is_open_at(aim)
+        self.window
+            .verdict_at(self.bracket.question().place())
+            .is_some()
+            && self.window.is_open_at(aim)
     }
 
-    fn discount_at(&self, place: u32) -> Discount
-        requires some { 1 ≤ place }
-        requires most { place ≤ 105_002 }
-    {
-        Discount::at(boundary_at(place), self.bracket.flows().a())
+    fn discount_at(&self, question: Question) -> Discount {
+        Discount::at(question.boundary(), self.bracket.flows().a())
     }
 
     /// A rough yield.
@@ -101,22 +99,21 @@ impl GuidedSearch {
     }
 
     /// A guess at the highest place that is reached, from a yield in 10^-6.
-    pub fn guess(&self, from: i64) -> u32 {
+    pub fn guess(&self, from: i64) -> Place {
         place_near(self.bracket.flows(), self.bracket.price(), from)
     }
 
     // The verdict on the bracket's next question.
-    fn answer<E: Encloser>(&mut self, encloser: &E, aim: u32, discounts: &Discounts) -> Verdict
+    fn answer<E: Encloser>(&mut self, encloser: &E, aim: Question, discounts: &Discounts) -> Verdict
         requires open { bracket.is_settled self.old.bracket ≡ false }
         requires known { IsGuided (place_verdict (E.ends encloser.now)) self.old }
-        requires aim { (1 ≤ aim) × (aim ≤ 105_002) }
         ensures verdict { result ≡ place_verdict (E.ends encloser.now) self.old.bracket.series
             self.old.bracket.price (bracket.question self.old.bracket) }
         ensures bracket { self.new.bracket ≡ self.old.bracket }
         ensures known { IsGuided (place_verdict (E.ends encloser.now)) self.new }
     {
         let question = self.bracket.question();
-        match self.window.verdict_at(question) {
+        match self.window.verdict_at(question.place()) {
             Some(verdict) => {
                 self.leap(encloser, aim, discounts.aim.as_ref());
                 verdict
@@ -125,9 +122,8 @@ impl GuidedSearch {
         }
     }
 
-    fn leap<E: Encloser>(&mut self, encloser: &E, aim: u32, kept: Option<&Discount>)
+    fn leap<E: Encloser>(&mut self, encloser: &E, aim: Question, kept: Option<&Discount>)
         requires known { IsGuided (place_verdict (E.ends encloser.now)) self.old }
-        requires aim { (1 ≤ aim) × (aim ≤ 105_002) }
         ensures bracket { self.new.bracket ≡ self.old.bracket }
         ensures known { IsGuided (place_verdict (E.ends encloser.now)) self.new }
     {
@@ -136,19 +132,22 @@ impl GuidedSearch {
         }
     }
 
-    // The answer at a place, from which the window learns.
-    fn ask<E: Encloser>(&mut self, encloser: &E, place: u32, kept: Option<&Discount>) -> Verdict
+    // The answer to a question, from which the window learns.
+    fn ask<E: Encloser>(
+        &mut self,
+        encloser: &E,
+        question: Question,
+        kept: Option<&Discount>,
+    ) -> Verdict
         requires known { IsGuided (place_verdict (E.ends encloser.now)) self.old }
-        requires some { 1 ≤ place }
-        requires most { place ≤ 105_002 }
         ensures verdict { result ≡ place_verdict (E.ends encloser.now)
-            self.old.bracket.series self.old.bracket.price place }
+            self.old.bracket.series self.old.bracket.price question }
         ensures bracket { self.new.bracket ≡ self.old.bracket }
         ensures known { IsGuided (place_verdict (E.ends encloser.now)) self.new }
     {
         searches_are_in_order(&self.bracket);
-        let reading = self.bracket.read(encloser, place, kept);
-        self.window.learn(place, reading);
+        let reading = question.ask(encloser, self.bracket.flows(), self.bracket.price(), kept);
+        self.window.learn(question.place(), reading);
         reading.verdict
     }
 }

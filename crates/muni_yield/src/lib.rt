@@ -7,8 +7,8 @@ mod guess;
 mod guided;
 pub mod laws;
 mod outcome;
+mod outside;
 mod place;
-mod printed;
 mod window;
 
 pub use bracket::Bracket;
@@ -16,5 +16,6 @@ pub use discounts::Discounts;
 pub use guess::RoughYield;
 pub use guided::GuidedSearch;
 pub use outcome::Outcome;
-pub use printed::printed_yield;
+pub use outside::printed_yield;
+pub use place::{Place, Question};
 pub use window::Window;

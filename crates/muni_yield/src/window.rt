@@ -3,6 +3,7 @@
 ghost use Rattle.std.specs.Prelude.{◌≡◌};
 ghost use Rattle.muni_yield.specs.Known as spec;
 
+use crate::{Place, Question};
 use muni_dec::Price;
 use muni_multi::{Reading, Verdict, total};
 use muni_terms::Flows;
@@ -13,8 +14,8 @@ use muni_terms::Flows;
 /// side of it, whatever the ends of the worth are there.
 #[derive(Clone, Copy, Debug, PartialEq, Eq, Default)]
 pub struct Window {
-    yes: u32,
-    no: u32,
+    yes: Place,
+    no: Place,
 }
 
 impl Window {
@@ -26,46 +27,49 @@ impl Window {
         let dirty = 360_000 * price.units() + flows.accrued();
         if dirty + 360 <= sum {
             Window {
-                yes: 5_001,
-                no: 105_003,
+                yes: Place::ZERO,
+                no: Place::ABOVE,
             }
         } else if sum + 360 < dirty {
-            Window { yes: 0, no: 5_002 }
+            Window {
+                yes: Place::BELOW,
+                no: Place::ABOVE_ZERO,
+            }
         } else {
             Window {
-                yes: 0,
-                no: 105_003,
+                yes: Place::BELOW,
+                no: Place::ABOVE,
             }
         }
     }
 
-    /// The highest place that is known to be reached, or 0.
-    pub fn yes(&self) -> u32
+    /// The highest place that is known to be reached, or the one below the range.
+    pub fn yes(&self) -> Place
         ensures { result ≡ self.now.yes }
     {
         self.yes
     }
 
-    /// The lowest place that is known not to be reached, or 105,003.
-    pub fn no(&self) -> u32
+    /// The lowest place that is known not to be reached, or the one above the range.
+    pub fn no(&self) -> Place
         ensures { result ≡ self.now.no }
     {
         self.no
     }
 
-    pub(crate) fn verdict_at(&self, place: u32) -> Option<Verdict>
+    pub(crate) fn verdict_at(&self, place: Place) -> Option<Verdict>
         ensures { result ≡ spec.known_at self.now place }
     {
-        if place <= self.yes {
+        if !self.yes.is_below(place) {
             Some(Verdict::Yes)
-        } else if self.no <= place {
+        } else if !place.is_below(self.no) {
             Some(Verdict::No)
         } else {
             None
         }
     }
 
-    pub(crate) fn learn(&mut self, place: u32, reading: Reading)
+    pub(crate) fn learn(&mut self, place: Place, reading: Reading)
         ensures { self.new ≡ spec.learnt place reading self.old }
     {
         if !reading.clear {
@@ -80,11 +84,12 @@ impl Window {
 
     /// Whether more than one verdict is open.
     pub fn is_wide(&self) -> bool {
-        self.no.wrapping_sub(self.yes) > 2
+        self.yes.next().next().is_below(self.no)
     }
 
-    /// Whether more than one is, and that at a place.
-    pub fn is_open_at(&self, place: u32) -> bool {
-        self.is_wide() && self.yes < place && place < self.no
+    /// Whether more than one is, and that on a question.
+    pub fn is_open_at(&self, question: Question) -> bool {
+        let place = question.place();
+        self.is_wide() && self.yes.is_below(place) && place.is_below(self.no)
     }
 }

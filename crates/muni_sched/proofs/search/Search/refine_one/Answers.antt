@@ -41,8 +41,8 @@ pub missed-requires : goal.missed-requires
 missed-requires g c = is g (goal.at.missed-requires g c).After-index-slots-0-2
 
 -- a round that leaves these searches
-round : (g : given.Over) (c : After-is_needed g) (after : SearchState) → after.known ≡ refill (length c.args.self.now.known.items) c.args.self.now.known.items c.note_settled.new.known → after.ceiling ≡ c.lower_of-self.result → after.missed ≡ c.min-self.result
-    → after.searches ≡ filter (is_needed c.lower_of-self.result c.min-self.result) (get_or (set c.args.slots.now 0 c.ask_alone-is_asked.new.search) 0 c.index-slots-0-2.result ∷ [])
+round : (g : given.Over) (c : After-is_needed g) (after : SearchState) → after.known ≡ refill (length c.args.self.now.known.items) c.args.self.now.known.items c.note_settled.new.known → after.ceiling ≡ c.lower_of-self.result → after.missed ≡ c.lower-self.result
+    → after.searches ≡ filter (is_needed c.lower_of-self.result c.lower-self.result) (get_or (set c.args.slots.now 0 c.ask_alone-is_asked.new.search) 0 c.index-slots-0-2.result ∷ [])
     → IsRound (place_verdict (g.E.Encloser.ends c.args.encloser.now)) (state c.args.self.now c.args.slots.now) after
 round g c after known ceiling least searches =
     let verdicts = place_verdict (g.E.Encloser.ends c.args.encloser.now) in
@@ -57,13 +57,13 @@ round g c after known ceiling least searches =
     (searches ∙ (λ i. filter (is_needed (sym ceiling i) (sym least i)) (it ∷ [])))
 
 -- the search stays in its slot
-stays : (g : given.Over) (c : After-is_needed g) → c.is_needed.result ≡ true → take c.args.self.now.left (set c.args.slots.now 0 c.ask_alone-is_asked.new.search) ≡ filter (is_needed c.lower_of-self.result c.min-self.result) (get_or (set c.args.slots.now 0 c.ask_alone-is_asked.new.search) 0 c.index-slots-0-2.result ∷ [])
+stays : (g : given.Over) (c : After-is_needed g) → c.is_needed.result ≡ true → take c.args.self.now.left (set c.args.slots.now 0 c.ask_alone-is_asked.new.search) ≡ filter (is_needed c.lower_of-self.result c.lower-self.result) (get_or (set c.args.slots.now 0 c.ask_alone-is_asked.new.search) 0 c.index-slots-0-2.result ∷ [])
 stays g c needs =
     let slots = c.args.slots.now in
     let now : List OpenSearch = set slots 0 c.ask_alone-is_asked.new.search in
     let it : OpenSearch = get_or now 0 c.index-slots-0-2.result in
-    let needed : is_needed c.lower_of-self.result c.min-self.result it ≡ true = sym c.is_needed.ensures ∙ needs in
-    let kept : filter (is_needed c.lower_of-self.result c.min-self.result) (it ∷ []) ≡ it ∷ [] = rw needed refl in
+    let needed : is_needed c.lower_of-self.result c.lower-self.result it ≡ true = sym c.is_needed.ensures ∙ needs in
+    let kept : filter (is_needed c.lower_of-self.result c.lower-self.result) (it ∷ []) ≡ it ∷ [] = rw needed refl in
     let one = c.requires.one in
     let fits = c.requires.fits in
     front-of now c.args.self.now.left c.index-slots-0-2.result one (omega (arith, fits, length-set slots 0 c.ask_alone-is_asked.new.search)) ∙ sym kept
@@ -72,7 +72,7 @@ pub returns-then-not-is_needed-clause-round : goal.returns-then-not-is_needed-cl
 returns-then-not-is_needed-clause-round g c =
     let place = (goal.at.returns-then-not-is_needed-clause-round g c).After-is_needed in
     let no : c.is_needed.result ≡ false = search rules in
-    let dropped : is_needed c.lower_of-self.result c.min-self.result (get_or (set c.args.slots.now 0 c.ask_alone-is_asked.new.search) 0 c.index-slots-0-2.result) ≡ false = sym c.is_needed.ensures ∙ no in
+    let dropped : is_needed c.lower_of-self.result c.lower-self.result (get_or (set c.args.slots.now 0 c.ask_alone-is_asked.new.search) 0 c.index-slots-0-2.result) ≡ false = sym c.is_needed.ensures ∙ no in
     round g place _ refl refl refl (rw dropped refl)
 
 pub returns-then-is_wide-clause-round : goal.returns-then-is_wide-clause-round

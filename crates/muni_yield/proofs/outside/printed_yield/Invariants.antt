@@ -1,7 +1,7 @@
 use Rattle.std.proofs.Common.{◌≡◌, ◌+◌, ◌-◌}
 use Rattle.muni_yield.specs.Bracket.{start_of, run, IsBracket}
 use Rattle.muni_yield.specs.Places.{place_verdict}
-use Rattle.muni_yield.proofs.printed.printed_yield.Given as goal
+use Rattle.muni_yield.proofs.outside.printed_yield.Given as goal
 
 abbrev pub invariant-loop-outcome : goal.invariant-loop-outcome
 invariant-loop-outcome g l = let verdicts = place_verdict (g.E.Encloser.ends l.encloser) in record {

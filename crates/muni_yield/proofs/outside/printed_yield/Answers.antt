@@ -9,7 +9,7 @@ use Rattle.muni_yield.proofs.BracketLemmas.{few-asked, halved-next, run-settled,
 use Rattle.muni_yield.proofs.FinalLemmas.{final-verdict, final-true, final-doubtful}
 use Rattle.muni_yield.proofs.OutcomeLemmas.{outcome-in_range, settled-some, settled-none, settled-final}
 use Rattle.muni_yield.proofs.PlaceLemmas.{AreEnclosed}
-use Rattle.muni_yield.proofs.printed.printed_yield.Goals as goal
+use Rattle.muni_yield.proofs.outside.printed_yield.Goals as goal
 
 pub loop-outcome-smaller : goal.loop-outcome-smaller
 loop-outcome-smaller g c =
@@ -60,8 +60,6 @@ returns-in-Some g c =
       exact = subst (IsYieldOutcome (λ y. AtLeast (to_come series) y (pos (360000 * price))) (λ y. More (to_come series) y (pos (360000 * price)))) (sym final) (final-true ends series price is c.requires.many c.requires.price law);
       doubtful = subst (IsDoubtfulOutcome series price) (sym final) (final-doubtful ends series price c.requires.many c.requires.price law);
       range = outcome-in_range said outcome told;
-      verdicts = told;
-      outcome = final;
-      steps = omega (arith, steps, asked);
-      few = omega (arith, steps, few);
+      searched = record { verdicts = told; last = final };
+      steps = record { counted = omega (arith, steps, asked); few = omega (arith, steps, few) };
     }
