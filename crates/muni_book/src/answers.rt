@@ -7,10 +7,9 @@ ghost use Rattle.muni_terms.specs.Issue as issues;
 ghost use Rattle.muni_sched.specs.Candidates.{IsCandidate};
 ghost use Rattle.muni_book.specs.GivenFor.{IsAskable, IsNote};
 ghost use Rattle.muni_book.specs.Answers as spec;
-ghost use Rattle.muni_book.specs.Answers.{IsRightAnswer, IsComputed, ShowsFound, IsFoundAtYield, IsFoundAtPrice, IsFoundAtRate, IsPayable};
+ghost use Rattle.muni_book.specs.Answers.{IsRightAnswer, ShowsFound, IsFoundAtYield, IsFoundAtPrice, IsFoundAtRate, IsPayable};
 ghost use Rattle.muni_book.specs.Trade as trades;
 
-use crate::Calculator;
 use crate::trade::{is_wrong_basis, net_price, side_left, total};
 use muni_days::Basis;
 use muni_dec::{
@@ -20,7 +19,9 @@ use muni_dec::{
 use muni_edge::Gate;
 use muni_msg::{Asked, Figures, Given, Range, Refusal, Side};
 use muni_multi::Encloser;
-use muni_sched::{Boundary, Candidate, NoPrice, NoYield, Schedule, Shape, price_to_worst};
+use muni_sched::{
+    Boundary, Calculator, Candidate, NoPrice, NoYield, Schedule, Shape, price_to_worst,
+};
 use muni_simple::{SimpleYield, rate_price, rate_return};
 use muni_terms::Issue;
 use std::thread::Threads;
@@ -61,21 +62,6 @@ pub fn figures<R: Threads + Sync, E: Encloser + Sync, G: Gate + Sync>(
     if let Some(side) = side_left(asked, schedule.candidates()) {
         return Err(Refusal::GivenOutOfRange(side));
     }
-    find(calculator, issue, asked, schedule)
-}
-
-// At each basis one of the two figures is given or computed first, and the other from it.
-fn find<R: Threads + Sync, E: Encloser + Sync, G: Gate + Sync>(
-    calculator: &Calculator<'_, R, E, G>,
-    issue: &Issue,
-    asked: &Asked,
-    schedule: &mut Schedule,
-) -> Result<Figures, Refusal>
-    requires { IsAskable issue.now asked.now schedule.old }
-    ensures computed { IsComputed (E.ends calculator.now.encloser.now) issue.now asked.now
-        schedule.old result }
-    ensures payable { IfOk result (IsPayable asked.now.side) }
-{
     match asked.given {
         Given::AtYield(y) => at_yield(issue, asked, schedule.candidates(), y, calculator.encloser),
         Given::AtPrice(price) => at_price(calculator, issue, asked, schedule, price),
@@ -83,6 +69,7 @@ fn find<R: Threads + Sync, E: Encloser + Sync, G: Gate + Sync>(
     }
 }
 
+// At each basis one of the two figures is given or computed first, and the other from it.
 fn at_yield<E: Encloser>(
     issue: &Issue,
     asked: &Asked,
@@ -125,22 +112,15 @@ fn at_price<R: Threads + Sync, E: Encloser + Sync, G: Gate + Sync>(
     schedule: &mut Schedule,
     price: Price,
 ) -> Result<Figures, Refusal>
-    requires askable { IsAskable issue.now asked.now schedule.old }
+    requires askable { IsAskable issue.now asked.now schedule.old.candidates }
     requires given { asked.now.given ≡ Given.AtPrice price }
     ensures found { ShowsFound (IsFoundAtPrice (E.ends calculator.now.encloser.now) price
-        (trades.net_price asked.now.side price asked.now.fee) schedule.old)
+        (trades.net_price asked.now.side price asked.now.fee) schedule.old.candidates)
         issue.now asked.now result }
     ensures payable { IfOk result (IsPayable asked.now.side) }
 {
     let net = Price::new(net_price(price, asked.side, asked.fee));
-    let workers = calculator.workers.count();
-    match schedule.yield_to_worst(
-        calculator.rt,
-        net,
-        workers,
-        calculator.encloser,
-        calculator.gate,
-    ) {
+    match schedule.yield_to_worst(calculator, net) {
         Ok(lowest) => {
             let list = schedule.candidates();
             let redemption = list[lowest.candidate];

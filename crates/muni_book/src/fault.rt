@@ -3,7 +3,8 @@
 use muni_keep::KeepFault;
 use thiserror::Error;
 
-/// Why a command is not answered. Nothing was kept for it.
+/// Why a command is not answered. A keeper that exposes its tables has kept nothing for it. Of any
+/// other the put that failed may be kept, as after a failed sync of a file.
 #[derive(Clone, Copy, Debug, PartialEq, Eq, Error)]
 pub enum BookFault {
     /// What keeps the tables failed, and counted it.

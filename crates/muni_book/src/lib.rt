@@ -2,15 +2,14 @@
 #![tactic(auto)]
 
 mod answers;
-mod calculator;
 mod fault;
 pub mod laws;
+mod outside;
 mod steps;
 mod trade;
-mod workers;
 
 pub use answers::figures;
-pub use calculator::Calculator;
 pub use fault::BookFault;
-pub use steps::apply;
-pub use workers::Workers;
+pub use muni_sched::{Calculator, Workers};
+pub use outside::apply;
+pub use steps::step;

@@ -1,6 +1,6 @@
 //! The book: what each command is answered, and what is kept for it.
 
-ghost use Rattle.std.specs.Prelude.{◌≡◌, ◌≤◌, IfOk, IfSome, OnErr};
+ghost use Rattle.std.specs.Prelude.{◌≡◌, IfOk, IfSome, OnErr};
 ghost use Rattle.muni_keep.specs.History.{next_number};
 ghost use Rattle.muni_keep.specs.Keeper.{SameKeeper};
 ghost use Rattle.muni_keep.specs.Tables.{issue_at, trade_at};
@@ -9,54 +9,42 @@ ghost use Rattle.muni_book_step.specs.Step.{CanKeep};
 ghost use Rattle.muni_book_step.specs.CarriedOut.{IsCarriedOut, KeepsIssue, KeepsVersion};
 ghost use Rattle.muni_book.specs.Answers.{IsRightAnswer};
 
-use crate::{BookFault, Calculator, Workers, figures};
+use crate::{BookFault, figures};
 use muni_book_step::{Plan, plan_of};
 use muni_edge::Gate;
 use muni_keep::{KeepFault, Keeper};
 use muni_msg::{Command, Key, Reply, Version};
 use muni_multi::Encloser;
-use muni_sched::Schedule;
+use muni_sched::{Calculator, Schedule};
 use muni_terms::Issue;
 use std::thread::Threads;
 
 /// Applies one command: answers it, and keeps at most one issue or one version more for it.
 ///
-/// Nothing is kept for a command that is refused, nor if the keeper fails or is out of memory. The
-/// contract says what is answered for a keeper that exposes its tables. For any other keeper only the
-/// code shows it.
-// Up to `workers` threads, from 1 to 16, look for the yields (tested).
-pub fn apply<R: Threads + Sync, K: Keeper, E: Encloser + Sync, G: Gate + Sync>(
-    rt: &R,
+/// Nothing is kept for a command that is refused. If the keeper fails or is out of memory, one that
+/// exposes its tables has kept nothing; any other may have kept the put that failed, as a file does if
+/// its sync failed. The contract says what is answered for a keeper that exposes its tables. For any
+/// other keeper only the code shows it.
+pub fn step<R: Threads + Sync, K: Keeper, E: Encloser + Sync, G: Gate + Sync>(
+    calculator: &Calculator<'_, R, E, G>,
     keeper: &mut K,
     command: &Command,
-    workers: u32,
-    encloser: &E,
-    gate: &G,
 ) -> Result<Reply, BookFault>
-    requires { (1 ≤ workers) × (workers ≤ 16) }
-
     // If the keeper exposes its tables, a reply and the tables after it are those of one step.
     ensures step { IfOk result (λ reply. IfSome (K.tables keeper.old) (λ t.
-        StepsTo (IsRightAnswer (E.ends encloser.now)) t command.now reply (K.tables keeper.new))) }
+        StepsTo (IsRightAnswer (E.ends calculator.now.encloser.now)) t command.now reply (K.tables keeper.new))) }
     ensures refused { IfOk result (λ reply. IsRefusal reply → K.tables keeper.new ≡ K.tables keeper.old) }
     ensures unchanged { OnErr result (K.tables keeper.new ≡ K.tables keeper.old) }
-
     ensures same { SameKeeper K.Keeper BookFault.Failed result keeper.old keeper.new }
 {
     let plan = plan_of(keeper, command)?;
-    let calculator = Calculator {
-        rt,
-        workers: Workers::new(workers),
-        encloser,
-        gate,
-    };
-    Ok(carry_out(keeper, plan, &calculator)?)
+    Ok(carry_out(calculator, keeper, plan)?)
 }
 
 fn carry_out<R: Threads + Sync, K: Keeper, E: Encloser + Sync, G: Gate + Sync>(
+    calculator: &Calculator<'_, R, E, G>,
     keeper: &mut K,
     plan: Plan,
-    calculator: &Calculator<'_, R, E, G>,
 ) -> Result<Reply, KeepFault>
     requires can_keep { IfSome (K.tables keeper.old) (λ t. CanKeep t plan) }
     ensures done { IfOk result (λ reply. IfSome (K.tables keeper.old) (λ t.

@@ -13,7 +13,7 @@ ghost use Rattle.muni_desk_import.specs.Reports.{ReportsWrites};
 use crate::fault::Fault;
 use crate::output::write;
 use arrayvec::ArrayVec;
-use muni_book::{BookFault, Calculator, apply};
+use muni_book::{BookFault, Calculator, step};
 use muni_edge::{Gate, Sink};
 use muni_import::{RowFault, RowReader, report_row};
 use muni_keep::Keeper;
@@ -63,16 +63,7 @@ fn said_of<R: Threads + Sync, K: Keeper, E: Encloser + Sync, G: Gate + Sync>(
     ensures same { SameKeeper K.Keeper BookFault.Failed result keeper.old keeper.new }
 {
     match row {
-        Ok(command) => {
-            let &Calculator {
-                rt,
-                workers,
-                encloser,
-                gate,
-            } = calculator;
-            let reply = apply(rt, keeper, &command, workers.count(), encloser, gate)?;
-            Ok(Ok(reply))
-        }
+        Ok(command) => Ok(Ok(step(calculator, keeper, &command)?)),
         Err(fault) => Ok(Err(fault)),
     }
 }

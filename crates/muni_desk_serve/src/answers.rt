@@ -1,12 +1,12 @@
 //! One connection.
 
-ghost use Rattle.std.specs.Prelude.{◌≡◌, ◌≤◌};
+ghost use Rattle.std.specs.Prelude.{◌≡◌};
 ghost use Rattle.muni_book.specs.Answers.{IsRightAnswer};
 ghost use Rattle.muni_desk_serve.specs.Answer as spec;
 ghost use Rattle.muni_desk_serve.specs.Serves.{LeavesCounted, TakesRequest, WasServed, traffic};
 
 use crate::served::Served;
-use muni_book::{BookFault, apply};
+use muni_book::{BookFault, Calculator, step};
 use muni_edge::{Failed, Gate, Link};
 use muni_keep::Keeper;
 use muni_multi::Encloser;
@@ -19,20 +19,14 @@ use std::thread::Threads;
 /// What is no command is answered too, and so is a command at which the keeper fails: by 503. A
 /// request that ends too early gets no answer, nor does one for which no memory is left; then the
 /// tables stay as they are.
-// Up to `workers` threads look for each yield, and the gate is told when they begin (tested).
 pub fn answer_one<R: Threads + Sync, L: Link, K: Keeper, E: Encloser + Sync, G: Gate + Sync>(
-    rt: &R,
+    calculator: &Calculator<'_, R, E, G>,
     alloc: Global,
     link: &mut L,
     keeper: &mut K,
-    workers: u32,
-    encloser: &E,
-    gate: &G,
 ) -> Served
-    requires { (1 ≤ workers) × (workers ≤ 16) }
-
     // What was answered, if the connection exposes its bytes and the keeper its tables.
-    ensures served { WasServed (IsRightAnswer (E.ends encloser.now))
+    ensures served { WasServed (IsRightAnswer (E.ends calculator.now.encloser.now))
         (K.tables keeper.old) (K.faults keeper.old)
         (traffic L.left L.bytes L.Source.faults L.Sink.faults link.old) result
         (K.tables keeper.new) (K.faults keeper.new)
@@ -48,7 +42,7 @@ pub fn answer_one<R: Threads + Sync, L: Link, K: Keeper, E: Encloser + Sync, G: 
         Err(WireFault::LinkFault) => return Served::LinkFault,
         Err(WireFault::NoMemory) => return Served::NoMemory,
     };
-    match apply(rt, keeper, &command, workers, encloser, gate) {
+    match step(calculator, keeper, &command) {
         Ok(reply) => came_of(write_reply(link, &reply)),
         Err(BookFault::Failed) => came_of(write_unavailable(link)),
         Err(BookFault::NoMemory) => Served::NoMemory,

@@ -97,21 +97,7 @@ fn serve_next<R: Threads + Sync, K: Keeper, D: Door, E: Encloser + Sync, G: Gate
     match door.accept() {
         Ok(Some(link)) => {
             let mut link = link;
-            let &Calculator {
-                rt,
-                workers,
-                encloser,
-                gate,
-            } = calculator;
-            let served = answer_one(
-                rt,
-                alloc,
-                &mut link,
-                keeper,
-                workers.count(),
-                encloser,
-                gate,
-            );
+            let served = answer_one(calculator, alloc, &mut link, keeper);
             door.hand_back(link);
             Ok(Some(served))
         }

@@ -12,16 +12,9 @@ use Rattle.muni_terms.specs.declared.disclosure.Label.TheVariants as label
 use Rattle.muni_terms.specs.declared.row.Call.{Call}
 use Rattle.muni_terms.specs.declared.row.IssueRow.{IssueRow}
 use Rattle.muni_sched.specs.Shape.{shape_at}
-use Rattle.muni_sched.specs.Candidates.{call_redemption, redemption_of, label_of, calls_to_come, label_at, call_label, HasShape, IsCandidate, AreCandidates}
+use Rattle.muni_sched.specs.Candidates.{call_redemption, redemption_of, label_of, calls_to_come, label_at, call_label, HasShape, IsCandidate, AreCallCandidates, AreCandidates}
 use Rattle.muni_sched.specs.CandidateLaws.{AreOneList}
 use Rattle.muni_sched.specs.declared.candidate.Candidate.{Candidate}
-
--- the candidates of calls
-pub record AreCallCandidates (row : IssueRow) (settlement : Day) (calls : List Call) (list : List Candidate) : Type 0 where
-  pub redemptions : map redemption_of list ≡ calls_to_come settlement calls
-  pub labels : map label_of list ≡ map call_label (calls_to_come settlement calls)
-  pub shapes : All (HasShape row settlement) list
-  pub ranges : All IsCandidate list
 
 -- the calls up to one more
 calls-more : (settlement : Day) (calls : List Call) (i : ℕ) (call : Call) → i < length calls → call ≡ get_or calls i call → calls_to_come settlement (take (i + 1) calls) ≡ calls_to_come settlement (take i calls) ++ calls_to_come settlement (call ∷ [])

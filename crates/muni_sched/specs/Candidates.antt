@@ -51,6 +51,14 @@ HasShape row settlement candidate =
 abbrev pub IsCandidate : Candidate → Type 0
 IsCandidate candidate = IsPriceable candidate.shape
 
+-- the candidates of calls
+pub record AreCallCandidates
+    (row : IssueRow) (settlement : Day) (calls : List Call) (list : List Candidate) : Type 0 where
+  pub redemptions : map redemption_of list ≡ calls_to_come settlement calls
+  pub labels : map label_of list ≡ map call_label (calls_to_come settlement calls)
+  pub shapes : All (HasShape row settlement) list
+  pub ranges : All IsCandidate list
+
 -- the redemption candidates of an issue at a settlement, in order of date
 pub record AreCandidates (row : IssueRow) (settlement : Day) (list : List Candidate) : Type 0 where
   pub redemptions : map redemption_of list ≡ redemptions_of row settlement

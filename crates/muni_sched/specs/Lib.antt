@@ -6,6 +6,7 @@ pub mod Sound
 pub mod LowestLaws
 pub mod Shape
 pub mod Candidates
+pub mod ScheduleView
 pub mod CandidateLaws
 pub mod Range
 pub mod Figures

@@ -1,8 +1,5 @@
 //! The lowest figure as it is answered.
 
-ghost use Rattle.std.specs.Prelude.{◌≡◌, Err};
-ghost use Rattle.muni_sched.specs.LowAnswers.{low_price, low_yield};
-
 use muni_days::Day;
 use muni_dec::{Price3, Yield, Yield3};
 use muni_terms::Boundary;
@@ -16,7 +13,8 @@ pub enum Figure {
     Yield(Yield3),
 }
 
-/// The lowest figure over redemption candidates, or why there is none (MSRB Rule G-15(a)).
+/// The lowest figure over redemption candidates, or why there is none (MSRB Rule G-15(a)). The rule is
+/// stated over it. For callers outside; the program goes by `LowestPrice` and `LowestYield`.
 #[derive(Clone, Copy, Debug, PartialEq, Eq)]
 pub enum LowAnswer {
     /// The lowest printed figure, and the earliest candidate that has it. Candidates are counted
@@ -72,56 +70,4 @@ pub enum NoYield {
     Above,
     /// No day is left up to its redemption.
     NoTime { date: Day },
-}
-
-impl LowAnswer {
-    pub(crate) fn of_price(lowest: Result<LowestPrice, NoPrice>) -> LowAnswer
-        ensures { result ≡ low_price lowest }
-    {
-        match lowest {
-            Ok(lowest) => LowAnswer::Low {
-                figure: Figure::Price(lowest.price),
-                candidate: lowest.candidate,
-            },
-            Err(none) => LowAnswer::no_price(none),
-        }
-    }
-
-    fn no_price(none: NoPrice) -> LowAnswer
-        ensures { result ≡ low_price (Err none) }
-    {
-        match none {
-            NoPrice::Undecided { date, boundary } => LowAnswer::Undecided {
-                date,
-                boundary: Boundary::Price(boundary),
-            },
-            NoPrice::Below { date } => LowAnswer::Below { date },
-        }
-    }
-
-    pub(crate) fn of_yield(lowest: Result<LowestYield, NoYield>) -> LowAnswer
-        ensures { result ≡ low_yield lowest }
-    {
-        match lowest {
-            Ok(lowest) => LowAnswer::Low {
-                figure: Figure::Yield(lowest.yld),
-                candidate: lowest.candidate,
-            },
-            Err(none) => LowAnswer::no_yield(none),
-        }
-    }
-
-    fn no_yield(none: NoYield) -> LowAnswer
-        ensures { result ≡ low_yield (Err none) }
-    {
-        match none {
-            NoYield::Undecided { date, boundary } => LowAnswer::Undecided {
-                date,
-                boundary: Boundary::Yield(boundary),
-            },
-            NoYield::Below { date } => LowAnswer::Below { date },
-            NoYield::Above => LowAnswer::Above,
-            NoYield::NoTime { date } => LowAnswer::NoTime { date },
-        }
-    }
 }

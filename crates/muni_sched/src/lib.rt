@@ -4,11 +4,13 @@
 
 mod aim;
 mod answer;
+mod calculator;
 mod candidate;
 pub mod laws;
 mod lowest;
 mod note;
 mod outcome;
+mod outside;
 mod prices;
 mod range;
 mod redemptions;
@@ -16,16 +18,19 @@ mod round;
 mod schedule;
 mod search;
 mod shape;
+mod workers;
 mod yield_outcome;
 mod yields;
 
 pub use answer::{Figure, LowAnswer, LowestPrice, LowestYield, NoPrice, NoYield};
+pub use calculator::Calculator;
 pub use candidate::{Candidate, Shape};
 pub use lowest::lowest_of;
 pub use muni_terms::{Boundary, Label};
 pub use outcome::{CandidateOutcome, Ranked};
-pub use prices::{lowest_price, price_to_worst};
+pub use outside::{candidates, lowest_price, lowest_yield};
+pub use prices::price_to_worst;
 pub use range::out_of_range;
-pub use redemptions::{candidates, put_candidates};
+pub use redemptions::put_candidates;
 pub use schedule::Schedule;
-pub use yields::lowest_yield;
+pub use workers::Workers;

@@ -15,29 +15,15 @@ ghost use Rattle.muni_sched.specs.Range.{IsGivenFor};
 ghost use Rattle.muni_sched.specs.Ranks.{decided_by};
 
 use crate::lowest::lowest_of;
-use crate::{Candidate, LowAnswer, LowestPrice, NoPrice, Shape};
+use crate::{Candidate, LowestPrice, NoPrice, Shape};
 use arrayvec::ArrayVec;
 use muni_dec::Yield;
 use muni_multi::{Discount, Encloser, PriceAnswer, printed_price_at};
 use muni_simple::{Shape1, SimplePrice, single_price};
 
 /// The lowest dollar price at a yield over the redemption candidates of an issue (MSRB Rule
-/// G-15(a)). They are those of `candidates`, in order of date, and `out_of_range` of the yield is
-/// None.
-///
-/// The issue is no discounted note. The answer is neither `Above` nor `NoTime`.
-pub fn lowest_price<E: Encloser>(list: &[Candidate], y: Yield, encloser: &E) -> LowAnswer
-    requires some { 0 < length list.now }
-    requires few { length list.now ≤ 41 }
-    requires candidates { All IsCandidate list.now }
-    requires basis { All IsAtYield list.now }
-    requires in_range { All (IsGivenFor y) list.now }
-    ensures { IsLowestAnswer (E.ends encloser.now) (at_yield y) list.now result }
-{
-    LowAnswer::of_price(price_to_worst(list, y, encloser))
-}
-
-/// The same, with the price as such.
+/// G-15(a)), in order of date. `out_of_range` of the yield is None, and the issue is no discounted
+/// note.
 pub fn price_to_worst<E: Encloser>(
     list: &[Candidate],
     y: Yield,

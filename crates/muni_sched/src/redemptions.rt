@@ -1,37 +1,22 @@
 //! The redemption candidates of an issue.
 
-ghost use Rattle.std.specs.Prelude.{◌≡◌, ◌<◌, ◌≤◌, true, map, take, length, All, AllPairs};
+ghost use Rattle.std.specs.Prelude.{◌≡◌, ◌<◌, ◌≤◌, true, take, length, AllPairs};
 ghost use Rattle.muni_rule.specs.Civil.{is_before};
-ghost use Rattle.muni_rule.specs.Redemptions.{calls_after};
 ghost use Rattle.muni_days.specs.Day.{civil};
 ghost use Rattle.muni_terms.specs.Issue.{settles};
 ghost use Rattle.muni_sched.specs.Candidates as spec;
-ghost use Rattle.muni_sched.specs.Candidates.{redemption_of, label_of, call_redemption, calls_to_come, HasShape, IsCandidate, AreCandidates, IsEarlier};
+ghost use Rattle.muni_sched.specs.Candidates.{AreCallCandidates, AreCandidates, IsEarlier};
 ghost use Rattle.muni_sched.specs.Shape.{IsPricing};
 
 use crate::Candidate;
 use crate::shape::{Pricing, pricing_at, shape_at};
-use arrayvec::ArrayVec;
 use muni_days::Day;
 use muni_dec::Price;
 use muni_terms::{Call, Issue, Label};
 
-/// The redemption candidates of an issue at a settlement (MSRB Rule G-15(a)), in order of date: its
-/// pricing calls after the settlement, and its maturity at 100. A note has its maturity alone.
-pub fn candidates(issue: &Issue, settlement: Day) -> ArrayVec<Candidate, 41>
-    requires { settles issue.now settlement ≡ true }
-    ensures candidates { AreCandidates issue.now settlement result.items }
-    ensures some { 0 < length result.items }
-    ensures rising { AllPairs IsEarlier result.items }
-{
-    let mut slots = [Candidate::default(); 41];
-    let count = put_candidates(&mut slots, issue, settlement);
-    let mut list = ArrayVec::new();
-    let _ = list.try_extend_from_slice(&slots[..count]);
-    list
-}
-
-/// Puts the same candidates into the first of some slots, and answers how many they are.
+/// Puts the redemption candidates of an issue at a settlement (MSRB Rule G-15(a)) into the first of
+/// some slots, and answers how many they are. In order of date they are its pricing calls after the
+/// settlement, and its maturity at 100. A note has its maturity alone.
 pub fn put_candidates(slots: &mut [Candidate], issue: &Issue, settlement: Day) -> usize
     requires settled { settles issue.now settlement ≡ true }
     requires room { 41 ≤ length slots.old }
@@ -57,12 +42,8 @@ fn put_calls(slots: &mut [Candidate], issue: &Issue, settlement: Day, pricing: &
     requires settled { settles issue.now settlement ≡ true }
     requires room { 41 ≤ length slots.old }
     requires pricing { IsPricing issue.now settlement pricing.now }
-    ensures redemptions { map redemption_of (take result slots.new)
-        ≡ calls_to_come settlement issue.now.calls.items }
-    ensures labels { map label_of (take result slots.new)
-        ≡ map spec.call_label (calls_to_come settlement issue.now.calls.items) }
-    ensures shapes { All (HasShape issue.now settlement) (take result slots.new) }
-    ensures ranges { All IsCandidate (take result slots.new) }
+    ensures candidates { AreCallCandidates issue.now settlement issue.now.calls.items
+        (take result slots.new) }
     ensures few { result ≤ 40 }
     ensures len { length slots.new ≡ length slots.old }
 {

@@ -5,6 +5,7 @@ ghost use Rattle.std.specs.List.{AllZip};
 ghost use Rattle.muni_yield.specs.Places.{place_verdict};
 ghost use Rattle.muni_sched.specs.Search.{IsPending, IsOpen, IsHalved};
 
+use crate::Calculator;
 use crate::aim::Aim;
 use crate::search::OpenSearch;
 use muni_edge::Gate;
@@ -12,15 +13,6 @@ use muni_multi::Encloser;
 use muni_yield::{Discounts, Question};
 use std::thread;
 use std::thread::Threads;
-
-/// Who asks: so many threads at once, the encloser, and the gate that is called before each question.
-#[derive(Drop)]
-pub(crate) struct Asker<'a, R, E, G> {
-    pub(crate) rt: &'a R,
-    pub(crate) workers: usize,
-    pub(crate) encloser: &'a E,
-    pub(crate) gate: &'a G,
-}
 
 /// What all searches of a round have in common. They ask two questions at most, so two discounts
 /// serve them. A search that asks another one computes its own.
@@ -42,21 +34,20 @@ pub(crate) fn add_discounts(discounts: &mut Discounts, searches: &[OpenSearch], 
 
 /// Halves each search.
 pub(crate) fn ask_each<R: Threads + Sync, E: Encloser + Sync, G: Gate + Sync>(
-    rt: &R,
+    calculator: &Calculator<'_, R, E, G>,
     searches: &mut [OpenSearch],
-    workers: usize,
     round: &Round<'_>,
-    encloser: &E,
-    gate: &G,
 )
-    requires workers { 0 < workers }
-    requires each { All (IsOpen (place_verdict (E.ends encloser.now))) searches.old }
-    ensures { AllZip (IsHalved (place_verdict (E.ends encloser.now))) searches.old searches.new }
+    requires { All (IsOpen (place_verdict (E.ends calculator.now.encloser.now))) searches.old }
+    ensures { AllZip (IsHalved (place_verdict (E.ends calculator.now.encloser.now)))
+        searches.old searches.new }
 {
+    let encloser = calculator.encloser;
+    let gate = calculator.gate;
     thread::for_each_mut(
-        rt,
+        calculator.rt,
         searches,
-        workers,
+        calculator.workers.count() as usize,
         &|_, search: &mut OpenSearch|
             requires { IsOpen (place_verdict (E.ends encloser.now)) search.now }
             ensures { IsHalved (place_verdict (E.ends encloser.entry.now))
@@ -73,23 +64,4 @@ fn ask_one<E: Encloser, G: Gate>(search: &mut OpenSearch, round: &Round<'_>, enc
     search
         .guided
         .halve(encloser, round.aim.question(), round.discounts);
-}
-
-/// Halves the one search that is left, and answers whether it asks at the aim.
-pub(crate) fn ask_alone<E: Encloser, G: Gate>(
-    search: &mut OpenSearch,
-    number: u32,
-    aim: Aim,
-    encloser: &E,
-    gate: &G,
-) -> bool
-    requires { IsOpen (place_verdict (E.ends encloser.now)) search.old }
-    ensures { IsHalved (place_verdict (E.ends encloser.now)) search.old search.new }
-{
-    let is_asked = search.guided.window().is_wide() && search.guided.asks(aim.question());
-    gate.start(number, search.candidate);
-    search
-        .guided
-        .halve(encloser, aim.question(), &Discounts::new());
-    is_asked
 }

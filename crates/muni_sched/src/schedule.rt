@@ -6,11 +6,12 @@ ghost use Rattle.muni_sched.specs.Answer.{IsLowestAnswer};
 ghost use Rattle.muni_sched.specs.Candidates.{AreCandidates, IsCandidate};
 ghost use Rattle.muni_sched.specs.GivenFigure.{at_price};
 ghost use Rattle.muni_sched.specs.LowAnswers.{low_yield};
+ghost use Rattle.muni_sched.specs.ScheduleView.{schedule_view};
+ghost use Rattle.muni_sched.specs.SearchedOut.{CountsRounds};
 
-use crate::round::Asker;
-use crate::search::OpenSearch;
-use crate::yields::yield_to_worst;
-use crate::{Candidate, LowestYield, NoYield, put_candidates};
+use crate::search::{OpenSearch, Search};
+use crate::yields::{lowest_of_search, search_yields};
+use crate::{Calculator, Candidate, LowestYield, NoYield, put_candidates};
 use muni_days::Day;
 use muni_dec::Price;
 use muni_edge::Gate;
@@ -27,69 +28,76 @@ pub struct Schedule {
     slots: [Candidate; 41],
     count: usize,
     searches: [OpenSearch; 41],
+    rounds: u32,
 }
 
 impl Model for Schedule {
-    ghost use Rattle.std.specs.Prelude.{List, take, ◌≤◌};
-    ghost use Rattle.muni_sched.specs.declared.candidate.Candidate.{Candidate};
+    ghost use Rattle.std.specs.Prelude.{take, ◌≤◌};
+    ghost use Rattle.muni_sched.specs.ScheduleView.{ScheduleView, schedule_view};
 
-    ghost Value = { List Candidate };
+    ghost Value = { ScheduleView };
 
-    ghost view = { λ schedule. take schedule.count schedule.slots };
+    ghost view = { λ schedule. schedule_view (take schedule.count schedule.slots) schedule.rounds };
 
-    ghost invariant = { λ schedule. schedule.count ≤ 41 };
+    ghost invariant = { λ schedule. (schedule.count ≤ 41) × (schedule.rounds ≤ 19) };
 }
 
 impl Schedule {
     /// A schedule without candidates.
     pub fn new() -> Schedule
-        ensures { result ≡ [] }
+        ensures { result ≡ schedule_view [] 0 }
     {
         Schedule {
             slots: [Candidate::default(); 41],
             count: 0,
             searches: [OpenSearch::default(); 41],
+            rounds: 0,
         }
     }
 
     /// Puts the candidates of an issue in place of those at hand.
     pub fn fill(&mut self, issue: &Issue, settlement: Day)
         requires { settles issue.now settlement ≡ true }
-        ensures candidates { AreCandidates issue.now settlement self.new }
-        ensures count { (1 ≤ length self.new) × (length self.new ≤ 41) }
+        ensures candidates { AreCandidates issue.now settlement self.new.candidates }
+        ensures count { (1 ≤ length self.new.candidates) × (length self.new.candidates ≤ 41) }
     {
         self.count = put_candidates(&mut self.slots, issue, settlement);
     }
 
     /// The candidates.
     pub fn candidates(&self) -> &[Candidate]
-        ensures { result.now ≡ self.now }
+        ensures { result.now ≡ self.now.candidates }
     {
         &self.slots[..self.count]
     }
 
-    /// The lowest yield at a dollar price over 0 over the candidates.
+    /// How many rounds its last search for a yield took.
+    pub fn rounds(&self) -> u32
+        ensures value { result ≡ self.now.rounds }
+        ensures few { result ≤ 19 }
+    {
+        self.rounds
+    }
+
+    /// The lowest yield at a dollar price over 0 over the candidates. The searches for their yields go
+    /// by rounds, in each of which every search that is still needed is halved once.
     pub fn yield_to_worst<R: Threads + Sync, E: Encloser + Sync, G: Gate + Sync>(
         &mut self,
-        rt: &R,
+        calculator: &Calculator<'_, R, E, G>,
         price: Price,
-        workers: u32,
-        encloser: &E,
-        gate: &G,
     ) -> Result<LowestYield, NoYield>
-        requires candidates { All IsCandidate self.old }
+        requires candidates { All IsCandidate self.old.candidates }
         requires price { 0 < price }
-        requires workers { (1 ≤ workers) × (workers ≤ 16) }
-        ensures lowest { IsLowestAnswer (E.ends encloser.now) (at_price price) self.old
-            (low_yield result) }
-        ensures same { self.new ≡ self.old }
+        ensures lowest { IsLowestAnswer (E.ends calculator.now.encloser.now) (at_price price)
+            self.old.candidates (low_yield result) }
+        ensures rounds { CountsRounds (E.ends calculator.now.encloser.now) price
+            self.old.candidates 0 self.new.rounds }
+        ensures few { self.new.rounds ≤ 19 }
+        ensures same { self.new.candidates ≡ self.old.candidates }
     {
-        let asker = Asker {
-            rt,
-            workers: workers as usize,
-            encloser,
-            gate,
-        };
-        yield_to_worst(&mut self.searches, &self.slots[..self.count], price, &asker)
+        let list = &self.slots[..self.count];
+        let mut search = Search::new();
+        self.rounds = search_yields(calculator, &mut search, &mut self.searches, list, price);
+        lowest_of_search(&search, list, price, calculator.encloser)
     }
 }

@@ -13,9 +13,9 @@ ghost use Rattle.muni_sched.specs.YieldOutcome.{IsKnownFirst, many_yield};
 ghost use Rattle.muni_sched.specs.FigureKind.{Yield};
 
 use crate::aim::Aim;
-use crate::round::{Asker, Round, add_discounts, ask_alone, ask_each};
+use crate::round::{Round, add_discounts, ask_each};
 use crate::yield_outcome::{known_first, many_yield};
-use crate::{Candidate, CandidateOutcome, Shape};
+use crate::{Calculator, Candidate, CandidateOutcome, Shape};
 use arrayvec::ArrayVec;
 use muni_dec::Price;
 use muni_edge::Gate;
@@ -145,36 +145,34 @@ impl Search {
     /// cannot be the lowest.
     pub(crate) fn refine<R: Threads + Sync, E: Encloser + Sync, G: Gate + Sync>(
         &mut self,
+        calculator: &Calculator<'_, R, E, G>,
         slots: &mut [OpenSearch],
         round: u32,
-        asker: &Asker<'_, R, E, G>,
     )
-        requires workers { 0 < asker.now.workers }
         requires fits { self.old.left ≤ length slots.old }
-        requires can { CanRefine (place_verdict (E.ends asker.now.encloser.now))
+        requires can { CanRefine (place_verdict (E.ends calculator.now.encloser.now))
             (state self.old slots.old) }
-        ensures round { IsRound (place_verdict (E.ends asker.now.encloser.now))
+        ensures round { IsRound (place_verdict (E.ends calculator.now.encloser.now))
             (state self.old slots.old) (state self.new slots.new) }
         ensures fits { self.new.left ≤ length slots.new }
     {
         if self.left == 1 {
-            self.refine_one(slots, round, asker.encloser, asker.gate);
+            self.refine_one(calculator, slots, round);
         } else {
-            self.refine_each(slots, round, asker);
+            self.refine_each(calculator, slots, round);
         }
     }
 
     fn refine_each<R: Threads + Sync, E: Encloser + Sync, G: Gate + Sync>(
         &mut self,
+        calculator: &Calculator<'_, R, E, G>,
         slots: &mut [OpenSearch],
         round: u32,
-        asker: &Asker<'_, R, E, G>,
     )
-        requires workers { 0 < asker.now.workers }
         requires fits { self.old.left ≤ length slots.old }
-        requires can { CanRefine (place_verdict (E.ends asker.now.encloser.now))
+        requires can { CanRefine (place_verdict (E.ends calculator.now.encloser.now))
             (state self.old slots.old) }
-        ensures round { IsRound (place_verdict (E.ends asker.now.encloser.now))
+        ensures round { IsRound (place_verdict (E.ends calculator.now.encloser.now))
             (state self.old slots.old) (state self.new slots.new) }
         ensures fits { self.new.left ≤ length slots.new }
     {
@@ -186,14 +184,7 @@ impl Search {
             aim: self.aim,
             discounts: &discounts,
         };
-        ask_each(
-            asker.rt,
-            searches,
-            asker.workers,
-            &asking,
-            asker.encloser,
-            asker.gate,
-        );
+        ask_each(calculator, searches, &asking);
         record_settled(searches, self.known.as_mut_slice());
         self.ceiling = least_ceiling(searches, self.ceiling);
         self.missed = least_missed(searches, self.missed);
@@ -202,21 +193,27 @@ impl Search {
     }
 
     // The same, if one search is left, as in most rounds. No thread is started.
-    fn refine_one<E: Encloser, G: Gate>(
+    fn refine_one<R, E: Encloser, G: Gate>(
         &mut self,
+        calculator: &Calculator<'_, R, E, G>,
         slots: &mut [OpenSearch],
         round: u32,
-        encloser: &E,
-        gate: &G,
     )
         requires one { self.old.left ≡ 1 }
         requires fits { self.old.left ≤ length slots.old }
-        requires can { CanRefine (place_verdict (E.ends encloser.now)) (state self.old slots.old) }
-        ensures round { IsRound (place_verdict (E.ends encloser.now))
+        requires can { CanRefine (place_verdict (E.ends calculator.now.encloser.now))
+            (state self.old slots.old) }
+        ensures round { IsRound (place_verdict (E.ends calculator.now.encloser.now))
             (state self.old slots.old) (state self.new slots.new) }
         ensures fits { self.new.left ≤ length slots.new }
     {
-        let is_asked = ask_alone(&mut slots[0], round, self.aim, encloser, gate);
+        let aim = self.aim.question();
+        let search = &mut slots[0];
+        let is_asked = search.guided.window().is_wide() && search.guided.asks(aim);
+        calculator.gate.start(round, search.candidate);
+        search
+            .guided
+            .halve(calculator.encloser, aim, &Discounts::new());
         let search = &slots[0];
         note_settled(search, self.known.as_mut_slice());
         self.ceiling = lower_of(self.ceiling, search.missed());

@@ -1,6 +1,6 @@
 //! The lowest yield over redemption candidates.
 
-ghost use Rattle.std.specs.Prelude.{◌≡◌, ◌<◌, ◌≤◌, ◌+◌, ◌^◌, ◌+ℤ◌, pos, Some, length, All};
+ghost use Rattle.std.specs.Prelude.{◌≡◌, ◌<◌, ◌≤◌, ◌+ℤ◌, pos, Some, length, All};
 ghost use Rattle.muni_rule.specs.PrintedYield.{boundary};
 ghost use Rattle.muni_sched.specs.Answer.{dated, IsLowestAnswer};
 ghost use Rattle.muni_sched.specs.Candidates.{IsCandidate};
@@ -15,105 +15,43 @@ ghost use Rattle.muni_sched.specs.SearchedOut.{AreSearchedOut, CountsRounds};
 ghost use Rattle.muni_sched.specs.declared.outcome.CandidateOutcome.TheVariants.{Unsure};
 
 use crate::lowest::lowest_of;
-use crate::round::Asker;
 use crate::search::{OpenSearch, Search};
-use crate::{Candidate, CandidateOutcome, LowAnswer, LowestYield, NoYield};
+use crate::{Calculator, Candidate, CandidateOutcome, LowestYield, NoYield};
 use muni_dec::{Price, Yield};
-use muni_edge::{Gate, Steps};
+use muni_edge::Gate;
 use muni_multi::Encloser;
-use std::sync::ledger::Ledger;
 use std::thread::Threads;
 
-/// The lowest yield at a dollar price over 0, over the redemption candidates of an issue (MSRB Rule
-/// G-15(a)). They are those of `candidates`, in order of date.
-///
-/// The searches for the yields go by rounds, which `steps` counts.
-// In each, up to `workers` threads, from 1 to 16, ask one question of each search that is still
-// needed, and call the gate before it (tested). Each question calls the encloser at most once
-// (tested).
-pub fn lowest_yield<R: Threads + Sync, E: Encloser + Sync, G: Gate + Sync, L: Ledger>(
-    rt: &R,
-    list: &[Candidate],
-    price: Price,
-    workers: u32,
-    encloser: &E,
-    gate: &G,
-    steps: &mut Steps<L>,
-) -> LowAnswer
-    requires few { length list.now ≤ 41 }
-    requires candidates { All IsCandidate list.now }
-    requires price { 0 < price }
-    requires workers { (1 ≤ workers) × (workers ≤ 16) }
-    requires room { steps.old + 19 < 2 ^ 64 }
-    ensures answer { IsLowestAnswer (E.ends encloser.now) (at_price price) list.now result }
-    ensures rounds { CountsRounds (E.ends encloser.now) price list.now steps.old steps.new }
-    ensures few { steps.new ≤ steps.old + 19 }
-{
-    let mut slots = [OpenSearch::default(); 41];
-    let mut search = Search::new();
-    let asker = Asker {
-        rt,
-        workers: workers as usize,
-        encloser,
-        gate,
-    };
-    let rounds = searched(&mut search, &mut slots, list, price, &asker);
-    for _round in 0..rounds {
-        steps.tick();
-    }
-    LowAnswer::of_yield(lowest_found(&search, list, price, encloser))
-}
-
-/// The same, with the yield as such, and no count of the rounds. The searches stand in slots.
-pub(crate) fn yield_to_worst<R: Threads + Sync, E: Encloser + Sync, G: Gate + Sync>(
-    slots: &mut [OpenSearch],
-    list: &[Candidate],
-    price: Price,
-    asker: &Asker<'_, R, E, G>,
-) -> Result<LowestYield, NoYield>
-    requires room { 41 ≤ length slots.old }
-    requires few { length list.now ≤ 41 }
-    requires candidates { All IsCandidate list.now }
-    requires price { 0 < price }
-    requires workers { 1 ≤ asker.now.workers }
-    ensures { IsLowestAnswer (E.ends asker.now.encloser.now) (at_price price) list.now
-        (low_yield result) }
-{
-    let mut search = Search::new();
-    let _rounds = searched(&mut search, slots, list, price, asker);
-    lowest_found(&search, list, price, asker.encloser)
-}
-
-// Round by round, until nothing is left to ask. Answers how many rounds there were.
-fn searched<R: Threads + Sync, E: Encloser + Sync, G: Gate + Sync>(
+/// Searches for the yields at a price round by round, until nothing is left to ask. Answers how many
+/// rounds there were. The searches stand in the slots.
+pub(crate) fn search_yields<R: Threads + Sync, E: Encloser + Sync, G: Gate + Sync>(
+    calculator: &Calculator<'_, R, E, G>,
     search: &mut Search,
     slots: &mut [OpenSearch],
     list: &[Candidate],
     price: Price,
-    asker: &Asker<'_, R, E, G>,
 ) -> u32
     requires new { IsNew search.old }
     requires room { 41 ≤ length slots.old }
     requires few { length list.now ≤ 41 }
     requires candidates { All IsCandidate list.now }
     requires price { 0 < price }
-    requires workers { 1 ≤ asker.now.workers }
-    ensures found { AreSearchedOut (E.ends asker.now.encloser.now) price list.now
+    ensures found { AreSearchedOut (E.ends calculator.now.encloser.now) price list.now
         (outcomes_of search.new.known.items) }
-    ensures rounds { CountsRounds (E.ends asker.now.encloser.now) price list.now 0 result }
+    ensures rounds { CountsRounds (E.ends calculator.now.encloser.now) price list.now 0 result }
     ensures few { result ≤ 19 }
 {
     search.start(slots, list, price);
     let mut rounds = 0;
     while !search.is_over() {
-        search.refine(slots, rounds, asker);
+        search.refine(calculator, slots, rounds);
         rounds += 1;
     }
     rounds
 }
 
-// The lowest yield that a search found, or why there is none.
-fn lowest_found<E: Encloser>(
+/// The lowest yield that a search found, or why there is none.
+pub(crate) fn lowest_of_search<E: Encloser>(
     search: &Search,
     list: &[Candidate],
     price: Price,

@@ -196,7 +196,13 @@ fn answered<R: Threads + Sync, K: Keeper>(
 ) -> Result<Option<Served>, Fail> {
     let link = MemLink::new(alloc, request, 9000, &[], &[])?;
     let mut pieces = Pieces::new(link, size);
-    let served = answer_one(rt, alloc, &mut pieces, keeper, 1, &Horner, &NoGate);
+    let calculator = Calculator {
+        rt,
+        workers: Workers::ONE,
+        encloser: &Horner,
+        gate: &NoGate,
+    };
+    let served = answer_one(&calculator, alloc, &mut pieces, keeper);
     Ok((pieces.written() == answer).then_some(served))
 }
 

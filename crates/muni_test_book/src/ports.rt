@@ -1,6 +1,7 @@
 //! Connections over a port of this machine.
 
 use crate::connections::{case, line};
+use muni_book::{Calculator, Workers};
 use muni_desk_serve::{Served, answer_one};
 use muni_edge::{Door, Failed, NoGate, Sink, Source};
 use muni_host::{LoopbackDoor, StreamLink};
@@ -69,7 +70,13 @@ fn answer_first<R: Threads + Sync>(
     ended: Option<&TcpStream>,
 ) -> Result<Served, Fail> {
     let mut link = door.accept()?.ok_or("a connection")?;
-    let served = answer_one(rt, alloc, &mut link, keeper, 1, &Horner, &NoGate);
+    let calculator = Calculator {
+        rt,
+        workers: Workers::ONE,
+        encloser: &Horner,
+        gate: &NoGate,
+    };
+    let served = answer_one(&calculator, alloc, &mut link, keeper);
     if let Some(client) = ended {
         client.shutdown(Shutdown::Write)?;
     }

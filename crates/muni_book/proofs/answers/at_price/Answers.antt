@@ -13,7 +13,7 @@ pub returns-in-Ok-clause-found : goal.returns-in-Ok-clause-found
 returns-in-Ok-clause-found g c =
     let ends = g.E.Encloser.ends c.args.calculator.now.encloser.now in
     let net = net_price c.args.asked.now.side c.args.price c.args.asked.now.fee in
-    let list = c.args.schedule.now in
+    let list = c.args.schedule.now.candidates in
     let same : c.candidates-list.result.now ≡ list = search rules in
     let found : PriceAndYield = record { price = c.args.price / 1000; yld = c.in-Ok.lowest.yld; redemption = c.index-list-lowest.result } in
     let lowest : IsLowestAnswer ends (figure.at_price net) list (low_yield c.yield_to_worst.result) = search rules in
@@ -28,5 +28,5 @@ pub returns-in-Err-clause-found : goal.returns-in-Err-clause-found
 returns-in-Err-clause-found g c =
     let ends = g.E.Encloser.ends c.args.calculator.now.encloser.now in
     let net = net_price c.args.asked.now.side c.args.price c.args.asked.now.fee in
-    let is : IsFoundAtPrice ends c.args.price net c.args.schedule.now (Err c.no_yield.result) = search rules in
-    refusal-shown (IsFoundAtPrice ends c.args.price net c.args.schedule.now) c.args.issue.now c.args.asked.now c.no_yield.result is
+    let is : IsFoundAtPrice ends c.args.price net c.args.schedule.now.candidates (Err c.no_yield.result) = search rules in
+    refusal-shown (IsFoundAtPrice ends c.args.price net c.args.schedule.now.candidates) c.args.issue.now c.args.asked.now c.no_yield.result is

@@ -1,5 +1,5 @@
 use Rattle.std.proofs.Common.{◌≤◌, take}
-use Rattle.muni_sched.proofs.CandidateLemmas.{AreCallCandidates}
+use Rattle.muni_sched.specs.Candidates.{AreCallCandidates}
 use Rattle.muni_sched.proofs.redemptions.put_calls.Given as goal
 
 -- the candidates are those of the calls so far

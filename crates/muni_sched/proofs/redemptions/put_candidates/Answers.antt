@@ -26,7 +26,7 @@ returns c =
     take_more_set calls.new.slots calls.result (at c.row.result.now.maturity) inside ∙ ap (λ (it : IssueRow). take calls.result calls.new.slots ++ at it.maturity ∷ []) same in
     let all : AreCandidates row c.args.settlement (take (calls.result + 1) slots) =
     are_candidates row c.args.settlement (take calls.result calls.new.slots) (take (calls.result + 1) slots) candidate
-    (record { redemptions = calls.ensures.redemptions; labels = calls.ensures.labels; shapes = calls.ensures.shapes; ranges = calls.ensures.ranges })
+    calls.ensures.candidates
     refl refl shape c.shape_at.ensures.range put in
     record {
       candidates = all;

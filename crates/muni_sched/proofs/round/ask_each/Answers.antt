@@ -9,7 +9,7 @@ pub returns : goal.returns
 returns g c =
     let old = c.args.searches.now in
     let new = c.for_each_mut.new.s in
-    let verdicts = place_verdict (g.E.Encloser.ends c.args.encloser.now) in
+    let verdicts = place_verdict (g.E.Encloser.ends c.args.calculator.now.encloser.now) in
     let count : length new ≡ length old = search rules in
     let each : (k : ℕ) (d : OpenSearch) → k < length old → IsHalved verdicts (get_or old k d) (get_or new k d) = λ k d h.
     let at = (c.for_each_mut.ensures k d h).1 in

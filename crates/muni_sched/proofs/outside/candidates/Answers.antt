@@ -1,7 +1,7 @@
 use Rattle.std.proofs.Common.{rules, ◌≡◌, take, subst, sym}
 use Rattle.std.specs.Prelude.{AllPairs}
 use Rattle.muni_sched.specs.Candidates.{IsEarlier}
-use Rattle.muni_sched.proofs.redemptions.candidates.Goals as goal
+use Rattle.muni_sched.proofs.outside.candidates.Goals as goal
 
 pub returns-clause-rising : goal.returns-clause-rising
 returns-clause-rising c =

@@ -11,20 +11,20 @@ use Rattle.muni_sched.proofs.OverLemmas.{over-none}
 use Rattle.muni_sched.specs.Rounds.{brackets_from, rounds}
 use Rattle.muni_sched.proofs.CountLemmas.{counted-first, counted-next, counted-last}
 use Rattle.muni_sched.proofs.StartLemmas.{AreFirstKnown, started-final, next-final, searched-out}
-use Rattle.muni_sched.proofs.yields.searched.Goals as goal
+use Rattle.muni_sched.proofs.yields.search_yields.Goals as goal
 
 pub loop-search-init : goal.loop-search-init
 loop-search-init g c =
-    let verdicts = place_verdict (g.E.Encloser.ends c.args.asker.now.encloser.now) in
-    let ends = g.E.Encloser.ends c.args.asker.now.encloser.now in
+    let verdicts = place_verdict (g.E.Encloser.ends c.args.calculator.now.encloser.now) in
+    let ends = g.E.Encloser.ends c.args.calculator.now.encloser.now in
     let law = g.met.E.Encloser g.world.𝓛 g.world.𝓜 g.world.𝓡 ((λ s x. x), (λ x. x), (λ x. x), λ x. x) in
     let first : AreFirstKnown verdicts c.args.price = λ series is many. first-window ends series c.args.price (record {
       is = is;
       many = many;
       some = c.requires.price;
       narrow = λ y within. record {
-        holds = law.encloses c.args.asker.now.encloser.now series y is many within;
-        narrow = law.narrow c.args.asker.now.encloser.now series y is many within;
+        holds = law.encloses c.args.calculator.now.encloser.now series y is many within;
+        narrow = law.narrow c.args.calculator.now.encloser.now series y is many within;
       };
     }) in
     record {
@@ -43,7 +43,7 @@ over-as search slots over fits is = ap (λ n. n == 0) (length-take-le search.lef
 
 pub loop-search-smaller : goal.loop-search-smaller
 loop-search-smaller g c =
-    let verdicts = place_verdict (g.E.Encloser.ends c.args.asker.now.encloser.now) in
+    let verdicts = place_verdict (g.E.Encloser.ends c.args.calculator.now.encloser.now) in
     let is = c.loop-search.invariant.final in
     let some : c.is_over.result ≡ false = search rules in
     let pending = over-as c.loop-search.search c.loop-search.slots false c.loop-search.invariant.fits (sym c.is_over.ensures ∙ some) in
@@ -53,7 +53,7 @@ loop-search-smaller g c =
 
 pub loop-search-preserved : goal.loop-search-preserved
 loop-search-preserved g c =
-    let verdicts = place_verdict (g.E.Encloser.ends c.args.asker.now.encloser.now) in
+    let verdicts = place_verdict (g.E.Encloser.ends c.args.calculator.now.encloser.now) in
     let known = c.loop-search.invariant in
     let some : c.is_over.result ≡ false = search rules in
     let before = state c.loop-search.search c.loop-search.slots in
@@ -71,11 +71,11 @@ pub returns-clause-found : goal.returns-clause-found
 returns-clause-found g c =
     let last = state c.loop-search.search c.loop-search.slots in
     let over = over-as c.loop-search.search c.loop-search.slots true c.loop-search.invariant.fits (sym c.is_over.ensures ∙ search rules) in
-    searched-out (g.E.Encloser.ends c.args.asker.now.encloser.now) c.args.price c.args.list.now c.loop-search.rounds last over c.loop-search.invariant.final
+    searched-out (g.E.Encloser.ends c.args.calculator.now.encloser.now) c.args.price c.args.list.now c.loop-search.rounds last over c.loop-search.invariant.final
 
 pub returns-clause-rounds : goal.returns-clause-rounds
 returns-clause-rounds g c =
-    let verdicts = place_verdict (g.E.Encloser.ends c.args.asker.now.encloser.now) in
+    let verdicts = place_verdict (g.E.Encloser.ends c.args.calculator.now.encloser.now) in
     let last = state c.loop-search.search c.loop-search.slots in
     let over = over-as c.loop-search.search c.loop-search.slots true c.loop-search.invariant.fits (sym c.is_over.ensures ∙ search rules) in
     let all = counted-last verdicts c.args.price c.args.list.now c.start.new.self.ceiling c.loop-search.rounds last (over-none last.searches over) c.loop-search.invariant.counted in

@@ -12,9 +12,9 @@ use Rattle.muni_sched.specs.YieldOutcome.{IsYieldOutcome}
 use Rattle.muni_sched.proofs.AllSoundLemmas.{lowest-answer}
 use Rattle.muni_sched.proofs.RankLemmas.{ranked_lowest, ranked_of}
 use Rattle.muni_sched.proofs.ZipLemmas.{zip-long}
-use Rattle.muni_sched.proofs.yields.lowest_found.Given as given
-use Rattle.muni_sched.proofs.yields.lowest_found.Goals.{After-known-known, After-outcome_at}
-use Rattle.muni_sched.proofs.yields.lowest_found.Goals as goal
+use Rattle.muni_sched.proofs.yields.lowest_of_search.Given as given
+use Rattle.muni_sched.proofs.yields.lowest_of_search.Goals.{After-known-known, After-outcome_at}
+use Rattle.muni_sched.proofs.yields.lowest_of_search.Goals as goal
 
 -- the outcomes that were found, as they are read
 out : (g : given.Over) (c : After-known-known g) → AreSearchedOut (g.E.Encloser.ends c.args.encloser.now) c.args.price c.args.list.now (outcomes_of c.known-known.result.now)

@@ -1,9 +1,9 @@
-//! What computes the figures of trades.
+//! What computes figures.
 
 use crate::Workers;
 
-/// What computes the figures of trades: threads, how many of them may work at once, the encloser that
-/// prices payments, and the gate that is called when a candidate is begun.
+/// What computes figures: threads, how many of them may work at once, the encloser that prices payments,
+/// and the gate that is called before each halving.
 // How many threads work and when the gate is called is only tested.
 #[derive(Drop)]
 pub struct Calculator<'a, R, E, G> {

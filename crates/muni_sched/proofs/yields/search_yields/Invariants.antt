@@ -3,10 +3,10 @@ use Rattle.muni_yield.specs.Places.{place_verdict}
 use Rattle.muni_sched.specs.Search.{state}
 use Rattle.muni_sched.proofs.CountLemmas.{IsCounted}
 use Rattle.muni_sched.proofs.StartLemmas.{IsFinal}
-use Rattle.muni_sched.proofs.yields.searched.Given as goal
+use Rattle.muni_sched.proofs.yields.search_yields.Given as goal
 
 abbrev pub invariant-loop-search : goal.invariant-loop-search
-invariant-loop-search g l = let verdicts = place_verdict (g.E.Encloser.ends l.asker.encloser.now) in record {
+invariant-loop-search g l = let verdicts = place_verdict (g.E.Encloser.ends l.calculator.encloser.now) in record {
   final : IsFinal verdicts l.fn.price l.list l.rounds (state l.search l.slots);
   fits : l.search.left ≤ length l.slots;
   most : l.rounds ≤ 19;

@@ -1,0 +1,39 @@
+//! For callers outside; the program goes by `step`.
+
+ghost use Rattle.std.specs.Prelude.{◌≡◌, ◌≤◌, IfOk, IfSome, OnErr};
+ghost use Rattle.muni_keep.specs.Keeper.{SameKeeper};
+ghost use Rattle.muni_book_step.specs.Runs.{StepsTo, IsRefusal};
+ghost use Rattle.muni_book.specs.Answers.{IsRightAnswer};
+
+use crate::{BookFault, Calculator, Workers, step};
+use muni_edge::Gate;
+use muni_keep::Keeper;
+use muni_msg::{Command, Reply};
+use muni_multi::Encloser;
+use std::thread::Threads;
+
+/// Applies one command, as `step` does: answers it, and keeps at most one issue or one version more for
+/// it. Up to `workers` threads, from 1 to 16, look for the yields.
+pub fn apply<R: Threads + Sync, K: Keeper, E: Encloser + Sync, G: Gate + Sync>(
+    rt: &R,
+    keeper: &mut K,
+    command: &Command,
+    workers: u32,
+    encloser: &E,
+    gate: &G,
+) -> Result<Reply, BookFault>
+    requires { (1 ≤ workers) × (workers ≤ 16) }
+    ensures step { IfOk result (λ reply. IfSome (K.tables keeper.old) (λ t.
+        StepsTo (IsRightAnswer (E.ends encloser.now)) t command.now reply (K.tables keeper.new))) }
+    ensures refused { IfOk result (λ reply. IsRefusal reply → K.tables keeper.new ≡ K.tables keeper.old) }
+    ensures unchanged { OnErr result (K.tables keeper.new ≡ K.tables keeper.old) }
+    ensures same { SameKeeper K.Keeper BookFault.Failed result keeper.old keeper.new }
+{
+    let calculator = Calculator {
+        rt,
+        workers: Workers::new(workers),
+        encloser,
+        gate,
+    };
+    step(&calculator, keeper, command)
+}
