@@ -6,8 +6,9 @@ mod yield_cases;
 
 use crate::terms::is_shared;
 use muni_dec::Price;
-use muni_edge::Steps;
+use muni_edge::{NoGate, Steps};
 use muni_multi::{Doubling, Encloser, Horner};
+use muni_sched::{Calculator, NoYield, Schedule, Workers};
 use muni_span::worth::Worth;
 use muni_terms::Flows;
 use muni_test_samples::{Sample, Table};
@@ -16,6 +17,7 @@ use std::cell::Cell;
 use std::marker::Brand;
 use std::sync::ledger::{Blank, Ledger};
 use std::test::Fail;
+use std::thread::Threads;
 use yield_cases::{CASES, NEAR_CASES};
 
 const TWO_PERIODS: &str = "periodic dated=2020-01-01 first=2020-07-01 maturity=2025-01-01 \
@@ -132,6 +134,66 @@ fn first_bad_by_doubling(cases: &str) -> Result<Option<&str>, Fail> {
         }
     }
     Ok(None)
+}
+
+// The outcome of a case as the program finds it, if the redemption of the case decides.
+fn lowest_outcome<R: Threads + Sync>(
+    rt: &R,
+    schedule: &mut Schedule,
+    case: &Sample<'_>,
+) -> Result<Option<Outcome>, Fail> {
+    let price = price_of(case)?;
+    let issue = case.issue().ok_or("an issue")?;
+    let settlement = case.day("settle=").ok_or("a settlement")?;
+    if !issue.settles(settlement) {
+        return Err(Fail::from("a settlement of the issue"));
+    }
+    schedule.fill(&issue, settlement);
+    let calculator = Calculator {
+        rt,
+        workers: Workers::ONE,
+        encloser: &Horner,
+        gate: &NoGate,
+    };
+    let lowest = schedule.yield_to_worst(&calculator, price);
+    let own = schedule.candidates()[0].date;
+    Ok(match lowest {
+        Ok(lowest) => (lowest.candidate == 0).then_some(Outcome::Print(lowest.yld)),
+        Err(NoYield::Undecided { date, boundary }) => (date == own).then_some(Outcome::Unsure {
+            lower: (boundary.units().wrapping_sub(5) / 10) as i32,
+        }),
+        Err(NoYield::Below { date }) => (date == own).then_some(Outcome::Below),
+        Err(NoYield::Above) => Some(Outcome::Above),
+        Err(NoYield::NoTime { .. }) => return Err(Fail::from("time up to each redemption")),
+    })
+}
+
+// The first case that the program does not answer as it says, how many before it are answered as they say,
+// and of how many another redemption decides.
+fn first_bad_lowest<'a, R: Threads + Sync>(
+    rt: &R,
+    cases: &'a str,
+) -> Result<(Option<&'a str>, u32, u32), Fail> {
+    let mut table = Table::new();
+    let mut schedule = Schedule::new();
+    let (mut right, mut others) = (0_u32, 0_u32);
+    for line in cases.lines() {
+        if let Some(case) = table.sample(line) {
+            match lowest_outcome(rt, &mut schedule, &case)? {
+                Some(outcome) if is_expected(outcome, &case) => right = right.wrapping_add(1),
+                Some(_) => return Ok((Some(line), right, others)),
+                None => others = others.wrapping_add(1),
+            }
+        }
+    }
+    Ok((None, right, others))
+}
+
+#[test]
+fn the_program_finds_the_same_yields(rt: HostRuntime) -> Result<(), Fail> {
+    assert_eq!(rt; first_bad_lowest(&rt, CASES)?, (None, 222, 22));
+    assert_eq!(rt; first_bad_lowest(&rt, NEAR_CASES)?, (None, 28, 0));
+    Ok(())
 }
 
 #[test]

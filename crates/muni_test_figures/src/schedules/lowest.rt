@@ -7,14 +7,15 @@ ghost use Rattle.muni_sched.specs.Range.{IsGivenFor};
 
 use arrayvec::ArrayVec;
 use muni_days::Day;
-use muni_dec::{Price, Yield};
-use muni_edge::{Gate, Steps};
+use muni_dec::{Price, Yield, Yield3};
+use muni_edge::{Gate, NoGate, Steps};
 use muni_multi::{Encloser, Horner};
 use muni_sched::{
-    Candidate, LowAnswer, Shape, candidates, lowest_price, lowest_yield, out_of_range,
+    Calculator, Candidate, Figure, LowAnswer, Schedule, Shape, Workers, candidates, lowest_price,
+    lowest_yield, out_of_range,
 };
 use muni_span::worth::Worth;
-use muni_terms::{Call, Flows, check};
+use muni_terms::{Call, Flows, Issue, check};
 use muni_test_samples::Sample;
 use std::marker::Brand;
 use std::sync::atomic::{AtomicU32, Ordering};
@@ -121,23 +122,6 @@ fn yield_for(list: &[Candidate], case: &Sample<'_>) -> Result<Yield, Fail>
     Ok(y)
 }
 
-// Counts the questions, and says whether a question came after one of a later round.
-#[derive(Drop)]
-struct CountingGate {
-    starts: AtomicU32,
-    latest: AtomicU32,
-    fallen: AtomicU32,
-}
-
-impl Gate for CountingGate {
-    fn start(&self, round: u32, _candidate: usize) {
-        let _ = self.starts.fetch_add(1, Ordering::SeqCst);
-        if self.latest.fetch_max(round, Ordering::SeqCst) > round {
-            let _ = self.fallen.fetch_add(1, Ordering::SeqCst);
-        }
-    }
-}
-
 // Encloses as `Horner` does and counts the calls.
 #[derive(Drop)]
 struct CountingEncloser {
@@ -158,35 +142,117 @@ impl Encloser for CountingEncloser {
 }
 
 // An issue with forty calls at 100, every six months from 2025 on.
-fn forty_calls() -> Result<ArrayVec<Candidate, 41>, Fail>
-    ensures { IfOk result (λ list. All IsCandidate list.items) }
-{
-    let case = Sample::of(UNCALLED);
-    let mut row = case.row().ok_or("terms")?;
+fn forty_calls() -> Result<Issue, Fail> {
+    let mut row = Sample::of(UNCALLED).row().ok_or("terms")?;
     for i in 0u64..40 {
         let date = Day::of(2025 + i / 2, 1 + 6 * (i % 2), 1).ok_or("a day")?;
         let price = Price::PAR;
         let _ = row.calls.try_push(Call { date, price });
     }
-    let issue = check(row).ok().ok_or("an issue")?;
-    let settlement = case.day("settle=").ok_or("a settlement")?;
-    if !issue.settles(settlement) {
-        return Err(Fail::from("a settlement of the issue"));
-    }
-    Ok(candidates(&issue, settlement))
+    Ok(check(row).ok().ok_or("an issue")?)
 }
 
 const UNCALLED: &str =
     "periodic dated=2023-01-01 first=2023-07-01 maturity=2045-01-01 coupon=5 settle=2024-01-01";
 
-// A price, and how often a search is halved and in how many rounds, computed outside. At 100 all
-// candidates have the same yield. At the others the first round drops all but one, and if none were
-// dropped it would be over 750 times.
-const FORTY_CALLS: [(&str, u32, u32); 3] = [
-    ("price=100", 779, 19),
-    ("price=104", 58, 18),
-    ("price=97", 59, 19),
+fn schedule_of(issue: &Issue, case: &Sample<'_>) -> Result<Schedule, Fail>
+    ensures { IfOk result (λ schedule. All IsCandidate schedule.candidates) }
+{
+    let settlement = case.day("settle=").ok_or("a settlement")?;
+    if !issue.settles(settlement) {
+        return Err(Fail::from("a settlement of the issue"));
+    }
+    let mut schedule = Schedule::new();
+    schedule.fill(issue, settlement);
+    Ok(schedule)
+}
+
+// What a search for the lowest yield takes: how often a bracket is halved, in how many rounds, and how
+// often the encloser is called.
+#[derive(Clone, Copy, Debug, PartialEq, Eq)]
+struct Cost {
+    halvings: u32,
+    rounds: u32,
+    calls: u32,
+}
+
+// Halvings and rounds were computed outside. How often the encloser is called hangs on the guesses at the
+// yield, so there it is as often as was counted. At 100 all candidates have the same yield. At 104 and 97
+// the first round drops all but one, and if none were dropped the searches would be halved over 750 times.
+// At 250 each is below the range by its first question, and two are exact cases, which take no call.
+const FORTY_CALLS: [(&str, Cost); 4] = [
+    (
+        "price=100",
+        Cost {
+            halvings: 779,
+            rounds: 19,
+            calls: 78,
+        },
+    ),
+    (
+        "price=104",
+        Cost {
+            halvings: 58,
+            rounds: 18,
+            calls: 39,
+        },
+    ),
+    (
+        "price=97",
+        Cost {
+            halvings: 59,
+            rounds: 19,
+            calls: 40,
+        },
+    ),
+    (
+        "price=250",
+        Cost {
+            halvings: 41,
+            rounds: 1,
+            calls: 39,
+        },
+    ),
 ];
+
+// A bond that costs more than all its payments, so that its first question is not known, and a zero with so
+// small a price that no verdict is clear: each of its halvings asks its own question, and no more.
+const OWN_QUESTIONS: [(&str, Cost); 2] = [
+    (
+        "periodic dated=2020-01-01 first=2020-07-01 maturity=2034-01-01 coupon=5 \
+         settle=2024-02-16 price=180",
+        Cost {
+            halvings: 19,
+            rounds: 19,
+            calls: 3,
+        },
+    ),
+    (
+        "zero dated=2020-01-01 maturity=2070-01-01 settle=2020-02-16 price=0.000001",
+        Cost {
+            halvings: 18,
+            rounds: 18,
+            calls: 18,
+        },
+    ),
+];
+
+// Counts the halvings, and how often one came after one of a later round.
+#[derive(Drop)]
+struct CountingGate {
+    starts: AtomicU32,
+    latest: AtomicU32,
+    fallen: AtomicU32,
+}
+
+impl Gate for CountingGate {
+    fn start(&self, round: u32, _candidate: usize) {
+        let _ = self.starts.fetch_add(1, Ordering::SeqCst);
+        if self.latest.fetch_max(round, Ordering::SeqCst) > round {
+            let _ = self.fallen.fetch_add(1, Ordering::SeqCst);
+        }
+    }
+}
 
 fn gate_at_first() -> CountingGate {
     CountingGate {
@@ -202,42 +268,80 @@ fn encloser_at_first() -> CountingEncloser {
     }
 }
 
-// How many halvings and rounds a search takes, how often a round fell, and if the encloser was called
-// more often than the gate.
-fn counts<R: Threads + Sync>(
+// What a search for the lowest yield takes, if no round fell and the schedule says its rounds.
+fn cost_of<R: Threads + Sync>(
     rt: &R,
-    list: &ArrayVec<Candidate, 41>,
+    schedule: &mut Schedule,
     price: Price,
-    workers: u32,
-) -> (u32, u32, u32, bool)
-    requires candidates { All IsCandidate list.now.items }
+    workers: Workers,
+) -> Option<Cost>
+    requires candidates { All IsCandidate schedule.old.candidates }
     requires price { 0 < price }
-    requires workers { (1 ≤ workers) × (workers ≤ 16) }
+    ensures { schedule.new.candidates ≡ schedule.old.candidates }
 {
     let gate = gate_at_first();
     let encloser = encloser_at_first();
-    let _ = by_rounds(rt, list, price, workers, &encloser, &gate);
-    let starts = gate.starts.load(Ordering::SeqCst);
-    (
-        starts,
-        gate.latest.load(Ordering::SeqCst).wrapping_add(1),
-        gate.fallen.load(Ordering::SeqCst),
-        encloser.calls.load(Ordering::SeqCst) > starts,
-    )
+    let calculator = Calculator {
+        rt,
+        workers,
+        encloser: &encloser,
+        gate: &gate,
+    };
+    let _ = schedule.yield_to_worst(&calculator, price);
+    let rounds = gate.latest.load(Ordering::SeqCst).wrapping_add(1);
+    if gate.fallen.load(Ordering::SeqCst) > 0 || rounds != schedule.rounds() {
+        return None;
+    }
+    Some(Cost {
+        halvings: gate.starts.load(Ordering::SeqCst),
+        rounds,
+        calls: encloser.calls.load(Ordering::SeqCst),
+    })
 }
 
 #[test]
 fn questions_go_by_rounds_and_end_where_yields_part(rt: HostRuntime) -> Result<(), Fail> {
-    let list = forty_calls()?;
-    for (given, starts, rounds) in FORTY_CALLS {
+    let mut schedule = schedule_of(&forty_calls()?, &Sample::of(UNCALLED))?;
+    for (given, cost) in FORTY_CALLS {
         let price = price_over_0(&Sample::of(given))?;
         for workers in [1, 2, 16] {
-            let counts = counts(&rt, &list, price, workers);
-            assert_eq!(rt; counts, (starts, rounds, 0, false), "{given} by {workers}");
+            let own = cost_of(&rt, &mut schedule, price, Workers::new(workers));
+            assert_eq!(rt; own, Some(cost), "{given} by {workers}");
         }
     }
     Ok(())
 }
+
+#[test]
+fn a_halving_calls_the_encloser_once_at_most(rt: HostRuntime) -> Result<(), Fail> {
+    for (line, cost) in OWN_QUESTIONS {
+        let case = Sample::of(line);
+        let mut schedule = schedule_of(&case.issue().ok_or("an issue")?, &case)?;
+        let own = cost_of(&rt, &mut schedule, price_over_0(&case)?, Workers::ONE);
+        assert_eq!(rt; own, Some(cost), "{line}");
+    }
+    Ok(())
+}
+
+#[test]
+fn a_list_of_candidates_has_the_lowest_yield_of_its_schedule(rt: HostRuntime) -> Result<(), Fail> {
+    let case = Sample::of(AT_A_PRICE);
+    let list = list_of(&case)?;
+    let price = price_over_0(&case)?;
+    let low = by_rounds(&rt, &list, price, 2, &Horner, &NoGate);
+    let figure = Figure::Yield(Yield3::new(4_001));
+    assert_eq!(rt;
+        low,
+        LowAnswer::Low {
+            figure,
+            candidate: 0
+        }
+    );
+    Ok(())
+}
+
+const AT_A_PRICE: &str = "periodic dated=2020-01-01 first=2020-07-01 maturity=2025-01-01 coupon=5 \
+     settle=2024-04-01 price=100.725";
 
 // Four candidates with two payments or more, on no interest date.
 const THREE_CALLS: &str = "periodic dated=2020-01-01 first=2020-07-01 maturity=2034-01-01 coupon=5 \
