@@ -9,13 +9,13 @@ use Rattle.muni_edge.specs.declared.source.Source as Source
 use Rattle.muni_keep.specs.declared.cabinet.Cabinet as Cabinet
 use Rattle.muni_book_step.specs.Step.{Pricing}
 use Rattle.muni_msg.specs.declared.command.Key.{Key}
+use Rattle.muni_desk_io.specs.Lent.{Lent}
+use Rattle.muni_desk_io.specs.declared.fault.Fault.{Fault}
+use Rattle.muni_desk_io.specs.declared.fault.Fault.TheVariants.{Read, Write, Store, TooLarge, NoMemory}
 use Rattle.muni_desk_import.specs.Confirmed.{Confirmed}
 use Rattle.muni_desk_import.specs.Imported.{Imported}
-use Rattle.muni_desk_import.specs.Lent.{Lent}
 use Rattle.muni_desk_import.specs.declared.confirmations.Answered.{Answered}
 use Rattle.muni_desk_import.specs.declared.confirmations.Answered.TheVariants as answered
-use Rattle.muni_desk_import.specs.declared.fault.Fault.{Fault}
-use Rattle.muni_desk_import.specs.declared.fault.Fault.TheVariants.{Read, Write, Store, TooLarge, NoMemory}
 use Rattle.muni_desk_positions.specs.Imported.{ImportedWith}
 use Rattle.muni_desk_positions.specs.Listed.{Listed}
 use Rattle.muni_desk_positions.specs.Listing.{MayNotSum}

@@ -18,16 +18,16 @@ use Rattle.muni_import.specs.Row.{Row}
 use Rattle.muni_import.specs.Rows.{rows_of}
 use Rattle.muni_book.specs.Answers.{IsRightAnswer}
 use Rattle.muni_book.specs.SoundTables.{AreSoundTables}
+use Rattle.muni_desk_io.specs.Lent.{Lent, IfExposed}
+use Rattle.muni_desk_io.specs.declared.fault.Fault.{Fault}
+use Rattle.muni_desk_io.specs.declared.fault.Fault.TheVariants.{Read, Write, Store, NoMemory, TooLarge}
 use Rattle.muni_desk_import.specs.Confirm.{confirmed, of_last, Answer}
 use Rattle.muni_desk_import.specs.Confirmed.{Confirmed}
 use Rattle.muni_desk_import.specs.Import.{report, Did, DidFirst, DidBeforeOrNone, DidPart}
 use Rattle.muni_desk_import.specs.Imported.{Imported}
 use Rattle.muni_desk_import.specs.Laws.{ReportsAreRight, ConfirmationsAreRight}
-use Rattle.muni_desk_import.specs.Lent.{Lent, IfExposed}
 use Rattle.muni_desk_import.specs.declared.confirmations.Answered.{Answered}
 use Rattle.muni_desk_import.specs.declared.confirmations.Answered.TheVariants as answered
-use Rattle.muni_desk_import.specs.declared.fault.Fault.{Fault}
-use Rattle.muni_desk_import.specs.declared.fault.Fault.TheVariants.{Read, Write, Store, NoMemory, TooLarge}
 use Rattle.muni_desk_import.proofs.ImportLemmas.{report-then}
 use Rattle.muni_desk_positions.specs.Imported.{ImportedWith}
 use Rattle.muni_desk_positions.specs.Importing.{DidAll, DidSome}

@@ -7,7 +7,7 @@ use Rattle.muni_edge.specs.declared.door.Door as Door
 use Rattle.muni_edge.specs.declared.sink.Sink as Sink
 use Rattle.muni_edge.specs.declared.source.Source as Source
 use Rattle.muni_keep.specs.declared.cabinet.Cabinet as Cabinet
-use Rattle.muni_desk_import.specs.Lent.{Lent}
+use Rattle.muni_desk_io.specs.Lent.{Lent}
 use Rattle.muni_desk_positions.specs.Listing.{MayNotSum}
 use Rattle.muni_desk_serve.specs.Serves.{Traffic}
 use Rattle.muni_desk.specs.Does.{Does}

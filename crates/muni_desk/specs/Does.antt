@@ -8,7 +8,7 @@ use Rattle.muni_edge.specs.declared.sink.Sink as Sink
 use Rattle.muni_edge.specs.declared.source.Source as Source
 use Rattle.muni_keep.specs.declared.cabinet.Cabinet as Cabinet
 use Rattle.muni_book.specs.Answers.{IsRightAnswer}
-use Rattle.muni_desk_import.specs.Lent.{Lent}
+use Rattle.muni_desk_io.specs.Lent.{Lent}
 use Rattle.muni_desk.specs.Answers.{IsAnswer}
 use Rattle.muni_desk_serve.specs.Serves.{Traffic}
 use Rattle.muni_desk.specs.Store.{Imports, ImportsWith, Confirms, Serves, Lists, Marks}

@@ -18,7 +18,7 @@ use Rattle.muni_import.specs.Report.{Said}
 use Rattle.muni_book.specs.RightFigures.{AreRightFigures}
 use Rattle.muni_book.specs.RightReplies.{IsKeptRight}
 use Rattle.muni_book.specs.SoundTables.{AreSoundTables}
-use Rattle.muni_desk_import.specs.Lent.{Lent}
+use Rattle.muni_desk_io.specs.Lent.{Lent}
 use Rattle.muni_desk_import.specs.RightLines.{HasLinesOf}
 use Rattle.muni_desk_positions.specs.Listing.{positions_text}
 use Rattle.muni_desk_serve.specs.Connections.{Connection, exchange, AreHandedBack}

@@ -8,12 +8,12 @@ use Rattle.muni_keep.specs.Cabinet.{LeavesAll, LeavesOthers}
 use Rattle.muni_keep.specs.declared.cabinet.Cabinet as Cabinet
 use Rattle.muni_book_step.specs.Step.{Pricing}
 use Rattle.muni_msg.specs.declared.command.Key.{Key}
+use Rattle.muni_desk_io.specs.Input.{TakesUpTo}
+use Rattle.muni_desk_io.specs.Lent.{Lent}
+use Rattle.muni_desk_io.specs.Reports.{ReportsReads, ReportsWrites}
 use Rattle.muni_desk_import.specs.Confirmed.{Confirmed}
 use Rattle.muni_desk_import.specs.Imported.{Imported}
-use Rattle.muni_desk_import.specs.Input.{TakesUpTo}
-use Rattle.muni_desk_import.specs.Lent.{Lent}
 use Rattle.muni_desk_import.specs.Reported.{Reported}
-use Rattle.muni_desk_import.specs.Reports.{ReportsReads, ReportsWrites}
 use Rattle.muni_desk_positions.specs.Imported.{ImportedWith, DoesNoneOfTooMany}
 use Rattle.muni_desk_positions.specs.Listed.{Listed}
 use Rattle.muni_marks.specs.Marked.{Marked, MarksReported}

@@ -4,7 +4,7 @@ ghost use Rattle.std.specs.Prelude.{◌≡◌, ◌≢◌, ◌↔◌, ◌⊎◌, 
 ghost use Rattle.muni_edge.specs.Sink.{HasWritten, HasWrittenPart};
 ghost use Rattle.muni_desk.specs.Command.{command_of};
 ghost use Rattle.muni_desk.specs.Does.{Does, Spares};
-ghost use Rattle.muni_desk_import.specs.Lent.{lent};
+ghost use Rattle.muni_desk_io.specs.Lent.{lent};
 ghost use Rattle.muni_desk_serve.specs.Serves.{traffic};
 ghost use Rattle.muni_desk.specs.Written.{TellsFaults};
 

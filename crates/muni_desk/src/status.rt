@@ -4,7 +4,8 @@ ghost use Rattle.std.specs.Prelude.{◌≡◌};
 ghost use Rattle.muni_desk.specs.Status.{number_of, of_answered, of_done, of_fault, of_served};
 
 use arrayvec::ArrayVec;
-use muni_desk_import::{Answered, Fault};
+use muni_desk_import::Answered;
+use muni_desk_io::Fault;
 use muni_desk_serve::ServeFault;
 
 /// How a command ended.

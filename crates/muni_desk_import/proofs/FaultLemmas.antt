@@ -1,5 +1,5 @@
 -- Imports that end with a fault.
-use Rattle.std.proofs.Common.{◌≡◌, ◌<◌, ◌≤◌, ℕ, List, [], Option, Some, None, Result, Err, IfSome, length, inr, refl, sym, ap, subst}
+use Rattle.std.proofs.Common.{◌≡◌, ◌<◌, ◌≤◌, ℕ, List, [], Option, Some, None, Result, Err, IfSome, length, inr, refl, ap}
 use Rattle.muni_edge.specs.Faults.{Rose}
 use Rattle.muni_edge.specs.declared.sink.Sink as Sink
 use Rattle.muni_edge.specs.declared.source.Source as Source
@@ -12,13 +12,13 @@ use Rattle.muni_book.specs.declared.fault.BookFault.{BookFault}
 use Rattle.muni_book.specs.declared.fault.BookFault.TheVariants as book
 use Rattle.muni_book_step.specs.Step.{Pricing}
 use Rattle.muni_import.specs.Rows.{rows_of}
-use Rattle.muni_desk_import.specs.Fault.{of_input, of_keeper, of_book}
+use Rattle.muni_desk_io.specs.Fault.{of_input, of_keeper, of_book}
+use Rattle.muni_desk_io.specs.Lent.{Lent, ChangesOnlyInput}
+use Rattle.muni_desk_io.specs.declared.fault.Fault.{Fault}
+use Rattle.muni_desk_io.specs.declared.input.InputFault.{InputFault}
+use Rattle.muni_desk_io.specs.declared.input.InputFault.TheVariants as input
 use Rattle.muni_desk_import.specs.Import.{DidBefore, DidBeforeOrNone, DidFirst}
 use Rattle.muni_desk_import.specs.Imported.{Applied, Imported}
-use Rattle.muni_desk_import.specs.Lent.{Lent, ChangesOnlyInput}
-use Rattle.muni_desk_import.specs.declared.fault.Fault.{Fault}
-use Rattle.muni_desk_import.specs.declared.input.InputFault.{InputFault}
-use Rattle.muni_desk_import.specs.declared.input.InputFault.TheVariants as input
 use Rattle.muni_desk_import.proofs.ImportLemmas.{before-first, did-none}
 
 -- no row is applied before the store is fetched
@@ -56,11 +56,6 @@ unfetched source sink cabinet Prices store r keep.Failed out old new is ends sam
     rw ends (none-begun Prices (source.left old.input) (cabinet.told old.cabinet store) (cabinet.told new.cabinet store) (sink.bytes old.output) (sink.bytes new.output) kept (ap sink.bytes same), few, failed is)
 unfetched source sink cabinet Prices store r keep.NoMemory out old new is ends same kept failed few =
     rw ends (none-stored Prices (source.left old.input) (cabinet.told old.cabinet store) (cabinet.told new.cabinet store) (sink.bytes old.output) (sink.bytes new.output) kept (ap sink.bytes same))
-
--- an input that is read whole has no more bytes than the limit
-pub few-read : (left : Option (List ℕ)) (items rest : List ℕ) (n : ℕ) (after : Option (List ℕ)) → IfSome left (λ all. (all ≡ items) × (after ≡ Some rest)) → length items ≤ n → IfSome left (λ all. length all ≤ n)
-few-read None items rest n after whole few = tt
-few-read (Some all) items rest n after whole few = subst (λ l. length l ≤ n) (sym whole.0) few
 
 -- the book has no answer to a row
 pub unanswered : {K O T : Type 0} (keeper : Keeper.Ghosts K) (sink : Sink.Ghosts O) (Prices : Pricing) (text : List ℕ) (fault : BookFault) (out : Result T Fault) (old new : K) (before after : O)

@@ -5,10 +5,10 @@ use Rattle.muni_edge.specs.Sink.{HasWritten, HasWrittenPart}
 use Rattle.muni_edge.specs.declared.sink.Sink as Sink
 use Rattle.muni_keep.specs.declared.cabinet.Cabinet as Cabinet
 use Rattle.muni_msg.specs.declared.command.Key.{Key}
+use Rattle.muni_desk_io.specs.declared.fault.Fault.{Fault}
+use Rattle.muni_desk_io.specs.declared.fault.Fault.TheVariants.{Read, Write, Store, NoMemory, TooLarge}
 use Rattle.muni_desk_import.specs.Confirm.{confirmed}
 use Rattle.muni_desk_import.specs.declared.confirmations.Answered.{Answered}
-use Rattle.muni_desk_import.specs.declared.fault.Fault.{Fault}
-use Rattle.muni_desk_import.specs.declared.fault.Fault.TheVariants.{Read, Write, Store, NoMemory, TooLarge}
 
 -- The answer, or a first part of it if the output fails. Before a fault of the store, and
 -- if memory runs out, nothing is written.

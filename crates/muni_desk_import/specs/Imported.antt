@@ -7,10 +7,10 @@ use Rattle.muni_keep.specs.declared.cabinet.Cabinet as Cabinet
 use Rattle.muni_keep.specs.declared.keeper.Keeper as Keeper
 use Rattle.muni_book_step.specs.Step.{Pricing}
 use Rattle.muni_import.specs.Rows.{rows_of}
+use Rattle.muni_desk_io.specs.Lent.{Lent, IfExposed, ChangesOnlyInput}
+use Rattle.muni_desk_io.specs.declared.fault.Fault.{Fault}
+use Rattle.muni_desk_io.specs.declared.fault.Fault.TheVariants.{Read, Write, Store, NoMemory, TooLarge}
 use Rattle.muni_desk_import.specs.Import.{Did, DidBefore, DidBeforeOrNone, DidFirst, DidPart}
-use Rattle.muni_desk_import.specs.Lent.{Lent, IfExposed, ChangesOnlyInput}
-use Rattle.muni_desk_import.specs.declared.fault.Fault.{Fault}
-use Rattle.muni_desk_import.specs.declared.fault.Fault.TheVariants.{Read, Write, Store, NoMemory, TooLarge}
 
 -- Rows applied to a keeper: all of a text, or the first up to the one at which the store failed or memory ran
 -- out, which may be after the last. If the output fails, the row of its line is applied too.

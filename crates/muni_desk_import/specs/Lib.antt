@@ -1,12 +1,7 @@
 pub mod Confirm
 pub mod Confirmed
-pub mod Fault
 pub mod Import
 pub mod RightLines
 pub mod Imported
-pub mod Input
-pub mod Lent
-pub mod Output
 pub mod Reported
-pub mod Reports
 pub mod Laws

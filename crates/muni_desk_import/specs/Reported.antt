@@ -5,9 +5,9 @@ use Rattle.muni_edge.specs.Sink.{HasWritten}
 use Rattle.muni_import.specs.Report.{Said}
 use Rattle.muni_import.specs.Row.{Row}
 use Rattle.muni_import.specs.Rows.{rows_of}
+use Rattle.muni_desk_io.specs.declared.fault.Fault.{Fault}
+use Rattle.muni_desk_io.specs.declared.fault.Fault.TheVariants.{Read, Write, Store, NoMemory, TooLarge}
 use Rattle.muni_desk_import.specs.Import.{report, WroteTo}
-use Rattle.muni_desk_import.specs.declared.fault.Fault.{Fault}
-use Rattle.muni_desk_import.specs.declared.fault.Fault.TheVariants.{Read, Write, Store, NoMemory, TooLarge}
 
 -- of a command a reply is said, and of a row that is none its own fault
 abbrev pub IsSaidOf : Row → Said → Type 0

@@ -5,15 +5,14 @@ ghost use Rattle.muni_confirm.specs.Refusal.{refusal_text};
 ghost use Rattle.muni_edge.specs.Faults.{Rose};
 ghost use Rattle.muni_keep.specs.Cabinet.{LeavesAll};
 ghost use Rattle.muni_keep.specs.Keeper.{OnlyReads};
+ghost use Rattle.muni_desk_io.specs.Reports.{ReportsWrites};
 ghost use Rattle.muni_desk_import.specs.Confirm.{confirmed};
 ghost use Rattle.muni_desk_import.specs.Confirmed.{Confirmed};
-ghost use Rattle.muni_desk_import.specs.Reports.{ReportsWrites};
 
-use crate::fault::Fault;
-use crate::output::write;
 use arrayvec::ArrayVec;
 use muni_confirm::{confirmation, refusal_line};
 use muni_dec::text::push;
+use muni_desk_io::{Fault, write};
 use muni_edge::Sink;
 use muni_keep::{Cabinet, KeepFault, Keeper};
 use muni_msg::{Key, Refusal};

@@ -3,16 +3,15 @@
 ghost use Rattle.std.specs.Prelude.{◌≡◌, None, IfSome};
 ghost use Rattle.muni_book.specs.Answers.{IsRightAnswer};
 ghost use Rattle.muni_keep.specs.Cabinet.{LeavesOthers};
+ghost use Rattle.muni_desk_io.specs.Input.{TakesUpTo};
+ghost use Rattle.muni_desk_io.specs.Lent.{lent};
+ghost use Rattle.muni_desk_io.specs.Reports.{ReportsReads, ReportsWrites};
 ghost use Rattle.muni_desk_import.specs.Imported.{Imported};
-ghost use Rattle.muni_desk_import.specs.Input.{TakesUpTo};
-ghost use Rattle.muni_desk_import.specs.Lent.{lent};
 ghost use Rattle.muni_desk_import.specs.Reported.{Reported};
-ghost use Rattle.muni_desk_import.specs.Reports.{ReportsReads, ReportsWrites};
 
-use crate::fault::Fault;
-use crate::input::read_input;
 use crate::rows::import_rows;
 use muni_book::Calculator;
+use muni_desk_io::{Fault, read_input};
 use muni_edge::{Gate, Sink, Source};
 use muni_keep::Cabinet;
 use muni_multi::Encloser;

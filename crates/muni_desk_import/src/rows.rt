@@ -4,16 +4,15 @@ ghost use Rattle.std.specs.Prelude.{◌≡◌, ◌≤◌, length, IfOk, IfSome, 
 ghost use Rattle.muni_book.specs.Answers.{IsRightAnswer};
 ghost use Rattle.muni_import.specs.Report.{row_line};
 ghost use Rattle.muni_keep.specs.Keeper.{SameKeeper};
+ghost use Rattle.muni_desk_io.specs.Output.{Writes};
+ghost use Rattle.muni_desk_io.specs.Reports.{ReportsWrites};
 ghost use Rattle.muni_desk_import.specs.Import.{Came};
 ghost use Rattle.muni_desk_import.specs.Imported.{Applied};
-ghost use Rattle.muni_desk_import.specs.Output.{Writes};
 ghost use Rattle.muni_desk_import.specs.Reported.{IsSaidOf, Reported};
-ghost use Rattle.muni_desk_import.specs.Reports.{ReportsWrites};
 
-use crate::fault::Fault;
-use crate::output::write;
 use arrayvec::ArrayVec;
 use muni_book::{BookFault, Calculator, step};
+use muni_desk_io::{Fault, write};
 use muni_edge::{Gate, Sink};
 use muni_import::{RowFault, RowReader, report_row};
 use muni_keep::Keeper;

@@ -13,13 +13,13 @@ use Rattle.muni_keep.specs.declared.keeper.Keeper as Keeper
 use Rattle.muni_book_step.specs.Step.{Pricing}
 use Rattle.muni_import.specs.Row.{Row}
 use Rattle.muni_import.specs.Rows.{rows_of}
-use Rattle.muni_desk_import.specs.Fault.{of_input, of_keeper}
+use Rattle.muni_desk_io.specs.Fault.{of_input, of_keeper}
+use Rattle.muni_desk_io.specs.Lent.{Lent, ChangesOnlyInput}
+use Rattle.muni_desk_io.specs.declared.fault.Fault.{Fault}
+use Rattle.muni_desk_io.specs.declared.fault.Fault.TheVariants.{Read, Write, Store, NoMemory, TooLarge}
+use Rattle.muni_desk_io.specs.declared.input.InputFault.{InputFault}
+use Rattle.muni_desk_io.specs.declared.input.InputFault.TheVariants as input
 use Rattle.muni_desk_import.specs.Import.{Did, DidFirst}
-use Rattle.muni_desk_import.specs.Lent.{Lent, ChangesOnlyInput}
-use Rattle.muni_desk_import.specs.declared.fault.Fault.{Fault}
-use Rattle.muni_desk_import.specs.declared.fault.Fault.TheVariants.{Read, Write, Store, NoMemory, TooLarge}
-use Rattle.muni_desk_import.specs.declared.input.InputFault.{InputFault}
-use Rattle.muni_desk_import.specs.declared.input.InputFault.TheVariants as input
 use Rattle.muni_desk_import.proofs.FaultLemmas.{none-stored, unread, unfetched}
 use Rattle.muni_desk_import.proofs.ImportLemmas.{did-none}
 use Rattle.muni_desk_positions.specs.Imported.{AppliedWith, ImportedWith}

@@ -6,11 +6,11 @@ use Rattle.muni_edge.specs.declared.source.Source as Source
 use Rattle.muni_keep.specs.declared.cabinet.Cabinet as Cabinet
 use Rattle.muni_keep.specs.declared.keeper.Keeper as Keeper
 use Rattle.muni_book_step.specs.Step.{Pricing}
+use Rattle.muni_desk_io.specs.Lent.{Lent, IfExposed}
+use Rattle.muni_desk_io.specs.declared.fault.Fault.{Fault}
+use Rattle.muni_desk_io.specs.declared.fault.Fault.TheVariants.{Read, Write, Store, NoMemory, TooLarge}
 use Rattle.muni_desk_import.specs.Import.{DidFirst}
 use Rattle.muni_desk_import.specs.Imported.{Imported}
-use Rattle.muni_desk_import.specs.Lent.{Lent, IfExposed}
-use Rattle.muni_desk_import.specs.declared.fault.Fault.{Fault}
-use Rattle.muni_desk_import.specs.declared.fault.Fault.TheVariants.{Read, Write, Store, NoMemory, TooLarge}
 use Rattle.muni_position.specs.Holdings.{HasTooMany}
 use Rattle.muni_desk_positions.specs.Importing.{DidAll, DidSome}
 use Rattle.muni_desk_positions.specs.Listing.{MayNotSum}

@@ -4,8 +4,8 @@ use Rattle.muni_edge.specs.Faults.{Rose}
 use Rattle.muni_edge.specs.Sink.{HasWritten, HasWrittenPart}
 use Rattle.muni_edge.specs.declared.sink.Sink.{Ghosts}
 use Rattle.muni_keep.specs.Tables.{Tables}
-use Rattle.muni_desk_import.specs.declared.fault.Fault.{Fault}
-use Rattle.muni_desk_import.specs.declared.fault.Fault.TheVariants.{Read, Write, Store, NoMemory, TooLarge}
+use Rattle.muni_desk_io.specs.declared.fault.Fault.{Fault}
+use Rattle.muni_desk_io.specs.declared.fault.Fault.TheVariants.{Read, Write, Store, NoMemory, TooLarge}
 use Rattle.muni_desk_positions.specs.Listing.{MayNotSum, positions_text}
 
 -- The lines of the positions, if the tables are exposed. After a fault of the store it has counted one, or

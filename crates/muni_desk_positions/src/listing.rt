@@ -3,11 +3,11 @@
 ghost use Rattle.std.specs.Prelude.{◌≡◌, ◌⊎◌, ◌≤◌, None, IfOk, IfSome, IsErrOf};
 ghost use Rattle.muni_edge.specs.Faults.{Rose};
 ghost use Rattle.muni_keep.specs.Cabinet.{LeavesAll};
-ghost use Rattle.muni_desk_import.specs.Reports.{ReportsWrites};
+ghost use Rattle.muni_desk_io.specs.Reports.{ReportsWrites};
 ghost use Rattle.muni_desk_positions.specs.Listed.{Listed};
 ghost use Rattle.muni_desk_positions.specs.Listing.{MayNotSum, positions_text};
 
-use muni_desk_import::{Fault, write};
+use muni_desk_io::{Fault, write};
 use muni_edge::Sink;
 use muni_keep::{Cabinet, KeepFault, Keeper};
 use muni_msg::DeskName;

@@ -5,9 +5,9 @@ use Rattle.muni_edge.specs.Sink.{Wrote, WrotePart}
 use Rattle.muni_edge.specs.declared.sink.Sink as Sink
 use Rattle.muni_edge.specs.declared.source.Source as Source
 use Rattle.muni_keep.specs.declared.cabinet.Cabinet as Cabinet
-use Rattle.muni_desk_import.specs.Lent.{Lent, IfExposed, ChangesOnlyInput}
-use Rattle.muni_desk_import.specs.declared.fault.Fault.{Fault}
-use Rattle.muni_desk_import.specs.declared.fault.Fault.TheVariants.{Read, Write, Store, NoMemory, TooLarge}
+use Rattle.muni_desk_io.specs.Lent.{Lent, IfExposed, ChangesOnlyInput}
+use Rattle.muni_desk_io.specs.declared.fault.Fault.{Fault}
+use Rattle.muni_desk_io.specs.declared.fault.Fault.TheVariants.{Read, Write, Store, NoMemory, TooLarge}
 use Rattle.muni_marks.specs.Marks.{Pricing}
 use Rattle.muni_marks.specs.Portfolio.{HasLineOnEach, IsPortfolioText}
 

@@ -4,7 +4,7 @@ ghost use Rattle.std.specs.Prelude.{◌≡◌, None};
 
 use crate::stores::{HELD, REPORT, ROWS, cabinet, is_imported};
 use muni_book::{Calculator, Workers};
-use muni_desk_import::Fault;
+use muni_desk_io::Fault;
 use muni_desk_positions::{import_with_positions, positions};
 use muni_edge::{MemSink, MemSource, NoGate};
 use muni_keep::Cabinet;

@@ -7,7 +7,7 @@ use crate::stores::{cabinet, is_imported};
 use arrayvec::ArrayVec;
 use muni_days::Day;
 use muni_dec::{Cents, Price3};
-use muni_desk_import::Fault;
+use muni_desk_io::Fault;
 use muni_edge::{MemSink, MemSource};
 use muni_import::RowFault;
 use muni_keep::Cabinet;

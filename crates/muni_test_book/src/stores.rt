@@ -3,7 +3,8 @@
 ghost use Rattle.std.specs.Prelude.{◌≡◌, None, IfOk};
 
 use muni_book::{Calculator, Workers};
-use muni_desk_import::{Fault, import};
+use muni_desk_import::import;
+use muni_desk_io::Fault;
 use muni_edge::{MemSink, MemSource, NoGate};
 use muni_keep::{Cabinet, MemCabinet, MemKeeper};
 use muni_multi::Horner;

@@ -5,7 +5,7 @@ ghost use Rattle.std.specs.Prelude.{◌≡◌, None, IfSome};
 use crate::answers::{ADDED, CONFIRMED, ISSUE, TRADE, is_said};
 use crate::connections::{door_of, line, serve_at};
 use crate::stores::{REPORT, ROWS, imported, is_imported};
-use muni_desk_import::Fault;
+use muni_desk_io::Fault;
 use muni_edge::MemDoor;
 use muni_journal::JournalCabinet;
 use muni_journal_disk::{MemDisk, MemShelf};

@@ -1,4 +1,4 @@
-use Rattle.muni_desk_import.proofs.StoreLemmas.{nothing-changes}
+use Rattle.muni_desk_io.proofs.StoreLemmas.{nothing-changes}
 use Rattle.muni_desk_import.proofs.confirmations.fetch_answer.Goals as goal
 
 pub returns-clause-leaves : goal.returns-clause-leaves

@@ -1,8 +1,9 @@
 use Rattle.std.proofs.Common.{[], Err, ap, refl, ◌∙◌}
 use Rattle.std.proofs.lemmas.Result.{err_from_is_err_and}
 use Rattle.muni_book.specs.Answers.{IsRightAnswer}
-use Rattle.muni_desk_import.specs.Lent.{lent}
-use Rattle.muni_desk_import.proofs.FaultLemmas.{unread, unfetched, few-read}
+use Rattle.muni_desk_io.specs.Lent.{lent}
+use Rattle.muni_desk_io.proofs.TakenLemmas.{few-read}
+use Rattle.muni_desk_import.proofs.FaultLemmas.{unread, unfetched}
 use Rattle.muni_desk_import.proofs.imports.import.Goals as goal
 
 pub returns-in_err-text-clause-imported : goal.returns-in_err-text-clause-imported

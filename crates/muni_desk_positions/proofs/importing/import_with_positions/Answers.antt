@@ -1,8 +1,8 @@
 use Rattle.std.proofs.Common.{[], Err, ap, refl, ◌∙◌}
 use Rattle.std.proofs.lemmas.Result.{err_from_is_err_and}
 use Rattle.muni_book.specs.Answers.{IsRightAnswer}
-use Rattle.muni_desk_import.specs.Lent.{lent}
-use Rattle.muni_desk_import.proofs.FaultLemmas.{few-read}
+use Rattle.muni_desk_io.specs.Lent.{lent}
+use Rattle.muni_desk_io.proofs.TakenLemmas.{few-read}
 use Rattle.muni_desk_positions.proofs.ImportingLemmas.{unread-with, unfetched-with}
 use Rattle.muni_desk_positions.proofs.importing.import_with_positions.Goals as goal
 

@@ -1,5 +1,5 @@
 use Rattle.std.proofs.Common.{ap, ◌∙◌}
-use Rattle.muni_desk_import.proofs.StoreLemmas.{nothing-changes}
+use Rattle.muni_desk_io.proofs.StoreLemmas.{nothing-changes}
 use Rattle.muni_desk_positions.proofs.listing.fetch_lines.Goals as goal
 
 pub returns-clause-leaves : goal.returns-clause-leaves

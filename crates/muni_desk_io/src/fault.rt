@@ -28,7 +28,7 @@ pub enum Fault {
 
 impl From<InputFault> for Fault {
     ghost use Rattle.std.specs.Prelude.{◌≡◌};
-    ghost use Rattle.muni_desk_import.specs.Fault.{of_input};
+    ghost use Rattle.muni_desk_io.specs.Fault.{of_input};
 
     ghost from_gives = { λ fault given. given ≡ of_input fault };
 
@@ -43,7 +43,7 @@ impl From<InputFault> for Fault {
 
 impl From<KeepFault> for Fault {
     ghost use Rattle.std.specs.Prelude.{◌≡◌};
-    ghost use Rattle.muni_desk_import.specs.Fault.{of_keeper};
+    ghost use Rattle.muni_desk_io.specs.Fault.{of_keeper};
 
     ghost from_gives = { λ fault given. given ≡ of_keeper fault };
 
@@ -57,7 +57,7 @@ impl From<KeepFault> for Fault {
 
 impl From<BookFault> for Fault {
     ghost use Rattle.std.specs.Prelude.{◌≡◌};
-    ghost use Rattle.muni_desk_import.specs.Fault.{of_book};
+    ghost use Rattle.muni_desk_io.specs.Fault.{of_book};
 
     ghost from_gives = { λ fault given. given ≡ of_book fault };
 
@@ -71,7 +71,7 @@ impl From<BookFault> for Fault {
 
 impl From<NoMemory> for Fault {
     ghost use Rattle.std.specs.Prelude.{◌≡◌};
-    ghost use Rattle.muni_desk_import.specs.declared.fault.Fault.{Fault};
+    ghost use Rattle.muni_desk_io.specs.declared.fault.Fault.{Fault};
 
     ghost from_gives = { λ _ fault. fault ≡ Fault.NoMemory };
 

@@ -3,8 +3,8 @@ use Rattle.std.specs.Prelude.{◌≡◌, ◌<◌, ◌≤◌, ◌+◌, ◌⊎◌,
 use Rattle.std.specs.Io.KnownBytes.{Consumes}
 use Rattle.muni_edge.specs.Faults.{Rose}
 use Rattle.muni_edge.specs.declared.source.Source.{Ghosts}
-use Rattle.muni_desk_import.specs.declared.input.InputFault.{InputFault}
-use Rattle.muni_desk_import.specs.declared.input.InputFault.TheVariants.{Failed, TooLarge, NoMemory}
+use Rattle.muni_desk_io.specs.declared.input.InputFault.{InputFault}
+use Rattle.muni_desk_io.specs.declared.input.InputFault.TheVariants.{Failed, TooLarge, NoMemory}
 
 -- for another reason than that it is too large
 abbrev pub IsNotTooLarge : InputFault → Type 0

@@ -1,6 +1,6 @@
 //! The output of a command over a store.
 
-ghost use Rattle.muni_desk_import.specs.Output.{Writes};
+ghost use Rattle.muni_desk_io.specs.Output.{Writes};
 
 use crate::fault::Fault;
 use muni_edge::Sink;

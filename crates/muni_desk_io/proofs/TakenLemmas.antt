@@ -4,9 +4,9 @@ use Rattle.std.proofs.lemmas.List.{append-nil, append_assoc, length-append}
 use Rattle.std.specs.Io.KnownBytes.{Consumes, IsAtEnd}
 use Rattle.muni_edge.specs.Faults.{Rose}
 use Rattle.muni_edge.specs.declared.source.Source.{Ghosts}
-use Rattle.muni_desk_import.specs.Input.{CountsReads, IsNotTooLarge, ReadsAll}
-use Rattle.muni_desk_import.specs.declared.input.InputFault.{InputFault}
-use Rattle.muni_desk_import.specs.declared.input.InputFault.TheVariants.{Failed, TooLarge, NoMemory}
+use Rattle.muni_desk_io.specs.Input.{CountsReads, IsNotTooLarge, ReadsAll}
+use Rattle.muni_desk_io.specs.declared.input.InputFault.{InputFault}
+use Rattle.muni_desk_io.specs.declared.input.InputFault.TheVariants.{Failed, TooLarge, NoMemory}
 
 -- one piece after another
 pub taken-then : (a b c : Option (List ℕ)) (xs ys zs : List ℕ) → Consumes a b xs → Consumes b c ys → zs ≡ xs ++ ys → Consumes a c zs
@@ -21,6 +21,11 @@ pub taken-whole : (old new : Option (List ℕ)) (bytes : List ℕ) → Consumes 
 taken-whole None new bytes taken end = tt
 taken-whole (Some all) None bytes taken end = absurd taken
 taken-whole (Some all) (Some rest) bytes taken end = (taken ∙ ap (λ l. bytes ++ l) end ∙ append-nil bytes, ap Some end)
+
+-- an input that is read whole has no more bytes than the limit
+pub few-read : (left : Option (List ℕ)) (items rest : List ℕ) (n : ℕ) (after : Option (List ℕ)) → IfSome left (λ all. (all ≡ items) × (after ≡ Some rest)) → length items ≤ n → IfSome left (λ all. length all ≤ n)
+few-read None items rest n after whole few = tt
+few-read (Some all) items rest n after whole few = subst (λ l. length l ≤ n) (sym whole.0) few
 
 -- there are no fewer than were taken
 pub taken-more : (n : ℕ) (old new : Option (List ℕ)) (bytes : List ℕ) → Consumes old new bytes → n < length bytes → IfSome old (λ all. n < length all)

@@ -1,6 +1,6 @@
 use Rattle.std.proofs.Common.{◌≡◌, ◌≤◌, ◌+◌, length}
 use Rattle.std.specs.Io.KnownBytes.{Consumes}
-use Rattle.muni_desk_import.proofs.input.read_input.Given as goal
+use Rattle.muni_desk_io.proofs.input.read_input.Given as goal
 
 -- these bytes were taken; each turn takes one at least
 abbrev pub invariant-loop-turn : goal.invariant-loop-turn

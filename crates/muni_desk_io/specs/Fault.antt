@@ -3,10 +3,10 @@ use Rattle.muni_keep.specs.declared.fault.KeepFault.{KeepFault}
 use Rattle.muni_keep.specs.declared.fault.KeepFault.TheVariants as keeper
 use Rattle.muni_book.specs.declared.fault.BookFault.{BookFault}
 use Rattle.muni_book.specs.declared.fault.BookFault.TheVariants as book
-use Rattle.muni_desk_import.specs.declared.fault.Fault.{Fault}
-use Rattle.muni_desk_import.specs.declared.fault.Fault.TheVariants.{Read, Store, NoMemory, TooLarge}
-use Rattle.muni_desk_import.specs.declared.input.InputFault.{InputFault}
-use Rattle.muni_desk_import.specs.declared.input.InputFault.TheVariants as input
+use Rattle.muni_desk_io.specs.declared.fault.Fault.{Fault}
+use Rattle.muni_desk_io.specs.declared.fault.Fault.TheVariants.{Read, Store, NoMemory, TooLarge}
+use Rattle.muni_desk_io.specs.declared.input.InputFault.{InputFault}
+use Rattle.muni_desk_io.specs.declared.input.InputFault.TheVariants as input
 
 abbrev pub of_input : InputFault → Fault
 of_input input.Failed = Read

@@ -1,7 +1,7 @@
 use Rattle.std.proofs.Common.{◌∙◌, Err, inl, ap, arith, rules}
 use Rattle.std.proofs.lemmas.Result.{err_from_is_err_and}
-use Rattle.muni_desk_import.proofs.TakenLemmas.{taken-then, taken-whole, none-read}
-use Rattle.muni_desk_import.proofs.input.read_input.Goals as goal
+use Rattle.muni_desk_io.proofs.TakenLemmas.{taken-then, taken-whole, none-read}
+use Rattle.muni_desk_io.proofs.input.read_input.Goals as goal
 
 pub returns-then-branch-eq0 : goal.returns-then-branch-eq0
 returns-then-branch-eq0 g c =

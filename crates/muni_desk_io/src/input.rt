@@ -2,7 +2,7 @@
 
 ghost use Rattle.std.specs.Prelude.{◌≡◌, ◌≤◌, ◌<◌, ◌+◌, ◌-◌, ◌^◌, ◌++◌, ℕ, List, vec_len, IfOk, IfErr};
 ghost use Rattle.std.specs.Io.KnownBytes.{Consumes, IsAtEnd};
-ghost use Rattle.muni_desk_import.specs.Input.{CountsReads, IsNotTooLarge, ReadsAll, TakesUpTo};
+ghost use Rattle.muni_desk_io.specs.Input.{CountsReads, IsNotTooLarge, ReadsAll, TakesUpTo};
 
 use muni_edge::{Failed, Source};
 use std::alloc::Global;

@@ -2,8 +2,8 @@
 use Rattle.std.specs.Prelude.{◌≡◌, ◌⊎◌, Result, IsErrOf}
 use Rattle.muni_edge.specs.declared.sink.Sink as Sink
 use Rattle.muni_edge.specs.declared.source.Source as Source
-use Rattle.muni_desk_import.specs.declared.fault.Fault.{Fault}
-use Rattle.muni_desk_import.specs.declared.fault.Fault.TheVariants.{Read, Write}
+use Rattle.muni_desk_io.specs.declared.fault.Fault.{Fault}
+use Rattle.muni_desk_io.specs.declared.fault.Fault.TheVariants.{Read, Write}
 
 -- no take of an input has failed, or a failed one is what is reported
 abbrev pub ReportsReads : {I T : Type 0} → Source.Ghosts I → Result T Fault → I → I → Type 0
