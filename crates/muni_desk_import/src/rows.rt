@@ -10,6 +10,7 @@ ghost use Rattle.muni_desk_import.specs.Import.{Came};
 ghost use Rattle.muni_desk_import.specs.Imported.{Applied};
 ghost use Rattle.muni_desk_import.specs.Reported.{IsSaidOf, Reported};
 
+use crate::imports::LIMIT;
 use arrayvec::ArrayVec;
 use muni_book::{BookFault, Calculator, step};
 use muni_desk_io::{Fault, write};
@@ -20,6 +21,9 @@ use muni_msg::{Command, Reply};
 use muni_multi::Encloser;
 use std::alloc::Global;
 use std::thread::Threads;
+
+// The rows of the longest text and its end: each row takes a byte at least.
+const TURNS: u32 = LIMIT as u32 + 1;
 
 /// Applies the rows of a text one after another, and writes the line of each once it is applied.
 pub fn import_rows<R: Threads + Sync, K: Keeper, O: Sink, E: Encloser + Sync, G: Gate + Sync>(
@@ -38,7 +42,7 @@ pub fn import_rows<R: Threads + Sync, K: Keeper, O: Sink, E: Encloser + Sync, G:
     ensures puts_later { O.faults output.old ≤ O.faults output.new }
 {
     let mut rows = RowReader::new(alloc, text);
-    for count in 0..4_194_305u32 {
+    for count in 0..TURNS {
         let row = match rows.next_row()? {
             Some(row) => row,
             None => return Ok(()),
@@ -46,6 +50,7 @@ pub fn import_rows<R: Threads + Sync, K: Keeper, O: Sink, E: Encloser + Sync, G:
         let said = said_of(calculator, keeper, row)?;
         write_line(count + 1, &said, output)?;
     }
+    // The text is at its end before the turns are.
     unreachable!()
 }
 

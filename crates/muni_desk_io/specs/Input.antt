@@ -1,6 +1,6 @@
 -- What is read from an input, and why there is none.
-use Rattle.std.specs.Prelude.{◌≡◌, ◌<◌, ◌≤◌, ◌+◌, ◌⊎◌, ⊤, ℕ, List, [], length, Some, Result, Ok, Err, IfOk, IfSome, IsErrOf}
-use Rattle.std.specs.Io.KnownBytes.{Consumes}
+use Rattle.std.specs.Prelude.{◌≡◌, ◌<◌, ◌≤◌, ◌+◌, ◌++◌, ◌⊎◌, ⊤, ℕ, List, [], length, Some, Result, Ok, Err, IfOk, IfSome, IsErrOf}
+use Rattle.std.specs.Io.KnownBytes.{Consumes, IsAtEnd}
 use Rattle.muni_edge.specs.Faults.{Rose}
 use Rattle.muni_edge.specs.declared.source.Source.{Ghosts}
 use Rattle.muni_desk_io.specs.declared.input.InputFault.{InputFault}
@@ -23,6 +23,16 @@ CountsReads (Err NoMemory) before now = now ≡ before
 abbrev pub TakesUpTo : {I : Type 0} → Ghosts I → ℕ → I → I → Type 0
 TakesUpTo source most old new =
     (piece : List ℕ) × Consumes (source.left old) (source.left new) piece × (length piece ≤ most)
+
+-- A piece of so many bytes is taken and added to those that are had. Then one is beyond the limit at most. If the
+-- piece is empty, the source is at its end.
+pub record AddsTaken {I : Type 0} (source : Ghosts I) (limit count : ℕ) (had has : List ℕ) (old new : I) : Type 0 where
+  pub piece : List ℕ
+  pub taken : Consumes (source.left old) (source.left new) piece
+  pub added : has ≡ had ++ piece
+  pub counted : length has ≡ length had + count
+  pub few : length has ≤ limit + 1
+  pub end : count ≡ 0 → IsAtEnd (source.left new)
 
 -- Everything that was left in a source is read, if it has no more bytes than the limit. Of a longer one no byte
 -- is taken after the first beyond the limit.

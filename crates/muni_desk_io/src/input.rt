@@ -1,8 +1,7 @@
 //! A whole input.
 
-ghost use Rattle.std.specs.Prelude.{◌≡◌, ◌≤◌, ◌<◌, ◌+◌, ◌-◌, ◌^◌, ◌++◌, ℕ, List, vec_len, IfOk, IfErr};
-ghost use Rattle.std.specs.Io.KnownBytes.{Consumes, IsAtEnd};
-ghost use Rattle.muni_desk_io.specs.Input.{CountsReads, IsNotTooLarge, ReadsAll, TakesUpTo};
+ghost use Rattle.std.specs.Prelude.{◌≤◌, ◌<◌, ◌+◌, ◌-◌, ◌^◌, vec_len, IfOk, IfErr};
+ghost use Rattle.muni_desk_io.specs.Input.{AddsTaken, CountsReads, IsNotTooLarge, ReadsAll, TakesUpTo};
 
 use muni_edge::{Failed, Source};
 use std::alloc::Global;
@@ -33,6 +32,7 @@ pub fn read_input<I: Source>(
 {
     let mut bytes = Vec::new(alloc);
     for turn in 0..limit + 2 {
+        // Proofs alone read the turn.
         let _turn = turn;
         if bytes.len() > limit {
             return Err(InputFault::TooLarge);
@@ -41,6 +41,7 @@ pub fn read_input<I: Source>(
             return Ok(bytes);
         }
     }
+    // Each turn takes a byte at least, so the last one finds too many bytes.
     unreachable!()
 }
 
@@ -52,13 +53,9 @@ fn take_more<I: Source>(
 ) -> Result<usize, InputFault>
     requires limit { limit < 2 ^ 32 }
     requires room { vec_len bytes.old ≤ limit }
-    ensures bound { IfOk result (λ count. vec_len bytes.new ≡ vec_len bytes.old + count) }
-    ensures limit { IfOk result (λ count. vec_len bytes.new ≤ limit + 1) }
+    ensures adds { IfOk result (λ count.
+        AddsTaken I.Source limit count bytes.old.items bytes.new.items source.old source.new) }
     ensures limited { TakesUpTo I.Source (limit + 1 - vec_len bytes.old) source.old source.new }
-    ensures taken { IfOk result (λ count. (piece : List ℕ)
-        × Consumes (I.left source.old) (I.left source.new) piece
-        × (bytes.new.items ≡ bytes.old.items ++ piece)) }
-    ensures end { IfOk result (λ count. count ≡ 0 → IsAtEnd (I.left source.new)) }
     ensures counts { CountsReads result (I.faults source.old) (I.faults source.new) }
     ensures later { I.faults source.old ≤ I.faults source.new }
     ensures others { IfErr result (λ fault. IsNotTooLarge fault) }

@@ -25,6 +25,7 @@ pub fn read_marks(alloc: Global, text: &[u8]) -> Result<Vec<Result<Asked, RowFau
         .flexible(true)
         .from_reader(alloc, text);
     let mut rows = Vec::new(alloc);
+    // The prover has to be shown this type, which only a row has.
     let _given: Option<Given> = None;
     for row in reader.into_byte_records() {
         match row {

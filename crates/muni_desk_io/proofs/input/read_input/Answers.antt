@@ -5,26 +5,27 @@ use Rattle.muni_desk_io.proofs.input.read_input.Goals as goal
 
 pub returns-then-branch-eq0 : goal.returns-then-branch-eq0
 returns-then-branch-eq0 g c =
-    let took = c.in_ok-take_more.ensures in
-    let all = taken-then (g.I.Source.left c.args.source.now) (g.I.Source.left c.loop-turn.source) (g.I.Source.left c.take_more.new.source) c.loop-turn.bytes.items took.taken.0 c.take_more.new.bytes.items c.loop-turn.invariant.taken took.taken.1 took.taken.2 in
+    let took = c.in_ok-take_more.ensures.adds in
+    let counts = c.in_ok-take_more.ensures.counts in
+    let all = taken-then (g.I.Source.left c.args.source.now) (g.I.Source.left c.loop-turn.source) (g.I.Source.left c.take_more.new.source) c.loop-turn.bytes.items took.piece c.take_more.new.bytes.items c.loop-turn.invariant.taken took.taken took.added in
     record {
       whole = taken-whole (g.I.Source.left c.args.source.now) (g.I.Source.left c.take_more.new.source) c.take_more.new.bytes.items all (took.end c.if-branch-eq0.true);
       few = search rules;
       too_large = search rules;
-      limited = (c.take_more.new.bytes.items, all, omega (arith, took.limit));
-      later = omega (arith, took.counts, c.loop-turn.invariant.faults);
+      limited = (c.take_more.new.bytes.items, all, omega (arith, took.few));
+      later = omega (arith, counts, c.loop-turn.invariant.faults);
       failed = λ never. absurd (cc never);
-      uncounted = inl (took.counts ∙ c.loop-turn.invariant.faults);
+      uncounted = inl (counts ∙ c.loop-turn.invariant.faults);
     }
 
 pub loop-turn-preserved : goal.loop-turn-preserved
 loop-turn-preserved g c =
-    let took = c.in_ok-take_more.ensures in
+    let took = c.in_ok-take_more.ensures.adds in
     record {
-      taken = taken-then (g.I.Source.left c.args.source.now) (g.I.Source.left c.loop-turn.source) (g.I.Source.left c.take_more.new.source) c.loop-turn.bytes.items took.taken.0 c.take_more.new.bytes.items c.loop-turn.invariant.taken took.taken.1 took.taken.2;
-      each = omega (arith, took.bound, c.if-branch-eq0.false);
-      most = omega (arith, took.limit);
-      faults = took.counts ∙ c.loop-turn.invariant.faults;
+      taken = taken-then (g.I.Source.left c.args.source.now) (g.I.Source.left c.loop-turn.source) (g.I.Source.left c.take_more.new.source) c.loop-turn.bytes.items took.piece c.take_more.new.bytes.items c.loop-turn.invariant.taken took.taken took.added;
+      each = omega (arith, took.counted, c.if-branch-eq0.false);
+      most = omega (arith, took.few);
+      faults = c.in_ok-take_more.ensures.counts ∙ c.loop-turn.invariant.faults;
     }
 
 pub returns-in_err-take_more : goal.returns-in_err-take_more
