@@ -152,10 +152,11 @@ fn given(row: &ByteRecord, column: u32) -> Result<Given, RowFault>
     ensures { result ≡ spec.given_in column (fields_of row.now) }
 {
     let basis = field(row, column);
-    if !is_basis(basis) {
-        return Err(RowFault::BadField { column });
+    match read_given(basis, field(row, column + 1)) {
+        Some(given) => Ok(given),
+        None if is_basis(basis) => Err(RowFault::BadField { column: column + 1 }),
+        None => Err(RowFault::BadField { column }),
     }
-    in_column(column + 1, read_given(basis, field(row, column + 1)))
 }
 
 fn is_basis(text: &[u8]) -> bool
