@@ -33,15 +33,17 @@ def any_desk(route: str) -> tuple[str, ...]:
 
 ALLOWED = "http-request deny deny_status 403 unless { req.hdr(X-Allowed) -m str yes }"
 NGINX, QUEUE, DESK, QUEUE_UNIT = "nginx.conf", "queue.cfg", "muni.service", "muni-queue.service"
+NAMED = 'geo $is_unlimited {\n        default "";'
+UNLIMITED = Edit(NGINX, NAMED, NAMED + "\n        127.0.0.0/8 yes;")
 REFUSED = " {\n            return 403;\n        }"
 
 RULES: dict[str, Rule] = {
     "password": of("log_in", (NGINX, "auth_basic desk;")),
     "delay of a guess": of("log_in", (NGINX, "auth_delay 1s;")),
-    "words of a refusal": of("log_in", (NGINX, "error_page 401 403 404 405 413 502 503 504 @phrase;")),
+    "words of a refusal": of("log_in", (NGINX, "error_page 401 403 404 405 412 413 416 429 500 502 503 504 @phrase;")),
     "content policy": of("log_in", (NGINX, "default-src 'self'; ")),
     "no cache": of("log_in", (NGINX, "add_header Cache-Control no-store always;")),
-    "name of the host": of("names", (NGINX, "return 421;")),
+    "name of the host": of("names", (NGINX, 'return 421 "421 Misdirected Request\\n";')),
     "name of the handshake": of("names", (NGINX, "ssl_reject_handshake on;", "ssl_certificate /etc/muni/cert.pem;"
                                           " ssl_certificate_key /etc/muni/key.pem;")),
     "Origin": of("foreign_pages", (NGINX, "if ($foreign_origin)" + REFUSED)),
@@ -70,6 +72,17 @@ RULES: dict[str, Rule] = {
     "small letters": of("users", ("user", "*[a-z]*)", "-)")),
     "forms of a map": of("users", ("user", "$0 !~ form {", "0 {")),
     "old names": of("users", ("user", "        desks=\n        adds_issues=\n    else", "        true\n    else")),
+    "requests at once": of("limits", (NGINX, "limit_conn at_once 40;")),
+    "requests in a second": of("limits", (NGINX, "limit_req zone=in_a_second burst=200 nodelay;")),
+    "status of a limit": of("limits", (NGINX, "limit_conn_status 429;")),
+    "limit of each address": of("limits", (NGINX, '"" $binary_remote_addr;', '"" all;')),
+    "connections without a password": of("limits", (NGINX, "            keepalive_timeout 0;\n")),
+    "addresses without a limit": of("unlimited", (NGINX, "        127.0.0.0/8 yes;\n")),
+    "user of a guess": of("guesses in the log", ("fail2ban-filter.conf", '(?:[^"\\\\]|\\\\.)+', ".*")),
+    "status of a guess": of("guesses in the log", ("fail2ban-filter.conf", '"status":"401",', '"status":"4..",')),
+    "version of nginx": of("statuses", (NGINX, "server_tokens off;")),
+    "size of a line": of("statuses", (NGINX, "large_client_header_buffers 4 4k;")),
+    "words of a name": of("statuses", (NGINX, ' "421 Misdirected Request\\n"')),
     "time of a head": of("slow_clients", (NGINX, "client_header_timeout 5s;")),
     "time of a body": of("slow_clients", (NGINX, "client_body_timeout 5s;")),
     "whole requests": of("slow_clients", (NGINX, "proxy_request_buffering on;", "proxy_request_buffering off;"),
