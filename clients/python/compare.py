@@ -13,6 +13,7 @@ from __future__ import annotations
 
 import argparse
 import importlib
+import pathlib
 import random
 import sys
 import time
@@ -21,6 +22,7 @@ from datetime import date
 from decimal import ROUND_DOWN, Decimal
 from typing import Any
 
+sys.path.insert(0, str(pathlib.Path(__file__).resolve().parent / "src"))
 import muni
 
 SETTLE = date(2024, 4, 3)

@@ -1,5 +1,5 @@
 #!/usr/bin/env python3
-"""Tries muni.py on a desk that it starts, over a store of its own.
+"""Tries the client on a desk that it starts, over a store of its own.
 
     clients/python/test_muni.py
 
@@ -23,7 +23,7 @@ from decimal import Decimal
 from typing import Any
 
 sys.dont_write_bytecode = True
-sys.path.insert(0, str(pathlib.Path(__file__).resolve().parent))
+sys.path.insert(0, str(pathlib.Path(__file__).resolve().parent / "src"))
 import muni
 from muni import Basis, Call, DayCount, Issue, Kind, Side, Trade
 

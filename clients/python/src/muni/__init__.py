@@ -1,4 +1,4 @@
-"""A client of the desk over HTTP, in one file over the standard library.
+"""A client of the desk over HTTP.
 
     import muni
     from datetime import date
@@ -34,11 +34,13 @@ from typing import Any, ClassVar, Union
 
 __all__ = [
     "Act", "BadTerms", "Basis", "Call", "Canceled", "Client", "Confirmation", "Conflict", "DayCount", "DeskFull",
-    "Error", "Figures", "GivenOutOfRange", "Issue", "Kind", "Label", "Listed", "NoTime", "Redemption", "Refused",
-    "SettleOutside", "Side", "Status", "Trade", "Unanswered", "Undecided", "UnknownIssue", "UnknownTrade",
-    "VersionsFull", "WrongBasis", "WrongNumber", "YieldAbove", "YieldBelow", "read_confirmation", "read_figures",
-    "read_list",
+    "Error", "Figures", "GivenOutOfRange", "Issue", "Kind", "Label", "Listed", "NoTime", "PAGE", "REFUSALS",
+    "Redemption", "Refused", "SettleOutside", "Side", "Status", "Trade", "Unanswered", "Undecided", "UnknownIssue",
+    "UnknownTrade", "VersionsFull", "WrongBasis", "WrongNumber", "YieldAbove", "YieldBelow", "read_confirmation",
+    "read_figures", "read_list",
 ]
+
+__version__ = "1.1.1"
 
 Amount = Union[Decimal, int]
 
