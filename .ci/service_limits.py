@@ -56,6 +56,8 @@ def guessed(site: Site, tally: Tally) -> list[str]:
     guess = asking(site, "/lists/ALPHA", "wrong")
     for link in links:
         link.sendall(guess)
+    # All of them have come by then, and none is answered yet.
+    time.sleep(0.4)
     begin = time.monotonic()
     other.sendall(asking(site, "/lists/ALPHA"))
     tally.check("another address meanwhile", 200, status(said(other)))
