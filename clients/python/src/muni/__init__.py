@@ -32,6 +32,8 @@ from datetime import date
 from decimal import Decimal
 from typing import Any, ClassVar, Union
 
+from ._refusals import WORDS
+
 __all__ = [
     "Act", "BadTerms", "Basis", "Call", "Canceled", "Client", "Confirmation", "Conflict", "DayCount", "DeskFull",
     "Error", "Figures", "GivenOutOfRange", "Issue", "Kind", "Label", "Listed", "NoTime", "PAGE", "REFUSALS",
@@ -40,7 +42,7 @@ __all__ = [
     "read_figures", "read_list",
 ]
 
-__version__ = "1.1.1"
+__version__ = "1.2.0"
 
 Amount = Union[Decimal, int]
 
@@ -221,6 +223,9 @@ class Refused(Error):
     means: ClassVar[str] = "a refusal that this client does not know"
     todo: ClassVar[str] = "ask whoever runs the desk"
 
+    def __init_subclass__(cls) -> None:
+        cls.means, cls.todo = WORDS[cls.number]
+
     def __init__(self, line: str) -> None:
         found = _REFUSAL.fullmatch(line)
         self.line = line
@@ -233,26 +238,18 @@ class UnknownIssue(Refused):
     """Refusal 1: no issue of this CUSIP is kept."""
 
     number = 1
-    means = "no issue of this CUSIP is kept"
-    todo = "check the CUSIP, or add the issue first"
 
 
 class UnknownTrade(Refused):
     """Refusal 2: the desk keeps no trade of this reference."""
 
     number = 2
-    means = "the desk keeps no trade of this reference"
-    todo = "check the desk and the reference, in which capitals and small letters differ"
 
 
 class Conflict(Refused):
     """Refusal 3: other contents are kept. `version` is the number that is kept, or None for an issue."""
 
     number = 3
-    means = ("this CUSIP, or this number of the trade, is kept with other contents or by another act; what is sent "
-             "again as it was is answered as before")
-    todo = ("an issue: compare the terms, since what is kept is never changed. A trade: correct it under the next "
-            "number, or enter it under another reference")
 
     @property
     def version(self) -> int | None:
@@ -264,8 +261,6 @@ class BadTerms(Refused):
     """Refusal 4: the terms fail a test. `fault` is its number, `call` the day of the call at fault, if it is one."""
 
     number = 4
-    means = "the terms fail a test, so the desk cannot price the issue"
-    todo = "mend the terms"
 
     @property
     def fault(self) -> int:
@@ -281,67 +276,48 @@ class SettleOutside(Refused):
     """Refusal 5: the settlement is before the dated date, or not before maturity."""
 
     number = 5
-    means = "the settlement is before the dated date, or not before maturity"
-    todo = "check the settlement"
 
 
 class GivenOutOfRange(Refused):
     """Refusal 6: what is given is out of range. `rest` is below, above or price below zero."""
 
     number = 6
-    means = ("what is given, or a price with its commission, lies below or above its range, or the price at this yield "
-             "would be below zero")
-    todo = "look for a slipped point, or a price where a yield belongs"
 
 
 class YieldBelow(Refused):
     """Refusal 7: the yield is too low to print. `rest` is the day of the redemption that decides."""
 
     number = 7
-    means = "up to this redemption so little is earned at the price that no yield is printed"
-    todo = "check the price against that call's, or the maturity"
 
 
 class YieldAbove(Refused):
     """Refusal 8: every yield is above all that are printed."""
 
     number = 8
-    means = "at the price every yield is above all that are printed"
-    todo = "check the price for a slipped point"
 
 
 class NoTime(Refused):
     """Refusal 9: no day is left up to the redemption. `rest` is the day of the redemption."""
 
     number = 9
-    means = "the day count leaves no day up to this redemption, so there is no yield"
-    todo = "settle on another day; if interest is paid, a yield may be given"
 
 
 class Undecided(Refused):
     """Refusal 10: two printed figures are possible. `rest` is the day of the redemption and the boundary."""
 
     number = 10
-    means = ("at a yield, the exact price lies on the boundary that is named or within 10^-9 dollars of it; at a "
-             "price, the exact price at the boundary that is named is the net price given or within 10^-9 dollars of "
-             "it. So it cannot be told which of two printed figures it is")
-    todo = "give another yield or price, the last digit suffices"
 
 
 class Canceled(Refused):
     """Refusal 11: the trade is canceled."""
 
     number = 11
-    means = "the trade is canceled, and nothing follows a cancel"
-    todo = "enter a new trade under another reference"
 
 
 class WrongNumber(Refused):
     """Refusal 12: the number of the version is wrong. `next` is the number that the desk takes."""
 
     number = 12
-    means = "the number is neither one that is kept nor the next one"
-    todo = "read the last version, which may be another's correction, and send the number that is named"
 
     @property
     def next(self) -> int:
@@ -352,24 +328,18 @@ class VersionsFull(Refused):
     """Refusal 13: the trade has 99 versions."""
 
     number = 13
-    means = "the trade has 99 versions"
-    todo = "cancel it, which is still taken, and enter a new one"
 
 
 class DeskFull(Refused):
     """Refusal 14: the desk has 100,000 trades."""
 
     number = 14
-    means = "the desk has 100,000 trades"
-    todo = "enter the trade under another desk"
 
 
 class WrongBasis(Refused):
     """Refusal 15: this kind of issue does not take what is given."""
 
     number = 15
-    means = ("a rate for any issue but a discounted note, a yield for one, or a commission beside a yield or a rate")
-    todo = "give a price, or what this kind of issue is asked by"
 
 
 REFUSALS: dict[int, type[Refused]] = {each.number: each for each in (
