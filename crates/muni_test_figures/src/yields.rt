@@ -5,6 +5,7 @@ ghost use Rattle.muni_multi.specs.HornerLaws.{horner-encloses, horner-narrow};
 mod yield_cases;
 
 use crate::terms::is_shared;
+use muni_days::Day;
 use muni_dec::Price;
 use muni_edge::{NoGate, Steps};
 use muni_multi::{Doubling, Encloser, Horner};
@@ -155,17 +156,24 @@ fn lowest_outcome<R: Threads + Sync>(
         encloser: &Horner,
         gate: &NoGate,
     };
-    let lowest = schedule.yield_to_worst(&calculator, price);
-    let own = schedule.candidates()[0].date;
-    Ok(match lowest {
-        Ok(lowest) => (lowest.candidate == 0).then_some(Outcome::Print(lowest.yld)),
-        Err(NoYield::Undecided { date, boundary }) => (date == own).then_some(Outcome::Unsure {
-            lower: (boundary.units().wrapping_sub(5) / 10) as i32,
-        }),
-        Err(NoYield::Below { date }) => (date == own).then_some(Outcome::Below),
-        Err(NoYield::Above) => Some(Outcome::Above),
-        Err(NoYield::NoTime { .. }) => return Err(Fail::from("time up to each redemption")),
-    })
+    match schedule.yield_to_worst(&calculator, price) {
+        Ok(lowest) => Ok((lowest.candidate == 0).then_some(Outcome::Print(lowest.yld))),
+        Err(none) => outcome_of_none(none, schedule.candidates()[0].date),
+    }
+}
+
+// The outcome that says why there is no yield, if the first redemption decides.
+fn outcome_of_none(none: NoYield, first: Day) -> Result<Option<Outcome>, Fail> {
+    match none {
+        NoYield::Undecided { date, boundary } => Ok(
+            (date == first).then_some(Outcome::Unsure {
+                lower: (boundary.units().wrapping_sub(5) / 10) as i32,
+            }),
+        ),
+        NoYield::Below { date } => Ok((date == first).then_some(Outcome::Below)),
+        NoYield::Above => Ok(Some(Outcome::Above)),
+        NoYield::NoTime { .. } => Err(Fail::from("time up to each redemption")),
+    }
 }
 
 // The first case that the program does not answer as it says, how many before it are answered as they say,

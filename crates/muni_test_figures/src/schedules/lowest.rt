@@ -301,10 +301,10 @@ fn cost_of<R: Threads + Sync>(
 
 #[test]
 fn questions_go_by_rounds_and_end_where_yields_part(rt: HostRuntime) -> Result<(), Fail> {
-    let mut schedule = schedule_of(&forty_calls()?, &Sample::of(UNCALLED))?;
     for (given, cost) in FORTY_CALLS {
         let price = price_over_0(&Sample::of(given))?;
         for workers in [1, 2, 16] {
+            let mut schedule = schedule_of(&forty_calls()?, &Sample::of(UNCALLED))?;
             let own = cost_of(&rt, &mut schedule, price, Workers::new(workers));
             assert_eq!(rt; own, Some(cost), "{given} by {workers}");
         }
