@@ -1,0 +1,53 @@
+"""What every test is given: the program, a folder of its own, a store of either kind, and a server over it."""
+from __future__ import annotations
+
+import os
+import shutil
+import subprocess
+from collections.abc import Callable, Iterator
+
+import pytest
+
+from support.program import ROOT, Program, program_path
+from support.server import Server
+from support.stores import KINDS, Store
+
+
+def pytest_addoption(parser: pytest.Parser) -> None:
+    parser.addoption("--long", action="store_true", help="draws more at random, and other cases in each run")
+
+
+def pytest_configure(config: pytest.Config) -> None:
+    """Builds the program if none is named and the kit is here, once for all workers."""
+    if hasattr(config, "workerinput"):
+        return
+    if "MUNI_PROGRAM" not in os.environ and shutil.which("rt"):
+        if subprocess.run([ROOT / "muni", "build"], stdout=subprocess.DEVNULL).returncode != 0:
+            raise pytest.UsageError("./muni build fails, and MUNI_PROGRAM names no program")
+    os.environ["MUNI_PROGRAM"] = str(program_path())
+
+
+@pytest.fixture(scope="session")
+def muni() -> Program:
+    """The program that is tried."""
+    return Program(program_path())
+
+
+@pytest.fixture(params=KINDS)
+def store(request: pytest.FixtureRequest, tmp_path) -> Store:
+    """A store that does not exist yet, once of each kind."""
+    return Store(request.param, tmp_path / "store")
+
+
+@pytest.fixture
+def serve(muni: Program) -> Iterator[Callable[..., Server]]:
+    """Starts servers, which end with the test."""
+    servers: list[Server] = []
+
+    def start(store: Store, connections: int | None = None) -> Server:
+        servers.append(Server(muni, store.name, connections))
+        return servers[-1]
+
+    yield start
+    for server in servers:
+        server.__exit__()

@@ -1,0 +1,97 @@
+"""A server of the program over a store, and what a client gets from it."""
+from __future__ import annotations
+
+import socket
+import subprocess
+import time
+
+from support.program import PATIENCE, Program
+
+
+def free_port() -> int:
+    """A port of the loopback that was free a moment ago."""
+    with socket.socket() as probe:
+        probe.bind(("127.0.0.1", 0))
+        return probe.getsockname()[1]
+
+
+def ended(process: subprocess.Popen[bytes]) -> int | None:
+    """The status in which a process ends by itself, or None if it had to be killed."""
+    try:
+        return process.wait(timeout=PATIENCE)
+    except subprocess.TimeoutExpired:
+        process.kill()
+        process.wait()
+        return None
+
+
+def received(link: socket.socket) -> bytes:
+    """All that the server writes, up to the end of the connection."""
+    data = b""
+    try:
+        while piece := link.recv(65_536):
+            data += piece
+    except ConnectionError:
+        pass
+    return data
+
+
+class Server:
+    """`serve` over a store, at a port that was free. It is killed with the `with` if it did not end."""
+
+    def __init__(self, program: Program, store: str, connections: int | None = None, workers: int = 2) -> None:
+        self.program = program
+        self.port = free_port()
+        self.process = self.beside(store, connections, workers)
+        self.is_new = True
+
+    def beside(self, store: str, connections: int | None = None, workers: int = 2) -> subprocess.Popen[bytes]:
+        """Another server at the same port."""
+        limit = [] if connections is None else [f"--connections={connections}"]
+        return self.program.start("serve", f"--store={store}", f"--port={self.port}", f"--workers={workers}", *limit)
+
+    def __enter__(self) -> Server:
+        return self
+
+    def __exit__(self, *_: object) -> None:
+        if self.process.poll() is None:
+            self.process.kill()
+        self.process.wait()
+
+    @property
+    def address(self) -> str:
+        return f"http://127.0.0.1:{self.port}"
+
+    def connect(self) -> socket.socket:
+        """A connection. The first one waits for the server to listen."""
+        end_by = time.monotonic() + PATIENCE
+        while True:
+            try:
+                link = socket.create_connection(("127.0.0.1", self.port), timeout=PATIENCE)
+                break
+            except ConnectionRefusedError:
+                gone = self.process.poll() is not None
+                if not self.is_new or gone or time.monotonic() > end_by:
+                    raise
+                time.sleep(0.02)
+        self.is_new = False
+        link.setsockopt(socket.IPPROTO_TCP, socket.TCP_NODELAY, 1)
+        return link
+
+    def ask(self, data: bytes, size: int | None = None) -> bytes:
+        """All that a client gets that sends the bytes in pieces of a size, and nothing more."""
+        size = size or max(1, len(data))
+        with self.connect() as link:
+            try:
+                for place in range(0, len(data), size):
+                    link.sendall(data[place:place + size])
+                    if size < 4096 and size < len(data):
+                        time.sleep(0.00002)
+                link.shutdown(socket.SHUT_WR)
+            except OSError:
+                pass
+            return received(link)
+
+    def ended(self) -> int | None:
+        """The status after the last connection."""
+        return ended(self.process)

@@ -1,0 +1,46 @@
+"""Stores of both kinds, each at a path of its own."""
+from __future__ import annotations
+
+import pathlib
+from typing import NamedTuple
+
+KINDS = ("sqlite", "journal")
+
+# An issue and two trades, and what an import of them into an empty store reports.
+ROWS = b"""issue,123456AA3,RIVERTON WATER 5S 2025,periodic,2020-01-01,2020-07-01,2025-01-01,5,
+trade,ALPHA,T0001,123456AA3,buy,25000,2024-04-01,yield,4
+trade,ALPHA,T0002,123456AA3,sell,10000,2024-04-01,price,100.725
+"""
+REPORT = b"""1,added,123456AA3
+2,confirmed,T0001,1,100.725,4.000,2025-01-01,25493.75
+3,confirmed,T0002,1,100.725,4.001,2025-01-01,10197.50
+"""
+
+
+class Store(NamedTuple):
+    """A store of a kind at a path, which may not exist yet."""
+
+    kind: str
+    path: pathlib.Path
+
+    @property
+    def name(self) -> str:
+        """What `--store=` is given."""
+        return f"journal:{self.path}" if self.kind == "journal" else str(self.path)
+
+    @property
+    def word(self) -> str:
+        return f"--store={self.name}"
+
+    @property
+    def file(self) -> pathlib.Path:
+        """Its first file."""
+        return self.path.with_name(self.path.name + ".journal") if self.kind == "journal" else self.path
+
+    def state(self) -> dict[str, bytes]:
+        """The bytes of its file and of each file beside it, by their names."""
+        return {each.name: each.read_bytes() for each in sorted(self.path.parent.glob(self.path.name + "*"))}
+
+    def remove(self) -> None:
+        for each in self.path.parent.glob(self.path.name + "*"):
+            each.unlink()
