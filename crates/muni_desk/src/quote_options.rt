@@ -2,12 +2,11 @@
 
 ghost use Rattle.std.specs.Prelude.{◌≡◌, map, codes, string_bytes};
 ghost use Rattle.std.specs.Option.{option_map};
-ghost use Rattle.muni_terms.specs.Check as terms;
 ghost use Rattle.muni_desk.specs.QuoteOptions as spec;
 
 use crate::command::{CommandLine, DeskCommand};
 use crate::request::{NO_CUSIP, QuoteRequest, issue_name};
-use crate::words::{are_options, value_in, value_of};
+use crate::words::{WORKERS, are_options, value_in, value_of};
 use arrayvec::ArrayVec;
 use muni_book::Workers;
 use muni_days::{Basis, Day};
@@ -37,8 +36,6 @@ const YIELD: &[u8] = b"--yield=";
 const PRICE: &[u8] = b"--price=";
 
 const RATE: &[u8] = b"--rate=";
-
-const WORKERS: &[u8] = b"--workers=";
 
 const DAYS: &[u8] = b"--days=";
 
@@ -70,7 +67,7 @@ fn read_row(words: &[String]) -> Option<IssueRow>
     let basis = read_day_count(kind, value_of(words, DAYS))?;
     let dated = read_date(words, DATED)?;
     let maturity = read_date(words, MATURITY)?;
-    let coupon = read_coupon(pays_interest(kind), value_of(words, COUPON))?;
+    let coupon = read_coupon(kind.pays_interest(), value_of(words, COUPON))?;
     let calls = read_calls(words)?;
     Some(IssueRow {
         cusip: NO_CUSIP,
@@ -117,15 +114,6 @@ fn read_day_count(kind: Kind, text: Option<&[u8]>) -> Option<Basis>
     match kind {
         Kind::Periodic { .. } | Kind::Zero => None,
         Kind::AtRedemption | Kind::Discount => read_basis(text),
-    }
-}
-
-fn pays_interest(kind: Kind) -> bool
-    ensures { result ≡ terms.pays_interest kind }
-{
-    match kind {
-        Kind::Periodic { .. } | Kind::AtRedemption => true,
-        Kind::Zero | Kind::Discount => false,
     }
 }
 

@@ -7,15 +7,13 @@ ghost use Rattle.muni_desk.specs.StoreOptions as spec;
 
 use crate::command::{CommandLine, DeskCommand};
 use crate::quote_options::read_workers;
-use crate::words::{are_options, value_of};
+use crate::words::{WORKERS, are_options, value_of};
 use arrayvec::ArrayVec;
 use muni_book::Workers;
 use muni_dec::digits::read_number;
 use muni_msg::{DeskName, Key, Reference};
 
 const STORE: &[u8] = b"--store=";
-
-const WORKERS: &[u8] = b"--workers=";
 
 const DESK: &[u8] = b"--desk=";
 

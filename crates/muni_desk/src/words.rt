@@ -5,6 +5,9 @@ ghost use Rattle.std.specs.List.{list_all, list_any};
 ghost use Rattle.std.specs.Option.{option_map};
 ghost use Rattle.muni_desk.specs.Words as spec;
 
+/// The option of how many workers there are.
+pub const WORKERS: &[u8] = b"--workers=";
+
 // The third letter of an option is looked at first. A quote may have many calls, and none of its other
 // options has the third letter of a call.
 const TELLING: usize = 4;

@@ -15,9 +15,8 @@ use arrayvec::ArrayVec;
 use muni_book::{BookFault, Calculator, step};
 use muni_desk_io::{Fault, write};
 use muni_edge::{Gate, Sink};
-use muni_import::{RowFault, RowReader, report_row};
+use muni_import::{Row, RowOutcome, RowReader, report_row};
 use muni_keep::Keeper;
-use muni_msg::{Command, Reply};
 use muni_multi::Encloser;
 use std::alloc::Global;
 use std::thread::Threads;
@@ -58,8 +57,8 @@ pub fn import_rows<R: Threads + Sync, K: Keeper, O: Sink, E: Encloser + Sync, G:
 fn said_of<R: Threads + Sync, K: Keeper, E: Encloser + Sync, G: Gate + Sync>(
     calculator: &Calculator<'_, R, E, G>,
     keeper: &mut K,
-    row: Result<Command, RowFault>,
-) -> Result<Result<Reply, RowFault>, BookFault>
+    row: Row,
+) -> Result<RowOutcome, BookFault>
     ensures came { IfOk result (λ said. IfSome (K.tables keeper.old) (λ t.
         Came (IsRightAnswer (E.ends calculator.now.encloser.now)) t row said (K.tables keeper.new))) }
     ensures said { IfOk result (λ said. IsSaidOf row said) }
@@ -72,11 +71,7 @@ fn said_of<R: Threads + Sync, K: Keeper, E: Encloser + Sync, G: Gate + Sync>(
     }
 }
 
-fn write_line<O: Sink>(
-    place: u32,
-    said: &Result<Reply, RowFault>,
-    output: &mut O,
-) -> Result<(), Fault>
+fn write_line<O: Sink>(place: u32, said: &RowOutcome, output: &mut O) -> Result<(), Fault>
     ensures { Writes O.Sink Fault.Write result (row_line place said.now) output.old output.new }
 {
     let mut line = ArrayVec::new();

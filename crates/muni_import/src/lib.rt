@@ -12,4 +12,4 @@ mod row;
 pub use outside::read_rows;
 pub use reader::RowReader;
 pub use report::report_row;
-pub use row::RowFault;
+pub use row::{Row, RowFault, RowOutcome};

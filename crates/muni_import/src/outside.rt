@@ -4,14 +4,13 @@ ghost use Rattle.std.specs.Prelude.{◌≡◌, IfOk};
 ghost use Rattle.muni_import.specs.Rows.{rows_of};
 
 use crate::reader::RowReader;
-use crate::row::RowFault;
+use crate::row::Row;
 use muni_edge::NoMemory;
-use muni_msg::Command;
 use std::alloc::Global;
 
 /// Reads all rows of a text: the command of each, or why it is none. Running out of memory is the
 /// only refusal.
-pub fn read_rows(alloc: Global, text: &[u8]) -> Result<Vec<Result<Command, RowFault>>, NoMemory>
+pub fn read_rows(alloc: Global, text: &[u8]) -> Result<Vec<Row>, NoMemory>
     ensures { IfOk result (λ rows. rows.items ≡ rows_of text.now) }
 {
     let mut rows = Vec::new(alloc);

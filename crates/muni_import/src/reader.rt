@@ -4,10 +4,9 @@ ghost use Rattle.std.specs.Prelude.{◌≡◌, false, Some, None, IfOk, IfSome, 
 ghost use Rattle.muni_import.specs.Reader.{rows_left, IsSound};
 ghost use Rattle.muni_import.specs.Rows.{rows_of, IsNext};
 
-use crate::row::{RowFault, read_row};
+use crate::row::{Row, read_row};
 use csv::{ByteRecord, Reader, ReaderBuilder};
 use muni_edge::NoMemory;
-use muni_msg::Command;
 use std::alloc::Global;
 use std::marker::Model;
 
@@ -67,7 +66,7 @@ impl<'a> RowReader<'a> {
     /// The next row: its command, or why it is none. `None` where no row is left.
     ///
     /// Out of memory is the only refusal, and no row comes after it.
-    pub fn next_row(&mut self) -> Result<Option<Result<Command, RowFault>>, NoMemory>
+    pub fn next_row(&mut self) -> Result<Option<Row>, NoMemory>
         ensures next { IfOk result (λ row. IfSome self.old (λ left. IsNext left row self.new)) }
         ensures refused { OnErr result (self.new ≡ None) }
     {

@@ -4,7 +4,7 @@ ghost use Rattle.std.specs.Prelude.{◌≡◌, ◌+◌, ◌≤◌, ◌++◌};
 ghost use Rattle.arrayvec.specs.ArrayVec.{array_vec_len};
 ghost use Rattle.muni_import.specs.Report as spec;
 
-use crate::RowFault;
+use crate::RowOutcome;
 use crate::line::{
     push_bad, push_day, push_digits, push_field, push_money, push_number, push_price, push_refused,
 };
@@ -18,7 +18,7 @@ use muni_msg::{Figures, Key, Reply};
 /// `place,refused,NUMBER,NAME`, `place,bad,1`, or `place,bad,2,COLUMN`. The price and the yield have
 /// three decimals, and the total is in dollars. Of figures and of a list, which no row asks for, only
 /// the place is told.
-pub fn report_row(place: u32, said: &Result<Reply, RowFault>, text: &mut ArrayVec<u8, 256>)
+pub fn report_row(place: u32, said: &RowOutcome, text: &mut ArrayVec<u8, 256>)
     ensures items { text.new.items ≡ spec.row_line place said.now }
     ensures len { array_vec_len text.new ≤ 154 }
 {

@@ -11,7 +11,7 @@ use csv::ByteRecord;
 use muni_days::Day;
 use muni_dec::Par;
 use muni_msg::{
-    Asked, Command, DeskName, Given, Key, Reference, Terms, read_basis_field, read_calls,
+    Asked, Command, DeskName, Given, Key, Reference, Reply, Terms, read_basis_field, read_calls,
     read_coupon, read_cusip, read_fee_field, read_given, read_issue_name, read_kind, read_side,
     read_version_number,
 };
@@ -29,6 +29,12 @@ pub enum RowFault {
     #[error("column {column} does not read")]
     BadField { column: u32 },
 }
+
+/// What a row asks for, or why it is no command.
+pub type Row = Result<Command, RowFault>;
+
+/// What came of a row: the reply to its command, or why it is none.
+pub type RowOutcome = Result<Reply, RowFault>;
 
 impl RowFault {
     /// The number of the fault, 1 or 2.
@@ -85,7 +91,7 @@ impl RowName {
 
 /// What the fields of a row ask for.
 #[tactic(auto, unfolding(crate::specs::Row::row_of, crate::specs::Row::command_in))]
-pub(crate) fn read_row(row: &ByteRecord) -> Result<Command, RowFault>
+pub(crate) fn read_row(row: &ByteRecord) -> Row
     ensures { result ≡ spec.row_of (fields_of row.now) }
 {
     let Some(name) = RowName::read(field(row, 1)) else {

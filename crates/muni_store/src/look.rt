@@ -198,9 +198,10 @@ fn read_catalog<D: Disk + Drop>(
     let Ok(mut unopened) = Unopened::with_sums(alloc, pager, &[], reserved == 0x0840_2020) else {
         return Err(StoreFault::NoMemory);
     };
+    // The copy is in memory, so reading it fails only if that runs out.
     match unopened.read_catalog() {
         Ok(rows) => Ok(rows),
-        Err(OpenError::OutOfMemory) => Err(StoreFault::NoMemory),
+        Err(OpenError::OutOfMemory | OpenError::Io) => Err(StoreFault::NoMemory),
         Err(_) => Err(StoreFault::Failed),
     }
 }

@@ -1,5 +1,5 @@
-//! Decimals, days, names, single payments, enclosures and the objects of a desk in memory, against
-//! tables of values that were computed outside. Nothing of it is in the program.
+//! Decimals, days, names, single payments, enclosures, lines of confirmations and the objects of a desk in
+//! memory, against values that were computed outside. Nothing of it is in the program.
 #![tactic(auto)]
 
 #[cfg(test)]
@@ -9,6 +9,8 @@ mod decimals;
 #[cfg(test)]
 mod enclosures;
 #[cfg(test)]
+mod lines;
+#[cfg(test)]
 mod names;
 #[cfg(test)]
 mod objects;
@@ -16,3 +18,5 @@ mod objects;
 mod samples;
 #[cfg(test)]
 mod singles;
+#[cfg(test)]
+mod streams;

@@ -1,8 +1,6 @@
 //! Commands over journals that fail and that a stop tears, and the bytes of one. The texts are those
 //! of the format, worked by hand.
 
-mod stores;
-
 use crate::answers::{ADDED, ANSWERS, CONFIRMED, ISSUE, ROWS, TRADE, is_said, said};
 use muni_journal::{JournalKeeper, open};
 use muni_journal_disk::{Disk, MemDisk};

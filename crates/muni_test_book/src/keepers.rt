@@ -1,10 +1,9 @@
 //! A keeper through each of its calls, and a cabinet that lends it again.
 
-ghost use Rattle.std.specs.Prelude.{◌≡◌, None};
+ghost use Rattle.std.specs.Prelude.{◌≡◌, None, IfOk};
 
 use crate::desks::put;
-use crate::stores::cabinet;
-use muni_keep::{Cabinet, KeepFault, Keeper, MemKeeper};
+use muni_keep::{Cabinet, KeepFault, Keeper, MemCabinet, MemKeeper};
 use muni_msg::{Act, Key, Version};
 use muni_terms::Issue;
 use muni_test_samples::{key, worked_issue};
@@ -86,6 +85,15 @@ fn a_page_has_each_trade_by_its_last_version_in_the_order_of_references(
     let mut keeper = MemKeeper::new(rt.alloc(), &[])?;
     assert!(rt; has_its_page(&mut keeper)?);
     Ok(())
+}
+
+/// A cabinet with the empty store S, of which a fetch fails and a call of its keeper.
+fn cabinet(alloc: Global, fetch: u64, call: u64) -> Result<MemCabinet, Fail>
+    ensures { IfOk result (λ cabinet. cabinet.out ≡ None) }
+{
+    let mut keepers = Vec::new(alloc);
+    keepers.push((b"S".to_vec(alloc)?, MemKeeper::new(alloc, &[call])?))?;
+    Ok(MemCabinet::new(alloc, keepers, &[fetch])?)
 }
 
 /// Keeps a version of a trade with a keeper that is lent, and counts the trades with it when it is

@@ -1,5 +1,5 @@
-//! Keepers, the book, positions, marks, connections and journals in memory, those that fail among them,
-//! by what was worked by hand. Nothing of it is in the program.
+//! Keepers, the book, positions and journals in memory, those that fail among them, by what was worked by
+//! hand. Nothing of it is in the program.
 #![tactic(auto)]
 
 #[cfg(test)]
@@ -7,20 +7,10 @@ mod answers;
 #[cfg(test)]
 mod book;
 #[cfg(test)]
-mod connections;
-#[cfg(test)]
 mod desks;
 #[cfg(test)]
 mod journals;
 #[cfg(test)]
 mod keepers;
 #[cfg(test)]
-mod lists;
-#[cfg(test)]
-mod marks;
-#[cfg(test)]
-mod ports;
-#[cfg(test)]
 mod positions;
-#[cfg(test)]
-mod stores;

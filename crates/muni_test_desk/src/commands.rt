@@ -1,8 +1,5 @@
-mod clap_words;
-mod drill_cases;
+mod faults;
 mod gates;
-mod outputs;
-mod store;
 mod watch;
 
 ghost use Rattle.std.specs.Prelude.{◌≡◌, None};
@@ -15,18 +12,45 @@ use std::test::Fail;
 use std::thread::Threads;
 use watch::Watch;
 
-/// A command, its input, and which calls of its objects fail.
+/// Which calls of each object fail, counted from 0.
+#[derive(Clone, Copy)]
+struct Failing<'a> {
+    /// Of the input.
+    takes: &'a [u64],
+    /// Of the output.
+    puts: &'a [u64],
+    /// Of the cabinet.
+    fetches: &'a [u64],
+    /// Of the keeper that it lends.
+    calls: &'a [u64],
+    /// Of the door, whose first call binds it.
+    accepts: &'a [u64],
+    /// Of the first client, in reading.
+    client_takes: &'a [u64],
+    /// Of the first client, in writing.
+    client_puts: &'a [u64],
+}
+
+const NONE: &[u64] = &[];
+
+const NONE_FAILS: Failing<'static> = Failing {
+    takes: NONE,
+    puts: NONE,
+    fetches: NONE,
+    calls: NONE,
+    accepts: NONE,
+    client_takes: NONE,
+    client_puts: NONE,
+};
+
+/// A command, and its input.
 #[derive(Clone, Copy)]
 struct Asked<'a> {
     /// The words, with a blank between those of one text.
     words: &'a [&'a str],
-    /// The input, which also waits at the door.
+    /// The input, which also each of two clients sends that wait at the door.
     input: &'a [u8],
-    /// How many bytes the output has room for.
-    room: usize,
-    takes: &'a [u64],
-    puts: &'a [u64],
-    accepts: &'a [u64],
+    failing: Failing<'a>,
 }
 
 /// How a command ended, and what it wrote.
@@ -53,6 +77,16 @@ fn written(alloc: Global, output: &MemSink) -> Result<String, Fail> {
     Ok(text.trim_end_matches('\n').replace(alloc, "\n", "/")?)
 }
 
+// A door at which two clients wait that send the input.
+fn door_of(alloc: Global, asked: &Asked<'_>) -> Result<MemDoor, Fail> {
+    let mut links = Vec::new(alloc);
+    for failing in [asked.failing, NONE_FAILS] {
+        let (takes, puts) = (failing.client_takes, failing.client_puts);
+        links.push(MemLink::new(alloc, asked.input, 1024, takes, puts)?)?;
+    }
+    Ok(MemDoor::new(alloc, links, asked.failing.accepts)?)
+}
+
 // How a command over a cabinet ends.
 fn ask<R: Threads + Sync, C: Cabinet>(
     rt: &R,
@@ -65,11 +99,9 @@ fn ask<R: Threads + Sync, C: Cabinet>(
     ensures { C.out cabinet.new ≡ None }
 {
     let words = words_of(alloc, asked.words)?;
-    let mut input = MemSource::new(alloc, asked.input, asked.takes)?;
-    let mut output = MemSink::new(alloc, asked.room, asked.puts)?;
-    let mut links = Vec::new(alloc);
-    links.push(MemLink::new(alloc, asked.input, 1024, &[], &[])?)?;
-    let mut door = MemDoor::new(alloc, links, asked.accepts)?;
+    let mut input = MemSource::new(alloc, asked.input, asked.failing.takes)?;
+    let mut output = MemSink::new(alloc, 4096, asked.failing.puts)?;
+    let mut door = door_of(alloc, asked)?;
     let status = desk(
         rt,
         alloc,
@@ -88,22 +120,21 @@ fn ask<R: Threads + Sync, C: Cabinet>(
     })
 }
 
-// How a command ends that needs no input and no store.
+// How a command ends that needs no input, no store and no door: any call of them fails.
 fn ask_alone<R: Threads + Sync>(
     rt: &R,
     alloc: Global,
     words: &[&str],
-    room: usize,
-    puts: &[u64],
     watch: &Watch,
 ) -> Result<Outcome, Fail> {
     let asked = Asked {
         words,
         input: b"",
-        room,
-        takes: &[0],
-        puts,
-        accepts: &[0],
+        failing: Failing {
+            takes: &[0],
+            accepts: &[0],
+            ..NONE_FAILS
+        },
     };
     let mut cabinet = MemCabinet::new(alloc, Vec::new(alloc), &[0])?;
     ask(rt, alloc, &asked, &mut cabinet, watch)

@@ -1,8 +1,9 @@
 //! What is asked under the path of a request.
 
-ghost use Rattle.std.specs.Prelude.{◌≡◌, ◌==◌, ◌<◌, length, position, IfSome};
+ghost use Rattle.std.specs.Prelude.{◌≡◌};
 ghost use Rattle.muni_wire.specs.Routes as spec;
 
+use muni_dec::text::find;
 use muni_msg::{Command, DeskName, Key, Reference};
 
 /// What a body asks for.
@@ -101,11 +102,4 @@ fn read_key(text: &[u8]) -> Option<Key>
     let desk = DeskName::read(&text[..slash]).ok()?;
     let reference = Reference::read(&text[slash + 1..]).ok()?;
     Some(Key { desk, reference })
-}
-
-fn find(text: &[u8], byte: u8) -> Option<usize>
-    ensures place { result ≡ position (λ b. b == byte) text.now }
-    ensures inside { IfSome result (λ at. at < length text.now) }
-{
-    text.iter().position(|b| *b == byte)
 }

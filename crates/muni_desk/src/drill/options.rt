@@ -5,15 +5,13 @@ ghost use Rattle.muni_desk.specs.DrillOptions as spec;
 
 use crate::command::{CommandLine, DeskCommand};
 use crate::drill::DrillCount;
-use crate::words::{are_options, value_of};
+use crate::words::{WORKERS, are_options, value_of};
 use muni_book::Workers;
 use muni_dec::digits::read_number;
 
 const COUNT: &[u8] = b"--count=";
 
 const SEED: &[u8] = b"--seed=";
-
-const WORKERS: &[u8] = b"--workers=";
 
 const NAMES: [&[u8]; 3] = [COUNT, SEED, WORKERS];
 

@@ -1,6 +1,6 @@
 //! What a gate and an encloser see of a command.
 
-use super::{ask_alone, drill_cases, written};
+use super::{ask_alone, written};
 use crate::commands::watch::Watch;
 use muni_desk::Status;
 use std::alloc::Global;
@@ -25,14 +25,14 @@ const ANSWER: &str = "PRICE 108.584 GIVEN/YIELD 3.000 COMPUTED/\
     REDEMPTION 2034-01-01 100.000000 PAR OPTION/ACCRUED DAYS 0/PRINCIPAL 108.58/ACCRUED 0.00/\
     TOTAL 108.58";
 
-/// What is answered under a watch to a command that is done.
-pub fn answered<R: Threads + Sync>(
+// What is answered under a watch to a command that is done.
+fn answered<R: Threads + Sync>(
     rt: &R,
     alloc: Global,
     words: &[&str],
     watch: &Watch,
 ) -> Result<String, Fail> {
-    let outcome = ask_alone(rt, alloc, words, 512, &[], watch)?;
+    let outcome = ask_alone(rt, alloc, words, watch)?;
     if outcome.status != Status::Done {
         return Err("an answer")?;
     }
@@ -131,26 +131,14 @@ fn trades_of_a_drill_are_answered_side_by_side(rt: HostRuntime) -> Result<(), Fa
     Ok(())
 }
 
-// The first book whose sums by `Horner` are other ones.
-fn first_wrong_book<R: Threads + Sync>(
-    rt: &R,
-    alloc: Global,
-) -> Result<Option<&'static str>, Fail> {
-    let mut count = 0_u32;
-    for line in drill_cases::CASES.lines() {
-        let Some((words, sums)) = line.split_once('|') else {
-            continue;
-        };
-        if answered(rt, alloc, &[words], &Watch::idle())?.as_str() != sums {
-            return Ok(Some(line));
-        }
-        count = count.wrapping_add(1);
-    }
-    Ok(if count == 18 { None } else { Some("a book") })
-}
-
+// The sums were computed outside the program, with exact whole numbers.
 #[test]
-fn sums_of_generated_books_are_the_exact_ones_by_horner(rt: HostRuntime) -> Result<(), Fail> {
-    assert_eq!(rt; first_wrong_book(&rt, rt.alloc())?, None);
+fn sums_of_a_generated_book_are_the_exact_ones_by_horner(rt: HostRuntime) -> Result<(), Fail> {
+    let words = ["drill --count=1000 --seed=7 --workers=3"];
+    let text = answered(&rt, rt.alloc(), &words, &Watch::idle())?;
+    assert_eq!(rt;
+        text.as_str(),
+        "DRILL 1000/PRINTED 653/UNDECIDED 0/OUTSIDE 347/YIELDS 1689811/ACCRUED 3438399.63/CALLED 278"
+    );
     Ok(())
 }

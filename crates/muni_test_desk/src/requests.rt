@@ -1,8 +1,10 @@
-use muni_edge::{Failed, Link, MemLink};
+//! A request of which each take fails.
+
+use muni_edge::{Link, MemLink};
 use muni_msg::Command;
 use muni_test_cases::Pieces;
 use muni_test_samples::{key, worked_terms};
-use muni_wire::{WireFault, read_request, write_unavailable};
+use muni_wire::{WireFault, read_request};
 use std::alloc::Global;
 use std::test::Fail;
 
@@ -10,10 +12,6 @@ const TRADE: &[u8] =
     b"POST /trades HTTP/1.1\r\nHost: localhost\r\nContent-Type: application/json\r\n\
     Content-Length: 133\r\n\r\n{\"desk\":\"ALPHA\",\"reference\":\"T0001\",\"cusip\":\"123456AA3\",\
     \"side\":\"buy\",\"par\":\"25000\",\"settle\":\"2024-04-01\",\"basis\":\"yield\",\"value\":\"4\"}";
-
-const UNAVAILABLE: &[u8] =
-    b"HTTP/1.1 503 Service Unavailable\r\nContent-Type: text/plain\r\nContent-Length: 24\r\n\
-    Connection: close\r\n\r\n503 Service Unavailable\n";
 
 // Whether the trade is read of a link, or the fault of one.
 fn is_read<L: Link>(alloc: Global, link: &mut L) -> Result<bool, Fail> {
@@ -48,15 +46,5 @@ fn a_take_that_fails_is_told(rt: HostRuntime) -> Result<(), Fail> {
     for (size, wanted) in [(1, 228), (2, 114), (7, 33), (4096, 1)] {
         assert_eq!(rt; takes(rt.alloc(), size)?, wanted, "{size}");
     }
-    Ok(())
-}
-
-#[test]
-fn a_store_that_fails_is_answered(rt: HostRuntime) -> Result<(), Fail> {
-    let mut whole = MemLink::new(rt.alloc(), b"", 1000, &[], &[])?;
-    assert!(rt; write_unavailable(&mut whole).is_ok());
-    assert_eq!(rt; whole.written(), UNAVAILABLE);
-    let mut narrow = MemLink::new(rt.alloc(), b"", 20, &[], &[])?;
-    assert!(rt; write_unavailable(&mut narrow) == Err(Failed));
     Ok(())
 }

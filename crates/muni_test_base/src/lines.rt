@@ -1,7 +1,8 @@
-use super::day;
+//! The lines of figures, confirmations and refusals, the longest among them, worked by hand.
+
 use arrayvec::ArrayVec;
 use muni_confirm::{confirmation, figure_lines, refusal_line};
-use muni_days::Basis;
+use muni_days::{Basis, Day};
 use muni_dec::{Cents, Coupon, Fee, Par, Price, Price3, Yield, Yield3};
 use muni_msg::{Act, Asked, Figures, Given, Kept, Key, Range, Refusal, Side, Terms, Version};
 use muni_terms::{Boundary, Issue, IssueRow, Kind, Label, TermsFault, check};
@@ -48,6 +49,10 @@ PRINCIPAL 992500000.00
 ACCRUED 0.00
 TOTAL 992500000.00
 ";
+
+fn day(text: &str) -> Result<Day, Fail> {
+    Ok(Day::read(text.as_bytes()).ok().ok_or("a day")?)
+}
 
 fn yld(text: &str) -> Result<Yield, Fail> {
     Ok(Yield::read(text.as_bytes()).ok().ok_or("a yield")?)

@@ -1,0 +1,406 @@
+//! Commands over a store while an object fails, and connections.
+
+use super::{Asked, Failing, NONE, NONE_FAILS, Outcome, ask};
+use crate::commands::watch::Watch;
+use muni_desk::Status;
+use muni_keep::{MemCabinet, MemKeeper};
+use std::alloc::Global;
+use std::test::Fail;
+use std::thread::Threads;
+
+const IMPORT: &str = "import --store=S";
+
+const LISTED: &str = "import --store=S --positions=ALPHA";
+
+const FIRST: &str = "confirm --store=S --desk=ALPHA --ref=T0001";
+
+const SECOND: &str = "confirm --store=S --desk=ALPHA --ref=T0002";
+
+const POSITIONS: &str = "positions --store=S --desk=ALPHA";
+
+const MARK: &str = "mark --store=S";
+
+const SERVE: &str = "serve --store=S --port=8080 --connections=2";
+
+const ROWS: &[u8] =
+    b"issue,123456AA3,RIVERTON WATER 5S 2025,periodic,2020-01-01,2020-07-01,2025-01-01,5,
+trade,ALPHA,T0001,123456AA3,buy,25000,2024-04-01,yield,4
+trade,ALPHA,T0002,123456AA3,sell,10000,2024-04-01,price,100.725
+";
+
+const REPORT: &[u8] = b"1,added,123456AA3
+2,confirmed,T0001,1,100.725,4.000,2025-01-01,25493.75
+3,confirmed,T0002,1,100.725,4.001,2025-01-01,10197.50
+123456AA3 2 25000 10000 15000 15296.25
+";
+
+const MARKS: &[u8] = b"123456AA3,25000,2024-04-01,4\n";
+
+const REQUEST: &[u8] = b"GET /lists/ALPHA HTTP/1.1\r\nHost: localhost\r\n\r\n";
+
+const LIST: &[u8] = b"HTTP/1.1 200 OK\r
+Content-Type: text/plain\r
+Content-Length: 66\r
+Connection: close\r
+\r
+T0001 1 LIVE 25000 100.725 4.000
+T0002 1 LIVE 10000 100.725 4.001
+";
+
+const FIRST_CALL: &[u64] = &[0];
+
+const SECOND_CALL: &[u64] = &[1];
+
+// How often an import of the rows asks the keeper.
+const CALLS: u64 = 10;
+
+fn whole<'a>(words: &'a [&'a str], input: &'a [u8]) -> Asked<'a> {
+    Asked {
+        words,
+        input,
+        failing: NONE_FAILS,
+    }
+}
+
+// How two commands over a new cabinet end, one after the other. Its calls and those of its keeper are counted
+// over both, and fail if the first says so.
+fn ask_both<R: Threads + Sync>(
+    rt: &R,
+    alloc: Global,
+    first: &Asked<'_>,
+    second: &Asked<'_>,
+) -> Result<(Outcome, Outcome), Fail> {
+    let failing = first.failing;
+    let mut keepers = Vec::new(alloc);
+    keepers.push((b"S".to_vec(alloc)?, MemKeeper::new(alloc, failing.calls)?))?;
+    let mut cabinet = MemCabinet::new(alloc, keepers, failing.fetches)?;
+    let idle = Watch::idle();
+    let before = ask(rt, alloc, first, &mut cabinet, &idle)?;
+    let after = ask(rt, alloc, second, &mut cabinet, &idle)?;
+    Ok((before, after))
+}
+
+// How an import of the rows ends, how many whole lines of its report it writes, if it writes nothing else, and
+// whether a trade is then confirmed.
+fn imported_with<R: Threads + Sync>(
+    rt: &R,
+    alloc: Global,
+    words: &str,
+    failing: Failing<'_>,
+    confirm: &str,
+) -> Result<(Status, usize, bool), Fail> {
+    let first = Asked {
+        words: &[words],
+        input: ROWS,
+        failing,
+    };
+    let (imported, asked) = ask_both(rt, alloc, &first, &whole(&[confirm], b""))?;
+    let text = imported.output.bytes();
+    if !REPORT.starts_with(text) || !(text.is_empty() || text.ends_with(b"\n")) {
+        return Err("lines of the report")?;
+    }
+    let lines = text.iter().filter(|byte| **byte == b'\n').count();
+    Ok((imported.status, lines, asked.status == Status::Done))
+}
+
+#[test]
+fn a_put_that_fails_ends_an_import_after_its_row(rt: HostRuntime) -> Result<(), Fail> {
+    for (put, status, lines, first, second) in [
+        (0, Status::WriteFault, 0, false, false),
+        (1, Status::WriteFault, 1, true, false),
+        (2, Status::WriteFault, 2, true, true),
+        (3, Status::Done, 3, true, true),
+    ] {
+        let failing = Failing {
+            puts: &[put],
+            ..NONE_FAILS
+        };
+        for (confirm, is_kept) in [(FIRST, first), (SECOND, second)] {
+            let found = imported_with(&rt, rt.alloc(), IMPORT, failing, confirm)?;
+            assert_eq!(rt; found, (status, lines, is_kept), "put {put}");
+        }
+    }
+    Ok(())
+}
+
+// The calls 10 and 11 are those of the confirmation. With positions one page is asked for before the first
+// row, and none after the last.
+#[test]
+fn a_keeper_that_fails_ends_an_import_before_its_row(rt: HostRuntime) -> Result<(), Fail> {
+    for (words, call, status, lines, is_kept) in [
+        (IMPORT, 0, Status::StoreFault, 0, false),
+        (IMPORT, 1, Status::StoreFault, 0, false),
+        (IMPORT, 2, Status::StoreFault, 1, false),
+        (IMPORT, 3, Status::StoreFault, 1, false),
+        (IMPORT, 4, Status::StoreFault, 1, false),
+        (IMPORT, 5, Status::StoreFault, 1, false),
+        (IMPORT, 6, Status::StoreFault, 2, true),
+        (IMPORT, 7, Status::StoreFault, 2, true),
+        (IMPORT, 8, Status::StoreFault, 2, true),
+        (IMPORT, 9, Status::StoreFault, 2, true),
+        (IMPORT, 10, Status::Done, 3, false),
+        (IMPORT, 11, Status::Done, 3, false),
+        (IMPORT, 12, Status::Done, 3, true),
+        (LISTED, 0, Status::StoreFault, 0, false),
+        (LISTED, 3, Status::StoreFault, 1, false),
+        (LISTED, 12, Status::StoreFault, 2, true),
+        (LISTED, 13, Status::Done, 4, false),
+    ] {
+        let failing = Failing {
+            calls: &[call],
+            ..NONE_FAILS
+        };
+        let found = imported_with(&rt, rt.alloc(), words, failing, FIRST)?;
+        assert_eq!(rt; found, (status, lines, is_kept), "{words}: call {call}");
+    }
+    Ok(())
+}
+
+// The first command over an empty store, with the calls of its input, its output, the cabinet and the keeper
+// that fail. The last status shows whether it has fetched the store.
+const ENDS: [(&str, [&[u64]; 4], Status, Status); 15] = [
+    (
+        IMPORT,
+        [FIRST_CALL, NONE, NONE, NONE],
+        Status::ReadFault,
+        Status::Refused,
+    ),
+    (
+        IMPORT,
+        [SECOND_CALL, NONE, FIRST_CALL, NONE],
+        Status::ReadFault,
+        Status::StoreFault,
+    ),
+    (
+        IMPORT,
+        [NONE, NONE, FIRST_CALL, NONE],
+        Status::StoreFault,
+        Status::Refused,
+    ),
+    (
+        LISTED,
+        [NONE, NONE, FIRST_CALL, NONE],
+        Status::StoreFault,
+        Status::Refused,
+    ),
+    (
+        LISTED,
+        [NONE, NONE, NONE, FIRST_CALL],
+        Status::StoreFault,
+        Status::Refused,
+    ),
+    (
+        FIRST,
+        [FIRST_CALL, NONE, FIRST_CALL, NONE],
+        Status::StoreFault,
+        Status::Refused,
+    ),
+    (
+        FIRST,
+        [NONE, NONE, NONE, FIRST_CALL],
+        Status::StoreFault,
+        Status::Refused,
+    ),
+    (
+        FIRST,
+        [NONE, FIRST_CALL, NONE, NONE],
+        Status::WriteFault,
+        Status::Refused,
+    ),
+    (
+        POSITIONS,
+        [NONE, NONE, FIRST_CALL, NONE],
+        Status::StoreFault,
+        Status::Refused,
+    ),
+    (
+        POSITIONS,
+        [NONE, NONE, NONE, FIRST_CALL],
+        Status::StoreFault,
+        Status::Refused,
+    ),
+    (
+        MARK,
+        [FIRST_CALL, NONE, NONE, NONE],
+        Status::ReadFault,
+        Status::Refused,
+    ),
+    (
+        MARK,
+        [SECOND_CALL, NONE, FIRST_CALL, NONE],
+        Status::ReadFault,
+        Status::StoreFault,
+    ),
+    (
+        MARK,
+        [NONE, NONE, FIRST_CALL, NONE],
+        Status::StoreFault,
+        Status::Refused,
+    ),
+    (
+        MARK,
+        [NONE, FIRST_CALL, NONE, NONE],
+        Status::WriteFault,
+        Status::Refused,
+    ),
+    (
+        "help",
+        [FIRST_CALL, FIRST_CALL, FIRST_CALL, NONE],
+        Status::WriteFault,
+        Status::StoreFault,
+    ),
+];
+
+// The place of the first of these commands that ends in another way, or writes anything.
+fn first_wrong_end<R: Threads + Sync>(rt: &R, alloc: Global) -> Result<Option<usize>, Fail> {
+    for (place, (line, [takes, puts, fetches, calls], status, after)) in ENDS
+        .into_iter()
+        .enumerate()
+    {
+        let words = [line];
+        let first = Asked {
+            words: &words,
+            input: ROWS,
+            failing: Failing {
+                takes,
+                puts,
+                fetches,
+                calls,
+                ..NONE_FAILS
+            },
+        };
+        let (outcome, again) = ask_both(rt, alloc, &first, &whole(&[FIRST], b""))?;
+        if [outcome.status, again.status] != [status, after] || !outcome.output.bytes().is_empty() {
+            return Ok(Some(place));
+        }
+    }
+    Ok(None)
+}
+
+#[test]
+fn each_object_that_fails_has_its_status(rt: HostRuntime) -> Result<(), Fail> {
+    assert_eq!(rt; first_wrong_end(&rt, rt.alloc())?, None);
+    Ok(())
+}
+
+// How a command over the tables of an import ends if a call of the keeper fails, and how many bytes it writes.
+fn ended_over<R: Threads + Sync>(
+    rt: &R,
+    alloc: Global,
+    words: &str,
+    input: &[u8],
+    call: u64,
+) -> Result<(Status, usize), Fail> {
+    let first = Asked {
+        words: &[IMPORT],
+        input: ROWS,
+        failing: Failing {
+            calls: &[call],
+            ..NONE_FAILS
+        },
+    };
+    let (_, outcome) = ask_both(rt, alloc, &first, &whole(&[words], input))?;
+    Ok((outcome.status, outcome.output.bytes().len()))
+}
+
+// A list of positions asks for two pages, and marks for one issue.
+#[test]
+fn a_look_up_that_fails_is_not_tried_again(rt: HostRuntime) -> Result<(), Fail> {
+    for (words, input, call, wanted) in [
+        (POSITIONS, NO_INPUT, CALLS, (Status::StoreFault, 0)),
+        (POSITIONS, NO_INPUT, CALLS + 1, (Status::StoreFault, 0)),
+        (POSITIONS, NO_INPUT, CALLS + 2, (Status::Done, 39)),
+        (MARK, MARKS, CALLS, (Status::StoreFault, 0)),
+        (MARK, MARKS, CALLS + 1, (Status::Done, 64)),
+    ] {
+        let found = ended_over(&rt, rt.alloc(), words, input, call)?;
+        assert_eq!(rt; found, wanted, "{words}: call {call}");
+    }
+    Ok(())
+}
+
+const NO_INPUT: &[u8] = b"";
+
+// How connections over the tables of an import end, how many of two clients are served, and how many of these
+// get another answer than the list.
+fn served_with<R: Threads + Sync>(
+    rt: &R,
+    alloc: Global,
+    words: &str,
+    store: (&[u64], &[u64]),
+    failing: Failing<'_>,
+) -> Result<(Status, usize, usize), Fail> {
+    let first = Asked {
+        words: &[IMPORT],
+        input: ROWS,
+        failing: Failing {
+            fetches: store.0,
+            calls: store.1,
+            ..NONE_FAILS
+        },
+    };
+    let second = Asked {
+        words: &[words],
+        input: REQUEST,
+        failing,
+    };
+    let (_, outcome) = ask_both(rt, alloc, &first, &second)?;
+    let served = outcome.door.served();
+    let bad = served.iter().filter(|link| link.written() != LIST).count();
+    Ok((outcome.status, served.len(), bad))
+}
+
+#[test]
+fn runs_end_where_they_are_told_to(rt: HostRuntime) -> Result<(), Fail> {
+    for (words, status, count) in [
+        (SERVE, Status::Done, 2),
+        (
+            "serve --store=S --port=8080 --connections=1",
+            Status::Done,
+            1,
+        ),
+        (
+            "serve --workers=16 --connections=01000000 --port=65535 --store=S",
+            Status::Done,
+            2,
+        ),
+    ] {
+        let found = served_with(&rt, rt.alloc(), words, (NONE, NONE), NONE_FAILS)?;
+        assert_eq!(rt; found, (status, count, 0), "{words}");
+    }
+    Ok(())
+}
+
+#[test]
+fn each_fault_of_a_run_is_told_or_costs_one_client(rt: HostRuntime) -> Result<(), Fail> {
+    for (fetches, calls, accepts, [takes, puts], wanted) in [
+        (
+            SECOND_CALL,
+            NONE,
+            NONE,
+            [NONE, NONE],
+            (Status::StoreFault, 0, 0),
+        ),
+        (NONE, &[CALLS], NONE, [NONE, NONE], (Status::Done, 2, 1)),
+        (
+            NONE,
+            NONE,
+            FIRST_CALL,
+            [NONE, NONE],
+            (Status::DoorFault, 0, 0),
+        ),
+        (NONE, NONE, &[2], [NONE, NONE], (Status::DoorFault, 1, 0)),
+        (NONE, NONE, NONE, [FIRST_CALL, NONE], (Status::Done, 2, 1)),
+        (NONE, NONE, NONE, [NONE, FIRST_CALL], (Status::Done, 2, 1)),
+    ] {
+        let failing = Failing {
+            accepts,
+            client_takes: takes,
+            client_puts: puts,
+            ..NONE_FAILS
+        };
+        let found = served_with(&rt, rt.alloc(), SERVE, (fetches, calls), failing)?;
+        assert_eq!(rt; found, wanted);
+    }
+    Ok(())
+}
