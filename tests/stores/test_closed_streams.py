@@ -1,0 +1,40 @@
+"""Standard streams that are closed, whose descriptors a file of a store could get."""
+import subprocess
+
+from support.books import Book
+from support.program import PATIENCE, Said
+from support.stores import REPORT, ROWS
+
+
+def closed(book: Book, streams: str, command: str, *words: str) -> Said:
+    """How a command ends that the shell starts with such streams."""
+    told = subprocess.run(["sh", "-c", f'exec "$0" "$@" {streams}', book.muni.path, command, book.store.word, *words],
+                          input=ROWS, capture_output=True, timeout=PATIENCE)
+    return Said(told.returncode, told.stdout, told.stderr)
+
+
+def test_a_closed_output_takes_no_lines_and_gets_into_no_file(book):
+    """The row of the line that cannot be written is kept, and none after it."""
+    assert closed(book, ">&-", "import").status == 5
+    assert book.confirmed("T0001") == Said(3, b"REFUSED 2 UnknownTrade\n")
+    assert book.report(ROWS) == REPORT
+    before = book.store.file.read_bytes()
+    assert closed(book, ">&-", "import").status == 5
+    assert book.store.file.read_bytes() == before
+    assert book.has("T0001")
+
+
+def test_a_closed_input_is_an_input_that_fails(book):
+    book.report(ROWS)
+    before = book.store.state()
+    assert closed(book, "<&-", "import") == Said(4, b"")
+    assert book.store.state() == before
+    assert book.has("T0001")
+
+
+def test_no_stream_at_all(book):
+    book.report(ROWS)
+    before = book.store.file.read_bytes()
+    assert closed(book, "<&- >&- 2>&-", "confirm", "--desk=ALPHA", "--ref=T0001").status == 5
+    assert book.store.file.read_bytes() == before
+    assert book.has("T0001")

@@ -1,0 +1,221 @@
+"""What docs/OPERATING.md says of the files of a store: which they are, copies, backups, moves, and looks by sqlite."""
+import contextlib
+import os
+import pathlib
+import shlex
+import shutil
+import sqlite3
+import subprocess
+
+import pytest
+
+from support.answers import entered
+from support.books import Book, trade, trades
+from support.program import PATIENCE, ROOT, Program
+from support.server import Server
+from support.stores import Store
+
+EMPTY_LOG = 41
+WINDOW = "CREATE VIEW ranks AS SELECT reference, row_number() OVER (ORDER BY par) FROM versions_2"
+
+
+def copied(book: Book, folder: pathlib.Path, *endings: str) -> Book:
+    """The book over a copy of some files of its store: its name with each of the endings."""
+    folder.mkdir()
+    for ending in endings:
+        shutil.copyfile(f"{book.store.path}{ending}", folder / f"{book.store.path.name}{ending}")
+    return Book(book.muni, Store(book.store.kind, folder / book.store.path.name))
+
+
+def log_size(book: Book) -> int:
+    return os.path.getsize(f"{book.store.path}-wal")
+
+
+def count_of(book: Book) -> object:
+    """How many versions sqlite finds."""
+    return book.sql("SELECT COUNT(*) FROM versions_2")[0][0]
+
+
+def killed_after_a_trade(book: Book) -> None:
+    with Server(book.muni, book.store.name, 1000) as server:
+        assert entered(server, "H1") == 200
+
+
+def test_the_files_after_a_command(database, tmp_path):
+    database.report(trades(3))
+    assert sorted(each.name for each in tmp_path.iterdir()) == ["store", "store-wal"]
+    assert log_size(database) == EMPTY_LOG
+    assert copied(database, tmp_path / "alone", "").held() == 3
+
+
+def test_the_files_while_a_server_has_them(database):
+    database.report(trades(3))
+    with Server(database.muni, database.store.name, 1000) as server:
+        assert entered(server, "H1") == 200
+        assert log_size(database) > EMPTY_LOG
+        assert database.said("positions", "--desk=ALPHA").status == 6
+        with pytest.raises(sqlite3.OperationalError, match="database is locked"):
+            count_of(database)
+
+
+def test_the_files_after_a_kill(database, tmp_path):
+    """Both together have all."""
+    database.report(trades(3))
+    killed_after_a_trade(database)
+    assert copied(database, tmp_path / "both", "", "-wal").held() == 4
+    assert copied(database, tmp_path / "one", "").held() == 3
+    assert database.held() == 4
+    database.report(trades(4))
+    assert log_size(database) == EMPTY_LOG
+    assert copied(database, tmp_path / "later", "").held() == 5
+
+
+def test_a_store_that_is_moved_and_renamed(database, tmp_path):
+    database.report(trades(3))
+    killed_after_a_trade(database)
+    (tmp_path / "moved").mkdir()
+    for ending in ("", "-wal"):
+        os.rename(f"{database.store.path}{ending}", tmp_path / f"moved/book{ending}")
+    assert Book(database.muni, Store("sqlite", tmp_path / "moved/book")).held() == 4
+
+
+def test_a_look_by_sqlite(database):
+    database.report(trades(3))
+    assert count_of(database) == 3
+    assert database.held() == 3
+
+
+def test_a_look_by_sqlite_keeps_a_store_until_it_ends(database):
+    database.report(trades(3))
+    with contextlib.closing(sqlite3.connect(database.store.path, isolation_level=None)) as reader:
+        reader.execute("SELECT COUNT(*) FROM versions_2").fetchall()
+        assert database.said("positions", "--desk=ALPHA").status == 6
+    assert database.held() == 3
+
+
+def test_a_store_that_is_read_from_another_database(database, tmp_path):
+    database.report(trades(3))
+    with contextlib.closing(sqlite3.connect(tmp_path / "own")) as own:
+        own.execute("ATTACH ? AS store", (str(database.store.path),))
+        assert own.execute("SELECT COUNT(*) FROM store.versions_2").fetchall() == [(3,)]
+
+
+@pytest.mark.parametrize(("statement", "undone"), [
+    (WINDOW, "DROP VIEW ranks"),
+    ("CREATE TABLE versions (a)", "DROP TABLE versions"),
+    ("CREATE TRIGGER t AFTER INSERT ON versions_2 BEGIN SELECT 1; END", "DROP TRIGGER t"),
+], ids=["window", "table", "trigger"])
+def test_what_must_not_be_added(database, statement, undone):
+    database.report(trades(3))
+    database.sql(statement)
+    assert database.said("positions", "--desk=ALPHA").status == 6
+    database.sql(undone)
+    assert database.held() == 3
+
+
+@pytest.mark.parametrize("statement", ["CREATE INDEX by_cusip ON versions_2 (cusip)", "VACUUM", "ANALYZE"])
+def test_what_may_be_added(database, statement):
+    database.report(trades(3))
+    database.sql(statement)
+    assert database.held() == 3
+
+
+@pytest.fixture
+def readable(muni):
+    """A database with three trades in a folder that may be read and not written, and the program beside it. The folders
+    of pytest may be entered by one user alone, so this one is elsewhere."""
+    folder = pathlib.Path(subprocess.run(["mktemp", "-d"], capture_output=True, text=True, check=True).stdout.strip())
+    book = Book(muni, Store("sqlite", folder / "store"))
+    book.report(trades(3))
+    shutil.copy(muni.path, folder / "program")
+    for name, mode in (("store", 0o444), ("store-wal", 0o444), ("program", 0o555), ("", 0o555)):
+        (folder / name).chmod(mode)
+    yield book
+    folder.chmod(0o755)
+    shutil.rmtree(folder)
+
+
+def test_a_store_that_may_not_be_written(readable, tmp_path):
+    """Root may write anything, so another user asks for it."""
+    folder = readable.store.path.parent
+    user = {"user": 65534, "group": 65534, "extra_groups": []} if os.geteuid() == 0 else {}
+    came = subprocess.run([folder / "program", "positions", "--store=store", "--desk=ALPHA"], cwd=folder,
+                          capture_output=True, timeout=PATIENCE, **user)
+    assert (came.returncode, came.stdout) in ((6, b""), (0, b"123456AA3 3 75000 0 75000 76481.25\n"))
+    with contextlib.closing(sqlite3.connect(f"file:{readable.store.path}?immutable=1", uri=True)) as opened:
+        assert opened.execute("SELECT COUNT(*) FROM versions_2").fetchall() == [(3,)]
+    assert log_size(readable) == EMPTY_LOG
+    assert copied(readable, tmp_path / "mine", "").held() == 3
+
+
+def backup(book: Book, folder: pathlib.Path, before: pathlib.Path | None = None) -> tuple[int, str]:
+    """The status of deploy/backup, and what it complains of. The commands of `before` are found first."""
+    path = os.environ["PATH"] if before is None else f"{before}:{os.environ['PATH']}"
+    came = subprocess.run([ROOT / "deploy/backup", book.store.path, folder], env={**os.environ, "PATH": path},
+                          stdin=subprocess.DEVNULL, stderr=subprocess.PIPE, text=True, timeout=PATIENCE)
+    return came.returncode, came.stderr
+
+
+def make_interrupted_copy(muni: Program, folder: pathlib.Path, book: Book) -> None:
+    """A `cp` that lets an import in after its first copy, which copies the log into the file."""
+    rows = folder.parent / "more"
+    rows.write_text(trade("T00009"))
+    folder.mkdir()
+    came = shlex.quote(str(folder.parent / "came"))
+    importing = shlex.join([str(muni.path), "import", book.store.word])
+    (folder / "cp").write_text("#!/bin/sh\nPATH=${PATH#*:}\ncp \"$@\" || exit\n"
+                               f"[ -e {came} ] || {{ : >{came}; {importing} <{shlex.quote(str(rows))} >/dev/null; }}\n")
+    (folder / "cp").chmod(0o755)
+
+
+def test_a_backup_while_an_import_comes_and_goes(database, tmp_path):
+    """The copy has what was acknowledged before and by it."""
+    database.report(trades(3))
+    killed_after_a_trade(database)
+    make_interrupted_copy(database.muni, tmp_path / "bin", database)
+    assert backup(database, tmp_path / "whole", tmp_path / "bin") == (0, "")
+    assert (tmp_path / "came").exists()
+    assert Book(database.muni, Store("sqlite", tmp_path / "whole/store")).held() == 5
+
+
+def test_a_log_without_a_name_has_no_backup(database, tmp_path):
+    """A program has the log of the store under no name, as version 1.1.0 could leave it."""
+    database.report(trades(3))
+    log = pathlib.Path(f"{database.store.path}-wal")
+    with database.store.path.open("rb"), log.open("rb"):
+        log.unlink()
+        status, words = backup(database, tmp_path / "nameless")
+    assert status == 1 and "has a log without a name" in words
+    assert not (tmp_path / "nameless").exists()
+
+
+def ends_of_slots(data: bytes):
+    """The ends of the open slots of a journal."""
+    place = 0
+    while place < len(data) and data[place] == 1:
+        place += 5 + int.from_bytes(data[place + 1:place + 5], "big")
+        yield place
+
+
+def test_the_first_slots_of_a_journal_are_one(journal, tmp_path):
+    journal.report(trades(40))
+    data = journal.store.file.read_bytes()
+    part = Book(journal.muni, Store("journal", tmp_path / "part"))
+    found = []
+    for end in ends_of_slots(data):
+        part.store.file.write_bytes(data[:end])
+        found.append(part.held())
+    assert found == list(range(41))
+
+
+def test_a_copy_of_a_journal_while_it_is_written_has_what_was_answered(journal, tmp_path):
+    with journal.muni.start("import", journal.store.word, stdin=subprocess.PIPE, stdout=subprocess.PIPE) as importing:
+        importing.stdin.write(trades(800).encode())
+        importing.stdin.close()
+        answered = 0
+        for place in range(20):
+            answered += sum(b",confirmed," in importing.stdout.readline() for _ in range(20))
+            held = copied(journal, tmp_path / f"copy{place}", ".journal").held()
+            assert held is not None and held >= answered
+        importing.stdout.read()
+        assert importing.wait(PATIENCE) == 0
