@@ -8,6 +8,7 @@ A document cites in code spans. These are looked up:
     `crate::Type::function`             each part stands in the one before it
     `IsSound`, `put_slot`               a definition, a type, a function, a clause or a field has this name
     `crates/muni_rule/src/lib.rt`       a file or a folder of the repository has this path
+    `tests/commands/test_rows.py test_x` and that file has this test
     4 calls: `main` → `desk` → ..       a walk: each function calls the next one, and there are so many calls
     `tables/rows`, 196 lines            the table, or the tables of the folder, has so many cases
 
@@ -165,6 +166,10 @@ class Sources:
         places = [path, "crates/" + path, "crates/*/" + path, "crates/*/src/" + path]
         return any(glob.glob(os.path.join(self.root, place)) for place in places) or path in self.files
 
+    def has_test(self, path, name):
+        with open(os.path.join(self.root, path), encoding="utf-8") as file:
+            return "def %s(" % name in file.read()
+
     def cases(self, path):
         """How many cases a table has, or the tables of a folder have."""
         place = os.path.join(self.root, path)
@@ -241,6 +246,8 @@ def faults_of_line(sources, line):
             count += 1
             if not sources.has_file(path.split(" ")[0]):
                 faults.append("there is no file `%s`" % word)
+            elif " test_" in path and not sources.has_test(*path.split(" ")):
+                faults.append("there is no test `%s`" % word)
         elif is_cited(word):
             count += 1
             if not sources.has(word):
