@@ -1,0 +1,97 @@
+"""Runs the commands of the command line over books in memory: how each ends, and what it writes."""
+from __future__ import annotations
+
+import enum
+from collections.abc import Callable, Sequence
+from typing import NamedTuple
+
+from calculator import drill, rows
+from calculator.book import Book, Confirm, refused_terms
+from calculator.figures import Choice, Refusal, answers, likely, quote_one
+from calculator.numerals import shown_figure
+from calculator.texts import confirmation, figure_lines, position_line, refusal_line, text_of
+from calculator.words import Drill, Help, OverStore, QuoteOne, QuoteTerms, Usage, job
+
+IMPORTED_MAX = 4_194_304
+MARKED_MAX = 1_048_576
+HELP = """\
+quote-one COUPON NEXT SETTLE REDEMPTION YIELD
+quote --kind --dated --maturity --settle --yield|--price|--rate --first --coupon --call --par --workers --days
+import --store --workers --positions
+confirm --store --desk --ref
+serve --store --port --connections --workers
+drill --count --seed --workers
+positions --store --desk
+mark --store
+help
+"""
+
+
+class Status(enum.IntEnum):
+    DONE = 0
+    USAGE = 2
+    REFUSED = 3
+    TOO_LARGE = 9
+
+
+class Said(NamedTuple):
+    """How a command ends, and the bytes that it writes."""
+
+    status: int
+    output: bytes = b""
+
+
+def said(lines: Sequence[str], status: Status = Status.DONE) -> Said:
+    return Said(status, text_of(lines).encode("ascii"))
+
+
+def refused(refusal: Refusal) -> Said:
+    return said([refusal_line(refusal)], Status.REFUSED)
+
+
+def run(words: Sequence[str], books: dict[str, Book] | None = None, data: bytes | Callable[[], bytes] = b"",
+        choose: Choice = likely) -> Said:
+    """What a command says. `books` are the stores by their names, `data` its input or what reads it."""
+    try:
+        asked = job(words)
+    except Usage:
+        return Said(Status.USAGE)
+    match asked:
+        case Help():
+            return Said(Status.DONE, HELP.encode())
+        case Drill(count, seed):
+            return said(drill.summary(count, seed, choose))
+        case QuoteOne():
+            found = quote_one(asked.coupon, asked.interest, asked.settlement, asked.redemption_price, asked.yield_)
+            return refused(found) if isinstance(found, Refusal) else said([shown_figure(found)])
+        case QuoteTerms():
+            return quoted(asked, choose)
+        case OverStore():
+            book = ({} if books is None else books).setdefault(asked.store, Book())
+            return over_store(asked, book, data, choose)
+
+
+def quoted(asked: QuoteTerms, choose: Choice) -> Said:
+    found = refused_terms(asked.issue) or choose(answers(asked.issue, asked.asked))
+    return refused(found) if isinstance(found, Refusal) else said(figure_lines(asked.asked, found))
+
+
+def over_store(asked: OverStore, book: Book, data: bytes | Callable[[], bytes], choose: Choice) -> Said:
+    match asked.name:
+        case "confirm":
+            found = book.apply(Confirm(asked.desk, asked.reference))
+            return refused(found) if isinstance(found, Refusal) else said(confirmation(found))
+        case "positions":
+            return said(positions(book, asked.desk))
+        case "import":
+            text = data if isinstance(data, bytes) else data()
+            if len(text) > IMPORTED_MAX:
+                return Said(Status.TOO_LARGE)
+            return said(rows.report(book, text, choose) + positions(book, asked.desk))
+        case _:
+            text = data if isinstance(data, bytes) else data()
+            return Said(Status.TOO_LARGE) if len(text) > MARKED_MAX else said(rows.marks(book, text, choose))
+
+
+def positions(book: Book, desk: str) -> list[str]:
+    return [position_line(*each) for each in book.positions(desk).items()]

@@ -1,0 +1,61 @@
+"""The lines of figures, confirmations, refusals, lists and positions (docs/FORMATS.md)."""
+from __future__ import annotations
+
+from collections.abc import Iterable
+
+from calculator.book import Act, Confirmed, Position, Version
+from calculator.days import DayBasis
+from calculator.figures import Asked, Figures, Given, Refusal, Side
+from calculator.numerals import shown, shown_figure, shown_money, shown_price
+
+
+def text_of(lines: Iterable[str]) -> str:
+    return "".join(line + "\n" for line in lines)
+
+
+def figure_lines(asked: Asked, figures: Figures) -> list[str]:
+    source = {given: "GIVEN" if asked.given == given else "COMPUTED" for given in Given}
+    lines = [f"PRICE {shown_figure(figures.price)} {source[Given.PRICE]}",
+             f"YIELD {shown_figure(figures.yield_)} {source[Given.YIELD]}"]
+    if asked.given == Given.RATE:
+        lines.append(f"RATE {shown(asked.value, 4)} GIVEN")
+    lines += [f"REDEMPTION {figures.redemption} {shown_price(figures.redemption_price)} {figures.label}",
+              f"ACCRUED DAYS {figures.accrued_days}",
+              f"PRINCIPAL {shown_money(figures.principal)}",
+              f"ACCRUED {shown_money(figures.accrued)}"]
+    if asked.fee:
+        lines.append(f"COMMISSION {shown_money(figures.commission)}")
+    return lines + [f"TOTAL {shown_money(figures.total)}"]
+
+
+def confirmation(confirmed: Confirmed) -> list[str]:
+    issue, asked = confirmed.issue, confirmed.version.asked
+    lines = [f"{confirmed.version.act} {confirmed.number}",
+             f"DESK {confirmed.desk}",
+             f"REFERENCE {confirmed.reference}",
+             f"{'BOUGHT' if asked.side == Side.BUY else 'SOLD'} {asked.par}",
+             f"CUSIP {issue.cusip}",
+             f"ISSUE {issue.name}",
+             f"COUPON {shown(issue.coupon, 7)}",
+             f"DATED {issue.dated}",
+             f"MATURITY {issue.maturity}"]
+    if issue.basis == DayBasis.ACTUAL_365:
+        lines.append("BASIS ACTUAL/365")
+    return lines + [f"SETTLEMENT {asked.settlement}"] + figure_lines(asked, confirmed.version.figures)
+
+
+def refusal_line(refusal: Refusal) -> str:
+    return f"REFUSED {refusal.number.value} {refusal.number.title} {refusal.rest}".rstrip()
+
+
+def list_line(reference: str, number: int, version: Version) -> str:
+    state = "CANCELED" if version.act == Act.CANCELED else "LIVE"
+    figures = version.figures
+    return (f"{reference} {number} {state} {version.asked.par} {shown_figure(figures.price)}"
+            f" {shown_figure(figures.yield_)}")
+
+
+def position_line(cusip: str, position: Position) -> str:
+    net = position.bought - position.sold
+    return (f"{cusip} {position.trades} {position.bought} {position.sold} {net}"
+            f" {shown_money(position.money)}")
