@@ -5,9 +5,14 @@ import random
 
 import cases
 import exact
+from calculator.days import DayBasis, days_30_360, months_later, quasi_coupon_dates
+from calculator.numerals import PRICE_MAX
+from calculator.redemptions import redemptions
+from calculator.terms import Issue, Kind
+from calculator.words import QUOTED
 
-# An issue of a case of `quote` has what `quote` gives it.
-CUSIP, NAME = b"000000000", b"QUOTE"
+# The CUSIP and the name of a case of `trade`, which are no matter to it.
+TRADED = {"cusip": "990034AA8", "name": "CASE"}
 
 
 @dataclasses.dataclass
@@ -63,7 +68,7 @@ def row_of(case):
     }
     if command == "trade":
         row |= {
-            "cusip": issue.cusip.decode(),
+            "cusip": issue.cusip,
             "side": case.side,
             "fee": decimal_text(case.fee, 3) if case.fee else "",
         }
@@ -71,10 +76,9 @@ def row_of(case):
 
 
 class Drawer:
-    """Draws terms. The calculator's rule makes and checks them."""
+    """Draws terms at random."""
 
-    def __init__(self, rule, seed):
-        self.rule = rule
+    def __init__(self, seed):
         self.random = random.Random(seed)
 
     def number(self, low, high):
@@ -86,11 +90,8 @@ class Drawer:
     def chance(self, percent):
         return self.random.randrange(100) < percent
 
-    def months_on(self, day, months):
-        return self.rule.months_on(day, months)
-
     def issue(self, kind, dated, maturity, coupon=0, first=None, calls=(), basis=0):
-        return self.rule.Issue(CUSIP, NAME, kind, dated, maturity, coupon, first, tuple(calls), basis)
+        return Issue(*QUOTED, Kind(kind), dated, maturity, coupon, first, tuple(calls), DayBasis(basis))
 
     def coupon(self):
         how = self.number(1, 20)
@@ -108,14 +109,14 @@ class Drawer:
     def regular(self, halves, coupon=None):
         """A periodic issue whose first coupon is a regular one, with so many payments after the first."""
         dated = self.start()
-        first = self.months_on(dated, 6)
+        first = months_later(dated, 6)
         return self.issue(
-            "periodic", dated, self.months_on(first, 6 * halves), self.coupon() if coupon is None else coupon, first
+            "periodic", dated, months_later(first, 6 * halves), self.coupon() if coupon is None else coupon, first
         )
 
     def zero(self, halves):
-        maturity = self.months_on(self.start(), 6 * halves)
-        dated = self.months_on(maturity, -6 * halves)
+        maturity = months_later(self.start(), 6 * halves)
+        dated = months_later(maturity, -6 * halves)
         return self.issue("zero", dated + datetime.timedelta(self.number(0, 60)), maturity)
 
     def note(self, kind, basis, longest=700):
@@ -135,7 +136,7 @@ class Drawer:
     def settlement(self, issue):
         """A settlement of an issue; at times an interest date or the day before one."""
         if issue.kind == "periodic" and self.chance(15):
-            dates = [day for day in self.rule.quasi_dates(issue.first) if issue.dated < day < issue.maturity]
+            dates = [day for day in quasi_coupon_dates(issue.first) if issue.dated < day < issue.maturity]
             if dates:
                 return self.one_of(dates) - datetime.timedelta(self.number(0, 1))
         return self.day_between(issue.dated, issue.maturity)
@@ -153,10 +154,10 @@ class Drawer:
 
     def price_of(self, issue, settle, y):
         """A price that gives about this yield up to maturity, with three to six decimals, or None if none does."""
-        price = int(exact.decimal(self.rule.candidates(issue, settle)[-1], y) * 1_000_000)
+        price = int(exact.decimal(redemptions(issue, settle)[-1], y) * 1_000_000)
         unit = self.one_of((1000, 1000, 10, 1))
         price = price // unit * unit
-        return price if 0 < price <= self.rule.PRICE_MAX else None
+        return price if 0 < price <= PRICE_MAX else None
 
 
 def said_of(settle, issue):

@@ -1,67 +1,54 @@
 """Exact prices as fractions or decimals of 60 digits, and searches for terms whose figure lies at a boundary.
 
-A candidate is the calculator's: a redemption with its payments. Prices are in dollars per 100 of par, yields in
-10^-6. A price is a straight line over the coupon: slope * coupon + base, with the coupon in 10^-7.
+A redemption is the calculator's, with what is paid up to it. Prices are in dollars per 100 of par, yields in 10^-6. A
+price is a straight line over the coupon: slope * coupon + base, with the coupon in 10^-7.
 """
 import dataclasses
 import math
 from decimal import ROUND_DOWN, Context, Decimal, localcontext
 from fractions import Fraction
 
-H = 2_000_000
+from calculator.numerals import COUPON_MAX
+from calculator.price import HALVES, PERIOD, OnePayment
+from calculator.redemptions import redemptions
+
 DIGITS = Context(prec=60)
-COUPON_MAX = 300_000_000
 MILL = Fraction(1, 1000)
 MICRO = Fraction(1, 1_000_000)
 
 
-def is_rational(candidate):
+def is_rational(redemption):
     """Whether the price is a fraction at each yield, since no part of a half-year is discounted."""
-    return candidate.shape != "many" or candidate.what.A in (0, 180)
+    return isinstance(redemption.paid, OnePayment) or redemption.paid.is_rational
 
 
-def fraction(candidate, y):
-    """The exact price of a candidate whose price is a fraction."""
-    what = candidate.what
-    if candidate.shape != "many":
-        due = Fraction(what.due * what.B * 1_000_000, what.B * 1_000_000 + what.left * y)
-        return (due - what.accrued) / (what.B * 10**9)
-    discount = Fraction(H, H + y)
-    total = Fraction(0)
-    for payment in reversed(what.a):
-        total = total * discount + payment
-    return (total * (discount if what.A == 0 else 1) - what.accrued) / (360 * 10**9)
-
-
-def decimal(candidate, y):
+def decimal(redemption, y):
     """The exact price to 60 digits, at a whole yield or a decimal one."""
     with localcontext(DIGITS):
-        if is_rational(candidate) and isinstance(y, int):
-            found = fraction(candidate, y)
+        paid = redemption.paid
+        if is_rational(redemption) and isinstance(y, int):
+            found = paid.price(y)
             return Decimal(found.numerator) / found.denominator
-        what = candidate.what
-        discount = H / (H + Decimal(y))
+        discount = HALVES / (HALVES + Decimal(y))
         total = Decimal(0)
-        for payment in reversed(what.a):
+        for payment in reversed(paid.payments):
             total = total * discount + payment
-        part = (Decimal(180 - what.A) / 180 * discount.ln()).exp()
-        return (total * part - what.accrued) / (360 * 10**9)
+        part = (Decimal(PERIOD - paid.elapsed) / PERIOD * discount.ln()).exp()
+        return (total * part - paid.accrued) / paid.unit
 
 
-def exact_yield(candidate, price):
+def exact_yield(redemption, price):
     """The exact yield in 10^-6 at a price, which is a fraction."""
-    what = candidate.what
     with localcontext(DIGITS):
-        if candidate.shape != "many":
-            paid = price * (what.B * 10**9) + what.accrued
-            found = (what.due - paid) / paid * what.B / what.left * 1_000_000
+        if isinstance(redemption.paid, OnePayment):
+            found = redemption.paid.yield_at(price)
             return Decimal(found.numerator) / found.denominator
         wanted = Decimal(price.numerator) / price.denominator
         # The price falls as the yield rises, and is convex, so steps along a chord from below do not pass the yield.
         y, step = Decimal(-60_000), Decimal("1e-15")
         for _ in range(200):
-            value = decimal(candidate, y)
-            more = (wanted - value) * step / (decimal(candidate, y + step) - value)
+            value = decimal(redemption, y)
+            more = (wanted - value) * step / (decimal(redemption, y + step) - value)
             y = min(y + more, Decimal(1_010_000))
             if abs(more) < Decimal("1e-22"):
                 break
@@ -79,12 +66,10 @@ def cut(value, places):
 class Line:
     """The price at one yield over the coupon: slope * coupon + base, as fractions that are exact or very near."""
 
-    def __init__(self, rule, issue, settle, place, y):
+    def __init__(self, issue, settlement, place, y):
         def at(coupon):
-            candidate = rule.candidates(dataclasses.replace(issue, coupon=coupon), settle)[place]
-            if is_rational(candidate):
-                return fraction(candidate, y)
-            return Fraction(decimal(candidate, y))
+            redemption = redemptions(dataclasses.replace(issue, coupon=coupon), settlement)[place]
+            return redemption.paid.price(y) if is_rational(redemption) else Fraction(decimal(redemption, y))
 
         self.base = at(0)
         self.slope = (at(COUPON_MAX) - self.base) / COUPON_MAX
@@ -137,22 +122,22 @@ def first_between(slope, scale, left, right):
     return None if turns is None else -(-(left + scale * turns) // slope)
 
 
-def yields_near(candidate, unit, low, high, start, step):
+def yields_near(redemption, unit, low, high, start, step):
     """The yields from the start on, in steps, whose price is a whole multiple of the unit and low to high dollars. The
     payments are regular ones. A double looks first, and finds each; the decimal decides."""
-    what = candidate.what
-    half = what.regular / (360 * 10**9)
-    redemption, accrued = what.redemption / 10**6, what.accrued / (360 * 10**9)
-    part, count = (180 - what.A) / 180, what.n - 1
+    paid = redemption.paid
+    half, accrued = paid.regular / paid.unit, paid.accrued / paid.unit
+    price_then = paid.redemption / 10**6
+    part, count = (PERIOD - paid.elapsed) / PERIOD, len(paid.payments) - 1
     size, near = float(unit), max(abs(float(low)), abs(float(high))) + 1e-10
     y = start
     while y < 1_000_000:
-        growth = 1 + y / H
+        growth = 1 + y / HALVES
         power = growth**-count
-        price = growth**-part * (half * (1 + (1 - power) / (growth - 1)) + redemption * power) - accrued
+        price = growth**-part * (half * (1 + (1 - power) / (growth - 1)) + price_then * power) - accrued
         off = (price + near) % size
         if off < 2 * near:
-            value = Fraction(decimal(candidate, y))
+            value = Fraction(decimal(redemption, y))
             past = (value - Fraction(low)) % unit
             if past <= Fraction(high) - Fraction(low):
                 yield y

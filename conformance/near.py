@@ -4,6 +4,9 @@ import datetime
 from fractions import Fraction
 
 import exact
+from calculator.days import months_later
+from calculator.numerals import PRICE_MAX
+from calculator.redemptions import Form, redemptions
 from drawn import Case
 from exact import MICRO, MILL
 
@@ -22,21 +25,21 @@ def near(draw, unit, low, high, make, tries):
         kind = draw.number(1, 10)
         issue = draw.regular(draw.number(2, 60))
         if kind <= 2:
-            first = draw.months_on(draw.start(), 6)
+            first = months_later(draw.start(), 6)
             dated = first - datetime.timedelta(draw.number(30, 350))
-            issue = draw.issue("periodic", dated, draw.months_on(first, 6 * draw.number(2, 40)), 50_000_000, first)
+            issue = draw.issue("periodic", dated, months_later(first, 6 * draw.number(2, 40)), 50_000_000, first)
         settle = draw.day_between(issue.dated, issue.maturity)
-        candidate = draw.rule.candidates(issue, settle)[0]
-        if candidate.shape != "many":
+        redemption = redemptions(issue, settle)[0]
+        if redemption.form is not Form.MANY:
             continue
         y, side = make(), draw.one_of((1, -1))
-        line = exact.Line(draw.rule, issue, settle, 0, y)
+        line = exact.Line(issue, settle, 0, y)
         ends = sorted((side * low, side * high))
         coupon = line.coupon_near(unit, ends[0], ends[1], draw.number(5_000_000, 80_000_000))
         if coupon is None or coupon > 200_000_000:
             continue
         issue = dataclasses.replace(issue, coupon=coupon)
-        distance = Fraction(exact.decimal(draw.rule.candidates(issue, settle)[0], y)) % unit
+        distance = Fraction(exact.decimal(redemptions(issue, settle)[0], y)) % unit
         past = distance if distance < unit / 2 else distance - unit
         yield issue, settle, y, "%s: %.2g dollars %s it" % (tries, abs(past), "above" if past > 0 else "below")
 
@@ -60,8 +63,8 @@ def at_boundaries(draw, windows, tries):
     while True:
         for source in each:
             issue, settle, y, said = next(source)
-            price = round(Fraction(exact.decimal(draw.rule.candidates(issue, settle)[0], y)) / MICRO)
-            if 0 < price < draw.rule.PRICE_MAX:
+            price = round(Fraction(exact.decimal(redemptions(issue, settle)[0], y)) / MICRO)
+            if 0 < price < PRICE_MAX:
                 yield Case(said, issue, settle, "price", price)
 
 
@@ -91,13 +94,13 @@ def usual_terms(draw, unit, first_yield, step, given):
     while True:
         issue = draw.regular(draw.number(4, 60), 1_250_000 * draw.number(8, 56))
         settle = draw.day_between(issue.first, issue.maturity)
-        candidate = draw.rule.candidates(issue, settle)[0]
-        if candidate.shape != "many":
+        redemption = redemptions(issue, settle)[0]
+        if redemption.form is not Form.MANY:
             continue
         side = draw.one_of((1, -1))
         ends = sorted((side * low, side * high))
         y = next(
-            exact.yields_near(candidate, unit, ends[0], ends[1], first_yield + step * draw.number(0, 500), step), None
+            exact.yields_near(redemption, unit, ends[0], ends[1], first_yield + step * draw.number(0, 500), step), None
         )
         if y is not None and y < 150_000:
             yield issue, settle, y
@@ -112,5 +115,5 @@ def usual_prices(draw):
 
 def usual_yields(draw):
     for issue, settle, y in usual_terms(draw, 10 * MICRO, 9_995, 10, "price"):
-        price = round(Fraction(exact.decimal(draw.rule.candidates(issue, settle)[0], y)) / MICRO)
+        price = round(Fraction(exact.decimal(redemptions(issue, settle)[0], y)) / MICRO)
         yield Case("usual terms, and a yield within a hair of half a thousandth", issue, settle, "price", price)

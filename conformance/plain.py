@@ -3,6 +3,9 @@ import dataclasses
 import datetime
 
 import exact
+from calculator.days import days_30_360, days_between, months_later, quasi_coupon_dates
+from calculator.redemptions import accrued_days, redemptions, side_of_range
+from calculator.terms import fault_of
 from drawn import Case, said_of
 
 ONE_DAY = datetime.timedelta(1)
@@ -14,7 +17,7 @@ def quote_one(draw):
         next_ = datetime.date(
             draw.number(1902, 2199), draw.number(1, 12), draw.one_of((1, 1, 15, 28, draw.number(1, 28)))
         )
-        begin = draw.months_on(next_, -6)
+        begin = months_later(next_, -6)
         settle = draw.day_between(begin, next_)
         redeemed = draw.one_of(
             (100_000_000, 100_000_000, 100_000 * draw.number(10, 2_000), draw.number(0, 999_999_999))
@@ -38,7 +41,7 @@ def many(draw, given):
         issue = draw.regular(draw.number(1, 79))
         settle = draw.settlement(issue)
         y = draw.yield_()
-        if len([day for day in draw.rule.quasi_dates(issue.first) if settle < day <= issue.maturity]) < 2:
+        if len([day for day in quasi_coupon_dates(issue.first) if settle < day <= issue.maturity]) < 2:
             continue
         value = y if given == "yield" else draw.price_of(issue, settle, y)
         if value is not None:
@@ -58,7 +61,7 @@ def many_at_a_price(draw):
 def one_left(draw):
     while True:
         issue = draw.regular(draw.number(1, 40))
-        settle = draw.day_between(draw.months_on(issue.maturity, -6), issue.maturity)
+        settle = draw.day_between(months_later(issue.maturity, -6), issue.maturity)
         y = draw.one_of((draw.yield_(), draw.number(-300_000, 3_000_000)))
         given = draw.one_of(("yield", "price"))
         value = y if given == "yield" else draw.price_of(issue, settle, y)
@@ -75,18 +78,18 @@ def one_left(draw):
 def odd_first(draw):
     """First coupons that are shorter or longer than half a year."""
     while True:
-        first = draw.months_on(draw.start(), 6)
+        first = months_later(draw.start(), 6)
         days = draw.one_of((draw.number(5, 178), draw.number(183, 355)))
         dated = first - datetime.timedelta(days)
         issue = draw.issue(
             "periodic",
             dated,
-            draw.months_on(first, 6 * draw.one_of((0, 1, 2, draw.number(3, 60)))),
+            months_later(first, 6 * draw.one_of((0, 1, 2, draw.number(3, 60)))),
             draw.coupon(),
             first,
         )
-        long = draw.rule.days360(dated, first) > 180
-        skipped = draw.months_on(first, -6)
+        long = days_30_360(dated, first) > 180
+        skipped = months_later(first, -6)
         stage = draw.number(1, 4)
         if stage == 1 and long:
             settle, when = draw.day_between(dated, skipped), "before the date that pays nothing"
@@ -128,7 +131,7 @@ def notes(draw):
         basis = draw.number(0, 1)
         issue = draw.note("at-redemption", basis)
         settle = draw.day_between(issue.dated, issue.maturity)
-        if draw.rule.check(issue) or draw.rule.days_by(basis, settle, issue.maturity) < 2:
+        if fault_of(issue) or days_between(basis, settle, issue.maturity) < 2:
             continue
         given = draw.one_of(("yield", "price"))
         value = draw.yield_() if given == "yield" else draw.price_of(issue, settle, draw.yield_())
@@ -163,7 +166,7 @@ def called(draw):
         anchor = issue.first or issue.maturity
         dates = [
             day
-            for day in draw.rule.quasi_dates(anchor)
+            for day in quasi_coupon_dates(anchor)
             if max(issue.dated, issue.first or issue.dated) <= day < issue.maturity and day > issue.dated
         ]
         begin = draw.number(0, len(dates) - 1)
@@ -190,7 +193,7 @@ def called(draw):
             )
 
 
-def accrued_days(draw):
+def counted_days(draw):
     """Settlements on 29ths to 31sts, at the end of February and over leap days."""
     while True:
         year = draw.one_of((1999, 2000, 2023, 2024, 2024, 2100))
@@ -221,12 +224,12 @@ def accrued_days(draw):
             issue = draw.issue(
                 "at-redemption", last, last + datetime.timedelta(draw.number(430, 700)), draw.coupon(), basis=basis
             )
-            if not last <= settle < issue.maturity or draw.rule.check(issue):
+            if not last <= settle < issue.maturity or fault_of(issue):
                 continue
             tries = "accrued days from %s, %s%s" % (last, BASES[basis], said_of(settle, issue))
         else:
-            first = draw.months_on(datetime.date(year - 2, draw.number(1, 12), draw.one_of((1, 15, 27, 28))), 6)
-            issue = draw.issue("periodic", draw.months_on(first, -6), draw.months_on(first, 60), draw.coupon(), first)
+            first = months_later(datetime.date(year - 2, draw.number(1, 12), draw.one_of((1, 15, 27, 28))), 6)
+            issue = draw.issue("periodic", months_later(first, -6), months_later(first, 60), draw.coupon(), first)
             tries = "accrued days since an interest date on a %d%s" % (first.day, said_of(settle, issue))
         yield Case(
             tries, issue, settle, "yield", 10 * draw.number(100, 6_000), draw.one_of((10_000, 1_000_000, 999_000))
@@ -238,7 +241,7 @@ def money(draw):
     while True:
         issue = draw.regular(draw.number(2, 40))
         settle = draw.settlement(issue)
-        days = draw.rule.accrued_days(issue, settle)
+        days = accrued_days(issue, settle)
         value = 1_000 * draw.number(85_000, 120_000) + draw.one_of((0, 0, 999))
         if draw.chance(15):
             par = draw.one_of((1, 2, 999_999_999, 1_000_000_000))
@@ -292,8 +295,8 @@ def cut_off(draw):
         issue = draw.regular(draw.number(1, 40))
         settle = draw.settlement(issue)
         y = draw.yield_()
-        if not draw.rule.in_range(draw.rule.candidates(issue, settle), y):
-            price = exact.decimal(draw.rule.candidates(issue, settle)[-1], y)
+        if not side_of_range(redemptions(issue, settle), y):
+            price = exact.decimal(redemptions(issue, settle)[-1], y)
             if 0 < price and price * 1000 % 1 > 0.9:
                 yield Case("the exact price is nearly the next thousandth, and is cut off", issue, settle, "yield", y)
 
@@ -306,7 +309,7 @@ def rounded(draw):
         value = draw.price_of(issue, settle, draw.one_of((draw.yield_(), draw.number(-9_000, 2_000))))
         if value is None:
             continue
-        y = exact.exact_yield(draw.rule.candidates(issue, settle)[-1], exact.MICRO * value)
+        y = exact.exact_yield(redemptions(issue, settle)[-1], exact.MICRO * value)
         if abs(y) < 900_000 and abs(abs(y) % 10 - 5) < 0.4:
             yield Case(
                 "the exact yield is near half a thousandth, and is rounded by its magnitude",

@@ -3,7 +3,11 @@ import dataclasses
 import datetime
 
 import exact
-from drawn import Case
+from calculator.days import DayBasis, months_later, quasi_coupon_dates
+from calculator.numerals import PRICE_MAX
+from calculator.redemptions import PRINTED, Form, redemptions
+from calculator.terms import check_digit, fault_of
+from drawn import TRADED, Case
 
 ONE_DAY = datetime.timedelta(1)
 BASES = {0: "30/360", 1: "actual/365"}
@@ -11,11 +15,10 @@ BASES = {0: "30/360", 1: "actual/365"}
 
 def ranges(draw):
     """The ends of each range, of what is given and of what is printed."""
-    rule = draw.rule
     ends = {
-        "many": (-50_001, -50_000, -49_999, 999_999, 1_000_000, 1_000_001),
-        "one": (-900_001, -900_000, 9_999_990, 9_999_991),
-        "at": (-450_001, -450_000, 9_999_990, 9_999_991),
+        Form.MANY: (-50_001, -50_000, -49_999, 999_999, 1_000_000, 1_000_001),
+        Form.ONE: (-900_001, -900_000, 9_999_990, 9_999_991),
+        Form.AT_REDEMPTION: (-450_001, -450_000, 9_999_990, 9_999_991),
     }
     while True:
         issue = draw.one_of(
@@ -42,18 +45,18 @@ def ranges(draw):
                     "a price far out, whose return is at or past an end of the range", issue, settle, "price", price
                 )
             continue
-        candidate = rule.candidates(issue, settle)[-1]
+        redemption = redemptions(issue, settle)[-1]
         if draw.chance(40):
             yield Case(
-                "a yield at or past an end of its range", issue, settle, "yield", draw.one_of(ends[candidate.shape])
+                "a yield at or past an end of its range", issue, settle, "yield", draw.one_of(ends[redemption.form])
             )
             continue
-        if candidate.shape != "many" and candidate.what.left == 0:
+        if redemption.form is not Form.MANY and redemption.paid.left == 0:
             continue
-        least, greatest = rule.PRINTED[candidate.shape]
+        least, greatest = PRINTED[redemption.form]
         boundary = 10 * draw.one_of((least, least + 1, greatest, greatest + 1)) - 5
-        price = int(exact.decimal(candidate, boundary) * 1_000_000) + draw.number(-1, 1)
-        if 0 <= price <= rule.PRICE_MAX:
+        price = int(exact.decimal(redemption, boundary) * 1_000_000) + draw.number(-1, 1)
+        if 0 <= price <= PRICE_MAX:
             yield Case("a price whose yield is at an end of what is printed", issue, settle, "price", price)
 
 
@@ -68,10 +71,10 @@ def below_zero(draw):
         )
         issue = dataclasses.replace(issue, maturity=issue.dated + datetime.timedelta(draw.number(600, 725)))
         settle = issue.dated + datetime.timedelta(draw.number(200, 400))
-        if draw.rule.check(issue):
+        if fault_of(issue):
             continue
-        what = draw.rule.candidates(issue, settle)[0].what
-        at_zero = (what.due - what.accrued) * what.B * 1_000_000 // (what.accrued * what.left)
+        paid = redemptions(issue, settle)[0].paid
+        at_zero = (paid.due - paid.accrued) * paid.year * 1_000_000 // (paid.accrued * paid.left)
         value = at_zero + draw.number(-2, 2)
         if value <= 9_999_990:
             yield Case("an exact price just above or below zero", issue, settle, "yield", value)
@@ -106,10 +109,10 @@ def refused(draw):
             maturity = settle + ONE_DAY
             if issue.kind == "periodic":
                 issue = draw.issue(
-                    "periodic", draw.months_on(maturity, -24), maturity, issue.coupon, draw.months_on(maturity, -18)
+                    "periodic", months_later(maturity, -24), maturity, issue.coupon, months_later(maturity, -18)
                 )
             else:
-                issue = dataclasses.replace(issue, dated=draw.months_on(maturity, -9), maturity=maturity)
+                issue = dataclasses.replace(issue, dated=months_later(maturity, -9), maturity=maturity)
             yield Case(
                 "a price on the day before maturity, a 31st, by %s" % BASES[issue.basis], issue, settle, given, value
             )
@@ -144,32 +147,28 @@ def terms(draw):
             )
             change, tries = {"dated": begin}, "a first coupon for about 360 days"
         elif how == 5:
-            change, tries = {"maturity": draw.months_on(first, 6 * draw.number(98, 101))}, "about 100 interest dates"
+            change, tries = {"maturity": months_later(first, 6 * draw.number(98, 101))}, "about 100 interest dates"
         elif how == 6:
             # `quote` takes no days for such an issue, and an import does.
-            change, tries = {
-                "basis": 1,
-                "cusip": b"990034AA8",
-                "name": b"CASE",
-            }, "actual/365 for an issue that is no note"
+            change, tries = {"basis": DayBasis.ACTUAL_365} | TRADED, "actual/365 for an issue that is no note"
         elif how == 7:
             days = draw.one_of(
                 (
                     issue.first - ONE_DAY,
-                    draw.months_on(first, -6),
-                    draw.months_on(first, 6) + ONE_DAY,
+                    months_later(first, -6),
+                    months_later(first, 6) + ONE_DAY,
                     maturity,
                     first,
                 )
             )
             change, tries = {"calls": ((days, 100_000_000),)}, "a call on or beside the days on which one may be"
         elif how == 8:
-            one, other = draw.months_on(first, 6), draw.months_on(first, 12)
+            one, other = months_later(first, 6), months_later(first, 12)
             calls = draw.one_of(((other, one), (one, one), (one, other)))
             change, tries = {"calls": tuple((day, 101_000_000) for day in calls)}, "calls out of order, and in order"
         elif how == 9:
             price = draw.one_of((0, 999_999, 1_000_000, 200_000_000, 200_000_001))
-            change, tries = {"calls": ((draw.months_on(first, 6), price),)}, "the ends of a call's price"
+            change, tries = {"calls": ((months_later(first, 6), price),)}, "the ends of a call's price"
         elif how == 10:
             note = draw.note(draw.one_of(("at-redemption", "discount")), draw.number(0, 1))
             span = draw.one_of((719, 720, 721, 729, 730, 731))
@@ -185,9 +184,9 @@ def cusips(draw):
     letters = "0123456789ABCDEFGHIJKLMNOPQRSTUVWXYZ"
     while True:
         eight = "".join(draw.one_of(letters if draw.chance(60) else letters[:10]) for _ in range(8))
-        right = draw.rule.cusip_check(eight)
+        right = check_digit(eight)
         check = right if draw.chance(70) else draw.one_of(letters[:10] + "A")
-        issue = dataclasses.replace(draw.regular(draw.number(2, 20)), cusip=(eight + check).encode(), name=b"CASE")
+        issue = dataclasses.replace(draw.regular(draw.number(2, 20)), cusip=eight + check, name="CASE")
         yield Case(
             "a CUSIP and its check digit",
             issue,
@@ -209,7 +208,7 @@ def commissions(draw):
                 draw.note("discount", 0),
             )
         )
-        issue = dataclasses.replace(issue, cusip=b"990034AA8", name=b"CASE")
+        issue = dataclasses.replace(issue, **TRADED)
         settle = draw.settlement(issue)
         par, side = draw.one_of((1, 25_000, 100_000, draw.number(1, 9_999))), draw.one_of(("buy", "sell"))
         fee = draw.one_of((125, 250, 375, 500, draw.number(1, 10_000)))
@@ -237,11 +236,11 @@ def decides(draw):
     """Calls whose ranges, times and refusals differ from those of maturity: which candidate decides."""
     while True:
         issue = draw.regular(draw.number(3, 30), 1_250_000 * draw.number(2, 60))
-        dates = [day for day in draw.rule.quasi_dates(issue.first) if issue.first <= day < issue.maturity]
+        dates = [day for day in quasi_coupon_dates(issue.first) if issue.first <= day < issue.maturity]
         soon = draw.number(0, len(dates) - 1)
         calls = [(day, draw.one_of((1_000_000, 80_000_000, 100_000_000, 120_000_000, 200_000_000))) for day in dates]
         issue = dataclasses.replace(issue, calls=tuple(calls[soon : soon + draw.one_of((1, 2, 5))]))
-        settle = draw.day_between(draw.months_on(dates[soon], -6), dates[soon])
+        settle = draw.day_between(months_later(dates[soon], -6), dates[soon])
         how = draw.number(1, 4)
         if how == 1:
             y = draw.one_of((-900_000, -50_001, -50_000, 1_000_000, 1_000_001, 9_999_990))

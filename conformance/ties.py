@@ -4,10 +4,14 @@ import datetime
 from fractions import Fraction
 
 import exact
+from calculator.days import days_between, months_later, quasi_coupon_dates
+from calculator.numerals import PRICE_MAX
+from calculator.price import HALVES, ManyPayments
+from calculator.redemptions import PAR, Form, redemptions
+from calculator.terms import fault_of
 from drawn import Case, decimal_text
 from exact import MICRO, MILL
 
-PAR = 100_000_000
 # Yields whose half-year divides by a short decimal, so that many prices are whole thousandths.
 SHORT = (-46_875, 40_000, 48_000, 50_000, 80_000, 97_152, 100_000, 200_000, 500_000, 560_000, 1_000_000)
 
@@ -15,7 +19,7 @@ SHORT = (-46_875, 40_000, 48_000, 50_000, 80_000, 97_152, 100_000, 200_000, 500_
 def on_interest_date(draw, halves, coupon):
     """An issue, and a settlement of A 0 or, on a 31st before interest on a 1st, 180."""
     issue = draw.regular(halves + draw.number(1, 12), coupon)
-    settle = draw.months_on(issue.maturity, -6 * halves)
+    settle = months_later(issue.maturity, -6 * halves)
     if draw.chance(30):
         issue = draw.issue(
             "periodic",
@@ -24,7 +28,7 @@ def on_interest_date(draw, halves, coupon):
             coupon,
             datetime.date(2001, 7, 1),
         )
-        settle = draw.months_on(issue.maturity, -12 * (halves // 2 + 1)) - datetime.timedelta(1)
+        settle = months_later(issue.maturity, -12 * (halves // 2 + 1)) - datetime.timedelta(1)
     return issue, settle
 
 
@@ -38,7 +42,7 @@ def par_bonds(draw):
             continue
         tries = "a par bond at its coupon: the price is exactly 100.000"
         if price != PAR:
-            call = draw.months_on(issue.maturity, -6 * draw.number(1, 8))
+            call = months_later(issue.maturity, -6 * draw.number(1, 8))
             if not max(settle, issue.first) < call:
                 continue
             issue = dataclasses.replace(issue, calls=((call, price),))
@@ -67,7 +71,7 @@ def zero_yields(draw):
         issue = draw.regular(draw.number(2, 60), 1_250_000 * draw.number(4, 64))
         settle = draw.settlement(issue)
         if draw.chance(40):
-            settle = draw.months_on(issue.maturity, -6 * draw.number(1, 2))
+            settle = months_later(issue.maturity, -6 * draw.number(1, 2))
         yield Case("a yield of zero: the plain sum of the payments", issue, settle, "yield", 0)
 
 
@@ -79,13 +83,13 @@ def rational(draw, shapes):
             issue, settle = on_interest_date(draw, draw.number(2, 3), 50_000_000)
         elif shape == "one":
             issue = draw.regular(draw.number(1, 20))
-            settle = draw.day_between(draw.months_on(issue.maturity, -6), issue.maturity)
+            settle = draw.day_between(months_later(issue.maturity, -6), issue.maturity)
         else:
             issue = draw.note("at-redemption", draw.number(0, 1))
             settle = draw.day_between(issue.dated, issue.maturity)
-        if issue.dated <= settle and not draw.rule.check(issue):
-            candidate = draw.rule.candidates(issue, settle)[0]
-            if len(getattr(candidate.what, "a", [])) <= 3 and getattr(candidate.what, "left", 1) > 0:
+        if issue.dated <= settle and not fault_of(issue):
+            paid = redemptions(issue, settle)[0].paid
+            if len(paid.payments) <= 3 if isinstance(paid, ManyPayments) else paid.left > 0:
                 return issue, settle
 
 
@@ -101,7 +105,7 @@ def rational_ties(draw, unit, make):
     while True:
         issue, settle = rational(draw, ("few", "one", "one", "note"))
         y = make()
-        line = exact.Line(draw.rule, issue, settle, 0, y)
+        line = exact.Line(issue, settle, 0, y)
         least = draw.number(1_000_000, 80_000_000)
         for parts in (0, draw.one_of((1, -1))):
             coupon = next(
@@ -134,8 +138,8 @@ def boundary_ties(draw):
         )
 
     for issue, settle, y, parts in rational_ties(draw, MICRO, boundary):
-        price = exact.fraction(draw.rule.candidates(issue, settle)[0], y) / MICRO
-        if 1_000 < price < draw.rule.PRICE_MAX:
+        price = redemptions(issue, settle)[0].paid.price(y) / MICRO
+        if 1_000 < price < PRICE_MAX:
             tries = aside(-parts, "a given price at which the yield is just half a thousandth")
             yield Case(tries, issue, settle, "price", round(price))
 
@@ -145,16 +149,16 @@ def tied_calls(draw):
     while True:
         n = draw.number(4, 9)
         y = draw.one_of((500_000, 560_000, 97_152))
-        growth = Fraction(exact.H + y, exact.H)
+        growth = Fraction(HALVES + y, HALVES)
         dated = datetime.date(draw.number(1990, 2020), draw.number(1, 12), 15)
-        settle = draw.months_on(dated, 6 * draw.number(1, 9))
-        maturity, call = draw.months_on(settle, 6 * (n + 1)), draw.months_on(settle, 6 * n)
+        settle = months_later(dated, 6 * draw.number(1, 9))
+        maturity, call = months_later(settle, 6 * (n + 1)), months_later(settle, 6 * n)
         greatest = 90_000_000 / growth
         if y == 97_152:
             # A quarter on, what is left of the first half-year has a discount of 1.024.
             n, growth = 2 * 2 - 1, Fraction(1024, 1000)
-            maturity, call = draw.months_on(settle, 18), draw.months_on(settle, 12)
-            settle = draw.months_on(settle, 3)
+            maturity, call = months_later(settle, 18), months_later(settle, 12)
+            settle = months_later(settle, 3)
         unit = (1000 * growth**n).numerator
         prices = [price for price in range(unit, int(greatest), unit) if price >= 1_000_000]
         if prices:
@@ -169,13 +173,13 @@ def tied_schedules(draw, yields, unit):
     while True:
         y, n = draw.one_of(yields), draw.number(4, 5)
         issue, settle = on_interest_date(draw, draw.number(8, 30), 1000 * y + 10_000 * draw.number(100, 1_500))
-        begin = settle if settle.day <= 28 else draw.months_on(settle + datetime.timedelta(1), -6)
-        call = draw.months_on(begin, 6 * n + (6 if settle.day > 28 else 0))
+        begin = settle if settle.day <= 28 else months_later(settle + datetime.timedelta(1), -6)
+        call = months_later(begin, 6 * n + (6 if settle.day > 28 else 0))
         if not issue.dated <= settle or not issue.first <= call < issue.maturity:
             continue
-        to_call = draw.rule.candidates(dataclasses.replace(issue, calls=((call, PAR),)), settle)[0]
-        with_par = exact.fraction(to_call, y)
-        worth = exact.fraction(dataclasses.replace(to_call, what=bumped(to_call.what)), y) - with_par
+        to_call = redemptions(dataclasses.replace(issue, calls=((call, PAR),)), settle)[0]
+        with_par = to_call.paid.price(y)
+        worth = dearer(to_call).paid.price(y) - with_par
         price = exact.whole_at(
             worth / unit, (with_par - PAR * worth) / unit, 0, draw.number(80_000_000, 100_000_000), 104_000_000
         )
@@ -207,15 +211,15 @@ def passed_over(draw):
     """A call that is a tie, or within 10^-9 dollars of one, beside a lower figure."""
     while True:
         issue = draw.regular(draw.number(12, 60))
-        settle = draw.day_between(issue.first, draw.months_on(issue.first, 12))
-        call = draw.months_on(issue.first, 6 * draw.number(5, 11))
+        settle = draw.day_between(issue.first, months_later(issue.first, 12))
+        call = months_later(issue.first, 6 * draw.number(5, 11))
         y = draw.number(20_000, 80_000)
-        plain = draw.rule.candidates(issue, settle)[-1]
-        to_call = draw.rule.candidates(dataclasses.replace(issue, calls=((call, PAR),)), settle)[0]
-        if to_call.shape != "many":
+        plain = redemptions(issue, settle)[-1]
+        to_call = redemptions(dataclasses.replace(issue, calls=((call, PAR),)), settle)[0]
+        if to_call.form is not Form.MANY:
             continue
         last, with_par = Fraction(exact.decimal(plain, y)), Fraction(exact.decimal(to_call, y))
-        worth = Fraction(exact.decimal(dataclasses.replace(to_call, what=bumped(to_call.what)), y)) - with_par
+        worth = Fraction(exact.decimal(dearer(to_call), y)) - with_par
         # The call's price at which the exact price up to it is some whole thousandths over that of maturity.
         target = (int(last / MILL) + draw.number(1, 300)) * MILL
         price = PAR + round((target - with_par) / worth)
@@ -230,22 +234,24 @@ def passed_over(draw):
             )
 
 
-def bumped(what):
-    """The payments with a redemption price that is one unit higher."""
-    return dataclasses.replace(what, a=what.a[:-1] + [what.a[-1] + 360_000], redemption=what.redemption + 1, cache={})
+def dearer(redemption):
+    """The redemption at a price that is one unit higher."""
+    paid, price = redemption.paid, redemption.price + 1
+    payments = (*paid.payments[:-1], paid.payments[-1] + 360_000)
+    return redemption._replace(price=price, paid=dataclasses.replace(paid, payments=payments, redemption=price))
 
 
 def equal_figures(draw):
     """A call and a maturity whose exact prices differ by less than a thousandth, or by little more."""
     while True:
         issue = draw.regular(draw.number(12, 60))
-        settle = draw.day_between(issue.first, draw.months_on(issue.first, 12))
-        call = draw.months_on(issue.first, 6 * draw.number(4, 11))
+        settle = draw.day_between(issue.first, months_later(issue.first, 12))
+        call = months_later(issue.first, 6 * draw.number(4, 11))
         y = draw.number(10_000, 90_000)
-        to_call = draw.rule.candidates(dataclasses.replace(issue, calls=((call, PAR),)), settle)[0]
-        last = Fraction(exact.decimal(draw.rule.candidates(issue, settle)[-1], y))
+        to_call = redemptions(dataclasses.replace(issue, calls=((call, PAR),)), settle)[0]
+        last = Fraction(exact.decimal(redemptions(issue, settle)[-1], y))
         with_par = Fraction(exact.decimal(to_call, y))
-        worth = Fraction(exact.decimal(dataclasses.replace(to_call, what=bumped(to_call.what)), y)) - with_par
+        worth = Fraction(exact.decimal(dearer(to_call), y)) - with_par
         off = draw.one_of(
             (
                 Fraction(3, 10_000),
@@ -274,14 +280,14 @@ def equal_yields(draw):
     """A call and a maturity whose exact yields differ by less than a thousandth, or by little more."""
     while True:
         issue = draw.regular(draw.number(12, 60))
-        settle = draw.day_between(issue.first, draw.months_on(issue.first, 12))
-        call = draw.months_on(issue.first, 6 * draw.number(4, 11))
+        settle = draw.day_between(issue.first, months_later(issue.first, 12))
+        call = months_later(issue.first, 6 * draw.number(4, 11))
         value = draw.price_of(issue, settle, draw.number(10_000, 90_000))
-        y = exact.exact_yield(draw.rule.candidates(issue, settle)[-1], MICRO * value)
+        y = exact.exact_yield(redemptions(issue, settle)[-1], MICRO * value)
         off = draw.one_of((3, -3, 1, -1, 8, -8, 12))
-        to_call = draw.rule.candidates(dataclasses.replace(issue, calls=((call, PAR),)), settle)[0]
+        to_call = redemptions(dataclasses.replace(issue, calls=((call, PAR),)), settle)[0]
         with_par = Fraction(exact.decimal(to_call, y + off))
-        worth = Fraction(exact.decimal(dataclasses.replace(to_call, what=bumped(to_call.what)), y + off)) - with_par
+        worth = Fraction(exact.decimal(dearer(to_call), y + off)) - with_par
         price = PAR + round((MICRO * value - with_par) / worth)
         if 1_000_000 <= price <= 200_000_000:
             tries = "exact yields up to the call and maturity about %s percent apart, %s the lower" % (
@@ -296,7 +302,7 @@ def par_calls(draw):
     while True:
         issue, settle = on_interest_date(draw, draw.number(12, 40), draw.coupon())
         dates = [
-            day for day in draw.rule.quasi_dates(issue.first) if max(settle, issue.first) <= day < issue.maturity
+            day for day in quasi_coupon_dates(issue.first) if max(settle, issue.first) <= day < issue.maturity
         ]
         calls = tuple((day, PAR) for day in dates[draw.number(0, 3) :][: draw.one_of((1, 3, 10, 40))])
         if not calls or not issue.dated <= settle:
@@ -317,10 +323,10 @@ def discount_ties(draw):
         basis = draw.number(0, 1)
         issue = draw.note("discount", basis, 360)
         settle = draw.day_between(issue.dated, issue.maturity)
-        left = draw.rule.days_by(basis, settle, issue.maturity)
+        left = days_between(basis, settle, issue.maturity)
         if left == 0:
             continue
-        year = issue.year
+        year = issue.basis.year
         if draw.chance(50):
             rate = draw.number(100, 80_000)
             rest = rate * left * 100 % (year * 1_000)

@@ -1,7 +1,7 @@
 """The exact price at a yield: with one payment to come, and with two or more (MSRB Rule G-33, section (b)(i)).
 
-A price is in dollars per 100 of par, without accrued interest. Payments and accrued interest are whole numbers of units,
-of which a dollar has 10^9 for each day of the year by the issue's basis. A yield is in millionths.
+A price is in dollars per 100 of par, without accrued interest. Payments and accrued interest are whole numbers of
+units, of which a dollar has 10^9 for each day of the year by the issue's basis. A yield is in millionths.
 """
 from __future__ import annotations
 
@@ -51,8 +51,8 @@ class OnePayment:
 class ManyPayments:
     """Two payments or more, half a year apart, with the redemption in the last.
 
-    `elapsed` is A, the days from the last quasi-coupon date to the settlement. `redemption` is a price in 10^-6 dollars,
-    and `coupon` in 10^-7.
+    `elapsed` is A, the days from the last quasi-coupon date to the settlement. `redemption` is a price in 10^-6
+    dollars, and `coupon` in 10^-7.
     """
 
     payments: tuple[int, ...]
