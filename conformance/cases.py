@@ -55,6 +55,11 @@ def write(file, rows):
     writer.writerows(rows)
 
 
+def family(row):
+    """The name of a case without its number."""
+    return row["case"].rpartition("-")[0]
+
+
 def words(row):
     """The words that ask a case of `quote-one` or `quote`."""
     if row["command"] == "quote-one":

@@ -4,7 +4,7 @@ import datetime
 
 import exact
 from calculator.days import days_30_360, days_between, months_later, quasi_coupon_dates
-from calculator.redemptions import accrued_days, redemptions, side_of_range
+from calculator.redemptions import Form, accrued_days, redemptions, side_of_range
 from calculator.terms import fault_of
 from drawn import Case, said_of
 
@@ -309,7 +309,10 @@ def rounded(draw):
         value = draw.price_of(issue, settle, draw.one_of((draw.yield_(), draw.number(-9_000, 2_000))))
         if value is None:
             continue
-        y = exact.exact_yield(redemptions(issue, settle)[-1], exact.MICRO * value)
+        maturity = redemptions(issue, settle)[-1]
+        if maturity.form is not Form.MANY and maturity.paid.left == 0:
+            continue
+        y = exact.exact_yield(maturity, exact.MICRO * value)
         if abs(y) < 900_000 and abs(abs(y) % 10 - 5) < 0.4:
             yield Case(
                 "the exact yield is near half a thousandth, and is rounded by its magnitude",
