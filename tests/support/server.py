@@ -25,6 +25,18 @@ def ended(process: subprocess.Popen[bytes]) -> int | None:
         return None
 
 
+def reached(process: subprocess.Popen[bytes], port: int) -> socket.socket:
+    """A connection to a port of the loopback, once the process that is starting listens there."""
+    end_by = time.monotonic() + PATIENCE
+    while True:
+        try:
+            return socket.create_connection(("127.0.0.1", port), timeout=PATIENCE)
+        except ConnectionRefusedError:
+            if process.poll() is not None or time.monotonic() > end_by:
+                raise
+            time.sleep(0.02)
+
+
 def received(link: socket.socket) -> bytes:
     """All that the server writes, up to the end of the connection."""
     data = b""
@@ -64,16 +76,10 @@ class Server:
 
     def connect(self) -> socket.socket:
         """A connection. The first one waits for the server to listen."""
-        end_by = time.monotonic() + PATIENCE
-        while True:
-            try:
-                link = socket.create_connection(("127.0.0.1", self.port), timeout=PATIENCE)
-                break
-            except ConnectionRefusedError:
-                gone = self.process.poll() is not None
-                if not self.is_new or gone or time.monotonic() > end_by:
-                    raise
-                time.sleep(0.02)
+        if self.is_new:
+            link = reached(self.process, self.port)
+        else:
+            link = socket.create_connection(("127.0.0.1", self.port), timeout=PATIENCE)
         self.is_new = False
         link.setsockopt(socket.IPPROTO_TCP, socket.TCP_NODELAY, 1)
         return link
