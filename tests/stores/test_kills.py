@@ -65,7 +65,7 @@ def test_a_first_put_that_is_killed_at_a_call_leaves_a_journal(journal, faults, 
 def test_an_import_that_is_killed_at_any_call_keeps_what_it_told(book, faults, name):
     """Also while the store is made, and while it is closed."""
     Book(faults.counting(book.muni), book.store).report(ROWS)
-    for number in range(1, faults.counts()[name] + 1):
+    for number in range(1, faults.counts()[name].in_all + 1):
         book.store.remove()
         said = Book(faults.at(book.muni, Fault(name, number, KILLED)), book.store).said("import", rows=ROWS)
         assert said.status == -9 and REPORT.startswith(said.output), number

@@ -3,8 +3,8 @@
    FAULT_CALLS has the names of calls in the table below, with a comma after each, and FAULT_ERROR the number of the error
    that they end with; with 0 the program is killed in their place. FAULT_AT is which call of a name fails, counted from 1,
    and with FAULT_ONWARDS each later one fails too. With FAULT_WHILE, the path of a file, each one fails for as long as
-   that file is there. When the program ends, the counts of all calls are written to the file FAULT_COUNTS, in the order
-   of the table. */
+   that file is there. When the program ends, the file FAULT_COUNTS is written: in the order of the table, for each name
+   how many calls there were, and how many when the standard output was written to for the last time. */
 #define _GNU_SOURCE
 #include <errno.h>
 #include <fcntl.h>
@@ -26,6 +26,7 @@ static const char *const names[CALLS] = { "open", "read", "write", "pread", "pwr
                                           "recv", "send" };
 
 static atomic_long counts[CALLS];
+static long counts_at_output[CALLS];
 static int is_faulty[CALLS];
 static int error_number;
 static long fails_at;
@@ -74,9 +75,9 @@ static int fails(enum call call)
 void _exit(int status)
 {
     int file = counted ? (int)syscall(SYS_openat, AT_FDCWD, counted, O_WRONLY | O_CREAT | O_TRUNC, 0600) : -1;
-    char text[24];
+    char text[48];
     for (int call = 0; file >= 0 && call < CALLS; call++) {
-        int length = snprintf(text, sizeof text, "%ld\n", (long)counts[call]);
+        int length = snprintf(text, sizeof text, "%ld %ld\n", (long)counts[call], counts_at_output[call]);
         syscall(SYS_write, file, text, length);
     }
     for (;;)
@@ -99,7 +100,11 @@ ssize_t read(int file, void *room, size_t size)
 
 ssize_t write(int file, const void *bytes, size_t size)
 {
-    return fails(WRITE) ? -1 : syscall(SYS_write, file, bytes, size);
+    if (fails(WRITE))
+        return -1;
+    for (int call = 0; file == STDOUT_FILENO && call < CALLS; call++)
+        counts_at_output[call] = counts[call];
+    return syscall(SYS_write, file, bytes, size);
 }
 
 ssize_t pread(int file, void *room, size_t size, off_t place)

@@ -29,6 +29,13 @@ class Fault(NamedTuple):
         return f"{errno.errorcode.get(self.error, 'a kill')} at {self.call} {self.at}{'+' if self.is_onwards else ''}"
 
 
+class Count(NamedTuple):
+    """How many calls of a name there were in all, and when the standard output was written to for the last time."""
+
+    in_all: int
+    at_output: int
+
+
 class FaultyProgram(Program):
     """The program, with what it is started with to have calls that fail."""
 
@@ -75,6 +82,7 @@ class Faults(NamedTuple):
     def counted(self) -> pathlib.Path:
         return self.library.with_name("counts")
 
-    def counts(self) -> dict[str, int]:
-        """How many calls of each name the program made that ended last."""
-        return dict(zip(CALLS, map(int, self.counted.read_text().split()), strict=True))
+    def counts(self) -> dict[str, Count]:
+        """The calls of each name that the program made that ended last."""
+        lines = self.counted.read_text().splitlines()
+        return {call: Count(*map(int, line.split())) for call, line in zip(CALLS, lines, strict=True)}
