@@ -5,7 +5,7 @@ import random
 
 import cases
 import exact
-from calculator.days import DayBasis, days_30_360, months_later, quasi_coupon_dates
+from calculator.days import DayBasis, months_later, quasi_coupon_dates
 from calculator.numerals import PRICE_MAX
 from calculator.redemptions import redemptions
 from calculator.terms import Issue, Kind
