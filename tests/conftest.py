@@ -7,10 +7,18 @@ import subprocess
 from collections.abc import Callable, Iterator
 
 import pytest
+from hypothesis import HealthCheck, settings
 
 from support.program import ROOT, Program, program_path
 from support.server import Server
 from support.stores import KINDS, Store
+
+
+# In the gate the same is drawn in each run. What is drawn is large, and slow beside what hypothesis expects.
+FIXED = {"deadline": None, "database": None, "print_blob": False,
+         "suppress_health_check": [HealthCheck.too_slow, HealthCheck.data_too_large, HealthCheck.large_base_example]}
+settings.register_profile("gate", derandomize=True, max_examples=50, **FIXED)
+settings.register_profile("long", max_examples=2000, **FIXED)
 
 
 def pytest_addoption(parser: pytest.Parser) -> None:
@@ -18,7 +26,8 @@ def pytest_addoption(parser: pytest.Parser) -> None:
 
 
 def pytest_configure(config: pytest.Config) -> None:
-    """Builds the program if none is named and the kit is here, once for all workers."""
+    """Chooses what is drawn, and builds the program if none is named and the kit is here, once for all workers."""
+    settings.load_profile("long" if config.getoption("--long") else "gate")
     if hasattr(config, "workerinput"):
         return
     if "MUNI_PROGRAM" not in os.environ and shutil.which("rt"):
