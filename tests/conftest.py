@@ -23,6 +23,7 @@ settings.register_profile("long", max_examples=2000, **FIXED)
 
 def pytest_addoption(parser: pytest.Parser) -> None:
     parser.addoption("--long", action="store_true", help="draws more at random, and other cases in each run")
+    parser.addoption("--shots", metavar="FOLDER", help="keeps pictures of the page in a folder")
 
 
 def pytest_configure(config: pytest.Config) -> None:

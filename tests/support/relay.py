@@ -1,9 +1,14 @@
 """What stands between a browser and a site: it hands requests on, and cuts, fakes or delays answers as it is told."""
+from __future__ import annotations
+
 import socket
 import ssl
 import struct
 import threading
 import time
+
+from support.server import received
+from support.site import NAME, Site
 
 
 class Relay:
@@ -14,23 +19,34 @@ class Relay:
     sent in its place. Each rule is used once. `delays` has seconds by the beginning of a line.
     """
 
-    def __init__(self, site):
+    def __init__(self, site: Site) -> None:
         self.site = site
-        self.seen = []
-        self.rules = []
-        self.delays = {}
+        self.seen: list[tuple[str, str]] = []
+        self.rules: list[tuple[str, str]] = []
+        self.delays: dict[str, float] = {}
         self.own = ssl.SSLContext(ssl.PROTOCOL_TLS_SERVER)
         self.own.load_cert_chain(site.told["certificate"], site.folder / "etc/key.pem")
         self.door = socket.create_server(("127.0.0.1", 0), backlog=64)
         self.port = self.door.getsockname()[1]
         threading.Thread(target=self.take, daemon=True).start()
 
-    def take(self):
+    def __enter__(self) -> Relay:
+        return self
+
+    def __exit__(self, *_: object) -> None:
+        # An end of the socket alone would leave the thread in its accept.
+        self.door.shutdown(socket.SHUT_RDWR)
+        self.door.close()
+
+    def take(self) -> None:
         while True:
-            link, _ = self.door.accept()
+            try:
+                link, _ = self.door.accept()
+            except OSError:
+                return
             threading.Thread(target=self.serve, args=(link,), daemon=True).start()
 
-    def serve(self, link):
+    def serve(self, link: socket.socket) -> None:
         try:
             with self.own.wrap_socket(link, server_side=True) as client:
                 request = whole_request(client)
@@ -44,18 +60,15 @@ class Relay:
         except OSError:
             pass
 
-    def asked(self, head, body):
+    def asked(self, head: bytes, body: bytes) -> bytes:
         """The site's answer."""
         lines = [line for line in head.split(b"\r\n") if not line.lower().startswith(b"connection:")]
         with socket.create_connection(("127.0.0.1", self.site.port)) as plain:
-            with self.site.context.wrap_socket(plain, server_hostname="desk.example") as link:
+            with self.site.context.wrap_socket(plain, server_hostname=NAME) as link:
                 link.sendall(b"\r\n".join(lines + [b"Connection: close", b"", b""]) + body)
-                answer = b""
-                while piece := link.recv(65_536):
-                    answer += piece
-                return answer
+                return received(link)
 
-    def answer(self, client, line, answer):
+    def answer(self, client: ssl.SSLSocket, line: str, answer: bytes) -> None:
         rule = next((each for each in self.rules if line.startswith(each[0])), None)
         if rule is not None:
             self.rules.remove(rule)
@@ -71,12 +84,12 @@ class Relay:
         client.setsockopt(socket.SOL_SOCKET, socket.SO_LINGER, struct.pack("ii", 1, 0))
         socket.socket(fileno=client.detach()).close()
 
-    def sent(self, begin):
+    def sent(self, begin: str) -> list[str]:
         """The bodies of the requests whose line begins so."""
         return [body for line, body in self.seen if line.startswith(begin)]
 
 
-def whole_request(client):
+def whole_request(client: ssl.SSLSocket) -> bytes:
     """The bytes of a request with its body, or none if the client ended before."""
     request = b""
     while b"\r\n\r\n" not in request:
@@ -91,8 +104,8 @@ def whole_request(client):
     return head + b"\r\n\r\n" + body
 
 
-def plain(status, phrase):
+def plain(status: int, phrase: str) -> str:
     """An answer that is not the site's."""
-    text = "%d %s\n" % (status, phrase)
-    return ("HTTP/1.1 %d %s\r\nContent-Type: text/plain\r\nContent-Length: %d\r\nConnection: close\r\n\r\n%s"
-            % (status, phrase, len(text), text))
+    text = f"{status} {phrase}\n"
+    return (f"HTTP/1.1 {status} {phrase}\r\nContent-Type: text/plain\r\nContent-Length: {len(text)}\r\n"
+            f"Connection: close\r\n\r\n{text}")

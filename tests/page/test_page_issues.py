@@ -1,0 +1,106 @@
+"""New issues on the page: schedules of calls, the question, what is refused, and each kind's own fields."""
+from __future__ import annotations
+
+import json
+
+import pytest
+from selenium.webdriver.common.keys import Keys
+
+from support.page import missing
+
+pytestmark = pytest.mark.xdist_group("page_issues")
+
+OAK_HILL = {"cusip": "990000077", "name": "OAK HILL UNION SCH DIST 4.125S 2039", "kind": "periodic",
+            "dated": "2023-08-01", "first": "2024-02-01", "maturity": "2039-08-01", "coupon": "4.125"}
+ELM_GROVE = OAK_HILL | {"cusip": "990034AA8", "name": "ELM GROVE UNION SCH DIST 4.125S 2039"}
+CALLS = [["2033-08-01", "102"], ["2034-08-01", "101"], ["2035-08-01", "100"]]
+LINES = "\n".join("\t".join(call) for call in CALLS)
+PASTE = """
+const data = new DataTransfer();
+data.setData("text", arguments[1]);
+document.getElementById(arguments[0]).dispatchEvent(
+    new ClipboardEvent("paste", { clipboardData: data, bubbles: true, cancelable: true }));
+"""
+SCHEDULE = """
+return [...document.querySelectorAll("#issue-calls tbody tr")]
+    .map(row => [...row.querySelectorAll("input")].map(each => each.value));
+"""
+DISABLED = "return arguments[0].map(each => document.getElementById(each).disabled)"
+
+
+def pasted(page, calls: str = LINES, place: str = "issue-call-1-date") -> list[list[str]]:
+    page.js(PASTE, place, calls)
+    return page.js(SCHEDULE)
+
+
+def test_a_schedule_is_pasted(page):
+    assert pasted(page) == CALLS + [["", ""]]
+
+
+def test_a_schedule_of_more_than_40_calls_is_not_pasted_in_part(page):
+    pasted(page)
+    assert pasted(page, " 2036-08-01:100" * 38, "issue-call-3-price") == CALLS + [["", ""]]
+    assert "It would make 41 calls, and an issue has 40 at most." in page.text("issue-told")
+
+
+def test_an_issue_is_asked_for_once_more_and_sent_with_its_calls(page):
+    page.fill("issue", **OAK_HILL)
+    pasted(page)
+    page.click("#issue .first")
+    page.asks()
+    asked = [row for row in page.rows("#sure-lines tr") if row[0] in ("CUSIP", "Call 3")]
+    assert asked == [["CUSIP", "990000077"], ["Call 3", "2035-08-01 at 100"]]
+    page.shot("sure")
+    sent = len(page.relay.sent("POST /issues"))
+    page.browser.press(Keys.ESCAPE)
+    page.asks(False)
+    page.settle()
+    assert len(page.relay.sent("POST /issues")) == sent, "an issue that is not sure is not sent"
+    assert "ADDED 990000077" in page.press("#issue .first", "issue-told", "#sure-yes")
+    calls = [{"date": at, "price": price} for at, price in CALLS]
+    assert json.loads(page.relay.sent("POST /issues")[sent]) == OAK_HILL | {"calls": calls}
+
+
+REFUSED = {
+    "another issue under its CUSIP": ("REFUSED 3 Conflict issue", {"coupon": "4.25"}, LINES, []),
+    "a wrong check digit": ("REFUSED 4 BadTerms 1", {"cusip": "990034AA9"}, LINES, ["issue-cusip"]),
+    "a call beside the interest dates": ("REFUSED 4 BadTerms 6 2034-08-02", {"cusip": "990000044"},
+                                         LINES.replace("2034-08-01", "2034-08-02"), ["issue-call-2-date"]),
+}
+
+
+@pytest.mark.parametrize(("line", "change", "calls", "marked"), REFUSED.values(), ids=REFUSED)
+def test_an_issue_is_refused_in_words_and_its_fault_is_marked(page, line, change, calls, marked):
+    page.fill("issue", **ELM_GROVE | change)
+    pasted(page, calls)
+    told, stays = page.refused("issue", "#issue .first", "#sure-yes")
+    assert missing(page.lines_of(line, "issue"), told) == []
+    assert stays, "what was typed"
+    assert page.ids("#issue [aria-invalid]") == marked
+    if marked == ["issue-call-2-date"]:
+        page.shot("issue-refused")
+
+
+def test_a_name_that_is_too_long_is_marked_and_not_cut_or_sent(page):
+    sent = len(page.relay.sent("POST /issues"))
+    page.fill("issue", **OAK_HILL)
+    page.fill("issue", name="X" * 61, kind="zero", maturity="2039-13-01")
+    page.click("#issue .first")
+    assert page.typed()["issue-name"] == "X" * 61
+    assert page.ids("#issue [aria-invalid]") == ["issue-name", "issue-maturity"]
+    assert "Not of its form: a day of the calendar" in page.text("issue-maturity-wrong")
+    page.settle()
+    assert len(page.relay.sent("POST /issues")) == sent
+
+
+def test_a_note_has_no_first_coupon_and_no_calls_and_what_was_typed_for_them_stays(page):
+    page.fill("issue", **OAK_HILL)
+    pasted(page)
+    page.fill("issue", kind="zero")
+    assert page.js(DISABLED, ["issue-first", "issue-coupon", "issue-calls"]) == [True, True, False]
+    assert page.typed()["issue-first"] == "2024-02-01"
+    page.fill("issue", kind="at-redemption", cusip="990000051", name="NOTE 2024", dated="2024-01-01",
+              maturity="2024-12-31", days="actual/365")
+    assert "ADDED 990000051" in page.press("#issue .first", "issue-told", "#sure-yes")
+    sent = json.loads(page.relay.sent("POST /issues")[-1])
+    assert tuple(sent.get(name) for name in ("days", "first", "calls")) == ("actual/365", None, None)
