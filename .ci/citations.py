@@ -10,7 +10,7 @@ A document cites in code spans. These are looked up:
     `crates/muni_rule/src/lib.rt`       a file or a folder of the repository has this path
     `tests/commands/test_rows.py test_x` and that file has this test
     4 calls: `main` → `desk` → ..       a walk: each function calls the next one, and there are so many calls
-    `tables/rows`, 196 lines            the table, or the tables of the folder, has so many cases
+    `tables/rows`, 196                  the table, or the tables of the folder, has so many cases
 
 Other words, as those of a command, are passed over.
 """
@@ -252,7 +252,7 @@ def faults_of_line(sources, line):
             count += 1
             if not sources.has(word):
                 faults.append("nothing has the name `%s`" % word)
-    for path, number in re.findall(r"`(tables/[\w/]+)`, ([\d,]+) lines", line):
+    for path, number in re.findall(r"`(tables/[\w/]+)`, ([\d,]+)\b", line):
         count += 1
         cases = sources.cases(path)
         if cases != int(number.replace(",", "")):

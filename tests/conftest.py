@@ -1,15 +1,12 @@
 """What every test is given: the program, a folder of its own, a store of either kind, and a server over it."""
 from __future__ import annotations
 
-import os
-import shutil
-import subprocess
 from collections.abc import Callable, Iterator
 
 import pytest
 from hypothesis import HealthCheck, settings
 
-from support.program import ROOT, Program, program_path
+from support.program import Program, program_path
 from support.server import Server
 from support.stores import KINDS, Store
 
@@ -27,14 +24,8 @@ def pytest_addoption(parser: pytest.Parser) -> None:
 
 
 def pytest_configure(config: pytest.Config) -> None:
-    """Chooses what is drawn, and builds the program if none is named and the kit is here, once for all workers."""
+    """Chooses what is drawn."""
     settings.load_profile("long" if config.getoption("--long") else "gate")
-    if hasattr(config, "workerinput"):
-        return
-    if "MUNI_PROGRAM" not in os.environ and shutil.which("rt"):
-        if subprocess.run([ROOT / "muni", "build"], stdout=subprocess.DEVNULL).returncode != 0:
-            raise pytest.UsageError("./muni build fails, and MUNI_PROGRAM names no program")
-    os.environ["MUNI_PROGRAM"] = str(program_path())
 
 
 @pytest.fixture(scope="session")

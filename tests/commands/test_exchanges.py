@@ -12,9 +12,7 @@ import pytest
 from support.program import Program, Said
 from support.server import Server, ended, received
 from support.stores import KINDS, Store
-from support.tables import Case, bytes_of, cases
-
-COUNTS = {"connections": 36, "one_trade": 13, "trades": 84}
+from support.tables import TABLES, Case, bytes_of, cases
 
 # The length of a body that is refused, and how many clients send it.
 LENGTH, CLIENTS = 3_000_000, 20
@@ -44,7 +42,7 @@ class Played(NamedTuple):
 
 def groups() -> list[Group]:
     found: list[Group] = []
-    for table in COUNTS:
+    for table in sorted(path.name for path in (TABLES / "exchanges").iterdir()):
         for case in cases(f"exchanges/{table}"):
             if not found or (found[-1].table, found[-1].base) != (table, case.base):
                 found.append(Group(table, case.base, []))
@@ -97,11 +95,6 @@ def test_a_server_ends_after_its_last_connection_and_has_its_port_for_itself(pla
     # A port is asked for a second time if more than one connection is still to come.
     assert played.second == (7 if len(group.exchanges) > 1 else None)
     assert played.end == 0
-
-
-@pytest.mark.parametrize("table", COUNTS)
-def test_no_line_of_a_table_is_left_out(table):
-    assert sum(group.table == table for group, _ in EXCHANGES) == COUNTS[table]
 
 
 def status_of(server: Server, body: bytes) -> int:

@@ -66,7 +66,3 @@ def test_each_row_of_a_text_is_read_as_the_table_has_it(muni, tmp_path, kept, ca
     assert (said.status, len(report)) == (0, len(kinds.split()))
     for place, (line, kind) in enumerate(zip(report, kinds.split()), 1):
         assert re.fullmatch(f"{place},({answer(state, kind)})", line), f"{line} of a row that is {kind}"
-
-
-def test_no_line_of_the_table_is_left_out():
-    assert len(LINES) == 196

@@ -49,10 +49,8 @@ class Program:
 
 
 def program_path() -> pathlib.Path:
-    """MUNI_PROGRAM, or the program that `./muni build` leaves, or without the kit the one in dist/."""
-    named = os.environ.get("MUNI_PROGRAM")
-    built = "crates/muni_prog/out/muni_prog" if shutil.which("rt") else "dist/muni"
-    return pathlib.Path(named or ROOT / built).resolve()
+    """MUNI_PROGRAM, or the program of the repository."""
+    return pathlib.Path(os.environ.get("MUNI_PROGRAM") or ROOT / "dist/muni").resolve()
 
 
 def needs(*tools: str) -> None:
