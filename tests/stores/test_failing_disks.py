@@ -1,10 +1,10 @@
-"""Syncs and writes that fail in an import into a journal: the lines are those of the rows before."""
+"""Syncs and writes that fail in an import, or at which it is killed: the lines are those of the rows before."""
 import errno
 
 import pytest
 
 from support.books import Book
-from support.faults import Fault
+from support.faults import KILLED, Fault
 from support.program import Said
 from support.stores import REPORT, ROWS
 
@@ -38,3 +38,40 @@ def test_a_call_that_fails_ends_an_import_after_the_rows_before(journal, faults,
 def test_there_is_no_further_call(journal, faults, call):
     Book(faults.counting(journal.muni), journal.store).report(ROWS)
     assert faults.counts()[call].in_all == len(TOLD[call])
+
+
+# Each row puts a version, and answers the same when it is sent again.
+LIFE = b"""issue,123456AA3,RIVERTON WATER 5S 2025,periodic,2020-01-01,2020-07-01,2025-01-01,5,
+trade,ALPHA,T0001,123456AA3,buy,25000,2024-04-01,yield,4
+correct,ALPHA,T0001,2,123456AA3,buy,30000,2024-04-01,yield,4
+cancel,ALPHA,T0001,3
+"""
+TOLD_OF_LIFE = b"""1,added,123456AA3
+2,confirmed,T0001,1,100.725,4.000,2025-01-01,25493.75
+3,confirmed,T0001,2,100.725,4.000,2025-01-01,30592.50
+4,confirmed,T0001,3,100.725,4.000,2025-01-01,30592.50
+"""
+
+
+def versions(book: Book) -> int:
+    """How many versions of the trade are kept."""
+    said = book.confirmed("T0001")
+    return int(said.text.splitlines()[0].split()[-1]) if said.status == 0 else 0
+
+
+@pytest.mark.parametrize("error", [errno.EIO, KILLED], ids=["fails", "is-killed"])
+@pytest.mark.parametrize("call", ["pwrite", "fdatasync"])
+def test_a_trade_has_the_versions_that_were_told_or_one_more(book, faults, pytestconfig, call, error):
+    """Whichever call fails or is the last one of a program that is killed. The gate tries each call over a journal, and
+    each third over a database."""
+    assert Book(faults.counting(book.muni), book.store).report(LIFE) == TOLD_OF_LIFE
+    is_whole = pytestconfig.getoption("--long") or book.store.kind == "journal"
+    for at in range(1, faults.counts()[call].in_all + 1, 1 if is_whole else 3):
+        book.store.remove()
+        said = Book(faults.at(book.muni, Fault(call, at, error)), book.store).said("import", rows=LIFE)
+        assert TOLD_OF_LIFE.startswith(said.output) and said.status in (0, 6, -9), at
+        assert said.status != 0 or said.output == TOLD_OF_LIFE, at
+        told = max(0, said.output.count(b"\n") - 1)
+        assert told <= versions(book) <= told + 1, at
+        assert book.report(LIFE) == TOLD_OF_LIFE, at
+        assert versions(book) == 3, at

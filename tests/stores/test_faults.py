@@ -98,9 +98,10 @@ def wanted_status(scene: Scene, fault: Fault) -> int:
     return 4 if fault.call == "read" and fault.at <= 2 and scene.rows else 6
 
 
-def is_no_fault(scene: Scene, fault: Fault, has_ended_well: bool) -> bool:
-    """Whether it was the open of a log that is not there, which fails in any case."""
-    return fault.call == "open" and scene.before == "bare" and not fault.is_onwards and has_ended_well
+def is_harmless(scene: Scene, fault: Fault, has_ended_well: bool) -> bool:
+    """Whether what failed is not needed: an empty log that was made may stay; the open of a log that is not there fails
+    in any case, and that of the folder of one that is removed comes after all else."""
+    return fault.call in ("rename", "unlink") or fault.call == "open" and scene.before == "bare" and has_ended_well
 
 
 @pytest.mark.parametrize("kind", KINDS)
@@ -125,8 +126,8 @@ def test_a_call_that_fails_under_a_command(faults, fresh, pytestconfig, kind, na
     for fault in tried(call, count.in_all, pytestconfig.getoption("--long")):
         book = fresh(kind, scene.before)
         said = Book(faults.at(book.muni, fault), book.store).said(scene.command, *scene.words, rows=scene.rows)
-        # What fails after the last line does not take it back, and an empty log that was made may stay.
-        if fault.at > count.at_output or call in ("rename", "unlink") or is_no_fault(scene, fault, said == right):
+        # What fails after the last line does not take it back.
+        if fault.at > count.at_output or is_harmless(scene, fault, said == right):
             assert said == right, fault
         else:
             assert said.status == wanted_status(scene, fault), fault
