@@ -69,8 +69,9 @@ def test_a_trade_has_the_versions_that_were_told_or_one_more(book, faults, pytes
     for at in range(1, faults.counts()[call].in_all + 1, 1 if is_whole else 3):
         book.store.remove()
         said = Book(faults.at(book.muni, Fault(call, at, error)), book.store).said("import", rows=LIFE)
-        assert TOLD_OF_LIFE.startswith(said.output) and said.status in (0, 6, -9), at
-        assert said.status != 0 or said.output == TOLD_OF_LIFE, at
+        is_told = said.output == TOLD_OF_LIFE
+        assert said.status == (-9 if error == KILLED else 0 if is_told else 6), at
+        assert TOLD_OF_LIFE.startswith(said.output), at
         told = max(0, said.output.count(b"\n") - 1)
         assert told <= versions(book) <= told + 1, at
         assert book.report(LIFE) == TOLD_OF_LIFE, at

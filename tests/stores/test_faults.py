@@ -1,6 +1,6 @@
-"""Calls of the system that fail under a command over a store and under a server, one name of a call after the other. The
-status is that of the documents, nothing that was told is lost, and what is sent again has its whole answer. The gate
-tries some calls of each name, and --long all."""
+"""Calls of the system that fail under a command over a store and under a server, one name of a call after the other.
+The status is that of the documents, nothing that was told is lost, and what is sent again has its whole answer. The
+gate tries some calls of each name, and --long all."""
 from __future__ import annotations
 
 import errno
@@ -18,15 +18,17 @@ from support.stores import KINDS, REPORT, ROWS, Store
 
 TRADES = ("T0001", "T0002")
 MARKS = b"123456AA3,25000,2024-04-01,4\n"
-ERRORS = {"open": (errno.EMFILE, errno.EACCES), "write": (errno.ENOSPC, errno.EPIPE), "pwrite": (errno.ENOSPC, errno.EIO),
-          "ftruncate": (errno.EIO, errno.ENOSPC), "accept": (errno.EMFILE, errno.ENOMEM), "bind": (errno.EADDRINUSE,),
-          "socket": (errno.EMFILE,), "recv": (errno.ECONNRESET,), "send": (errno.EPIPE, errno.ECONNRESET)}
+# What a call ends with, but for those that end with an error of the disk alone.
+ERRORS = {"open": (errno.EMFILE, errno.EACCES), "write": (errno.ENOSPC, errno.EPIPE),
+          "pwrite": (errno.ENOSPC, errno.EIO), "ftruncate": (errno.EIO, errno.ENOSPC),
+          "accept": (errno.EMFILE, errno.ENOMEM), "bind": (errno.EADDRINUSE,), "socket": (errno.EMFILE,),
+          "recv": (errno.ECONNRESET,), "send": (errno.EPIPE, errno.ECONNRESET)}
 DOOR = ("socket", "bind", "listen", "accept")
 LINK = ("recv", "send")
 
 
 class Scene(NamedTuple):
-    """A command, its words and its input, and what the store is before: `none`, `kept`, or `bare`, which is kept without
+    """A command, its words and its input, and what the store is before: `none`, `kept`, or `bare`, which is one without
     its log."""
 
     command: str

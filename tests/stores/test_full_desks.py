@@ -50,8 +50,7 @@ def fill(book: Book, count: int) -> None:
 
 def test_a_full_desk_takes_no_trade_more(book):
     fill(book, GREATEST)
-    assert book.report(ROWS) == REPORT
-    assert book.said("positions", "--desk=ALPHA") == Said(0, HELD)
+    assert book.said("import", "--positions=ALPHA", rows=ROWS) == Said(0, REPORT + HELD)
 
 
 def test_the_last_trade_of_a_desk_is_taken(journal):

@@ -61,6 +61,21 @@ def test_a_first_put_that_is_killed_at_a_call_leaves_a_journal(journal, faults, 
     assert journal.store.file.stat().st_size == 272
 
 
+def test_a_put_that_is_cut_after_any_byte_keeps_a_trade_whole_or_not_at_all(journal):
+    """A put writes the slot behind its closed gate, with a closed gate at its end, and then opens its gate."""
+    journal.report(ISSUE)
+    begin = journal.store.file.stat().st_size - 1
+    row = trade("T0001")
+    report = journal.report(row)
+    whole = journal.store.file.read_bytes()
+    for end in range(begin + 1, len(whole) + 1):
+        journal.store.file.write_bytes(whole[:begin] + b"\0" + whole[begin + 1:end])
+        assert journal.confirmed("T0001") == Said(3, b"REFUSED 2 UnknownTrade\n"), end
+        assert journal.report(row) == report, end
+        assert journal.store.file.read_bytes() == whole, end
+    assert journal.has("T0001")
+
+
 @pytest.mark.parametrize("name", ["open", "pread", "pwrite", "fdatasync", "fsync", "ftruncate", "write"])
 def test_an_import_that_is_killed_at_any_call_keeps_what_it_told(book, faults, name):
     """Also while the store is made, and while it is closed."""

@@ -5,6 +5,7 @@ import pytest
 
 from support.answers import added, asked, entered, found
 from support.books import Book, trade
+from support.faults import Fault
 from support.server import Server
 from support.stores import ROWS
 
@@ -48,6 +49,18 @@ def test_a_server_that_is_killed_has_kept_what_it_answered(killed):
     killed.report(trade("T0009"))
     assert not is_database or log_of(killed).stat().st_size == EMPTY_LOG
     assert all(killed.has(reference) for reference in (*KEPT, "T0009"))
+
+
+def test_a_trade_whose_gate_could_not_be_written_is_unknown(journal, faults):
+    """The next one stands in its place. A put writes twice, so that gate is the fourth write."""
+    with Server(faults.at(journal.muni, Fault("pwrite", 4)), journal.store.name, 4) as server:
+        assert added(server) == 200
+        assert entered(server, "T0001") == 503
+        assert entered(server, "T0002") == 200
+        assert found(server, "T0001") == 404
+        assert server.ended() == 0
+    assert journal.confirmed("T0001").status == 3
+    assert journal.has("T0002")
 
 
 @pytest.fixture

@@ -1,10 +1,11 @@
 /* Lets calls of the C library fail in a program that it is loaded into by LD_PRELOAD, as a machine does.
 
-   FAULT_CALLS has the names of calls in the table below, with a comma after each, and FAULT_ERROR the number of the error
-   that they end with; with 0 the program is killed in their place. FAULT_AT is which call of a name fails, counted from 1,
-   and with FAULT_ONWARDS each later one fails too. With FAULT_WHILE, the path of a file, each one fails for as long as
-   that file is there. When the program ends, the file FAULT_COUNTS is written: in the order of the table, for each name
-   how many calls there were, and how many when the standard output was written to for the last time. */
+   FAULT_CALLS has the names of calls in the table below, with a comma after each, and FAULT_ERROR the number of the
+   error that they end with; with 0 the program is killed in their place. FAULT_AT is which call of a name fails,
+   counted from 1, and with FAULT_ONWARDS each later one fails too. With FAULT_WHILE, the path of a file, each one fails
+   for as long as that file is there. When the program ends, the file FAULT_COUNTS is written: in the order of the
+   table, for each name how many calls there were, and how many when the standard output was written to for the last
+   time. */
 #define _GNU_SOURCE
 #include <errno.h>
 #include <fcntl.h>
