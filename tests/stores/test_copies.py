@@ -6,6 +6,7 @@ import shlex
 import shutil
 import sqlite3
 import subprocess
+import tempfile
 
 import pytest
 
@@ -124,7 +125,7 @@ def test_what_may_be_added(database, statement):
 def readable(muni):
     """A database with three trades in a folder that may be read and not written, and the program beside it. The folders
     of pytest may be entered by one user alone, so this one is elsewhere."""
-    folder = pathlib.Path(subprocess.run(["mktemp", "-d"], capture_output=True, text=True, check=True).stdout.strip())
+    folder = pathlib.Path(tempfile.mkdtemp(prefix="muni-readable-"))
     book = Book(muni, Store("sqlite", folder / "store"))
     book.report(trades(3))
     shutil.copy(muni.path, folder / "program")

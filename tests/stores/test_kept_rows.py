@@ -119,7 +119,8 @@ def test_commands_that_only_read_leave_the_files_of_a_store_as_they_were(book):
     is_read(book)
 
 
-def is_read(book):
+def is_read(book) -> None:
+    """The commands that only read answer, and leave each file as it is."""
     before = book.store.state()
     assert book.has("T0001")
     assert book.said("positions", "--desk=ALPHA") == Said(0, b"123456AA3 2 25000 10000 15000 15296.25\n")
