@@ -129,7 +129,7 @@ def test_a_call_that_fails_under_a_command(faults, fresh, pytestconfig, kind, na
         book = fresh(kind, scene.before)
         said = Book(faults.at(book.muni, fault), book.store).said(scene.command, *scene.words, rows=scene.rows)
         # What fails after the last line does not take it back.
-        if fault.at > count.at_output or is_harmless(scene, fault, said == right):
+        if fault.at > count.at_answer or is_harmless(scene, fault, said == right):
             assert said == right, fault
         else:
             assert said.status == wanted_status(scene, fault), fault
@@ -173,11 +173,15 @@ def test_a_call_that_fails_under_a_server(faults, fresh, pytestconfig, kind, cal
     book = fresh(kind, "none")
     with Server(faults.counting(book.muni), book.store.name, 6) as server:
         assert day(server) == WHOLE_DAY and server.ended() == 0
-    for fault in tried(call, faults.counts()[call].in_all, pytestconfig.getoption("--long")):
+    count = faults.counts()[call]
+    for fault in tried(call, count.in_all, pytestconfig.getoption("--long")):
         book = fresh(kind, "none")
         with Server(faults.at(book.muni, fault), book.store.name, 6) as server:
             answers = day(server)
             is_right(fault, answers, server.ended())
+        # What fails while the store is closed costs no answer. A link is read once more after each answer.
+        if call not in LINK:
+            assert (answers == WHOLE_DAY) == (fault.at > count.at_answer), fault
         for reference, answer in zip(TRADES, answers[1:3]):
             assert answer != 200 or book.has(reference), fault
         with Server(book.muni, book.store.name, 6) as server:

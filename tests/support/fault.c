@@ -4,8 +4,8 @@
    error that they end with; with 0 the program is killed in their place. FAULT_AT is which call of a name fails,
    counted from 1, and with FAULT_ONWARDS each later one fails too. With FAULT_WHILE, the path of a file, each one fails
    for as long as that file is there. When the program ends, the file FAULT_COUNTS is written: in the order of the
-   table, for each name how many calls there were, and how many when the standard output was written to for the last
-   time. */
+   table, for each name how many calls there were, and how many when the last answer was written, to the standard
+   output or to a client. */
 #define _GNU_SOURCE
 #include <errno.h>
 #include <fcntl.h>
@@ -27,7 +27,7 @@ static const char *const names[CALLS] = { "open", "read", "write", "pread", "pwr
                                           "recv", "send" };
 
 static atomic_long counts[CALLS];
-static long counts_at_output[CALLS];
+static long counts_at_answer[CALLS];
 static int is_faulty[CALLS];
 static int error_number;
 static long fails_at;
@@ -73,12 +73,18 @@ static int fails(enum call call)
     return 1;
 }
 
+static void keep_counts(void)
+{
+    for (int call = 0; call < CALLS; call++)
+        counts_at_answer[call] = counts[call];
+}
+
 void _exit(int status)
 {
     int file = counted ? (int)syscall(SYS_openat, AT_FDCWD, counted, O_WRONLY | O_CREAT | O_TRUNC, 0600) : -1;
     char text[48];
     for (int call = 0; file >= 0 && call < CALLS; call++) {
-        int length = snprintf(text, sizeof text, "%ld %ld\n", (long)counts[call], counts_at_output[call]);
+        int length = snprintf(text, sizeof text, "%ld %ld\n", (long)counts[call], counts_at_answer[call]);
         syscall(SYS_write, file, text, length);
     }
     for (;;)
@@ -103,8 +109,8 @@ ssize_t write(int file, const void *bytes, size_t size)
 {
     if (fails(WRITE))
         return -1;
-    for (int call = 0; file == STDOUT_FILENO && call < CALLS; call++)
-        counts_at_output[call] = counts[call];
+    if (file == STDOUT_FILENO)
+        keep_counts();
     return syscall(SYS_write, file, bytes, size);
 }
 
@@ -180,5 +186,8 @@ ssize_t recv(int link, void *room, size_t size, int flags)
 
 ssize_t send(int link, const void *bytes, size_t size, int flags)
 {
-    return fails(SEND) ? -1 : syscall(SYS_sendto, link, bytes, size, flags, NULL, 0);
+    if (fails(SEND))
+        return -1;
+    keep_counts();
+    return syscall(SYS_sendto, link, bytes, size, flags, NULL, 0);
 }

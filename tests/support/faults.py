@@ -30,10 +30,10 @@ class Fault(NamedTuple):
 
 
 class Count(NamedTuple):
-    """How many calls of a name there were in all, and when the standard output was written to for the last time."""
+    """How many calls of a name there were in all, and when the last answer was written."""
 
     in_all: int
-    at_output: int
+    at_answer: int
 
 
 class FaultyProgram(Program):
