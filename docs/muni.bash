@@ -2,7 +2,7 @@
 # yet, the values of those that have a few, the files of stores, and files after < and >. An install puts them in
 # their place; from a clone `. docs/muni.bash` loads them.
 
-# Made of the launcher's tables by .ci/made.
+# Made of the launcher's tables by tests/documents/made_pages.py.
 _muni_commands='quote-one quote import confirm serve drill positions mark help'
 
 _muni_options() {

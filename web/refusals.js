@@ -1,4 +1,4 @@
-// Made of docs/refusals.json by .ci/made.
+// Made of docs/refusals.json by tests/documents/made_pages.py.
 
 export const REFUSALS = {
   1: ["UnknownIssue", "no issue of this CUSIP is kept", "check the CUSIP, or add the issue first"],

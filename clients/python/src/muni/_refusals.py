@@ -1,4 +1,7 @@
-"""What each refusal means and what to do about it. Made of docs/refusals.json by .ci/made."""
+"""What each refusal means and what to do about it.
+
+Made of docs/refusals.json by tests/documents/made_pages.py.
+"""
 
 WORDS: dict[int, tuple[str, str]] = {
     1: (

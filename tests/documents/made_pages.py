@@ -1,27 +1,25 @@
 #!/usr/bin/env python3
-"""Holds the parts of pages that are made of tables against these tables. Of launcher/commands and launcher/options:
-the commands of docs/muni.1, the options of docs/muni.bash, and the tables of options of docs/FORMATS.md. Of
-docs/refusals.json: the table of refusals of docs/FORMATS.md, that of the tests of terms of docs/RULES.md,
-web/refusals.js, and the words of the client in Python.
+"""Makes the parts of pages that are made of tables. Of launcher/commands and launcher/options: the commands of
+docs/muni.1, the options of docs/muni.bash, and the tables of options of docs/FORMATS.md. Of docs/refusals.json: the
+table of refusals of docs/FORMATS.md, that of the tests of terms of docs/RULES.md, web/refusals.js, and the words of the
+client in Python.
 
-    .ci/made            compares
-    .ci/made --write    makes these parts anew
+    tests/documents/made_pages.py
 """
 import collections
 import json
-import os
+import pathlib
 import re
-import sys
 import textwrap
 
-ROOT = os.path.join(os.path.dirname(os.path.abspath(__file__)), os.pardir)
+ROOT = pathlib.Path(__file__).resolve().parents[2]
 Option = collections.namedtuple("Option", "command name value use form should means")
 Command = collections.namedtuple("Command", "name what example")
+MADE_OF_TABLES = "# Made of the launcher's tables by tests/documents/made_pages.py.\n"
 
 
 def read(path):
-    with open(os.path.join(ROOT, path), encoding="utf-8") as file:
-        return file.read()
+    return (ROOT / path).read_text(encoding="utf-8")
 
 
 def rows(path, row):
@@ -89,7 +87,8 @@ def todo_of(refusal):
     """What to do about a refusal, for a document. Of a conflict it differs between an issue and a trade."""
     todo = refusal["todo"]
     if isinstance(todo, dict):
-        todo = ". ".join("%s: %s" % (("An" if what == "issue" else "a") + " " + what, text) for what, text in todo.items())
+        todo = ". ".join("%s: %s" % (("An" if what == "issue" else "a") + " " + what, text)
+                         for what, text in todo.items())
         todo = todo[0].lower() + todo[1:].replace(". a trade", ". A trade")
     return todo + (". " + refusal["more"] if "more" in refusal else "")
 
@@ -109,8 +108,8 @@ def table_of_faults(faults):
         has_date = each.get("date", False)
         begin = "then each call in turn: " if has_date and not calls else ""
         calls = calls or has_date
-        lines.append("| %s%s | `%s`%s | %d |" % (begin, each["test"], each["name"], ", with the date" if has_date else "",
-                                             each["number"]))
+        end = ", with the date" if has_date else ""
+        lines.append("| %s%s | `%s`%s | %d |" % (begin, each["test"], each["name"], end, each["number"]))
     return "".join(line + "\n" for line in lines)
 
 
@@ -121,7 +120,7 @@ def script_of_refusals(texts):
         return "".join("  %d: %s,\n" % (number, json.dumps(row, ensure_ascii=False)) for number, row in rows)
 
     return "".join([
-        "// Made of docs/refusals.json by .ci/made.\n\n", "export const REFUSALS = {\n",
+        "// Made of docs/refusals.json by tests/documents/made_pages.py.\n\n", "export const REFUSALS = {\n",
         lines((each["number"], [each["name"], each["means"], each["todo"]]) for each in texts["refusals"]), "};\n\n",
         "// The tests of terms by the number of their fault, and the field that each looks at.\n",
         "export const FAULTS = {\n",
@@ -132,7 +131,8 @@ def module_of_refusals(refusals):
     """The module of the client in Python: of each refusal what it means and what to do."""
     rows = "".join("    %d: (\n        %s,\n        %s,\n    ),\n" % (
         each["number"], wrapped(each["means"]), wrapped(todo_of({"todo": each["todo"]}))) for each in refusals)
-    return ('"""What each refusal means and what to do about it. Made of docs/refusals.json by .ci/made."""\n\n'
+    return ('"""What each refusal means and what to do about it.\n\n'
+            'Made of docs/refusals.json by tests/documents/made_pages.py.\n"""\n\n'
             "WORDS: dict[int, tuple[str, str]] = {\n" + rows + "}\n")
 
 
@@ -173,30 +173,23 @@ def pages():
             [option for name in names for option in options[name]]) + after[head.end() + end.start() + 1:]
     texts = json.loads(read("docs/refusals.json"))
     return {
-        "docs/RULES.md": with_table(read("docs/RULES.md"), "| test | fault | number |", table_of_faults(texts["faults"])),
+        "docs/RULES.md": with_table(read("docs/RULES.md"), "| test | fault | number |",
+                                    table_of_faults(texts["faults"])),
         "web/refusals.js": script_of_refusals(texts),
         "clients/python/src/muni/_refusals.py": module_of_refusals(texts["refusals"]),
         "docs/muni.1": between(read("docs/muni.1"), ".SH COMMANDS\n", ".SS \\-\\-help, \\-\\-version\n",
                                manual(commands, options)),
-        "docs/muni.bash": between(read("docs/muni.bash"), "# Made of the launcher's tables by .ci/made.\n",
-                                  "\n# The values of an option that begin", completions(commands, options)),
+        "docs/muni.bash": between(read("docs/muni.bash"), MADE_OF_TABLES, "\n# The values of an option that begin",
+                                  completions(commands, options)),
         "docs/FORMATS.md": with_table(formats, "| number | name | after the name |",
                                       table_of_refusals(texts["refusals"])),
     }
 
 
 def main():
-    failed = 0
-    made = pages()
-    for path, text in made.items():
-        if sys.argv[1:] == ["--write"]:
-            with open(os.path.join(ROOT, path), "w", encoding="utf-8") as file:
-                file.write(text)
-        elif not os.path.exists(os.path.join(ROOT, path)) or read(path) != text:
-            failed += 1
-            print("failed: %s is not made of its tables; .ci/made --write makes it" % path)
-    print("%d passed, %d failed" % (len(made) - failed, failed))
-    return 1 if failed else 0
+    for path, text in pages().items():
+        (ROOT / path).write_text(text, encoding="utf-8")
 
 
-sys.exit(main())
+if __name__ == "__main__":
+    main()

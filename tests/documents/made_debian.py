@@ -1,19 +1,17 @@
 #!/usr/bin/env python3
-"""Holds two files of debian/ against what they are made of: changelog against CHANGELOG.md and VERSION, and
-copyright against NOTICE, LICENSE-MIT and the licences that it names.
+"""Makes two files of debian/: changelog of CHANGELOG.md and VERSION, and copyright of NOTICE, LICENSE-MIT and the
+licences that it names.
 
-    .ci/debian            compares
-    .ci/debian --write    makes both anew
+    tests/documents/made_debian.py
 """
 import collections
 import email.utils
 import pathlib
 import re
-import sys
 import textwrap
 from datetime import datetime, timedelta, timezone
 
-ROOT = pathlib.Path(__file__).resolve().parent.parent
+ROOT = pathlib.Path(__file__).resolve().parents[2]
 MAINTAINER = "Nayuchek maintainers <maintainers@users.noreply.nayuchek.example>"
 APACHE = """\
  On Debian systems the full text of the Apache License, version 2.0, is in
@@ -39,7 +37,7 @@ def items(text):
 def changelog():
     sections = re.findall(r"^## ([\d.]+), ([\d-]+)\n(.*?)(?=^## |\Z)", read("CHANGELOG.md"), re.M | re.S)
     if sections[0][0] != read("VERSION").strip():
-        raise SystemExit("failed: CHANGELOG.md has no section of the version that VERSION has")
+        raise ValueError("CHANGELOG.md has no section of the version that VERSION has")
     # Versions of one day follow one another by the hour.
     count = collections.Counter()
     entries = []
@@ -76,11 +74,11 @@ def rights():
         elif re.match(r"These libraries|The program uses", head):
             continue
         else:
-            raise SystemExit("failed: NOTICE has a licence for %s that is neither Expat nor Apache-2.0" % head)
+            raise ValueError("NOTICE has a licence for %s that is neither Expat nor Apache-2.0" % head)
     both = sorted(set(under["Expat"]) & set(under["Apache-2.0"]))
     one = sorted(set(under["Expat"]) - set(both))
     if set(under["Apache-2.0"]) - set(both):
-        raise SystemExit("failed: NOTICE has libraries under Apache-2.0 alone: say so here")
+        raise ValueError("NOTICE has libraries under Apache-2.0 alone: say so here")
     told = ("The program is built of its own sources and of libraries of the Rattle kit, most of which are ports of"
             " libraries for Rust. Under Expat or Apache-2.0: %s. Under Expat: %s. NOTICE, beside this file, has their"
             " licences one by one." % (", ".join(both), ", ".join(one)))
@@ -106,16 +104,11 @@ License: Apache-2.0
          spread(textwrap.fill(told, 78)), spread(own.partition("authors\n\n")[2]), APACHE)
 
 
-def main():
-    failed = 0
-    for name, text in (("debian/changelog", changelog()), ("debian/copyright", rights())):
-        if "--write" in sys.argv[1:]:
-            (ROOT / name).write_text(text, encoding="utf-8")
-        elif not (ROOT / name).exists() or read(name) != text:
-            failed += 1
-            print("failed: %s is not what .ci/debian makes; `.ci/debian --write` makes it anew" % name)
-    print("%d passed, %d failed" % (2 - failed, failed))
-    return failed > 0
+def files():
+    """Each file with the text that it has to have."""
+    return {"debian/changelog": changelog(), "debian/copyright": rights()}
 
 
-sys.exit(main())
+if __name__ == "__main__":
+    for path, text in files().items():
+        (ROOT / path).write_text(text, encoding="utf-8")

@@ -1,19 +1,17 @@
 #!/usr/bin/env python3
-"""Holds NOTICE against the licence files of the kit: each library that the program is built of, with its texts.
+"""Makes NOTICE of the licence files of the kit: each library that the program is built of, with its texts.
 
-    .ci/notice            compares
-    .ci/notice --write    makes NOTICE anew
+    tests/documents/made_notice.py
 """
 import collections
 import glob
 import os
-import shutil
+import pathlib
 import subprocess
-import sys
 import textwrap
 
-ROOT = os.path.join(os.path.dirname(os.path.abspath(__file__)), os.pardir)
-NOTICE = os.path.join(ROOT, "NOTICE")
+ROOT = pathlib.Path(__file__).resolve().parents[2]
+NOTICE = ROOT / "NOTICE"
 HEAD = """\
 muni, a calculator and confirmation desk for municipal securities
 Copyright (c) 2026 the Nayuchek authors
@@ -23,7 +21,7 @@ choose.
 
 The program, dist/muni and that of a package, is built of its own sources and of libraries of the Rattle kit.
 Most of these are ports of libraries for Rust, whose licences stand below, each with the libraries that it came
-with. `.ci/notice --write` makes this file of the kit's licence files.
+with. `tests/documents/made_notice.py` makes this file of the kit's licence files.
 """
 OWN = """\
 These libraries of the kit have no licence file of their own:
@@ -37,16 +35,14 @@ https://sourceware.org/git/glibc.git.
 
 
 def kit():
-    """The folder of the kit, or None if it is not on this machine."""
-    if not shutil.which("rt"):
-        return None
+    """The folder of the kit, to which `rt` belongs."""
     return os.path.dirname(subprocess.run(["rt", "doc"], capture_output=True, text=True, check=True).stdout.strip())
 
 
 def libraries(folder):
     """The libraries of the kit that the program is built of, at once or through others."""
-    with open(os.path.join(ROOT, "crates.txt"), encoding="utf-8") as file:
-        lines = [line.partition(":") for line in file if ":" in line and not line.startswith("#")]
+    text = (ROOT / "crates.txt").read_text(encoding="utf-8")
+    lines = [line.partition(":") for line in text.splitlines() if ":" in line and not line.startswith("#")]
     ours = {name: words.split() for name, _, words in lines}
     seen, waiting = set(), ["muni_prog"]
     while waiting:
@@ -85,22 +81,5 @@ def wrapped(names):
     return textwrap.fill(", ".join(names), 110)
 
 
-def main():
-    folder = kit()
-    if not folder:
-        print("skipped: rt is missing, so NOTICE was not compared\n0 passed, 0 failed")
-        return 0
-    text = notice(folder)
-    if sys.argv[1:] == ["--write"]:
-        with open(NOTICE, "w", encoding="utf-8") as file:
-            file.write(text)
-        return 0
-    with open(NOTICE, encoding="utf-8") as file:
-        same = file.read() == text
-    if not same:
-        print("failed: NOTICE is not what the kit's licence files say; .ci/notice --write makes it")
-    print("%d passed, %d failed" % (same, not same))
-    return 0 if same else 1
-
-
-sys.exit(main())
+if __name__ == "__main__":
+    NOTICE.write_text(notice(kit()), encoding="utf-8")
