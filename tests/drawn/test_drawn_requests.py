@@ -15,7 +15,7 @@ from hypothesis import strategies as st
 
 from support.drawn import ISSUE, post, requests
 from support.program import Program
-from support.reference import Reference, needs_reference
+from support.reference import Reference
 from support.server import Server
 from support.stores import KINDS, Store
 
@@ -94,8 +94,6 @@ def asked_in_turn(muni: Program, kind: str, drawn: list[tuple[bytes, str, str]],
 
 @pytest.mark.parametrize("kind", KINDS)
 def test_the_answer_to_any_request_is_that_of_an_exact_calculator(muni: Program, kind: str):
-    needs_reference()
-
     @given(clients)
     def tried(drawn: list[tuple[bytes, str, str]]) -> None:
         asked_in_turn(muni, kind, drawn, Reference())

@@ -15,7 +15,7 @@ from hypothesis import strategies as st
 
 from support.drawn import texts
 from support.program import Program
-from support.reference import Reference, needs_reference
+from support.reference import Reference
 from support.stores import KINDS, Store
 
 # A hundred and one rows, whose import is killed.
@@ -25,8 +25,6 @@ ROWS = b"issue,123456AA3,X,zero,2020-01-01,,2030-01-01,,\n" + b"".join(
 
 @pytest.mark.parametrize("kind", KINDS)
 def test_the_report_of_any_text_is_that_of_an_exact_calculator(muni: Program, kind: str):
-    needs_reference()
-
     @given(st.lists(texts, min_size=1, max_size=3))
     def tried(several: list[bytes]) -> None:
         reference = Reference()
