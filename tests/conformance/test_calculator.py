@@ -48,8 +48,7 @@ def test_a_table_of_command_lines_is_answered(table):
     for case in (case for name, case in LINES if name == table):
         line, status, shown = case.parts
         words = bytes_of(f"{case.base} {line}" if case.base else line).decode("latin-1").split(" ")
-        wanted = "".join(text + "\n" for text in shown.split("/")) if shown else ""
-        assert commands.run(words) == (int(status), wanted.encode()), f"{table}, line {case.line}"
+        assert commands.run(words) == (int(status), bytes_of(shown)), f"{table}, line {case.line}"
 
 
 # Days, terms and payments, as docs/RULES.md works them out.
