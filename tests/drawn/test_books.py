@@ -13,7 +13,7 @@ from hypothesis import strategies as st
 from support.books import Book
 from support.drawn import CUSIPS, Draw, any_of, day, fields_of_row, one_in, spoil_row, whole
 from support.program import Program, Said
-from support.reference import Reference, needs_reference
+from support.reference import Reference
 from support.stores import KINDS, Store
 
 DESKS = ["ALPHA", "BETA", "GAMMA"]
@@ -117,15 +117,11 @@ def test_a_journal_answers_a_book_as_sqlite_does(muni, steps):
 @BOOKS
 @given(books)
 def test_the_answers_of_a_book_are_exact(muni, kind, steps):
-    needs_reference()
     right = Reference()
-    stores = right.desk.MemStores()
-    stores.tables[b"S"] = right.tables
     with empty_folder() as folder:
         book = begun(muni, kind, folder)
         for step in steps + ENDING:
-            words = [word.encode() for word in (step.command, "--store=S", *step.words)]
-            wanted = right.desk.run(words, stores, lambda text=step.text: text, choose=right.choose)
+            wanted = right.ran(step.command, *step.words, rows=step.text)
             said = book.said(step.command, *step.words, rows=step.text)
             # What is kept is in doubt from the first figure on that the rule leaves undecided.
             if not right.is_sure:
