@@ -14,17 +14,6 @@ use muni_test_samples::key;
 use std::alloc::Global;
 use std::thread::Threads;
 
-pub const ISSUE: &str =
-    "issue,123456AA3,RIVERTON WATER 5S 2025,periodic,2020-01-01,2020-07-01,2025-01-01,5,";
-
-/// The answer to the issue.
-pub const ADDED: &str = "added,123456AA3\n";
-
-pub const TRADE: &str = "trade,ALPHA,T0001,123456AA3,buy,25000,2024-04-01,yield,4";
-
-/// The answer to the trade.
-pub const CONFIRMED: &str = "confirmed,T0001,1,100.725,4.000,2025-01-01,25493.75\n";
-
 /// A trade that is entered, sent again, corrected and canceled, and what is refused on the way.
 pub const ROWS: &str =
     "issue,123456AA3,RIVERTON WATER 5S 2025,periodic,2020-01-01,2020-07-01,2025-01-01,5,
@@ -120,22 +109,6 @@ pub fn said<R: Threads + Sync, K: Keeper>(
         push_answer(&mut text, reply)?;
     }
     Some(text)
-}
-
-/// Whether the rows of a text are answered so.
-pub fn is_said<R: Threads + Sync, K: Keeper>(
-    rt: &R,
-    alloc: Global,
-    keeper: &mut K,
-    rows: &str,
-    answers: &str,
-) -> bool
-    ensures lent_as { K.lent_as keeper.new ≡ K.lent_as keeper.old }
-{
-    match said(rt, alloc, keeper, rows) {
-        Some(text) => text.as_slice() == answers.as_bytes(),
-        None => false,
-    }
 }
 
 /// How many rows failed at first and were answered so when they were sent again, if all the others are

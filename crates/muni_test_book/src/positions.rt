@@ -245,28 +245,8 @@ fn sale() -> Version {
 
 const FULL: &[u8] = b"123456AA3 100000 0 500000 -500000 -501000.00\n";
 
-// Fills ALPHA, which is watched, and puts one trade more. Whether that is refused and nothing is lost.
-fn is_refused<K: Keeper + Drop>(alloc: Global, inner: K) -> Result<bool, Fail> {
-    let alpha = desk("ALPHA")?;
-    let mut keeper = over(alloc, inner);
-    keeper.watch(&alpha)?;
-    fill(&mut keeper, &sale())?;
-    let refused = put(&mut keeper, &trade_of(100_000)?, &sale());
-    let lines = lines(alloc, &keeper)?;
-    let mut inner = keeper.back();
-    let is_kept = lines.as_slice() == FULL && inner.trades(&alpha)? == 100_000;
-    Ok(refused == Err(KeepFault::Failed) && is_kept)
-}
-
-#[test]
-fn a_trade_for_which_there_is_no_room_is_refused(rt: HostRuntime) -> Result<(), Fail> {
-    let inner = MemKeeper::new(rt.alloc(), &[])?;
-    assert!(rt; is_refused(rt.alloc(), inner)?);
-    Ok(())
-}
-
-// The same if puts are followed. Whether the trade is put and ends the watch, and the desk cannot be
-// watched again.
+// Fills ALPHA, which is watched, and puts one trade more while puts are followed. Whether it is put and ends the
+// watch, and the desk cannot be watched again.
 fn ends_the_watch<K: Keeper + Drop>(alloc: Global, inner: K) -> Result<bool, Fail> {
     let alpha = desk("ALPHA")?;
     let mut keeper = over(alloc, inner);
@@ -284,7 +264,9 @@ fn ends_the_watch<K: Keeper + Drop>(alloc: Global, inner: K) -> Result<bool, Fai
 }
 
 #[test]
-fn or_it_is_put_and_ends_the_watch(rt: HostRuntime) -> Result<(), Fail> {
+fn a_trade_for_which_there_is_no_room_is_put_and_ends_the_watch(
+    rt: HostRuntime,
+) -> Result<(), Fail> {
     let inner = MemKeeper::new(rt.alloc(), &[])?;
     assert!(rt; ends_the_watch(rt.alloc(), inner)?);
     Ok(())

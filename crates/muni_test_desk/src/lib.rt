@@ -6,5 +6,3 @@
 mod commands;
 #[cfg(test)]
 mod lines;
-#[cfg(test)]
-mod requests;

@@ -7,45 +7,33 @@ use muni_import::{RowFault, report_row};
 use muni_marks::{MarkSaid, mark_line, total};
 use std::test::Fail;
 
-// The greatest mark.
-fn most() -> Result<MarkSaid, Fail> {
-    Ok(MarkSaid::Marked {
+#[test]
+fn the_greatest_marks_have_whole_lines(rt: HostRuntime) -> Result<(), Fail> {
+    let most = MarkSaid::Marked {
         cusip: *b"ZZZZZZZZZ",
         price: Price3::new(9_223_372_036_854_775_807),
         redemption: Day::of(2199, 12, 31).ok_or("a day")?,
         total: Cents::new(9_223_372_036_854_775_807),
-    })
-}
-
-// The first line of marks at the greatest place that is another one.
-fn first_wrong_mark(most: MarkSaid) -> Option<&'static str> {
+    };
+    let mut line = ArrayVec::new();
+    mark_line(u32::MAX, &most, &mut line);
+    assert_eq!(rt;
+        line.as_slice(),
+        b"4294967295,marked,ZZZZZZZZZ,9223372036854775.807,2199-12-31,92233720368547758.07\n".as_slice()
+    );
+    mark_line(u32::MAX, &MarkSaid::Refused { number: 6 }, &mut line);
+    assert_eq!(rt;
+        line.as_slice(),
+        b"4294967295,refused,6,GivenOutOfRange\n".as_slice()
+    );
     let fault = RowFault::BadField {
         column: 4_294_967_295,
     };
-    let mut text = ArrayVec::new();
-    for (said, line) in [
-        (
-            most,
-            "4294967295,marked,ZZZZZZZZZ,9223372036854775.807,2199-12-31,92233720368547758.07\n",
-        ),
-        (
-            MarkSaid::Refused { number: 6 },
-            "4294967295,refused,6,GivenOutOfRange\n",
-        ),
-        (MarkSaid::Bad(fault), "4294967295,bad,2,4294967295\n"),
-    ] {
-        mark_line(u32::MAX, &said, &mut text);
-        if text.as_slice() != line.as_bytes() {
-            return Some(line);
-        }
-    }
-    None
-}
-
-#[test]
-fn the_greatest_marks_have_whole_lines(rt: HostRuntime) -> Result<(), Fail> {
-    let most = most()?;
-    assert_eq!(rt; first_wrong_mark(most), None);
+    mark_line(u32::MAX, &MarkSaid::Bad(fault), &mut line);
+    assert_eq!(rt;
+        line.as_slice(),
+        b"4294967295,bad,2,4294967295\n".as_slice()
+    );
     assert_eq!(rt; total(&[most, most]), (2, 18_446_744_073_709_551_614));
     Ok(())
 }

@@ -54,47 +54,46 @@ const SECOND_CALL: &[u64] = &[1];
 // How often an import of the rows asks the keeper.
 const CALLS: u64 = 10;
 
-fn whole<'a>(words: &'a [&'a str], input: &'a [u8]) -> Asked<'a> {
-    Asked {
-        words,
-        input,
-        failing: NONE_FAILS,
-    }
-}
-
-// How two commands over a new cabinet end, one after the other. Its calls and those of its keeper are counted
-// over both, and fail if the first says so.
-fn ask_both<R: Threads + Sync>(
+// How two commands over a new cabinet end, one after the other, with what fails at each. The calls of the
+// cabinet and of its keeper are counted over both, and fail if the first says so.
+fn ask_both<'a, R: Threads + Sync>(
     rt: &R,
     alloc: Global,
-    first: &Asked<'_>,
-    second: &Asked<'_>,
+    failing: [Failing<'a>; 2],
+    first: (&'a str, &'a [u8]),
+    second: (&'a str, &'a [u8]),
 ) -> Result<(Outcome, Outcome), Fail> {
-    let failing = first.failing;
+    let [before, after] = failing;
     let mut keepers = Vec::new(alloc);
-    keepers.push((b"S".to_vec(alloc)?, MemKeeper::new(alloc, failing.calls)?))?;
-    let mut cabinet = MemCabinet::new(alloc, keepers, failing.fetches)?;
+    keepers.push((b"S".to_vec(alloc)?, MemKeeper::new(alloc, before.calls)?))?;
+    let mut cabinet = MemCabinet::new(alloc, keepers, before.fetches)?;
     let idle = Watch::idle();
-    let before = ask(rt, alloc, first, &mut cabinet, &idle)?;
-    let after = ask(rt, alloc, second, &mut cabinet, &idle)?;
+    let asked = Asked {
+        words: &[first.0],
+        input: first.1,
+        failing: before,
+    };
+    let before = ask(rt, alloc, &asked, &mut cabinet, &idle)?;
+    let asked = Asked {
+        words: &[second.0],
+        input: second.1,
+        failing: after,
+    };
+    let after = ask(rt, alloc, &asked, &mut cabinet, &idle)?;
     Ok((before, after))
 }
 
 // How an import of the rows ends, how many whole lines of its report it writes, if it writes nothing else, and
 // whether a trade is then confirmed.
-fn imported_with<R: Threads + Sync>(
+fn imported_with<'a, R: Threads + Sync>(
     rt: &R,
     alloc: Global,
-    words: &str,
-    failing: Failing<'_>,
-    confirm: &str,
+    words: &'a str,
+    failing: Failing<'a>,
+    confirm: &'a str,
 ) -> Result<(Status, usize, bool), Fail> {
-    let first = Asked {
-        words: &[words],
-        input: ROWS,
-        failing,
-    };
-    let (imported, asked) = ask_both(rt, alloc, &first, &whole(&[confirm], b""))?;
+    let failing = [failing, NONE_FAILS];
+    let (imported, asked) = ask_both(rt, alloc, failing, (words, ROWS), (confirm, b""))?;
     let text = imported.output.bytes();
     if !REPORT.starts_with(text) || !(text.is_empty() || text.ends_with(b"\n")) {
         return Err("lines of the report")?;
@@ -257,19 +256,15 @@ fn first_wrong_end<R: Threads + Sync>(rt: &R, alloc: Global) -> Result<Option<us
         .into_iter()
         .enumerate()
     {
-        let words = [line];
-        let first = Asked {
-            words: &words,
-            input: ROWS,
-            failing: Failing {
-                takes,
-                puts,
-                fetches,
-                calls,
-                ..NONE_FAILS
-            },
+        let failing = Failing {
+            takes,
+            puts,
+            fetches,
+            calls,
+            ..NONE_FAILS
         };
-        let (outcome, again) = ask_both(rt, alloc, &first, &whole(&[FIRST], b""))?;
+        let failing = [failing, NONE_FAILS];
+        let (outcome, again) = ask_both(rt, alloc, failing, (line, ROWS), (FIRST, b""))?;
         if [outcome.status, again.status] != [status, after] || !outcome.output.bytes().is_empty() {
             return Ok(Some(place));
         }
@@ -284,22 +279,20 @@ fn each_object_that_fails_has_its_status(rt: HostRuntime) -> Result<(), Fail> {
 }
 
 // How a command over the tables of an import ends if a call of the keeper fails, and how many bytes it writes.
-fn ended_over<R: Threads + Sync>(
+fn ended_over<'a, R: Threads + Sync>(
     rt: &R,
     alloc: Global,
-    words: &str,
-    input: &[u8],
+    words: &'a str,
+    input: &'a [u8],
     call: u64,
 ) -> Result<(Status, usize), Fail> {
-    let first = Asked {
-        words: &[IMPORT],
-        input: ROWS,
-        failing: Failing {
-            calls: &[call],
-            ..NONE_FAILS
-        },
+    let calls = [call];
+    let failing = Failing {
+        calls: &calls,
+        ..NONE_FAILS
     };
-    let (_, outcome) = ask_both(rt, alloc, &first, &whole(&[words], input))?;
+    let failing = [failing, NONE_FAILS];
+    let (_, outcome) = ask_both(rt, alloc, failing, (IMPORT, ROWS), (words, input))?;
     Ok((outcome.status, outcome.output.bytes().len()))
 }
 
@@ -323,28 +316,13 @@ const NO_INPUT: &[u8] = b"";
 
 // How connections over the tables of an import end, how many of two clients are served, and how many of these
 // get another answer than the list.
-fn served_with<R: Threads + Sync>(
+fn served_with<'a, R: Threads + Sync>(
     rt: &R,
     alloc: Global,
-    words: &str,
-    store: (&[u64], &[u64]),
-    failing: Failing<'_>,
+    words: &'a str,
+    failing: [Failing<'a>; 2],
 ) -> Result<(Status, usize, usize), Fail> {
-    let first = Asked {
-        words: &[IMPORT],
-        input: ROWS,
-        failing: Failing {
-            fetches: store.0,
-            calls: store.1,
-            ..NONE_FAILS
-        },
-    };
-    let second = Asked {
-        words: &[words],
-        input: REQUEST,
-        failing,
-    };
-    let (_, outcome) = ask_both(rt, alloc, &first, &second)?;
+    let (_, outcome) = ask_both(rt, alloc, failing, (IMPORT, ROWS), (words, REQUEST))?;
     let served = outcome.door.served();
     let bad = served.iter().filter(|link| link.written() != LIST).count();
     Ok((outcome.status, served.len(), bad))
@@ -365,7 +343,7 @@ fn runs_end_where_they_are_told_to(rt: HostRuntime) -> Result<(), Fail> {
             2,
         ),
     ] {
-        let found = served_with(&rt, rt.alloc(), words, (NONE, NONE), NONE_FAILS)?;
+        let found = served_with(&rt, rt.alloc(), words, [NONE_FAILS, NONE_FAILS])?;
         assert_eq!(rt; found, (status, count, 0), "{words}");
     }
     Ok(())
@@ -393,13 +371,18 @@ fn each_fault_of_a_run_is_told_or_costs_one_client(rt: HostRuntime) -> Result<()
         (NONE, NONE, NONE, [FIRST_CALL, NONE], (Status::Done, 2, 1)),
         (NONE, NONE, NONE, [NONE, FIRST_CALL], (Status::Done, 2, 1)),
     ] {
-        let failing = Failing {
+        let before = Failing {
+            fetches,
+            calls,
+            ..NONE_FAILS
+        };
+        let after = Failing {
             accepts,
             client_takes: takes,
             client_puts: puts,
             ..NONE_FAILS
         };
-        let found = served_with(&rt, rt.alloc(), SERVE, (fetches, calls), failing)?;
+        let found = served_with(&rt, rt.alloc(), SERVE, [before, after])?;
         assert_eq!(rt; found, wanted);
     }
     Ok(())

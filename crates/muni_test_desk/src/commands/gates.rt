@@ -130,15 +130,3 @@ fn trades_of_a_drill_are_answered_side_by_side(rt: HostRuntime) -> Result<(), Fa
     assert_eq!(rt; watch.most.load(Ordering::SeqCst), 2);
     Ok(())
 }
-
-// The sums were computed outside the program, with exact whole numbers.
-#[test]
-fn sums_of_a_generated_book_are_the_exact_ones_by_horner(rt: HostRuntime) -> Result<(), Fail> {
-    let words = ["drill --count=1000 --seed=7 --workers=3"];
-    let text = answered(&rt, rt.alloc(), &words, &Watch::idle())?;
-    assert_eq!(rt;
-        text.as_str(),
-        "DRILL 1000/PRINTED 653/UNDECIDED 0/OUTSIDE 347/YIELDS 1689811/ACCRUED 3438399.63/CALLED 278"
-    );
-    Ok(())
-}
