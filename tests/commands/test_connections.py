@@ -10,7 +10,7 @@ import threading
 import pytest
 
 from support.program import PATIENCE, Program
-from support.server import Server, ended, free_port, reached, received
+from support.server import Server, ended, free_port, listening, reached, received
 from support.stores import Store
 
 LIST = b"GET /lists/ALPHA HTTP/1.1\r\nHost: localhost\r\n\r\n"
@@ -22,17 +22,6 @@ TRADE = {"desk": "ALPHA", "cusip": "123456AA3", "side": "buy", "par": "1", "sett
 def post(path: str, members: dict[str, str]) -> bytes:
     body = json.dumps(members).encode()
     return f"POST {path} HTTP/1.1\r\nHost: localhost\r\nContent-Length: {len(body)}\r\n\r\n".encode() + body
-
-
-def listening(port: int) -> list[tuple[str, str]]:
-    """The addresses at which the port is listened to, by /proc."""
-    found = []
-    for name in ("tcp", "tcp6"):
-        for line in pathlib.Path(f"/proc/net/{name}").read_text().splitlines()[1:]:
-            address, _, number = line.split()[1].partition(":")
-            if int(number, 16) == port and line.split()[3] == "0A":
-                found.append((name, address))
-    return found
 
 
 def test_only_the_loopback_is_bound_and_a_port_that_is_taken_is_refused(muni, tmp_path):

@@ -13,7 +13,7 @@ import pytest
 from hypothesis import event, given, settings
 from hypothesis import strategies as st
 
-from support.drawn import ISSUE, post, requests
+from support.drawn import ISSUE, many, post, requests
 from support.program import Program
 from support.reference import Reference
 from support.server import Server
@@ -28,7 +28,7 @@ LEAVINGS = ("stays", "stays", "stays", "stays", "closes", "resets")
 
 # What clients send, and how.
 client = st.tuples(requests, st.sampled_from(WAYS), st.sampled_from(LEAVINGS))
-clients = st.one_of(st.lists(client, min_size=1, max_size=8), st.lists(client, min_size=30, max_size=70))
+clients = many(client, 40, 80)
 
 
 def is_of_the_form(answer: bytes) -> bool:

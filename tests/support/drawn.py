@@ -46,6 +46,22 @@ def any_of(*values: object) -> st.SearchStrategy:
     return st.sampled_from(values)
 
 
+@st.composite
+def one_more(draw: Draw, element: st.SearchStrategy, mean: int) -> list:
+    """A list of one element, or at the end of a list an empty one."""
+    return [draw(element)] if draw(any_of(False, *[True] * mean)) else []
+
+
+@st.composite
+def many(draw: Draw, element: st.SearchStrategy, mean: int, most: int) -> list:
+    """A list that is longer than those of hypothesis, and of which any element can be left out when it is shrunk."""
+    found: list = []
+    step = one_more(element, mean)
+    while len(found) < most and (drawn := draw(step)):
+        found += drawn
+    return found
+
+
 hostile_fields = st.sampled_from(FIELDS)
 
 
@@ -138,7 +154,8 @@ def spoil_row(draw: Draw, fields: list[bytes]) -> None:
     elif how == 4:
         del fields[place]
     elif how == 5:
-        fields[place:place] = [draw(hostile_fields)] * draw(any_of(1, 1, 2, 300))
+        field = draw(hostile_fields)
+        fields[place:place] = [field] * draw(any_of(1, 1, 2, 300 if len(field) < 100 else 3))
     elif how == 6:
         other = draw(whole(0, len(fields) - 1))
         fields[place], fields[other] = fields[other], fields[place]
@@ -170,9 +187,9 @@ def texts_of(rows: st.SearchStrategy[list[bytes]]) -> st.SearchStrategy[bytes]:
 
 # Texts of imports, most of them of hundreds of rows.
 texts = st.one_of(
-    texts_of(st.lists(row(), min_size=1, max_size=12)),
-    texts_of(st.lists(row(), min_size=100, max_size=250)),
-    texts_of(st.lists(row(), min_size=100, max_size=250)),
+    texts_of(many(row(), 100, 250)),
+    texts_of(many(row(), 100, 250)),
+    texts_of(many(row(), 100, 250)),
     noise(bytes(range(256)), 8000),
     noise(b'trade,cancel"\n\r,,123', 8000),
 )

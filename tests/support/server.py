@@ -1,6 +1,7 @@
 """A server of the program over a store, and what a client gets from it."""
 from __future__ import annotations
 
+import pathlib
 import socket
 import subprocess
 import time
@@ -13,6 +14,17 @@ def free_port() -> int:
     with socket.socket() as probe:
         probe.bind(("127.0.0.1", 0))
         return probe.getsockname()[1]
+
+
+def listening(port: int) -> list[tuple[str, str]]:
+    """The addresses at which the port is listened to, by /proc."""
+    found = []
+    for name in ("tcp", "tcp6"):
+        for line in pathlib.Path(f"/proc/net/{name}").read_text().splitlines()[1:]:
+            address, _, number = line.split()[1].partition(":")
+            if int(number, 16) == port and line.split()[3] == "0A":
+                found.append((name, address))
+    return found
 
 
 def ended(process: subprocess.Popen[bytes]) -> int | None:

@@ -1,0 +1,25 @@
+"""What bash completes of words after muni and ./muni."""
+from __future__ import annotations
+
+import subprocess
+
+import pytest
+
+from support.program import ROOT
+
+ASK = '. docs/muni.bash; COMP_WORDS=("$@"); COMP_CWORD=$(($# - 1)); _muni; printf "%s\\n" "${COMPREPLY[@]}"'
+
+
+@pytest.mark.parametrize(("line", "completed"), [
+    ("./muni bu", "build"),
+    ("muni pos", "positions"),
+    ("muni confirm --store = docs/RU", "docs/RULES.md"),
+    ("muni quote --kind = ze", "zero"),
+    ("./muni import --store=S < exa", "examples"),
+    ("./muni import --store=S > READ", "README.md"),
+    ("./muni confirm --store=S --h", "--help"),
+    ("./muni install exa", "examples"),
+])
+def test_a_word_is_completed(line, completed):
+    told = subprocess.run(["bash", "-c", ASK, "bash", *line.split()], cwd=ROOT, capture_output=True, text=True)
+    assert told.stdout.split() == [completed]
