@@ -1,0 +1,69 @@
+"""What tests/setup installs, with an apt-get that only writes down what it is asked, and packages that are files."""
+from __future__ import annotations
+
+import os
+import pathlib
+import subprocess
+
+import pytest
+
+from support.program import ROOT
+
+TOOLS = {
+    "dpkg-query": '[ -e "$INSTALLED/$4" ] && printf installed',
+    "id": 'echo "${USER_NUMBER:-0}"',
+    "apt-get": 'echo "$@" >>"$ASKED"; [ "$1" = update ] || [ "${FAILS:-}" ] || { shift 3; for each; do '
+               ': >"$INSTALLED/$each"; done; }',
+}
+GCC_IS_MISSING = ["update", "install -y --no-install-recommends gcc sqlite3"]
+
+
+class Machine:
+    """A machine on which all packages are installed but gcc and sqlite3."""
+
+    def __init__(self, folder: pathlib.Path) -> None:
+        self.asked_file = folder / "asked"
+        self.installed = folder / "installed"
+        self.installed.mkdir()
+        (folder / "bin").mkdir()
+        for name, text in TOOLS.items():
+            (folder / "bin" / name).write_text(f"#!/bin/sh\n{text}\n")
+            (folder / "bin" / name).chmod(0o755)
+        self.surroundings = {"PATH": f"{folder}/bin:{os.environ['PATH']}", "ASKED": str(self.asked_file),
+                             "INSTALLED": str(self.installed)}
+        self.run()
+        for package in ("gcc", "sqlite3"):
+            (self.installed / package).unlink()
+        self.asked_file.unlink()
+
+    def run(self, **changes: str) -> tuple[int, str]:
+        """The status, and the last line that is said."""
+        told = subprocess.run([ROOT / "tests/setup"], env=os.environ | self.surroundings | changes, capture_output=True,
+                              text=True)
+        return told.returncode, told.stdout.splitlines()[-1].removeprefix("tests/setup: ")
+
+    def asked(self) -> list[str]:
+        return self.asked_file.read_text().splitlines() if self.asked_file.exists() else []
+
+
+@pytest.fixture
+def machine(tmp_path: pathlib.Path) -> Machine:
+    return Machine(tmp_path)
+
+
+def test_root_gets_what_is_missing_and_nothing_the_second_time(machine):
+    assert machine.run() == (0, "all packages are installed")
+    assert machine.asked() == GCC_IS_MISSING
+    assert machine.run() == (0, "all packages are installed")
+    assert machine.asked() == GCC_IS_MISSING
+
+
+def test_another_user_is_told_what_is_missing(machine):
+    status, said = machine.run(USER_NUMBER="1000")
+    assert (status, said.strip()) == (1, "missing, and only root installs them, by apt-get: gcc sqlite3")
+    assert machine.asked() == []
+
+
+def test_an_install_that_fails_is_no_success(machine):
+    status, said = machine.run(FAILS="1")
+    assert (status, said.strip()) == (1, "still missing: gcc sqlite3")
