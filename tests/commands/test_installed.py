@@ -163,7 +163,7 @@ def test_a_file_of_a_desk_behind_nginx_names_the_prefix(whole, name):
 def test_an_install_whose_name_units_can_have_is_whole(whole):
     assert whole.said == (f"muni: installed: {whole.prefix}/bin/muni, its manual, its documents and its completions\n")
     assert os.access(whole.prefix / "share/muni/deploy/backup", os.X_OK)
-    check(Launcher(whole.prefix / "libexec/muni").run(*QUOTE), 0, "100.235")
+    assert Program(whole.prefix / "libexec/muni").run(*QUOTE).text == "100.235\n"
     assert subprocess.run(["diff", "-r", ROOT / "web", whole.prefix / "share/muni/web"]).returncode == 0
 
 

@@ -7,7 +7,7 @@ import subprocess
 
 import pytest
 
-from support.launcher import QUOTE, Launcher, check
+from support.launcher import QUOTE, TRACE, Launcher, check
 from support.program import ROOT
 from support.stores import REPORT, ROWS
 from support.tables import cases
@@ -236,7 +236,7 @@ def test_a_store_without_leave_is_told_of(muni, mode, why):
     try:
         (folder / "closed").write_text("a text that is no database\n")
         (folder / "closed").chmod(mode)
-        check(MUNI.run("import", "--store=closed", folder=folder, **unprivileged()), 6, "",
+        check(MUNI.run("import", "--store=closed", folder=folder, changes={TRACE: None}, **unprivileged()), 6, "",
               f"muni: status 6: the store failed: {why}")
     finally:
         subprocess.run(["rm", "-rf", folder])

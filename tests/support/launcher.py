@@ -37,13 +37,13 @@ class Launcher:
         self.path = path
         self.changes = {"MUNI_PROGRAM": str(program_path())} | dict(changes or {})
 
-    def words(self, words: tuple[str | bytes, ...]) -> list[str | bytes | pathlib.Path]:
-        return [*(["bash"] if TRACE in os.environ else []), self.path, *words]
+    def words(self, words: tuple[str | bytes, ...], environment: Mapping[str, str]) -> list[str | bytes | pathlib.Path]:
+        return [*(["bash"] if TRACE in environment else []), self.path, *words]
 
     def environment(self, changes: Mapping[str, str | None] | None) -> dict[str, str]:
         found = surroundings(self.changes | dict(changes or {}))
-        if TRACE in os.environ:
-            prepared = pathlib.Path(os.environ[TRACE] + ".bash")
+        if TRACE in found:
+            prepared = pathlib.Path(found[TRACE] + ".bash")
             prepared.write_text(PREPARE)
             found["BASH_ENV"] = str(prepared)
         return found
@@ -54,14 +54,15 @@ class Launcher:
         data = rows.encode() if isinstance(rows, str) else rows
         given = {"input": data} if "stdin" not in how else {}
         usual = {"stdout": subprocess.PIPE, "stderr": subprocess.PIPE, "timeout": PATIENCE}
-        told = subprocess.run(self.words(words), cwd=folder, env=self.environment(changes), **{**usual, **given, **how})
+        here = self.environment(changes)
+        told = subprocess.run(self.words(words, here), cwd=folder, env=here, **{**usual, **given, **how})
         return Said(told.returncode, told.stdout or b"", told.stderr)
 
     def start(self, *words: str, changes: Mapping[str, str | None] | None = None) -> subprocess.Popen[bytes]:
         """Starts a command that the signals of a terminal reach, in a group of its own."""
-        return subprocess.Popen(self.words(words), cwd=ROOT, stdin=subprocess.DEVNULL, stdout=subprocess.DEVNULL,
-                                stderr=subprocess.PIPE, env=self.environment(changes), preexec_fn=heeds_signals,
-                                start_new_session=True)
+        here = self.environment(changes)
+        return subprocess.Popen(self.words(words, here), cwd=ROOT, stdin=subprocess.DEVNULL, stdout=subprocess.DEVNULL,
+                                stderr=subprocess.PIPE, env=here, preexec_fn=heeds_signals, start_new_session=True)
 
 
 def heeds_signals() -> None:

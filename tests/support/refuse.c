@@ -1,4 +1,4 @@
-/* Refuses memory to a program that it is loaded into by LD_PRELOAD, for stress/memory.
+/* Refuses memory to a program that it is loaded into by LD_PRELOAD, for tests/drawn/test_refused_memory.py.
 
    REFUSE is the number of the call that gets none, counted from 1, and with REFUSE_ALL each later one
    gets none either. When the program ends, the count of its calls is written to the file REFUSE_COUNT. */
