@@ -52,8 +52,8 @@ class Copy:
     def __init__(self, folder: pathlib.Path) -> None:
         self.root = folder / "a copy"
         self.asked_file = folder / "asked"
-        for name in ("crates/muni_rule/src", "crates/muni_prog/src", "docs", "examples", "clients", "conformance", "dist",
-                     "launcher"):
+        for name in ("crates/muni_rule/src", "crates/muni_prog/src", "docs", "examples", "clients", "conformance",
+                     "dist", "launcher"):
             (self.root / name).mkdir(parents=True)
         for name in ("muni", "VERSION", "README.md", "CHANGELOG.md", "LICENSE-MIT", "LICENSE-APACHE", "NOTICE",
                      "launcher/launch", "launcher/installed", "launcher/commands", "launcher/options", "docs/muni.1",

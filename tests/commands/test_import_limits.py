@@ -40,9 +40,10 @@ def test_each_of_many_rows_has_a_line(muni, store, request):
 
 def test_an_input_that_cannot_be_read_and_an_output_that_is_full_have_their_status(muni, store, tmp_path):
     folder = os.open(tmp_path, os.O_RDONLY)
-    with open("/dev/full", "wb") as full, muni.start("import", store.word, stdin=subprocess.PIPE, stdout=full) as process:
-        process.communicate(b"x\n", timeout=PATIENCE)
-        assert process.returncode == 5
+    with open("/dev/full", "wb") as full:
+        with muni.start("import", store.word, stdin=subprocess.PIPE, stdout=full) as process:
+            process.communicate(b"x\n", timeout=PATIENCE)
+            assert process.returncode == 5
     with muni.start("import", store.word, stdin=folder, stdout=subprocess.PIPE) as process:
         assert (process.communicate(timeout=PATIENCE)[0], process.returncode) == (b"", 4)
     os.close(folder)

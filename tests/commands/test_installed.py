@@ -113,6 +113,9 @@ def test_the_installed_program_answers_as_the_script_does(spaced, tmp_path):
     check(spaced.muni.run(*QUOTE, folder=tmp_path), 0, "100.235")
     (tmp_path / "installed link").symlink_to(spaced.prefix / "bin/muni")
     check(Launcher("./installed link").run(*QUOTE, folder=tmp_path), 0, "100.235")
+    told = subprocess.run(["bash", "muni", *QUOTE], cwd=spaced.prefix / "bin", env=spaced.muni.environment(None),
+                          capture_output=True)
+    assert (told.returncode, told.stdout, told.stderr) == (0, b"100.235\n", b"")
     check(spaced.muni.run("quote-one", "5"), 2, "", "muni: status 2: *: NEXT is missing*")
     check(spaced.muni.run("qoute"), 2, "", "muni: status 2: *: 'qoute' is no command*")
     assert f"muni: installed: {spaced.prefix}/bin/muni, " in spaced.said
@@ -288,7 +291,8 @@ def fresh(tmp_path: pathlib.Path) -> Launcher:
     """A copy of the repository in a folder with a blank, on a path without `rt`, and with no program that is named."""
     root = tmp_path / "a fresh copy"
     root.mkdir()
-    for name in ("muni", "VERSION", "README.md", "CHANGELOG.md", "LICENSE-MIT", "LICENSE-APACHE", "NOTICE", "crates.txt"):
+    for name in ("muni", "VERSION", "README.md", "CHANGELOG.md", "LICENSE-MIT", "LICENSE-APACHE", "NOTICE",
+                 "crates.txt"):
         shutil.copy(ROOT / name, root)
     for name in ("dist", "docs", "examples", "launcher", "clients", "conformance", "deploy", "web"):
         shutil.copytree(ROOT / name, root / name)

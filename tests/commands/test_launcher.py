@@ -157,6 +157,15 @@ def test_it_starts_from_another_folder_and_by_a_link(tmp_path):
     check(Launcher("./muni link").run(*QUOTE, folder=folder), 0, "100.235")
 
 
+def test_it_starts_by_a_shell_and_a_program_by_a_name_alone(tmp_path):
+    there = MUNI.environment(None)
+    told = subprocess.run(["bash", "muni", *QUOTE], cwd=ROOT, env=there, capture_output=True)
+    assert (told.returncode, told.stdout, told.stderr) == (0, b"100.235\n", b"")
+    (tmp_path / "named").write_text("#!/bin/sh\necho named\n")
+    (tmp_path / "named").chmod(0o755)
+    check(MUNI.run("x", folder=tmp_path, changes={"MUNI_PROGRAM": "named"}), 0, "named")
+
+
 @pytest.mark.parametrize("word", ["--help", "-h"])
 def test_the_help_has_the_commands_and_needs_no_program(tmp_path, word):
     said = MUNI.run(word, changes={"MUNI_PROGRAM": str(tmp_path / "nothing")})

@@ -1,5 +1,5 @@
-"""Texts of rows that are drawn at random, most of them hostile: each report is that of an exact calculator, and what was
-acknowledged is kept if the import is killed."""
+"""Texts of rows that are drawn at random, most of them hostile: each report is that of an exact calculator. And what
+was acknowledged is kept if an import is killed."""
 from __future__ import annotations
 
 import os

@@ -1,8 +1,8 @@
 """Memory that is refused to each command, over stores of both kinds: at a call that asks for it, and from one on.
 
-A command ends with its right answer, or in status 8. Then it wrote a front part of that answer, what is kept is what it
-told, and the same command again, with memory, has the right answer. The calls are spread from the first to the last, and
-`--long` tries each of them.
+A command ends with its right answer, or in status 8. Then it wrote a front part of that answer, what is kept is what
+it told, and the same command again, with memory, has the right answer. The calls are spread from the first to the last,
+and `--long` tries each of them.
 """
 from __future__ import annotations
 

@@ -242,7 +242,8 @@ def right_request(draw: Draw) -> bytes:
         return post("/issues", issue_members(draw))
     if what < 4:
         fee = {"fee": draw(any_of("", "0", "0.5"))} if draw(one_in(3)) else {}
-        return post("/trades", {**key_of_trade(draw), **asked_members(draw), **fee, "side": draw(any_of("buy", "sell"))})
+        side = draw(any_of("buy", "sell"))
+        return post("/trades", {**key_of_trade(draw), **asked_members(draw), **fee, "side": side})
     if what == 4:
         return post("/corrections", {**key_of_trade(draw), **asked_members(draw), "side": "buy",
                                      "number": str(draw(whole(1, 4)))})

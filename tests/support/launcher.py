@@ -33,7 +33,8 @@ def surroundings(changes: Mapping[str, str | None]) -> dict[str, str]:
 class Launcher:
     """A script that starts the program. It is the one that is tried, and none is built, if `changes` leave it so."""
 
-    def __init__(self, path: pathlib.Path | str = ROOT / "muni", changes: Mapping[str, str | None] | None = None) -> None:
+    def __init__(self, path: pathlib.Path | str = ROOT / "muni",
+                 changes: Mapping[str, str | None] | None = None) -> None:
         self.path = path
         self.changes = {"MUNI_PROGRAM": str(program_path())} | dict(changes or {})
 
@@ -83,14 +84,18 @@ def lines_of_commands(path: pathlib.Path) -> set[int]:
     nothing within quotes of several lines, after a backslash, or in a text that is read."""
     found = set()
     end = ""
+    goes_on = False
     for number, line in enumerate(path.read_text().splitlines(), 1):
         text = line.strip()
+        was_going_on, goes_on = goes_on, text.endswith("\\")
+        if was_going_on:
+            continue
         if end:
             # Within a text that a mark ends, or a program of awk that a quote ends.
             end = "" if text == end or (end == "'" and "'" in text) else end
             continue
-        is_bare = re.fullmatch(r"|#.*|\w+\(\) \{|[{}].*|esac.*|fi|done.*|else|then|;;|[^ ]*\)|.* \| [^ ]*\)|'' \| .*\)",
-                               text)
+        is_bare = re.fullmatch(r"|#.*|\w+\(\) \{|[{}].*|esac.*|fi|done.*|else|then|;;|[^ ]*\)|.*\) ;;|.* \| [^ ]*\)|"
+                               r"'' \| .*\)|\*\"[^\"]*\"\*\)|awk '", text)
         if not is_bare and not text.startswith(("-", "{ [", "|")):
             found.add(number)
         mark = re.search(r"<<(\w+)$", text)
