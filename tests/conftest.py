@@ -8,10 +8,14 @@ from collections.abc import Callable, Iterator
 import pytest
 from hypothesis import HealthCheck, settings
 
-from support import launcher
+from support import covered, launcher
 from support.program import Program, program_path
+from support.rules import RULES
 from support.server import Server
 from support.stores import KINDS, Store
+
+# Before a test imports the client.
+COUNTER = covered.begin()
 
 
 # In the gate the same is drawn in each run. What is drawn is large, and slow beside what hypothesis expects.
@@ -23,9 +27,14 @@ settings.register_profile("long", max_examples=2000, **FIXED)
 
 def pytest_addoption(parser: pytest.Parser) -> None:
     parser.addoption("--long", action="store_true", help="draws more at random, and other cases in each run")
+    parser.addoption("--coverage", action="store_true",
+                     help="tells which lines of the client and of the scripts of the page ran")
     parser.addoption("--shots", metavar="FOLDER", help="keeps pictures of the page in a folder")
     parser.addoption("--launcher-lines", metavar="FILE",
                      help="writes each line of ./muni that is run to a new file, and says at the end which are not")
+    parser.addoption("--without", metavar="RULE", choices=RULES,
+                     help="takes a rule out of the files of deploy/ and runs the tests of which one has to fail then")
+    parser.addoption("--without-each", action="store_true", help="takes each rule out, and sees that its test fails")
 
 
 def pytest_configure(config: pytest.Config) -> None:
@@ -35,7 +44,16 @@ def pytest_configure(config: pytest.Config) -> None:
         os.environ[launcher.TRACE] = str(pathlib.Path(config.getoption("--launcher-lines")).resolve())
 
 
-def pytest_terminal_summary(terminalreporter, config: pytest.Config) -> None:
+def pytest_sessionfinish() -> None:
+    """Keeps what this process has counted."""
+    if COUNTER:
+        COUNTER.stop()
+        COUNTER.save()
+
+
+def pytest_terminal_summary(terminalreporter: pytest.TerminalReporter, config: pytest.Config) -> None:
+    if config.getoption("--coverage"):
+        terminalreporter.write("\n" + covered.client_figures() + "\n" + covered.page_figures())
     trace = config.getoption("--launcher-lines")
     if trace and os.path.exists(trace):
         for line in launcher.coverage(pathlib.Path(trace)):

@@ -2,6 +2,7 @@
 from __future__ import annotations
 
 import base64
+import os
 import pathlib
 import shutil
 import time
@@ -14,6 +15,7 @@ from selenium.webdriver.common.action_chains import ActionChains
 from selenium.webdriver.common.by import By
 from selenium.webdriver.common.print_page_options import PrintOptions
 
+from support import covered
 from support.program import PATIENCE
 
 
@@ -25,15 +27,25 @@ class Browser:
         self.driver = started(options(rules, width, height))
         self.driver.set_script_timeout(PATIENCE)
         self.size(width, height)
+        if covered.FOLDER in os.environ:
+            self.tool("Profiler.enable")
+            self.tool("Profiler.startPreciseCoverage", callCount=False, detailed=True)
 
     def __enter__(self) -> Browser:
         return self
 
     def __exit__(self, *_: object) -> None:
+        self.keep_counts()
         self.driver.quit()
 
     def go(self, address: str) -> None:
+        self.keep_counts()
         self.driver.get(address)
+
+    def keep_counts(self) -> None:
+        """Keeps what was counted of the scripts of the page that is left, if that is asked for."""
+        if covered.FOLDER in os.environ:
+            covered.keep(self.tool("Profiler.takePreciseCoverage")["result"])
 
     def js(self, script: str, *values: object) -> Any:
         return self.driver.execute_script(script, *values)
