@@ -53,7 +53,7 @@ def pytest_sessionfinish() -> None:
 
 def pytest_terminal_summary(terminalreporter: pytest.TerminalReporter, config: pytest.Config) -> None:
     if config.getoption("--coverage"):
-        terminalreporter.write("\n" + covered.client_figures() + "\n" + covered.page_figures())
+        terminalreporter.write(covered.figures())
     trace = config.getoption("--launcher-lines")
     if trace and os.path.exists(trace):
         for line in launcher.coverage(pathlib.Path(trace)):

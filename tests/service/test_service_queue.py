@@ -1,6 +1,7 @@
 """The queue before the desk: one request is at the desk, and the others wait in order."""
 from __future__ import annotations
 
+import functools
 import signal
 
 from support.rules import UNLIMITED
@@ -23,7 +24,7 @@ def test_a_desk_that_stands_still_has_one_request_while_others_wait(site):
     entered = Entered()
     tell(site, signal.SIGSTOP)
     try:
-        threads = [beside(lambda place=place: enter(site, entered, f"S{place}")) for place in range(COUNT)]
+        threads = [beside(functools.partial(enter, site, entered, f"S{place}")) for place in range(COUNT)]
         assert until(lambda: waiting(site) == COUNT)
         assert until(lambda: at_desk(site) > 0)
         # The system takes connections for a desk that stands still, so each one that the queue opens is seen.

@@ -5,6 +5,7 @@ import io
 import json
 import os
 import pathlib
+import shutil
 import sys
 import tempfile
 from typing import Any, NamedTuple
@@ -63,15 +64,20 @@ def client_figures() -> str:
 
 def scripts() -> list[Script]:
     """The scripts of the page with what all windows have counted."""
-    taken = [each for file in pathlib.Path(os.environ[FOLDER]).glob("page-*.json") for each in json.loads(file.read_text())]
+    taken: list[dict[str, Any]] = []
+    for file in pathlib.Path(os.environ[FOLDER]).glob("page-*.json"):
+        taken += json.loads(file.read_text())
+    if not taken:
+        return []
     return [script(file, [each for each in taken if each["url"].endswith(f"/page/{file.name}")])
-            for file in sorted(WEB.glob("*.js"))] if taken else []
+            for file in sorted(WEB.glob("*.js"))]
 
 
 def script(file: pathlib.Path, taken: list[dict[str, Any]]) -> Script:
     text = file.read_text()
     run = bytearray(len(text))
-    functions, called = set(), set()
+    functions: set[str] = set()
+    called: set[str] = set()
     for each in taken:
         counted = bytearray(len(text))
         for function in each["functions"]:
@@ -84,7 +90,9 @@ def script(file: pathlib.Path, taken: list[dict[str, Any]]) -> Script:
                 begin, end = part["startOffset"], part["endOffset"]
                 counted[begin:end] = bytes([part["count"] > 0]) * (min(end, len(text)) - begin)
         run = bytearray(one | other for one, other in zip(run, counted))
-    lines, ran, offset = set(), set(), 0
+    lines: set[int] = set()
+    ran: set[int] = set()
+    offset = 0
     for number, line in enumerate(text.split("\n"), 1):
         code = line.strip()
         if code and not code.startswith("//") and any(sign.isalnum() for sign in code):
@@ -107,16 +115,24 @@ def spans(numbers: list[int]) -> str:
     return ", ".join(f"{first}-{last}" if first < last else f"{first}" for first, last in found)
 
 
+def row(name: str, found: list[Script], missed: str = "") -> str:
+    calls = f"{sum(len(each.called) for each in found)} of {sum(len(each.functions) for each in found)}"
+    lines = f"{sum(len(each.run) for each in found)} of {sum(len(each.lines) for each in found)}"
+    return f"{name:20} {calls:>12} {lines:>12}   {missed}".rstrip() + "\n"
+
+
 def page_figures() -> str:
     """A line for each script of the page. A line of it counts as run if all of it ran in some window."""
     found = scripts()
     if not found:
         return ""
-    rows = [[each.name, f"{len(each.called)} of {len(each.functions)}", f"{len(each.run)} of {len(each.lines)}",
-             spans(sorted(each.lines - each.run))] for each in found]
-    calls, lines = (f"{sum(map(len, ran))} of {sum(map(len, every))}" for ran, every in (
-        ([each.called for each in found], [each.functions for each in found]),
-        ([each.run for each in found], [each.lines for each in found])))
-    rows = [["script of the page", "functions", "lines", "lines that did not run in full"], *rows,
-            ["all", calls, lines, ""]]
-    return "".join(f"{name:20} {calls:>12} {lines:>12}   {missed}".rstrip() + "\n" for name, calls, lines, missed in rows)
+    head = f"{'script of the page':20} {'functions':>12} {'lines':>12}   lines that did not run in full\n"
+    rows = [row(each.name, [each], spans(sorted(each.lines - each.run))) for each in found]
+    return "".join([head, *rows, row("all", found)])
+
+
+def figures() -> str:
+    """The figures of the client and of the page, after which what was counted is taken away."""
+    told = f"\n{client_figures()}\n{page_figures()}"
+    shutil.rmtree(os.environ[FOLDER])
+    return told

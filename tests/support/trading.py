@@ -2,6 +2,7 @@
 from __future__ import annotations
 
 import contextlib
+import functools
 import http.client
 import json
 import os
@@ -62,7 +63,7 @@ def clients(site: Site, count: int) -> Iterator[Entered]:
             number += 1
             enter(site, entered, f"C{place}x{number}")
 
-    threads = [beside(lambda place=place: client(place)) for place in range(count)]
+    threads = [beside(functools.partial(client, place)) for place in range(count)]
     try:
         yield entered
     finally:
