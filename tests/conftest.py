@@ -38,8 +38,9 @@ def pytest_addoption(parser: pytest.Parser) -> None:
 
 
 def pytest_configure(config: pytest.Config) -> None:
-    """Chooses what is drawn."""
+    """Chooses what is drawn, and names the mark of xdist, which may be missing."""
     settings.load_profile("long" if config.getoption("--long") else "gate")
+    config.addinivalue_line("markers", "xdist_group(name): one worker runs all of these, if there are several")
     if config.getoption("--launcher-lines"):
         os.environ[launcher.TRACE] = str(pathlib.Path(config.getoption("--launcher-lines")).resolve())
 

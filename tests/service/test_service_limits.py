@@ -8,25 +8,29 @@ import time
 import pytest
 
 from support.links import asking, joined, said, status
+from support.site import Site
+from support.trading import until
 
 # It counts what comes within a second.
 pytestmark = pytest.mark.xdist_group("alone")
 
-# As nginx.conf has them.
+# As nginx.conf has them, and how many more than an address may guess at once.
 AT_ONCE, BURST = 40, 200
+MORE = 20
 
 
 class Guesses:
     """The answers to guesses that come at once, more than an address may ask, and to another address meanwhile."""
 
-    def __init__(self, site) -> None:
-        links = [joined(site) for _ in range(AT_ONCE + 20)]
+    def __init__(self, site: Site) -> None:
+        links = [joined(site) for _ in range(AT_ONCE + MORE)]
         other = joined(site, "127.0.0.2")
         guess = asking(site, "/lists/ALPHA", "wrong")
         for link in links:
             link.sendall(guess)
-        # All of them have come by then, and none is answered yet.
-        time.sleep(0.4)
+        # A guess is answered after a second. Before that all have come, of which nginx's log has those refused.
+        log = site.folder / "log/error.log"
+        until(lambda: log.read_text().count("limiting connections") == MORE, seconds=0.8)
         begin = time.monotonic()
         other.sendall(asking(site, "/lists/ALPHA"))
         self.other = status(said(other))
@@ -40,7 +44,7 @@ def guesses(site) -> Guesses:
 
 
 def test_more_guesses_at_once_than_an_address_may_ask_are_refused(guesses):
-    assert collections.Counter(map(status, guesses.told)) == {401: AT_ONCE, 429: 20}
+    assert collections.Counter(map(status, guesses.told)) == {401: AT_ONCE, 429: MORE}
 
 
 def test_who_is_refused_is_told_when_to_come_again(guesses):
