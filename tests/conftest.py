@@ -53,7 +53,7 @@ def pytest_sessionfinish() -> None:
 
 
 def pytest_terminal_summary(terminalreporter: pytest.TerminalReporter, config: pytest.Config) -> None:
-    if config.getoption("--coverage"):
+    if config.getoption("--coverage") and not hasattr(config, "workerinput"):
         terminalreporter.write(covered.figures())
     trace = config.getoption("--launcher-lines")
     if trace and os.path.exists(trace):
