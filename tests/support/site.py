@@ -2,6 +2,7 @@
 from __future__ import annotations
 
 import http.client
+import os
 import pathlib
 import socket
 import ssl
@@ -12,7 +13,7 @@ from typing import NamedTuple
 
 import pytest
 
-from support.program import ROOT
+from support.program import ROOT, program_path
 
 NAME = "desk.example"
 
@@ -59,7 +60,8 @@ class Site:
         self.passwords: dict[str, str] = {}
         self.desks: dict[str, list[str]] = {}
         self.process = subprocess.Popen([ROOT / "tests/support/deployed", *words], stdin=subprocess.PIPE,
-                                        stdout=subprocess.PIPE, text=True, start_new_session=True)
+                                        stdout=subprocess.PIPE, text=True, start_new_session=True,
+                                        env=os.environ | {"MUNI_PROGRAM": str(program_path())})
         assert self.process.stdin and self.process.stdout
         self.life = self.process.stdin
         for line in self.process.stdout:
