@@ -85,9 +85,9 @@ def test_a_slow_answer_is_waited_for_and_that_is_said(ticket):
 
 
 def test_a_late_number_is_not_put_into_the_ticket_of_another_trade(ticket):
-    ticket.relay.delays["POST /trades"] = 0.7
     ticket.fill("ticket", reference="LATE1")
-    ticket.click("#ticket-enter")
-    ticket.fill("ticket", reference="LATE2")
+    with ticket.relay.holding("POST /trades"):
+        ticket.click("#ticket-enter")
+        ticket.fill("ticket", reference="LATE2")
     assert ticket.shows("ticket-told", "CONFIRMATION 1 of LATE1 is kept")
     assert ticket.ticket("reference", "number") == ("LATE2", "")

@@ -50,11 +50,10 @@ def test_a_quote_with_a_commission_beside_a_yield_says_that_it_goes_with_a_price
 
 def test_a_late_answer_is_not_shown_beside_another_ticket(page):
     page.fill("ticket", **TICKET)
-    page.relay.delays["POST /quotes"] = 0.7
-    page.click("#ticket-quote")
-    page.fill("ticket", par="26000")
+    with page.relay.holding("POST /quotes"):
+        page.click("#ticket-quote")
+        page.fill("ticket", par="26000")
     page.settle()
-    assert len(page.relay.sent("POST /quotes")) > 0
     assert page.figures() == {}
 
 

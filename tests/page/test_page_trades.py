@@ -27,9 +27,10 @@ def sold(page, reference: str) -> None:
 def test_a_second_press_while_a_trade_is_entered_sends_nothing(page):
     sent = len(page.relay.sent("POST /trades"))
     page.fill("ticket", **SALE | {"reference": "TWICE"})
-    page.relay.delays["POST /trades"] = 0.5
-    page.click("#ticket-enter")
-    assert "CONFIRMATION 1 of TWICE is kept" in page.press("ticket-enter")
+    with page.relay.holding("POST /trades"):
+        page.click("#ticket-enter")
+        page.click("#ticket-enter")
+    assert page.shows("ticket-told", "CONFIRMATION 1 of TWICE is kept")
     page.settle()
     assert len(page.relay.sent("POST /trades")) - sent == 1
 

@@ -1,12 +1,15 @@
 """What stands between a browser and a site: it hands requests on, and cuts, fakes or delays answers as it is told."""
 from __future__ import annotations
 
+import contextlib
 import socket
 import ssl
 import struct
 import threading
 import time
+from collections.abc import Iterator
 
+from support.program import PATIENCE
 from support.server import received
 from support.site import NAME, Site
 
@@ -16,7 +19,8 @@ class Relay:
 
     `seen` has each request as its line and its body. `rules` has pairs of the beginning of a line and what is done
     to the next answer to it: `pass` sends it, `cut` nothing of it, `half` a part of it, and any other text is
-    sent in its place. Each rule is used once. `delays` has seconds by the beginning of a line.
+    sent in its place. Each rule is used once. `delays` has seconds by the beginning of a line, and `holds` what is
+    waited for.
     """
 
     def __init__(self, site: Site) -> None:
@@ -24,6 +28,7 @@ class Relay:
         self.seen: list[tuple[str, str]] = []
         self.rules: list[tuple[str, str]] = []
         self.delays: dict[str, float] = {}
+        self.holds: dict[str, threading.Event] = {}
         self.own = ssl.SSLContext(ssl.PROTOCOL_TLS_SERVER)
         self.own.load_cert_chain(site.told["certificate"], site.folder / "etc/key.pem")
         self.door = socket.create_server(("127.0.0.1", 0), backlog=64)
@@ -56,6 +61,9 @@ class Relay:
                 line = head.split(b"\r\n")[0].decode()
                 self.seen.append((line, body.decode()))
                 time.sleep(next((each for begin, each in self.delays.items() if line.startswith(begin)), 0))
+                held = next((each for begin, each in self.holds.items() if line.startswith(begin)), None)
+                if held:
+                    held.wait(PATIENCE)
                 self.answer(client, line, self.asked(head, body))
         except OSError:
             pass
@@ -83,6 +91,16 @@ class Relay:
         # The end without a close of TLS or of TCP, as of a line that breaks.
         client.setsockopt(socket.SOL_SOCKET, socket.SO_LINGER, struct.pack("ii", 1, 0))
         socket.socket(fileno=client.detach()).close()
+
+    @contextlib.contextmanager
+    def holding(self, begin: str) -> Iterator[None]:
+        """Holds requests whose line begins so, until one of them has come and the `with` ends."""
+        before, self.holds[begin] = len(self.sent(begin)), threading.Event()
+        yield
+        end_by = time.monotonic() + PATIENCE
+        while len(self.sent(begin)) == before and time.monotonic() < end_by:
+            time.sleep(0.02)
+        self.holds.pop(begin).set()
 
     def sent(self, begin: str) -> list[str]:
         """The bodies of the requests whose line begins so."""
