@@ -22,7 +22,7 @@ import re
 SPAN = r"`([^`\n]+)`"
 SPANS = SPAN + r"(?:(?:, | and |, and )" + SPAN + r")*"
 NAME = re.compile(r"(?:\w+::)*\w+")
-FOLDERS = (".ci/", "bench/", "clients/", "conformance/", "crates/", "deploy/", "dist/", "docs/", "examples/", "stress/",
+FOLDERS = (".ci/", "bench/", "clients/", "conformance/", "crates/", "deploy/", "dist/", "docs/", "examples/",
            "tables/", "tests/", "web/")
 SUFFIXES = (".rt", ".antt")
 

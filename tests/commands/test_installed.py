@@ -129,17 +129,14 @@ def test_a_file_is_installed_as_it_is(spaced, file):
 @pytest.mark.parametrize("page", PAGES)
 def test_an_installed_page_names_the_installed_command(spaced, page):
     named = re.sub(rf"\./(muni ({COMMANDS}))", r"\1", (ROOT / page).read_text())
-    kept = [line for line in named.split("\n") if not re.match(r"\| `(tour|check|spread)` \|", line)]
-    if page != "examples/README.md":
-        kept = named.split("\n")
-    assert (spaced.prefix / "share/doc/muni" / page).read_text().split("\n") == kept
+    assert (spaced.prefix / "share/doc/muni" / page).read_text() == named
 
 
 def test_no_installed_page_says_the_script_and_nothing_that_tries_the_repository_is_there(spaced):
     folder = spaced.prefix / "share/doc/muni"
     assert [page for page in folder.rglob("*.md")
             if re.search(r"\./muni (quote|import|confirm|serve|positions|mark)", page.read_text())] == []
-    assert not (folder / "examples/tour").exists() and not (folder / "clients/python/test_muni.py").exists()
+    assert not (folder / "docs/pictures/make").exists() and not (folder / "tests").exists()
 
 
 def test_a_command_of_the_installed_readme_runs(spaced):
@@ -192,9 +189,7 @@ def test_the_unit_of_nginx_is_exposed_less_with_what_is_added(tmp_path):
     assert subprocess.run(exposed, env=here, capture_output=True).returncode == 1
 
 
-def test_the_texts_of_the_package_and_its_versions_are_those_of_the_repository():
-    told = subprocess.run([ROOT / ".ci/debian"], capture_output=True, text=True)
-    assert (told.returncode, told.stdout.strip()) == (0, "2 passed, 0 failed")
+def test_the_description_of_the_paths_has_the_version():
     assert re.search(r'^  version: "(.*)"$', (ROOT / "docs/openapi.yaml").read_text(), re.M)[1] == VERSION
 
 
