@@ -92,8 +92,8 @@ fn imported_with<'a, R: Threads + Sync>(
     failing: Failing<'a>,
     confirm: &'a str,
 ) -> Result<(Status, usize, bool), Fail> {
-    let failing = [failing, NONE_FAILS];
-    let (imported, asked) = ask_both(rt, alloc, failing, (words, ROWS), (confirm, b""))?;
+    let both = [failing, NONE_FAILS];
+    let (imported, asked) = ask_both(rt, alloc, both, (words, ROWS), (confirm, b""))?;
     let text = imported.output.bytes();
     if !REPORT.starts_with(text) || !(text.is_empty() || text.ends_with(b"\n")) {
         return Err("lines of the report")?;
@@ -263,8 +263,8 @@ fn first_wrong_end<R: Threads + Sync>(rt: &R, alloc: Global) -> Result<Option<us
             calls,
             ..NONE_FAILS
         };
-        let failing = [failing, NONE_FAILS];
-        let (outcome, again) = ask_both(rt, alloc, failing, (line, ROWS), (FIRST, b""))?;
+        let both = [failing, NONE_FAILS];
+        let (outcome, again) = ask_both(rt, alloc, both, (line, ROWS), (FIRST, b""))?;
         if [outcome.status, again.status] != [status, after] || !outcome.output.bytes().is_empty() {
             return Ok(Some(place));
         }
@@ -278,21 +278,16 @@ fn each_object_that_fails_has_its_status(rt: HostRuntime) -> Result<(), Fail> {
     Ok(())
 }
 
-// How a command over the tables of an import ends if a call of the keeper fails, and how many bytes it writes.
+// How a command over the tables of an import ends, and how many bytes it writes.
 fn ended_over<'a, R: Threads + Sync>(
     rt: &R,
     alloc: Global,
     words: &'a str,
     input: &'a [u8],
-    call: u64,
+    failing: Failing<'a>,
 ) -> Result<(Status, usize), Fail> {
-    let calls = [call];
-    let failing = Failing {
-        calls: &calls,
-        ..NONE_FAILS
-    };
-    let failing = [failing, NONE_FAILS];
-    let (_, outcome) = ask_both(rt, alloc, failing, (IMPORT, ROWS), (words, input))?;
+    let both = [failing, NONE_FAILS];
+    let (_, outcome) = ask_both(rt, alloc, both, (IMPORT, ROWS), (words, input))?;
     Ok((outcome.status, outcome.output.bytes().len()))
 }
 
@@ -306,7 +301,11 @@ fn a_look_up_that_fails_is_not_tried_again(rt: HostRuntime) -> Result<(), Fail> 
         (MARK, MARKS, CALLS, (Status::StoreFault, 0)),
         (MARK, MARKS, CALLS + 1, (Status::Done, 64)),
     ] {
-        let found = ended_over(&rt, rt.alloc(), words, input, call)?;
+        let failing = Failing {
+            calls: &[call],
+            ..NONE_FAILS
+        };
+        let found = ended_over(&rt, rt.alloc(), words, input, failing)?;
         assert_eq!(rt; found, wanted, "{words}: call {call}");
     }
     Ok(())
