@@ -325,6 +325,9 @@ def test_a_fresh_copy_knows_whether_its_sources_are_those_of_the_program(fresh, 
     check(fresh.run(*QUOTE), 0, "100.235")
     with source.open("a") as text:
         text.write("// another\n")
+    # Times of files are told apart by some milliseconds, which a price may take.
+    later = time.time() + 1
+    os.utime(source, (later, later))
     check(fresh.run(*QUOTE), 1, "", "muni: the program is not of these sources, and rt, *")
     check(fresh.run("qoute"), 2, "", "muni: status 2: *'qoute' is no command*")
     said = fresh.run("--help")
