@@ -11,7 +11,7 @@ from hypothesis import HealthCheck, settings
 from support import covered, launcher
 from support.program import Program, program_path
 from support.rules import RULES
-from support.server import Server
+from support.server import MOST, Server
 from support.stores import KINDS, Store
 
 # Before a test imports the client.
@@ -78,7 +78,7 @@ def serve(muni: Program) -> Iterator[Callable[..., Server]]:
     """Starts servers, which end with the test."""
     servers: list[Server] = []
 
-    def start(store: Store, connections: int | None = None) -> Server:
+    def start(store: Store, connections: int = MOST) -> Server:
         servers.append(Server(muni, store.name, connections))
         return servers[-1]
 

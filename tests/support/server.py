@@ -9,6 +9,10 @@ import time
 from support.program import PATIENCE, Program
 
 
+# The most connections that a server takes.
+MOST = 1_000_000
+
+
 def free_port() -> int:
     """A port of the loopback that was free a moment ago."""
     with socket.socket() as probe:
@@ -63,16 +67,16 @@ def received(link: socket.socket) -> bytes:
 class Server:
     """`serve` over a store, at a port that was free. It is killed with the `with` if it did not end."""
 
-    def __init__(self, program: Program, store: str, connections: int | None = None, workers: int = 2) -> None:
+    def __init__(self, program: Program, store: str, connections: int = MOST, workers: int = 2) -> None:
         self.program = program
         self.port = free_port()
         self.process = self.beside(store, connections, workers)
         self.is_new = True
 
-    def beside(self, store: str, connections: int | None = None, workers: int = 2) -> subprocess.Popen[bytes]:
+    def beside(self, store: str, connections: int = MOST, workers: int = 2) -> subprocess.Popen[bytes]:
         """Another server at the same port."""
-        limit = [] if connections is None else [f"--connections={connections}"]
-        return self.program.start("serve", f"--store={store}", f"--port={self.port}", f"--workers={workers}", *limit)
+        return self.program.start("serve", f"--store={store}", f"--port={self.port}", f"--workers={workers}",
+                                  f"--connections={connections}")
 
     def __enter__(self) -> Server:
         return self
