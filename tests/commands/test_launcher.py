@@ -3,6 +3,7 @@ from __future__ import annotations
 
 import os
 import pathlib
+import shutil
 import subprocess
 
 import pytest
@@ -239,13 +240,17 @@ def unprivileged() -> dict[str, object]:
 
 @pytest.mark.parametrize(("mode", "why"), [(0o000, "* may not be read"), (0o444, "* may not be written")])
 def test_a_store_without_leave_is_told_of(muni, mode, why):
-    # The folder is in none of root's alone.
+    # The folder is in none of root's alone, as the one of the repository may be.
     folder = pathlib.Path(subprocess.run(["mktemp", "-d"], capture_output=True, text=True, check=True).stdout.strip())
-    folder.chmod(0o777)
     try:
+        shutil.copytree(ROOT / "launcher", folder / "launcher")
+        for path in (ROOT / "muni", ROOT / "VERSION", muni.path):
+            shutil.copy(path, folder / ("program" if path == muni.path else path.name))
+        subprocess.run(["chmod", "-R", "a+rwX", folder], check=True)
         (folder / "closed").write_text("a text that is no database\n")
         (folder / "closed").chmod(mode)
-        check(MUNI.run("import", "--store=closed", folder=folder, changes={TRACE: None}, **unprivileged()), 6, "",
+        copy = Launcher(folder / "muni", {"MUNI_PROGRAM": str(folder / "program"), TRACE: None})
+        check(copy.run("import", "--store=closed", folder=folder, **unprivileged()), 6, "",
               f"muni: status 6: the store failed: {why}")
     finally:
         subprocess.run(["rm", "-rf", folder])
