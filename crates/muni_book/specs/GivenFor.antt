@@ -43,6 +43,6 @@ pub record IsAskable (row : IssueRow) (asked : Asked) (list : List Candidate) : 
   pub settled : settles row asked.settle ≡ true
   pub candidates : All IsCandidate list
   pub some : 0 < length list
-  pub few : length list ≤ 41
+  pub few : length list ≤ 100
   pub basis : IsOnBasis asked.given asked.fee list
   pub in_range : IsInRange asked.given asked.side asked.fee list

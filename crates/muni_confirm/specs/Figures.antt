@@ -3,8 +3,8 @@ use Rattle.std.specs.Prelude.{ℕ, nat_lt, if◌then◌else◌, List, [], ◌∷
 use Rattle.std.specs.Fmt.{signed_decimal}
 use Rattle.muni_dec.specs.Decimal.{decimal_text, signed_text}
 use Rattle.muni_days.specs.Day.{civil, day_text}
-use Rattle.muni_terms.specs.declared.disclosure.Label.{Label}
-use Rattle.muni_terms.specs.declared.disclosure.Label.TheVariants.{Maturity, ParOption, Call}
+use Rattle.muni_rule.specs.declared.label.Label.{Label}
+use Rattle.muni_rule.specs.declared.label.Label.TheVariants.{Maturity, ParOption, Call, Called}
 use Rattle.muni_msg.specs.declared.asked.Given.{Given}
 use Rattle.muni_msg.specs.declared.asked.Given.TheVariants.{AtYield, AtPrice, AtRate}
 use Rattle.muni_msg.specs.declared.figures.Figures.{Figures}
@@ -40,6 +40,7 @@ abbrev pub label_text : Label → List ℕ
 label_text Maturity = codes "MATURITY"
 label_text ParOption = codes "PAR OPTION"
 label_text Call = codes "CALL"
+label_text Called = codes "CALLED"
 
 -- the disclosed redemption: its date, its price and which one it is
 unfoldable pub redemption_line : Figures → List ℕ

@@ -6,7 +6,7 @@ use Rattle.muni_terms.specs.Fault.{fault_number}
 use Rattle.muni_terms.specs.declared.disclosure.Boundary.{Boundary}
 use Rattle.muni_terms.specs.declared.disclosure.Boundary.TheVariants.{Price, Yield}
 use Rattle.muni_terms.specs.declared.row.TermsFault.{TermsFault}
-use Rattle.muni_terms.specs.declared.row.TermsFault.TheVariants.{BadCusip, BadOrder, BadDay, BadCoupon, FirstTooLong, CallOffCalendar, CallsNotRising, BadCallPrice, TooLong, BadName, BadBasis}
+use Rattle.muni_terms.specs.declared.row.TermsFault.TheVariants.{BadCusip, BadOrder, BadDay, BadCoupon, FirstTooLong, CallOffCalendar, CallsNotRising, BadCallPrice, TooLong, BadName, BadBasis, CalledNotLast}
 use Rattle.muni_msg.specs.Refusal.{number_of, name_of}
 use Rattle.muni_msg.specs.declared.version.Kept.{Kept}
 use Rattle.muni_msg.specs.declared.version.Kept.TheVariants.{Issue, Version}
@@ -31,6 +31,7 @@ fault_day FirstTooLong = []
 fault_day (CallOffCalendar date) = day_text (civil date) ∷ []
 fault_day (CallsNotRising date) = day_text (civil date) ∷ []
 fault_day (BadCallPrice date) = day_text (civil date) ∷ []
+fault_day (CalledNotLast date) = day_text (civil date) ∷ []
 fault_day TooLong = []
 fault_day BadName = []
 fault_day BadBasis = []

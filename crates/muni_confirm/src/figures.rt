@@ -37,6 +37,7 @@ fn label(label: &Label) -> &'static [u8]
         Label::Maturity => b"MATURITY",
         Label::ParOption => b"PAR OPTION",
         Label::Call => b"CALL",
+        Label::Called => b"CALLED",
     }
 }
 

@@ -198,7 +198,8 @@ fn fault_day_fits(fault: &TermsFault)
     match fault {
         TermsFault::CallOffCalendar { date }
         | TermsFault::CallsNotRising { date }
-        | TermsFault::BadCallPrice { date } => day_fits(date),
+        | TermsFault::BadCallPrice { date }
+        | TermsFault::CalledNotLast { date } => day_fits(date),
         _ => {}
     }
 }

@@ -44,7 +44,8 @@ fn push_fault_day(text: &mut ArrayVec<u8, 128>, fault: &TermsFault)
     match fault {
         TermsFault::CallOffCalendar { date }
         | TermsFault::CallsNotRising { date }
-        | TermsFault::BadCallPrice { date } => push_day(text, date),
+        | TermsFault::BadCallPrice { date }
+        | TermsFault::CalledNotLast { date } => push_day(text, date),
         _ => {}
     }
 }

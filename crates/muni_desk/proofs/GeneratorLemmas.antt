@@ -4,13 +4,13 @@ use native.Mathlib.Numerals.{add_seven}
 use Rattle.std.proofs.lemmas.Int.{ints}
 use Rattle.std.proofs.lemmas.List.FromFn.{filter_of_map_range_with_len_more}
 use Rattle.muni_rule.specs.Civil.{Civil, is_before, month_index, months_on}
-use Rattle.muni_rule.specs.Redemptions.{Redemption}
+use Rattle.muni_rule.specs.Redemptions.{CallEntry}
 use Rattle.muni_days.proofs.DayLemmas.{same_date}
 use Rattle.muni_days.proofs.EarlyLemmas.{IsEarly}
+use Rattle.muni_terms.specs.Issue.{entry_of}
 use Rattle.muni_terms.specs.declared.row.Call.{Call}
 use Rattle.muni_terms.specs.declared.row.IssueRow.{IssueRow}
 use Rattle.muni_terms.specs.declared.row.Kind.TheVariants.{Periodic}
-use Rattle.muni_sched.specs.Candidates.{call_redemption}
 use Rattle.muni_msg.specs.declared.asked.Asked.{Asked}
 use Rattle.muni_desk.specs.Generator.{next_state, state_after, day_in_2020, interest_date, call_at, if_before, calls_before, IsGenerated, IsGeneratedRow, IsGeneratedAsked}
 use Rattle.muni_desk.specs.declared.request.QuoteRequest.{QuoteRequest}
@@ -35,18 +35,19 @@ pub one-draw : (seed draws now next : ℕ) → now ≡ state_after seed draws �
 one-draw seed draws now next so_far more = more ∙ ap next_state so_far ∙ ap (state_after seed) (sym (add-one draws))
 
 -- ---- one request is generated
-calls-same : (calls others : List Call) → map call_redemption calls ≡ map call_redemption others → calls ≡ others
+calls-same : (calls others : List Call) → map entry_of calls ≡ map entry_of others → calls ≡ others
 calls-same [] [] same = refl
-calls-same [] (other ∷ others) same = absurd (let never : [] ≡ call_redemption other ∷ map call_redemption others = same in cc)
-calls-same (call ∷ calls) [] same = absurd (let never : call_redemption call ∷ map call_redemption calls ≡ [] = same in cc)
+calls-same [] (other ∷ others) same = absurd (let never : [] ≡ entry_of other ∷ map entry_of others = same in cc)
+calls-same (call ∷ calls) [] same = absurd (let never : entry_of call ∷ map entry_of calls ≡ [] = same in cc)
 calls-same (call ∷ calls) (other ∷ others) same =
-    let all : call_redemption call ∷ map call_redemption calls ≡ call_redemption other ∷ map call_redemption others = same in
-    let here : call_redemption call ≡ call_redemption other = cc in
-    let behind : map call_redemption calls ≡ map call_redemption others = cc in
-    let date : call.date ≡ other.date = same_date call.date other.date (ap (λ (r : Redemption). r.date) here) in
-    let price : call.price ≡ other.price = ap (λ (r : Redemption). r.price) here in
+    let all : entry_of call ∷ map entry_of calls ≡ entry_of other ∷ map entry_of others = same in
+    let here : entry_of call ≡ entry_of other = cc in
+    let behind : map entry_of calls ≡ map entry_of others = cc in
+    let date : call.date ≡ other.date = same_date call.date other.date (ap (λ (r : CallEntry). r.date) here) in
+    let price : call.price ≡ other.price = ap (λ (r : CallEntry). r.price) here in
+    let term : call.term ≡ other.term = ap (λ (r : CallEntry). r.term) here in
     let rest : calls ≡ others = calls-same calls others behind in
-    λ i. record { date = date i; price = price i } ∷ rest i
+    λ i. record { date = date i; price = price i; term = term i } ∷ rest i
 
 row-unique : (x1 x2 x3 : ℕ) (row other : IssueRow) → IsGeneratedRow x1 x2 x3 row → IsGeneratedRow x1 x2 x3 other → row ≡ other
 row-unique x1 x2 x3 row other is also =

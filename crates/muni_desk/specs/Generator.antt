@@ -2,13 +2,14 @@
 use Rattle.std.specs.Prelude.{◌≡◌, ℕ, zero, suc, ◌+◌, ◌-◌, ◌*◌, ◌/◌, ◌%◌, ◌^◌, max, cond, List, [], ◌∷◌, map, filter, codes, pos}
 use Rattle.std.specs.List.{range_with_len}
 use Rattle.muni_rule.specs.Civil.{Civil, is_before, months_on}
-use Rattle.muni_rule.specs.Redemptions.{Redemption, par_price}
+use Rattle.muni_rule.specs.Redemptions.{CallEntry, par_price}
 use Rattle.muni_rule.specs.declared.basis.Basis.TheVariants.{Thirty360}
+use Rattle.muni_rule.specs.declared.call_term.CallTerm.TheVariants.{OnDay}
 use Rattle.muni_days.specs.Day.{civil}
 use Rattle.muni_days.specs.declared.day.Day.{Day}
+use Rattle.muni_terms.specs.Issue.{entry_of}
 use Rattle.muni_terms.specs.declared.row.IssueRow.{IssueRow}
 use Rattle.muni_terms.specs.declared.row.Kind.TheVariants.{Periodic}
-use Rattle.muni_sched.specs.Candidates.{call_redemption}
 use Rattle.muni_msg.specs.declared.asked.Asked.{Asked}
 use Rattle.muni_msg.specs.declared.asked.Given.TheVariants.{AtPrice}
 use Rattle.muni_msg.specs.declared.asked.Side.TheVariants.{Buy}
@@ -41,18 +42,19 @@ interest_date half_years = months_on (day_in_2020 7 1) (pos (6 * half_years))
 
 -- The calls at their places from 0 on: the first is a year after the first interest date, and each other
 -- half a year after the one before it. They begin at 102 dollars, and fall by a quarter each, down to 100.
-abbrev pub call_at : ℕ → Redemption
+abbrev pub call_at : ℕ → CallEntry
 call_at place = record {
   date = interest_date (2 + place);
   price = max (102_000_000 - 250_000 * place) par_price;
+  term = OnDay;
 }
 
 -- a call, if it is before maturity
-abbrev pub if_before : Civil → Redemption → List Redemption
+abbrev pub if_before : Civil → CallEntry → List CallEntry
 if_before maturity call = cond (is_before call.date maturity) (call ∷ []) []
 
 -- those of the first so many calls that are before maturity
-unfoldable pub calls_before : Civil → ℕ → List Redemption
+unfoldable pub calls_before : Civil → ℕ → List CallEntry
 calls_before maturity count =
     filter (λ call. is_before call.date maturity) (map call_at (range_with_len 0 count))
 
@@ -68,7 +70,7 @@ pub record IsGeneratedRow (x1 x2 x3 : ℕ) (row : IssueRow) : Type 0 where
   pub dated : civil row.dated ≡ day_in_2020 1 1
   pub maturity : civil row.maturity ≡ interest_date (1 + x1 % 60)
   pub coupon : row.coupon ≡ 10_000_000 + 1_250_000 * (x2 % 49)
-  pub calls : map call_redemption row.calls.items
+  pub calls : map entry_of row.calls.items
       ≡ calls_before (interest_date (1 + x1 % 60)) (x3 % 41)
 
 -- The trade of four draws: it is bought at a price from 90 to 120 dollars, without a commission, and

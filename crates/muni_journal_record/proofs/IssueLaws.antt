@@ -1,10 +1,12 @@
 -- An issue that was written is read.
-use Rattle.std.proofs.Common.{◌≡◌, true, ℕ, ◌≤◌, Some, List, [], ◌∷◌, ◌++◌, length, refl, arith, length-append, append_assoc}
+use Rattle.std.proofs.Common.{◌≡◌, ◌==◌, ◌||◌, Bool, true, false, not, ℕ, ◌+◌, ◌≤◌, Some, sym, ap, List, [], ◌∷◌, ◌++◌, length, refl, arith, length-append, append_assoc}
 use Rattle.std.specs.Prelude.{nat_le}
-use Rattle.std.specs.List.{flat_map, All, AllByRecursion}
+use Rattle.std.specs.List.{flat_map, list_any, All, AllByRecursion}
 use Rattle.std.proofs.lemmas.Bool.Decides.{nat_tests}
 use Rattle.std.proofs.lemmas.List.{take_at, drop_at}
 use Rattle.std.proofs.lemmas.List.Elements.{recursion_from_All}
+use Rattle.muni_rule.specs.declared.call_term.CallTerm.{CallTerm}
+use Rattle.muni_rule.specs.declared.call_term.CallTerm.TheVariants.{OnDay, OnOrAfter, Called}
 use Rattle.muni_terms.specs.declared.row.Call.{Call}
 use Rattle.muni_terms.specs.declared.row.Kind.{Kind}
 use Rattle.muni_terms.specs.declared.row.Kind.TheVariants.{Periodic, Zero, AtRedemption, Discount}
@@ -12,36 +14,83 @@ use Rattle.muni_terms.specs.declared.row.IssueRow.{IssueRow}
 use Rattle.muni_msg.specs.Codes.{basis_code, kind_code}
 use Rattle.muni_journal_record.specs.Words.{four, front}
 use Rattle.muni_journal_record.specs.Fields.{day_bytes, text_bytes}
-use Rattle.muni_journal_record.specs.IssueBody.{first_bytes, first_size, kind_of, call_bytes, call_of, calls_of, name_of, few_calls_of, row_bytes, row_of, issue_of, CallFits, IssueFits}
+use Rattle.muni_journal_record.specs.IssueBody.{first_bytes, first_size, kind_of, term_code, term_of_code, is_marked, has_mark, mark_bytes, term_of, call_bytes, call_size, call_of, calls_of, name_of, few_calls_of, row_bytes, row_of, issue_of, CallFits, IssueFits}
 use Rattle.muni_journal_record.proofs.WordLaws.{front_back, length-four, four_is, length-day, four_back, amount_back, basis_back, day_is, day_back, text_back}
 
+-- marks
+term_back : (term : CallTerm) → term_of_code (term_code term) ≡ Some term
+term_back OnDay = refl
+term_back OnOrAfter = refl
+term_back Called = refl
+
+term-plain : (term : CallTerm) → not (term_code term == 0) ≡ false → term ≡ OnDay
+term-plain OnDay plain = refl
+term-plain OnOrAfter plain = absurd (cc)
+term-plain Called plain = absurd (cc)
+
+-- the term of a call can be read again
+abbrev IsWritten : Bool → Call → Type 0
+IsWritten marked call = term_of (mark_bytes marked call.term) ≡ Some call.term
+
+written : (marked : Bool) (call : Call) → (marked ≡ false → is_marked call ≡ false) → IsWritten marked call
+written true call plain = term_back call.term
+written false call plain = ap Some (sym (term-plain call.term (plain refl)))
+
 -- calls
-call_is : (call : Call) → CallFits call → call_of (call_bytes call) ≡ Some call
+call_is : (marked : Bool) (call : Call) → CallFits call → IsWritten marked call → call_of (call_bytes marked call) ≡ Some call
 unfolding call_of
-call_is call fits =
+call_is marked call fits is =
     let day = day_bytes call.date in
+    let mark = mark_bytes marked call.term in
     rw (
-      take_at day (four call.price) 4 (length-day call.date),
-      drop_at day (four call.price) 4 (length-day call.date),
+      take_at day (four call.price ++ mark) 4 (length-day call.date),
+      drop_at day (four call.price ++ mark) 4 (length-day call.date),
       day_is call.date,
+      take_at (four call.price) mark 4 (length-four call.price),
+      drop_at (four call.price) mark 4 (length-four call.price),
       four_is call.price (omega (arith, fits.price.1)),
       amount_back 0 999_999_999 call.price fits.price,
+      is,
     ) refl
 
-length-call : (call : Call) → length (call_bytes call) ≡ 8
-length-call call = omega (arith, length-append (day_bytes call.date) (four call.price), length-day call.date, length-four call.price)
+length-mark : (marked : Bool) (term : CallTerm) → 8 + length (mark_bytes marked term) ≡ call_size marked
+length-mark true term = refl
+length-mark false term = refl
 
-calls_back : (calls : List Call) → AllByRecursion CallFits calls → calls_of (length calls) (flat_map call_bytes calls) ≡ Some calls
-calls_back [] fit = refl
-calls_back (call ∷ calls) fit =
-    let piece = call_bytes call in
-    let there : front 8 (piece ++ flat_map call_bytes calls) ≡ Some (piece, flat_map call_bytes calls) = front_back 8 piece (flat_map call_bytes calls) (length-call call) in
-    rw (there, call_is call fit.0, calls_back calls fit.1) refl
+length-call : (marked : Bool) (call : Call) → length (call_bytes marked call) ≡ call_size marked
+length-call marked call =
+    let mark = mark_bytes marked call.term in
+    omega (arith, length-append (day_bytes call.date) (four call.price ++ mark), length-append (four call.price) mark, length-day call.date, length-four call.price, length-mark marked call.term)
 
-few_calls_back : (calls : List Call) → length calls ≤ 40 → All CallFits calls → few_calls_of (length calls) (flat_map call_bytes calls) ≡ Some calls
+calls_back : (marked : Bool) (calls : List Call) → AllByRecursion CallFits calls → AllByRecursion (IsWritten marked) calls → calls_of marked (length calls) (flat_map (call_bytes marked) calls) ≡ Some calls
+calls_back marked [] fit are = refl
+calls_back marked (call ∷ calls) fit are =
+    let piece = call_bytes marked call in
+    let rest = flat_map (call_bytes marked) calls in
+    let there : front (call_size marked) (piece ++ rest) ≡ Some (piece, rest) = front_back (call_size marked) piece rest (length-call marked call) in
+    rw (there, call_is marked call fit.0 are.0, calls_back marked calls fit.1 are.1) refl
+
+-- the marks are written, or left out if no call has one
+all-marked : (calls : List Call) → AllByRecursion (IsWritten true) calls
+all-marked [] = tt
+all-marked (call ∷ calls) = (term_back call.term, all-marked calls)
+
+neither-true : (test other : Bool) → test || other ≡ false → (test ≡ false) × (other ≡ false)
+neither-true true other is = absurd (cc)
+neither-true false other is = (refl, is)
+
+all-written : (marked : Bool) (calls : List Call) → list_any is_marked calls ≡ marked → AllByRecursion (IsWritten marked) calls
+all-written marked [] is = tt
+all-written true (call ∷ calls) is = all-marked (call ∷ calls)
+all-written false (call ∷ calls) is =
+    let parts = neither-true (is_marked call) (list_any is_marked calls) is in
+    (written false call (λ same. parts.0), all-written false calls parts.1)
+
+few_calls_back : (calls : List Call) → length calls ≤ 40 → All CallFits calls → few_calls_of (list_any is_marked calls) (length calls) (flat_map (call_bytes (list_any is_marked calls)) calls) ≡ Some calls
 few_calls_back calls few fit =
+    let marked = list_any is_marked calls in
     let test : nat_le (length calls) 40 ≡ true = grind (arith, nat_tests, few) in
-    rw (test, calls_back calls (recursion_from_All CallFits calls fit)) refl
+    rw (test, calls_back marked calls (recursion_from_All CallFits calls fit) (all-written marked calls refl)) refl
 
 -- the kind, with the first interest date of a periodic issue
 first_back : (kind : Kind) (rest : List ℕ) → front (first_size (kind_code kind)) (first_bytes kind ++ rest) ≡ Some (first_bytes kind, rest)
@@ -60,17 +109,17 @@ kind_back Discount = refl
 name_back : (name : List ℕ) → length name ≤ 60 → name_of name ≡ Some name
 name_back name short = let test : nat_le (length name) 60 ≡ true = grind (arith, nat_tests, short) in rw test refl
 
-row_back : (row : IssueRow) → IssueFits row → row_of (row_bytes row) ≡ Some row
+row_back : (row : IssueRow) → IssueFits row → row_of (has_mark row) (row_bytes (has_mark row) row) ≡ Some row
 unfolding row_of
 row_back row fits =
-    let calls = flat_map call_bytes row.calls.items in
+    let calls = flat_map (call_bytes (has_mark row)) row.calls.items in
     let count = length row.calls.items ∷ calls in
     let coupon = four row.coupon ++ count in
     let maturity = day_bytes row.maturity ++ coupon in
     let first = first_bytes row.kind ++ maturity in
     let dated = day_bytes row.dated ++ first in
     let codes = kind_code row.kind ∷ (basis_code row.basis ∷ dated) in
-    let grouped : row_bytes row ≡ row.cusip ++ (text_bytes row.name.items ++ codes) = simp append_assoc in
+    let grouped : row_bytes (has_mark row) row ≡ row.cusip ++ (text_bytes row.name.items ++ codes) = simp append_assoc in
     rw (
       grouped,
       front_back 9 row.cusip (text_bytes row.name.items ++ codes) fits.cusip,
@@ -88,5 +137,5 @@ row_back row fits =
       few_calls_back row.calls.items fits.few fits.calls,
     ) refl
 
-pub issue_back : (row : IssueRow) → IssueFits row → issue_of (row_bytes row) ≡ Some row
+pub issue_back : (row : IssueRow) → IssueFits row → issue_of (has_mark row) (row_bytes (has_mark row) row) ≡ Some row
 issue_back row fits = rw (row_back row fits, fits.passed) refl

@@ -13,8 +13,8 @@ use Rattle.muni_dec.specs.Values.{if_amount, if_percent, if_printed_yield}
 use Rattle.muni_days.specs.Day.{civil, if_day}
 use Rattle.muni_days.specs.declared.day.Day.{Day}
 use Rattle.muni_days.proofs.DayLemmas.{day_found}
-use Rattle.muni_terms.specs.declared.disclosure.Label.{Label}
-use Rattle.muni_terms.specs.declared.disclosure.Label.TheVariants.{Maturity, ParOption, Call}
+use Rattle.muni_rule.specs.declared.label.Label.{Label}
+use Rattle.muni_rule.specs.declared.label.Label.TheVariants.{Maturity, ParOption, Call, Called}
 use Rattle.muni_msg.specs.declared.asked.Side.{Side}
 use Rattle.muni_msg.specs.declared.asked.Side.TheVariants.{Buy, Sell}
 use Rattle.muni_msg.specs.declared.version.Act.{Act}
@@ -101,6 +101,7 @@ pub label_back : (label : Label) → label_of_code (label_code label) ≡ Some l
 label_back Maturity = refl
 label_back ParOption = refl
 label_back Call = refl
+label_back Called = refl
 
 pub basis_back : (basis : Basis) → basis_of_code (basis_code basis) ≡ Some basis
 basis_back Thirty360 = refl

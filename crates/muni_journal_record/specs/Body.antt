@@ -1,23 +1,25 @@
 -- The body of a record, both ways.
-use Rattle.std.specs.Prelude.{ℕ, ◌==◌, nat_eq, List, [], ◌∷◌, Option, Some, None, if◌then◌else◌}
+use Rattle.std.specs.Prelude.{ℕ, ◌==◌, true, false, nat_eq, List, [], ◌∷◌, Option, Some, None, if◌then◌else◌}
 use Rattle.std.specs.Option.{option_map, option_and_then}
 use Rattle.std.specs.Cmp.Lexicographic.{pointwise}
-use Rattle.muni_journal_record.specs.IssueBody.{row_bytes, issue_of, IssueFits}
+use Rattle.muni_journal_record.specs.IssueBody.{row_bytes, has_mark, issue_of, IssueFits}
 use Rattle.muni_journal_record.specs.VersionBody.{version_bytes, version_of, VersionFits}
 use Rattle.muni_journal_record.specs.declared.put.Put.{Put}
 use Rattle.muni_journal_record.specs.declared.put.Put.TheVariants.{Issue, Version}
 
--- the body of a put: the byte 1 and an issue, or the byte 2 and a version
+-- the body of a put: the byte 1 and an issue, or the byte 3 and an issue with the marks of its calls if one
+-- has a mark, or the byte 2 and a version
 unfoldable pub body_of : Put → List ℕ
-body_of (Issue row) = 1 ∷ row_bytes row
+body_of (Issue row) = (if has_mark row then 3 else 1) ∷ row_bytes (has_mark row) row
 body_of (Version key number version) = 2 ∷ version_bytes key number version
 
 -- what bytes are read as, whatever follows
 abbrev pub begun_of : List ℕ → Option Put
 begun_of [] = None
 begun_of (kind ∷ rest) =
-    if kind == 1 then option_map Issue (issue_of rest)
-    else (if kind == 2 then version_of rest else None)
+    if kind == 1 then option_map Issue (issue_of false rest)
+    else (if kind == 2 then version_of rest
+    else (if kind == 3 then option_map Issue (issue_of true rest) else None))
 
 -- a put, if the bytes are its body
 abbrev pub if_body : List ℕ → Put → Option Put

@@ -6,7 +6,7 @@ ghost use Rattle.arrayvec.specs.ArrayVec.{array_vec_len};
 ghost use Rattle.muni_journal_record.specs.Body as spec;
 
 use crate::fields::{Body, push_byte};
-use crate::issue_body::{issue_of, push_issue};
+use crate::issue_body::{has_mark, issue_of, push_issue};
 use crate::put::Put;
 use crate::version_body::{push_version, version_of};
 use arrayvec::ArrayVec;
@@ -15,14 +15,15 @@ use arrayvec::ArrayVec;
 #[tactic(auto, unfolding(crate::specs::Body::body_of))]
 pub fn body_of(put: &Put) -> Body
     ensures items { result.items ≡ spec.body_of put.now }
-    ensures len { (1 ≤ array_vec_len result) × (array_vec_len result ≤ 410) }
+    ensures len { (1 ≤ array_vec_len result) × (array_vec_len result ≤ 450) }
     ensures fits { spec.PutFits put.now }
 {
     let mut body = ArrayVec::new();
     match put {
         Put::Issue(issue) => {
-            push_byte(&mut body, 1);
-            push_issue(&mut body, issue);
+            let marked = has_mark(issue);
+            push_byte(&mut body, if marked { 3 } else { 1 });
+            push_issue(&mut body, issue, marked);
         }
         Put::Version {
             key,
@@ -40,8 +41,9 @@ fn begun_of(bytes: &[u8]) -> Option<Put>
     ensures { result ≡ spec.begun_of bytes.now }
 {
     match bytes {
-        [1, rest @ ..] => Some(Put::Issue(issue_of(rest)?)),
+        [1, rest @ ..] => Some(Put::Issue(issue_of(rest, false)?)),
         [2, rest @ ..] => version_of(rest),
+        [3, rest @ ..] => Some(Put::Issue(issue_of(rest, true)?)),
         _ => None,
     }
 }

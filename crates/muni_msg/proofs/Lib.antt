@@ -2,3 +2,4 @@ pub mod AskedLemmas
 pub mod BlankLemmas
 pub mod CallLemmas
 pub mod KeyLemmas
+pub mod MarkLemmas

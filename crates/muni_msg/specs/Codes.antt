@@ -3,8 +3,8 @@ use Rattle.std.specs.Prelude.{ℕ, zero, suc, ℤ, pos, negsuc, Option, Some, No
 use Rattle.muni_rule.specs.declared.basis.Basis.{Basis}
 use Rattle.muni_rule.specs.declared.basis.Basis.TheVariants.{Thirty360, Actual365}
 use Rattle.muni_dec.specs.Values.{if_price, if_yield}
-use Rattle.muni_terms.specs.declared.disclosure.Label.{Label}
-use Rattle.muni_terms.specs.declared.disclosure.Label.TheVariants.{Maturity, ParOption, Call}
+use Rattle.muni_rule.specs.declared.label.Label.{Label}
+use Rattle.muni_rule.specs.declared.label.Label.TheVariants.{Maturity, ParOption, Call, Called}
 use Rattle.muni_terms.specs.declared.row.Kind.{Kind}
 use Rattle.muni_terms.specs.declared.row.Kind.TheVariants.{Periodic, Zero, AtRedemption, Discount}
 use Rattle.muni_msg.specs.declared.asked.Given.{Given}
@@ -41,12 +41,14 @@ abbrev pub label_code : Label → ℕ
 label_code Maturity = 0
 label_code ParOption = 1
 label_code Call = 2
+label_code Called = 3
 
 abbrev pub label_of_code : ℕ → Option Label
 label_of_code zero = Some Maturity
 label_of_code (suc zero) = Some ParOption
 label_of_code (suc (suc zero)) = Some Call
-label_of_code (suc (suc (suc more))) = None
+label_of_code (suc (suc (suc zero))) = Some Called
+label_of_code (suc (suc (suc (suc more)))) = None
 
 -- day count bases
 abbrev pub basis_code : Basis → ℕ

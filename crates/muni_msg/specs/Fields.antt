@@ -1,10 +1,13 @@
 -- The texts that name a kind of security, a day count basis, a call, a side and what is given, in words,
 -- rows and messages.
-use Rattle.std.specs.Prelude.{ℕ, ◌+◌, ◌==◌, if◌then◌else◌, List, length, take, drop, position, codes, Option, Some, None, option_map, option_and_then}
+use Rattle.std.specs.Prelude.{ℕ, ◌+◌, ◌-◌, ◌==◌, if◌then◌else◌, List, length, take, drop, position, codes, Option, Some, None, option_map, option_and_then}
+use Rattle.std.specs.List.{last_or}
 use Rattle.std.specs.Result.{result_ok}
 use Rattle.std.specs.Str.{bytes_eq}
 use Rattle.muni_rule.specs.declared.basis.Basis.{Basis}
 use Rattle.muni_rule.specs.declared.basis.Basis.TheVariants.{Thirty360, Actual365}
+use Rattle.muni_rule.specs.declared.call_term.CallTerm.{CallTerm}
+use Rattle.muni_rule.specs.declared.call_term.CallTerm.TheVariants.{OnDay, OnOrAfter, Called}
 use Rattle.muni_dec.specs.Digits.{number_reading}
 use Rattle.muni_dec.specs.Values.{price_reading, yield_reading, fee_reading}
 use Rattle.muni_days.specs.Day.{day_reading}
@@ -39,14 +42,29 @@ kind_reading text (Some first) =
     else None
 kind_reading text None = plain_kind text
 
+-- a text without its mark, and on which days a call with the mark stands: `+` is 43 and `!` 33
+abbrev pub split_by : Option ℕ → List ℕ → List ℕ × CallTerm
+split_by None text = (text, OnDay)
+split_by (Some mark) text =
+    if mark == 43 then (take (length text - 1) text, OnOrAfter)
+    else (if mark == 33 then (take (length text - 1) text, Called) else (text, OnDay))
+
+abbrev pub split_mark : List ℕ → List ℕ × CallTerm
+split_mark text = split_by (last_or None text) text
+
+-- a text as the price of a call, with its mark
+abbrev pub call_price_reading : List ℕ → Option (ℕ × CallTerm)
+call_price_reading text =
+    option_map (λ price. (price, (split_mark text).1)) (result_ok (price_reading (split_mark text).0))
+
 -- a text as a call, with the place of the colon between its date and its price
 abbrev pub call_reading_at : List ℕ → ℕ → Option Call
 call_reading_at text colon = do
   date ← day_in (take colon text)
-  price ← result_ok (price_reading (drop (colon + 1) text))
-  Some (record { date = date; price = price })
+  found ← call_price_reading (drop (colon + 1) text)
+  Some (record { date = date; price = found.0; term = found.1 })
 
--- a text as a call: a date, a colon and a price, which may hold no colon more
+-- a text as a call: a date, a colon, and a price with its mark, which may hold no colon more
 abbrev pub call_reading : List ℕ → Option Call
 call_reading text = position (λ b. b == 58) text >>= λ colon. call_reading_at text colon
 

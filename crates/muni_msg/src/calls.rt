@@ -9,7 +9,7 @@ use arrayvec::ArrayVec;
 use muni_dec::text::find;
 use muni_terms::Call;
 
-/// At most 40 calls, as `2027-01-01:102 2028-01-01:100`. An empty text names none.
+/// At most 40 calls, as `2027-01-01:102 2028-01-01:100+`. An empty text names none.
 #[tactic(auto, unfolding(crate::specs::Calls::calls_field))]
 pub fn read_calls(text: &[u8]) -> Option<ArrayVec<Call, 40>>
     ensures { option_map (λ calls. calls.items) result ≡ spec.calls_field text.now }

@@ -64,6 +64,7 @@ pub fn label_code(label: Label) -> u8
         Label::Maturity => 0,
         Label::ParOption => 1,
         Label::Call => 2,
+        Label::Called => 3,
     }
 }
 
@@ -75,6 +76,7 @@ pub fn label_of_code(code: u8) -> Option<Label>
         0 => Some(Label::Maturity),
         1 => Some(Label::ParOption),
         2 => Some(Label::Call),
+        3 => Some(Label::Called),
         _ => None,
     }
 }

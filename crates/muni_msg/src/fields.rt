@@ -9,7 +9,7 @@ use muni_days::{Basis, Day};
 use muni_dec::digits::read_number;
 use muni_dec::text::find;
 use muni_dec::{Fee, Price, Yield};
-use muni_terms::{Call, Kind};
+use muni_terms::{Call, CallTerm, Kind};
 
 /// The kind of security that a text names: `periodic`, `zero`, `at-redemption` or `discount`.
 ///
@@ -42,14 +42,40 @@ fn read_plain_kind(text: &[u8]) -> Option<Kind>
     None
 }
 
-/// The call that a text names: its date, a colon and its price, as `2027-01-01:102.5`.
+/// The call that a text names: its date, a colon, its price and its mark, as `2027-01-01:102.5+`.
 pub fn read_call(text: &[u8]) -> Option<Call>
     ensures { result ≡ spec.call_reading text.now }
 {
     let colon = find(text, b':')?;
     let date = Day::read(&text[..colon]).ok()?;
-    let price = Price::read(&text[colon + 1..]).ok()?;
-    Some(Call { date, price })
+    let (price, term) = read_call_price(&text[colon + 1..])?;
+    Some(Call { date, price, term })
+}
+
+/// The price that a text names, and on which days a call at it stands: on its own day alone, or with the mark `+`
+/// on or after it, or with `!` for certain.
+pub fn read_call_price(text: &[u8]) -> Option<(Price, CallTerm)>
+    ensures { result ≡ spec.call_price_reading text.now }
+{
+    let (price, term) = split_mark(text);
+    Some((Price::read(price).ok()?, term))
+}
+
+// What is before the mark, and what the mark says.
+fn split_mark(text: &[u8]) -> (&[u8], CallTerm)
+    ensures { (result.0.now, result.1) ≡ spec.split_mark text.now }
+{
+    let Some(mark) = text.last() else {
+        return (text, CallTerm::OnDay);
+    };
+    let price = &text[..text.len() - 1];
+    if *mark == b'+' {
+        (price, CallTerm::OnOrAfter)
+    } else if *mark == b'!' {
+        (price, CallTerm::Called)
+    } else {
+        (text, CallTerm::OnDay)
+    }
 }
 
 /// The day count basis that a text names: `30/360` or `actual/365`.

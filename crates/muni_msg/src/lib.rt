@@ -17,8 +17,8 @@ pub use calls::read_calls;
 pub use codes::{basis_code, basis_of_code, kind_code, label_code, label_of_code};
 pub use command::{Command, Key, Line, Reply};
 pub use fields::{
-    read_basis, read_basis_field, read_call, read_fee_field, read_given, read_kind, read_side,
-    read_version_number,
+    read_basis, read_basis_field, read_call, read_call_price, read_fee_field, read_given,
+    read_kind, read_side, read_version_number,
 };
 pub use figures::Figures;
 pub use issue_fields::{read_coupon, read_cusip, read_issue_name};

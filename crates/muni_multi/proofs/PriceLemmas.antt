@@ -15,7 +15,7 @@ use Rattle.muni_rule.proofs.EnclosedLemmas.{IsEnclosed, divisor-least, at_least-
 use Rattle.muni_rule.proofs.OnePriceLemmas.{many_periods-price}
 use Rattle.muni_multi.specs.declared.price.PriceAnswer.{PriceAnswer}
 use Rattle.muni_multi.specs.declared.price.PriceAnswer.TheVariants.{Price, BelowZero, Undecided}
-use Rattle.muni_multi.specs.Prices.{IsPriceAnswer, IsDoubtfulAnswer, IsPriceOutcome, whole_verdict, IsDecidedPrice, OnePriceIsRight}
+use Rattle.muni_multi.specs.Prices.{IsSeriesPrice, IsDoubtfulAnswer, IsSeriesPriceOutcome, whole_verdict, IsDecidedPrice, OnePriceIsRight}
 
 chosen : (a b p q : Bool) → a ≡ p → b ≡ q → (if a then Yes else (if b then No else Unsure)) ≡ (if p then Yes else (if q then No else Unsure))
 chosen a b p q first second = rw (first, second) refl
@@ -46,7 +46,7 @@ same-verdict : (ends : WorthEnds) (x : ℕ) → 0 < ends.unit → whole_verdict 
 same-verdict ends x some =
     chosen (nat_le x (ends.lo / ends.unit)) (nat_lt (ends.hi / ends.unit) x) (nat_le (x * ends.unit) ends.lo) (nat_lt ends.hi (x * ends.unit)) (same-low x ends.lo ends.unit some) (same-high x ends.hi ends.unit some)
 
-same-outcome : (one other : ℕ → Verdict) (answer : PriceAnswer) → ((t : ℕ) → one t ≡ other t) → IsPriceOutcome one answer → IsPriceOutcome other answer
+same-outcome : (one other : ℕ → Verdict) (answer : PriceAnswer) → ((t : ℕ) → one t ≡ other t) → IsSeriesPriceOutcome one answer → IsSeriesPriceOutcome other answer
 same-outcome one other (Price t) same outcome = (sym (same t) ∙ outcome.0, sym (same (t + 1)) ∙ outcome.1)
 same-outcome one other BelowZero same outcome = sym (same 0) ∙ outcome
 same-outcome one other (Undecided boundary) same outcome = record {
@@ -60,15 +60,15 @@ same-at : (ends : WorthEnds) (low high own accrued t : ℕ) → 0 < ends.unit �
 same-at ends low high own accrued t some lower upper same = rw (lower, upper, same) (same-verdict ends (dirty_thousandths accrued t) some)
 
 pub ends-outcome : (series : PaymentSeries) (y : ℤ) (enclosure : WorthEnds) (ends : WorthEnds) (low high accrued : ℕ) (answer : PriceAnswer) → ends ≡ ends_of series y enclosure → 0 < ends.unit → low ≡ ends.lo / ends.unit → high ≡ ends.hi / ends.unit → accrued ≡ series.accrued
-    → IsPriceOutcome (λ t. whole_verdict low high (dirty_thousandths accrued t)) answer
-    → IsPriceOutcome (λ t. at_least_verdict (ends_of series y enclosure) (dirty_thousandths series.accrued t)) answer
+    → IsSeriesPriceOutcome (λ t. whole_verdict low high (dirty_thousandths accrued t)) answer
+    → IsSeriesPriceOutcome (λ t. at_least_verdict (ends_of series y enclosure) (dirty_thousandths series.accrued t)) answer
 ends-outcome series y enclosure ends low high accrued answer is some lower upper same outcome =
     same-outcome (λ t. whole_verdict low high (dirty_thousandths accrued t)) (λ t. at_least_verdict (ends_of series y enclosure) (dirty_thousandths series.accrued t)) answer
     (λ t. same-at ends low high accrued series.accrued t some lower upper same ∙ ap (λ (x : WorthEnds). at_least_verdict x (dirty_thousandths series.accrued t)) is)
     outcome
 
 -- and an outcome is true
-pub outcome-exact : (series : PaymentSeries) (y : ℤ) (enclosure : WorthEnds) (answer : PriceAnswer) → IsEnclosed series y enclosure → IsPriceOutcome (λ t. at_least_verdict (ends_of series y enclosure) (dirty_thousandths series.accrued t)) answer → IsPriceAnswer (AtLeast (to_come series) y) answer
+pub outcome-exact : (series : PaymentSeries) (y : ℤ) (enclosure : WorthEnds) (answer : PriceAnswer) → IsEnclosed series y enclosure → IsSeriesPriceOutcome (λ t. at_least_verdict (ends_of series y enclosure) (dirty_thousandths series.accrued t)) answer → IsSeriesPrice (AtLeast (to_come series) y) answer
 outcome-exact series y enclosure (Price t) given outcome = record {
   reached = at_least-true series y enclosure (360000000 * t) _ given refl outcome.0;
   next_not_reached = at_least-false series y enclosure (360000000 * (t + 1)) _ given refl outcome.1;
@@ -76,13 +76,13 @@ outcome-exact series y enclosure (Price t) given outcome = record {
 outcome-exact series y enclosure BelowZero given outcome = record { zero_not_reached = at_least-false series y enclosure 0 _ given refl outcome }
 outcome-exact series y enclosure (Undecided boundary) given outcome = tt
 
-pub outcome-doubtful : (series : PaymentSeries) (y : ℤ) (enclosure : WorthEnds) (answer : PriceAnswer) → IsEnclosed series y enclosure → IsPriceOutcome (λ t. at_least_verdict (ends_of series y enclosure) (dirty_thousandths series.accrued t)) answer → IsDoubtfulAnswer series y answer
+pub outcome-doubtful : (series : PaymentSeries) (y : ℤ) (enclosure : WorthEnds) (answer : PriceAnswer) → IsEnclosed series y enclosure → IsSeriesPriceOutcome (λ t. at_least_verdict (ends_of series y enclosure) (dirty_thousandths series.accrued t)) answer → IsDoubtfulAnswer series y answer
 outcome-doubtful series y enclosure (Price t) given outcome = tt
 outcome-doubtful series y enclosure BelowZero given outcome = tt
 outcome-doubtful series y enclosure (Undecided boundary) given outcome = at_least-doubtful series y enclosure (360000000 * boundary) _ given refl outcome.unsure
 
 -- at a yield one price is right
-one-price : (Reaches : ℤ → Type 0) (one other : PriceAnswer) → HasOnePrice Reaches → IsDecidedPrice one → IsDecidedPrice other → IsPriceAnswer Reaches one → IsPriceAnswer Reaches other → one ≡ other
+one-price : (Reaches : ℤ → Type 0) (one other : PriceAnswer) → HasOnePrice Reaches → IsDecidedPrice one → IsDecidedPrice other → IsSeriesPrice Reaches one → IsSeriesPrice Reaches other → one ≡ other
 one-price Reaches (Price t) (Price u) has sure settled is also = ap Price (has.one_is_printed t u is also)
 one-price Reaches (Price t) BelowZero has sure settled is also = absurd (has.none_below_zero t is also)
 one-price Reaches (Price t) (Undecided b) has sure settled is also = absurd settled

@@ -13,10 +13,10 @@ use Rattle.muni_multi.specs.declared.price.PriceAnswer.{PriceAnswer}
 use Rattle.muni_multi.specs.declared.price.PriceAnswer.TheVariants.{Price, BelowZero, Undecided}
 
 -- a price is the printed one, and below zero none is
-abbrev pub IsPriceAnswer : (Reaches : ℤ → Type 0) → PriceAnswer → Type 0
-IsPriceAnswer Reaches (Price t) = IsPrintedPrice Reaches t
-IsPriceAnswer Reaches BelowZero = IsBelowZero Reaches
-IsPriceAnswer Reaches (Undecided _) = ⊤
+abbrev pub IsSeriesPrice : (Reaches : ℤ → Type 0) → PriceAnswer → Type 0
+IsSeriesPrice Reaches (Price t) = IsPrintedPrice Reaches t
+IsSeriesPrice Reaches BelowZero = IsBelowZero Reaches
+IsSeriesPrice Reaches (Undecided _) = ⊤
 
 -- undecided is only a boundary in doubt: the exact price is within 10^-9 dollars of it, in no exact
 -- case
@@ -26,10 +26,10 @@ IsDoubtfulAnswer series y (Price _) = ⊤
 IsDoubtfulAnswer series y BelowZero = ⊤
 
 -- what the verdicts on whole thousandths leave to answer: the first that they leave open is named
-abbrev pub IsPriceOutcome : (ℕ → Verdict) → PriceAnswer → Type 0
-IsPriceOutcome verdict (Price t) = (verdict t ≡ Yes) × (verdict (t + 1) ≡ No)
-IsPriceOutcome verdict BelowZero = verdict 0 ≡ No
-IsPriceOutcome verdict (Undecided boundary) = IsUndecidedAt verdict boundary
+abbrev pub IsSeriesPriceOutcome : (ℕ → Verdict) → PriceAnswer → Type 0
+IsSeriesPriceOutcome verdict (Price t) = (verdict t ≡ Yes) × (verdict (t + 1) ≡ No)
+IsSeriesPriceOutcome verdict BelowZero = verdict 0 ≡ No
+IsSeriesPriceOutcome verdict (Undecided boundary) = IsUndecidedAt verdict boundary
 
 -- the figure in an answer
 abbrev pub figure : PriceAnswer → ℕ
@@ -52,6 +52,6 @@ abbrev pub OnePriceIsRight : Type 0
 OnePriceIsRight =
     (series : PaymentSeries) (y : ℤ) (one other : PriceAnswer)
     → IsManyPeriodsBoundary y → IsDecidedPrice one → IsDecidedPrice other
-    → IsPriceAnswer (AtLeast (to_come series) y) one
-    → IsPriceAnswer (AtLeast (to_come series) y) other
+    → IsSeriesPrice (AtLeast (to_come series) y) one
+    → IsSeriesPrice (AtLeast (to_come series) y) other
     → one ≡ other

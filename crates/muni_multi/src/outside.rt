@@ -10,7 +10,7 @@ ghost use Rattle.muni_rule.specs.Verdicts.{at_least_verdict, more_verdict, dirty
 ghost use Rattle.muni_rule.specs.WorthEnds.{ends_of};
 ghost use Rattle.muni_multi.specs.Horner.{sum_low, sum_high, horner_ends, AreDiscountEnds};
 ghost use Rattle.muni_multi.specs.HornerLaws.{horner-encloses, horner-narrow};
-ghost use Rattle.muni_multi.specs.Prices.{figure, IsPriceOutcome, IsPriceAnswer, IsDoubtfulAnswer};
+ghost use Rattle.muni_multi.specs.Prices.{figure, IsSeriesPriceOutcome, IsSeriesPrice, IsDoubtfulAnswer};
 
 use crate::payments::payment_at;
 use crate::{Discount, Encloser, PriceAnswer, at_least_at, more_at, printed_price_at};
@@ -60,9 +60,9 @@ fn discounted_sum(flows: &Flows, discount: Span) -> Worth
 pub fn printed_price<E: Encloser>(encloser: &E, flows: &Flows, y: Yield) -> PriceAnswer
     requires many { 2 ≤ flows.now.n }
     requires y { IsManyPeriodsBoundary y }
-    ensures exact { IsPriceAnswer (AtLeast (to_come flows.now) y) result }
+    ensures exact { IsSeriesPrice (AtLeast (to_come flows.now) y) result }
     ensures undecided { IsDoubtfulAnswer flows.now y result }
-    ensures outcome { IsPriceOutcome (λ t. at_least_verdict
+    ensures outcome { IsSeriesPriceOutcome (λ t. at_least_verdict
         (ends_of flows.now y (E.ends encloser.now flows.now y))
         (dirty_thousandths flows.now.accrued t)) result }
     ensures small { figure result ≤ 100_000_000 }

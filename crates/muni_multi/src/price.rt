@@ -4,7 +4,7 @@ ghost use Rattle.std.specs.Prelude.{◌≡◌, ◌+◌, ◌*◌, ◌/◌, ◌<�
 ghost use Rattle.muni_rule.specs.ManyPeriods.{to_come, AtLeast};
 ghost use Rattle.muni_rule.specs.Verdicts.{at_least_verdict, dirty_thousandths};
 ghost use Rattle.muni_rule.specs.WorthEnds.{ends_of};
-ghost use Rattle.muni_multi.specs.Prices.{figure, whole_verdict, IsPriceOutcome, IsPriceAnswer, IsDoubtfulAnswer};
+ghost use Rattle.muni_multi.specs.Prices.{figure, whole_verdict, IsSeriesPriceOutcome, IsSeriesPrice, IsDoubtfulAnswer};
 
 use crate::exact::ends;
 use crate::{Discount, Encloser};
@@ -34,9 +34,9 @@ pub fn printed_price_at<E: Encloser>(
 ) -> PriceAnswer
     requires many { 2 ≤ flows.now.n }
     requires days { discount.now.a ≡ flows.now.a }
-    ensures exact { IsPriceAnswer (AtLeast (to_come flows.now) discount.now.y) result }
+    ensures exact { IsSeriesPrice (AtLeast (to_come flows.now) discount.now.y) result }
     ensures undecided { IsDoubtfulAnswer flows.now discount.now.y result }
-    ensures outcome { IsPriceOutcome (λ t. at_least_verdict
+    ensures outcome { IsSeriesPriceOutcome (λ t. at_least_verdict
         (ends_of flows.now discount.now.y (E.ends encloser.now flows.now discount.now.y))
         (dirty_thousandths flows.now.accrued t)) result }
     ensures small { figure result ≤ 100_000_000 }
@@ -50,7 +50,7 @@ pub fn printed_price_at<E: Encloser>(
 fn price_between(low: u64, high: u64, accrued: u64) -> PriceAnswer
     requires ordered { low ≤ high }
     requires small { high < 35_000_000_000_000_000 }
-    ensures outcome { IsPriceOutcome
+    ensures outcome { IsSeriesPriceOutcome
         (λ t. whole_verdict low high (dirty_thousandths accrued t)) result }
     ensures small { figure result ≤ 100_000_000 }
 {

@@ -17,3 +17,5 @@ pub mod EnclosedLemmas
 pub mod OutcomeLemmas
 pub mod ManyPeriodFallLemmas
 pub mod OnePriceLemmas
+pub mod RunLemmas
+pub mod RedemptionLemmas

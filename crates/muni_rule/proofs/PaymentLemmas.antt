@@ -28,7 +28,7 @@ place-in_month day rest index in_month h1 h2 h3 h4 h5 h6 h7 =
       | inr reached ↦ ((index - rest) / 6, record { reached = omega arith; next_not_reached = omega arith }, omega arith, omega arith)
     ]
 
-place : (anchor date : Civil) → IsCivil anchor → anchor.day ≤ 28 → IsSettlementDate date → (i : ℕ) × IsPlace anchor date i
+pub place : (anchor date : Civil) → IsCivil anchor → anchor.day ≤ 28 → IsSettlementDate date → (i : ℕ) × IsPlace anchor date i
 place anchor date anchor_civil small settled =
     let civil = settled.civil in
     let month_from = civil.month_from in
@@ -39,13 +39,13 @@ place anchor date anchor_civil small settled =
     let order : 31 * month_index date + 31 + date.day ≡ order_of date = omega arith in
     (found.0, record { last = rw order at found.1; from = found.2; below = found.3 })
 
-quasi-parts : (anchor date : Civil) → is_quasi_date anchor date ≡ true → (date.day ≡ anchor.day) × (month_index date % 6 ≡ month_index anchor % 6)
+pub quasi-parts : (anchor date : Civil) → is_quasi_date anchor date ≡ true → (date.day ≡ anchor.day) × (month_index date % 6 ≡ month_index anchor % 6)
 quasi-parts anchor date quasi =
     let parts = and_parts (eqb date.day anchor.day) (eqb (month_index date % 6) (month_index anchor % 6)) quasi in
     (eqb-true date.day anchor.day parts.0, eqb-true (month_index date % 6) (month_index anchor % 6) parts.1)
 
 -- a quasi-coupon date has the place of its own month
-place-own : (anchor date : Civil) → IsRedemptionDate anchor date → IsPlace anchor date (month_index date / 6)
+pub place-own : (anchor date : Civil) → IsRedemptionDate anchor date → IsPlace anchor date (month_index date / 6)
 place-own anchor date redeemed =
     let parts = quasi-parts anchor date redeemed.quasi in
     let day = parts.0 in
@@ -56,7 +56,7 @@ place-own anchor date redeemed =
     let year_to = redeemed.year_to in
     record { last = record { reached = omega arith; next_not_reached = omega arith }; from = omega arith; below = omega arith }
 
-order-own : (anchor date : Civil) (j : ℕ) → IsCivil date → IsLastAt anchor.day (month_index anchor % 6) (order_of date) j → is_quasi_date anchor date ≡ true → order_of date ≡ 31 * (6 * j + month_index anchor % 6) + 31 + anchor.day
+pub order-own : (anchor date : Civil) (j : ℕ) → IsCivil date → IsLastAt anchor.day (month_index anchor % 6) (order_of date) j → is_quasi_date anchor date ≡ true → order_of date ≡ 31 * (6 * j + month_index anchor % 6) + 31 + anchor.day
 order-own anchor date j civil last quasi =
     let parts = quasi-parts anchor date quasi in
     let day = parts.0 in
@@ -73,13 +73,13 @@ places-in_order anchor date later i j at at_later order =
     omega arith
 
 -- a quasi-coupon date after a date has a later place
-places-strictly : (anchor date later : Civil) (i j : ℕ) → IsCivil later → IsPlace anchor date i → IsPlace anchor later j → order_of date < order_of later → is_quasi_date anchor later ≡ true → i < j
+pub places-strictly : (anchor date later : Civil) (i j : ℕ) → IsCivil later → IsPlace anchor date i → IsPlace anchor later j → order_of date < order_of later → is_quasi_date anchor later ≡ true → i < j
 places-strictly anchor date later i j civil at at_later order quasi =
     let reached = at.last.reached in
     let own = order-own anchor later j civil at_later.last quasi in
     omega arith
 
-count-places : (anchor date later : Civil) (i j : ℕ) → IsPlace anchor date i → IsPlace anchor later j → i ≤ j → quasi_count anchor date later ≡ j - i
+pub count-places : (anchor date later : Civil) (i j : ℕ) → IsPlace anchor date i → IsPlace anchor later j → i ≤ j → quasi_count anchor date later ≡ j - i
 count-places anchor date later i j at at_later order =
     rw (between-places anchor date later i j at.last at_later.last at.from order at_later.below) (length-map-range_with_len (date_at anchor.day (month_index anchor % 6)) (i + 1) (j - i))
 

@@ -25,4 +25,5 @@ pub mod ManyPeriodYields
 pub mod PriceLaws
 pub mod Schedule
 pub mod Redemptions
+pub mod RedemptionLaws
 pub mod LastPayment

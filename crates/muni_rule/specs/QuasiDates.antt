@@ -1,7 +1,7 @@
 -- Quasi-coupon dates (SIA, Standard Securities Calculation Methods): all dates at whole multiples of
 -- six months before and after an anchor, which is the first interest date, or the maturity of an
 -- issue that pays no interest.
-use Rattle.std.specs.Prelude.{ℕ, ◌%◌, ◌==◌, ◌&&◌, Bool, List, length, map, filter, Option, None, option_map, ℤ}
+use Rattle.std.specs.Prelude.{ℕ, ◌+◌, ◌*◌, ◌%◌, ◌==◌, ◌&&◌, Bool, List, length, map, filter, Option, None, option_map, ℤ}
 use Rattle.std.specs.List.{range_with_len, last_or}
 use Rattle.muni_rule.specs.Civil.{Civil, month_index, day_in_month, is_before, is_not_after}
 use Rattle.muni_rule.specs.DayCount.{days360}
@@ -34,6 +34,10 @@ quasi_count anchor start end = length (quasi_dates_between anchor start end)
 abbrev pub days_into_period : Civil → Civil → Option ℤ
 days_into_period anchor settlement =
     option_map (λ date. days360 date settlement) (last_quasi_date anchor settlement)
+
+-- the date so many half years after another, on the same day of the month
+abbrev pub half_years_after : Civil → ℕ → Civil
+half_years_after date half_years = day_in_month (month_index date + 6 * half_years) date.day
 
 -- a date is one of them, as its day and its month tell
 abbrev pub is_quasi_date : Civil → Civil → Bool

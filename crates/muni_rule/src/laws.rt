@@ -9,6 +9,7 @@ ghost use Rattle.muni_rule.specs.PriceLaws.{OnePaymentHasOnePrice, ManyPeriodsHa
 ghost use Rattle.muni_rule.specs.PrintedYield.{PriceFalls, PrintsOneYield, PrintsRounded};
 ghost use Rattle.muni_rule.specs.QuasiDateLaws.{QuasiDatesAreAll, QuasiDatesRise, QuasiTestIsMembership};
 ghost use Rattle.muni_rule.specs.Ranges as ranges;
+ghost use Rattle.muni_rule.specs.RedemptionLaws.{PlainCallsAreTheirDays, CallsStandOnEachDate};
 
 use crate::YieldRange;
 
@@ -29,6 +30,14 @@ pub fn quasi_dates_are_all_half_years()
     ensures all { QuasiDatesAreAll }
     ensures rising { QuasiDatesRise }
     ensures test { QuasiTestIsMembership }
+{}
+
+/// If each call of an issue stands on its day alone, its redemptions are the calls to come and the maturity. A
+/// call on or after a day stands on each quasi-coupon date to come from that day on, before the next call or
+/// maturity.
+pub fn calls_stand_on_their_days()
+    ensures plain { PlainCallsAreTheirDays }
+    ensures each_date { CallsStandOnEachDate }
 {}
 
 /// The numbers of a series stand for the list of its payments, with coupons and without, and give the

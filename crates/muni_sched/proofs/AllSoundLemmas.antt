@@ -23,7 +23,7 @@ use Rattle.muni_sched.specs.Answer.{date_of, dated, exact_at, NamesDoubt, IsDeci
 use Rattle.muni_sched.specs.GivenFigure.{GivenFigure, at_yield, at_price, kind_of, MayBeAsked, IsOutcome, IsExact, IsFigureInDoubt, IsInDoubt}
 use Rattle.muni_sched.specs.Figures.{least_unsure, figure_of, boundary_of, IsLowestOf}
 use Rattle.muni_sched.specs.Lowest.{outcome_at, IsLowest}
-use Rattle.muni_sched.specs.PriceOutcome.{IsPriceOutcome}
+use Rattle.muni_sched.specs.PriceOutcome.{IsCandidatePrice}
 use Rattle.muni_sched.specs.Sound.{IsSound, AreSound}
 use Rattle.muni_sched.specs.ToCome.{ToCome, to_come_of}
 use Rattle.muni_sched.proofs.PriceSoundLemmas.{IsPriced, priced, price-sound, price-doubt, all-timed, never-above}
@@ -140,7 +140,7 @@ names-figure Yield list n lowest.Above answer is of told = subst (NamesYield n) 
 names-figure Yield list n (lowest.NoTime c) answer is of told = dated-other (NamesYield n) (λ day. answers.NoTime day) answer (date_of list c) (λ day. tt) is
 
 -- of prices the first outcome has a figure or is below all
-told-price : (ends : PaymentSeries → ℤ → WorthEnds) (y : ℤ) (list : List Candidate) (outcomes : List CandidateOutcome) (found : Lowest) → 0 < length list → AllZip (IsPriceOutcome ends y) list outcomes → IsLowest (negsuc 0) outcomes found → IsTold Price found
+told-price : (ends : PaymentSeries → ℤ → WorthEnds) (y : ℤ) (list : List Candidate) (outcomes : List CandidateOutcome) (found : Lowest) → 0 < length list → AllZip (IsCandidatePrice ends y) list outcomes → IsLowest (negsuc 0) outcomes found → IsTold Price found
 told-price ends y list outcomes (lowest.Low t c) some each is = tt
 told-price ends y list outcomes (lowest.Undecided s c) some each is = tt
 told-price ends y list outcomes (lowest.Below c) some each is = tt

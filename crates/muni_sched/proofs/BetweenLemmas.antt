@@ -6,7 +6,7 @@ use Rattle.std.proofs.lemmas.Int.{ints}
 use Rattle.muni_rule.specs.Payments.{PaymentSeries}
 use Rattle.muni_rule.specs.declared.verdict.Verdict.{Verdict}
 use Rattle.muni_rule.specs.declared.verdict.Verdict.TheVariants as verdict
-use Rattle.muni_yield.specs.Bracket.{YieldBracket, IsBracket, IsAnswered, is_settled, run}
+use Rattle.muni_yield.specs.Bracket.{YieldBracket, IsBracket, IsVerdictKept, is_settled, run}
 use Rattle.muni_yield.specs.Known.{IsWindow}
 use Rattle.muni_yield.specs.Places.{yield_at}
 use Rattle.muni_yield.specs.Settled.{printed_as, outcome_at, outcome_of}
@@ -102,7 +102,7 @@ between count verdicts bracket is enough =
     between-last bracket.low bracket.high (run count verdicts bracket) out.is out.settled out.low out.high
 
 -- and within the places that are known
-pub within-window : (count : ℕ) (verdicts : PaymentSeries → ℕ → ℕ → Verdict) (bracket : YieldBracket) (window : Window) → IsBracket bracket → 19 ≤ count + bracket.halvings → IsAnswered (verdicts bracket.series bracket.price) bracket → IsWindow (verdicts bracket.series bracket.price) window
+pub within-window : (count : ℕ) (verdicts : PaymentSeries → ℕ → ℕ → Verdict) (bracket : YieldBracket) (window : Window) → IsBracket bracket → 19 ≤ count + bracket.halvings → IsVerdictKept (verdicts bracket.series bracket.price) bracket → IsWindow (verdicts bracket.series bracket.price) window
     → IsBetween window.yes window.no (many_yield (outcome_of (run count verdicts bracket)))
 within-window count verdicts bracket window is enough answered known =
     let out = run-out count verdicts bracket is enough in

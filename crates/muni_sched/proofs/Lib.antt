@@ -2,6 +2,7 @@ pub mod IntLemmas
 pub mod RankLemmas
 pub mod SoundLemmas
 pub mod NoteLemmas
+pub mod DayLemmas
 pub mod CandidateLemmas
 pub mod RiseLemmas
 pub mod StandLemmas
@@ -21,3 +22,4 @@ pub mod OverLemmas
 pub mod StartLemmas
 pub mod LevelLemmas
 pub mod CountLemmas
+pub mod EachDateLemmas

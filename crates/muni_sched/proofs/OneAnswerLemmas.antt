@@ -64,7 +64,7 @@ ends-fall ends x z order missed reached =
 falling : (series : PaymentSeries) (y : ℤ) (enclosure : WorthEnds) → IsFalling (λ t. at_least_verdict (ends_of series y enclosure) (dirty_thousandths series.accrued t))
 falling series y enclosure t u order = ends-fall (ends_of series y enclosure) (dirty_thousandths series.accrued t) (dirty_thousandths series.accrued u) (omega (arith, order))
 
-figure-same : (said : ℕ → Verdict) (s t : ℕ) → IsFalling said → multi.IsPriceOutcome said (found.Price s) → multi.IsPriceOutcome said (found.Price t) → s ≡ t
+figure-same : (said : ℕ → Verdict) (s t : ℕ) → IsFalling said → multi.IsSeriesPriceOutcome said (found.Price s) → multi.IsSeriesPriceOutcome said (found.Price t) → s ≡ t
 figure-same said s t falls is also =
     ⊎_elim
     (λ (less : s < t). absurd (falls (s + 1) t (omega (arith, less)) is.1 also.0))
@@ -84,7 +84,7 @@ open-same said a b is also =
     (cases_lt b a))
     (cases_lt a b)
 
-verdict-same : (said : ℕ → Verdict) (answer other : PriceAnswer) → IsFalling said → multi.IsPriceOutcome said answer → multi.IsPriceOutcome said other → answer ≡ other
+verdict-same : (said : ℕ → Verdict) (answer other : PriceAnswer) → IsFalling said → multi.IsSeriesPriceOutcome said answer → multi.IsSeriesPriceOutcome said other → answer ≡ other
 verdict-same said (found.Price s) (found.Price t) falls is also = ap found.Price (figure-same said s t falls is also)
 verdict-same said (found.Price s) found.BelowZero falls is also = absurd (falls 0 s (omega arith) also is.0)
 verdict-same said (found.Price s) (found.Undecided b) falls is also = absurd (also.not_printed s is.0 is.1)

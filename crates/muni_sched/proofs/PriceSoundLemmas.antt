@@ -39,7 +39,7 @@ use Rattle.muni_sched.specs.GivenFigure.{at_yield, IsFigureInDoubt}
 use Rattle.muni_sched.specs.Candidates.{IsCandidate}
 use Rattle.muni_sched.specs.Exact.{IsExactPriceBy, IsExactPriceOf}
 use Rattle.muni_sched.specs.Lowest.{outcome_at, AllAreAbove}
-use Rattle.muni_sched.specs.PriceOutcome.{IsShapeAtYield, IsAtYield, price_outcome, one_price, IsPriceOutcomeFor, IsPriceOutcome, IsPrintable}
+use Rattle.muni_sched.specs.PriceOutcome.{IsShapeAtYield, IsAtYield, price_outcome, one_price, IsPriceOutcomeFor, IsCandidatePrice, IsPrintable}
 use Rattle.muni_sched.specs.Range.{IsGivenFor, given_range}
 use Rattle.muni_sched.specs.Shape.{IsPriceable}
 use Rattle.muni_sched.specs.Sound.{IsSoundUnsure, IsSound}
@@ -119,7 +119,7 @@ many-unsure series y enclosure b exactly given is doubt exact_is = record {
       subst (λ t. IsFrom t exactly) before (price-from (periods.AtLeast (to_come series) y) (b - 1) exactly (many-closed (to_come series) y) reached exact_is);
 }
 
-many-sound : (series : PaymentSeries) (y : ℤ) (enclosure : WorthEnds) (answer : PriceAnswer) (exactly : ExactOutcome) → IsEnclosed series y enclosure → multi.IsPriceOutcome (λ t. at_least_verdict (ends_of series y enclosure) (dirty_thousandths series.accrued t)) answer → IsExactPriceOf y (many series) exactly
+many-sound : (series : PaymentSeries) (y : ℤ) (enclosure : WorthEnds) (answer : PriceAnswer) (exactly : ExactOutcome) → IsEnclosed series y enclosure → multi.IsSeriesPriceOutcome (λ t. at_least_verdict (ends_of series y enclosure) (dirty_thousandths series.accrued t)) answer → IsExactPriceOf y (many series) exactly
     → IsSound (negsuc 0) (IsFigureInDoubt (at_yield y) (many series)) (price_outcome answer) exactly
 many-sound series y enclosure (found.Price t) exactly given is exact_is =
     printed-same Thirty360 (periods.AtLeast (to_come series) y) t exactly (many-closed (to_come series) y) (outcome-exact series y enclosure (found.Price t) given is) exact_is
@@ -189,7 +189,7 @@ timed : (ends : PaymentSeries → ℤ → WorthEnds) (y : ℤ) (to_be : ToCome) 
 timed ends y (many series) outcome is never = many-timed is.0 (sym is.2 ∙ never)
 timed ends y (one least payment) outcome is never = one-timed is.0 (sym is.2 ∙ never)
 
-pub all-timed : (ends : PaymentSeries → ℤ → WorthEnds) (y : ℤ) (list : List Candidate) (outcomes : List CandidateOutcome) → AllZip (IsPriceOutcome ends y) list outcomes → (c : ℕ) → ¬ (outcome_at outcomes c ≡ NoTime)
+pub all-timed : (ends : PaymentSeries → ℤ → WorthEnds) (y : ℤ) (list : List Candidate) (outcomes : List CandidateOutcome) → AllZip (IsCandidatePrice ends y) list outcomes → (c : ℕ) → ¬ (outcome_at outcomes c ≡ NoTime)
 all-timed ends y [] [] is c never = let wrong : Above ≡ NoTime = never in cc
 all-timed ends y [] (x ∷ outcomes) is c never = absurd is
 all-timed ends y (candidate ∷ list) [] is c never = absurd is
@@ -208,7 +208,7 @@ first-below_all : (ends : PaymentSeries → ℤ → WorthEnds) (y : ℤ) (to_be 
 first-below_all ends y (many series) outcome is never = many-not_above is.0 (sym is.2 ∙ never)
 first-below_all ends y (one least payment) outcome is never = one-not_above is.0 (sym is.2 ∙ never)
 
-pub never-above : (ends : PaymentSeries → ℤ → WorthEnds) (y : ℤ) (list : List Candidate) (outcomes : List CandidateOutcome) → 0 < length list → AllZip (IsPriceOutcome ends y) list outcomes → ¬ (AllAreAbove (negsuc 0) outcomes)
+pub never-above : (ends : PaymentSeries → ℤ → WorthEnds) (y : ℤ) (list : List Candidate) (outcomes : List CandidateOutcome) → 0 < length list → AllZip (IsCandidatePrice ends y) list outcomes → ¬ (AllAreAbove (negsuc 0) outcomes)
 never-above ends y [] outcomes some is all = absurd (omega arith)
 never-above ends y (candidate ∷ list) [] some is all = absurd is
 never-above ends y (candidate ∷ list) (x ∷ outcomes) some is all =

@@ -6,7 +6,7 @@ use Rattle.muni_rule.specs.Schedule.{IsFirst}
 use Rattle.muni_sched.specs.declared.outcome.CandidateOutcome.{CandidateOutcome}
 use Rattle.muni_sched.specs.declared.outcome.CandidateOutcome.TheVariants.{Unsure, Below, NoTime}
 use Rattle.muni_sched.specs.LowestFigure as lowest
-use Rattle.muni_sched.specs.Lowest.{outcome_at, MayBeBelow, IsPrint, IsFirstBelow, IsUndecided, IsLowestFigure, AllReachFigures}
+use Rattle.muni_sched.specs.Lowest.{outcome_at, MayBeBelow, IsPrintedAt, IsFirstBelow, IsUndecided, IsLowestFigure, AllReachFigures}
 use Rattle.muni_sched.specs.LowestLaws.{AllowsOneLowest}
 
 -- what is first is one
@@ -41,7 +41,7 @@ open-same least outcomes s r c d is also =
 low-same : (least : ℤ) (outcomes : List CandidateOutcome) (t u : ℤ) (c d : ℕ) → IsLowestFigure least outcomes t c → IsLowestFigure least outcomes u d → (t ≡ u) × (c ≡ d)
 low-same least outcomes t u c d is also =
     let same : t ≡ u = omega (arith, ints, is.lowest.none_lower d u also.lowest.first.such, also.lowest.none_lower c t is.lowest.first.such) in
-    (same, first-same (λ k. IsPrint u (outcome_at outcomes k)) c d (subst (λ v. IsFirst (λ k. IsPrint v (outcome_at outcomes k)) c) same is.lowest.first) also.lowest.first)
+    (same, first-same (λ k. IsPrintedAt u (outcome_at outcomes k)) c d (subst (λ v. IsFirst (λ k. IsPrintedAt v (outcome_at outcomes k)) c) same is.lowest.first) also.lowest.first)
 
 -- if all reach figures none is below them, nor without time
 not-below : (least : ℤ) (outcomes : List CandidateOutcome) (x : CandidateOutcome) (c : ℕ) → AllReachFigures least outcomes → ¬ (IsFirstBelow least outcomes x c)

@@ -11,7 +11,7 @@ use Rattle.std.proofs.lemmas.Slice.Zip.{AllZip-long}
 use Rattle.std.proofs.lemmas.List.Sums.{length-filter, count_by-le-length}
 use Rattle.muni_rule.specs.Payments.{PaymentSeries}
 use Rattle.muni_rule.specs.declared.verdict.Verdict.{Verdict}
-use Rattle.muni_yield.specs.Bracket.{YieldBracket, IsBracket, IsAnswered, is_settled, halved, run}
+use Rattle.muni_yield.specs.Bracket.{YieldBracket, IsBracket, IsVerdictKept, is_settled, halved, run}
 use Rattle.muni_yield.specs.Known.{IsGuided}
 use Rattle.muni_yield.specs.Places.{yield_at}
 use Rattle.muni_yield.specs.Settled.{outcome_of}
@@ -35,7 +35,7 @@ pub record IsRunning (verdicts : PaymentSeries → ℕ → ℕ → Verdict) (fin
   pub pending : is_settled one.guided.bracket ≡ false
   pub halvings : one.guided.bracket.halvings ≡ r
   pub within : one.candidate < length finals
-  pub answered : IsAnswered (verdicts one.guided.bracket.series one.guided.bracket.price) one.guided.bracket
+  pub answered : IsVerdictKept (verdicts one.guided.bracket.series one.guided.bracket.price) one.guided.bracket
   pub guided : IsGuided verdicts one.guided
   pub same : many_yield (outcome_of (run (19 - r) verdicts one.guided.bracket)) ≡ at finals one.candidate
 
@@ -44,7 +44,7 @@ pub record IsAsked (verdicts : PaymentSeries → ℕ → ℕ → Verdict) (final
   pub is : IsBracket one.guided.bracket
   pub halvings : one.guided.bracket.halvings ≡ r
   pub within : one.candidate < length finals
-  pub answered : IsAnswered (verdicts one.guided.bracket.series one.guided.bracket.price) one.guided.bracket
+  pub answered : IsVerdictKept (verdicts one.guided.bracket.series one.guided.bracket.price) one.guided.bracket
   pub guided : IsGuided verdicts one.guided
   pub same : many_yield (outcome_of (run (19 - r) verdicts one.guided.bracket)) ≡ at finals one.candidate
 
@@ -87,17 +87,17 @@ pub record IsLeft (verdicts : PaymentSeries → ℕ → ℕ → Verdict) (finals
   pub ceiling_is : IsCeiling finals ceiling
   pub missed_is : IsMissedPlace finals missed
   pub each : All (IsRunning verdicts finals r) searches
-  pub few : length searches ≤ 41
+  pub few : length searches ≤ 100
   pub covered : (k : ℕ) → IsCovered finals known ceiling missed searches k
 
 abbrev pub IsRefined : (verdicts : PaymentSeries → ℕ → ℕ → Verdict) (finals : List CandidateOutcome) (r : ℕ) (search : SearchState) → Type 0
 IsRefined verdicts finals r search = IsLeft verdicts finals r search.known search.ceiling search.missed search.searches
 
 -- ---- one halving
-answered-again : (verdicts : PaymentSeries → ℕ → ℕ → Verdict) (bracket next : YieldBracket) → next.series ≡ bracket.series → next.price ≡ bracket.price → IsAnswered (verdicts bracket.series bracket.price) next → IsAnswered (verdicts next.series next.price) next
+answered-again : (verdicts : PaymentSeries → ℕ → ℕ → Verdict) (bracket next : YieldBracket) → next.series ≡ bracket.series → next.price ≡ bracket.price → IsVerdictKept (verdicts bracket.series bracket.price) next → IsVerdictKept (verdicts next.series next.price) next
 answered-again verdicts bracket next series price is =
     let same : verdicts bracket.series bracket.price ≡ verdicts next.series next.price = rw (series, price) refl in
-    subst (λ verdict. IsAnswered verdict next) same is
+    subst (λ verdict. IsVerdictKept verdict next) same is
 
 one-asked : (verdicts : PaymentSeries → ℕ → ℕ → Verdict) (finals : List CandidateOutcome) (r : ℕ) (one after : OpenSearch) → r < 19 → IsRunning verdicts finals r one → IsHalved verdicts one after → IsAsked verdicts finals (r + 1) after
 one-asked verdicts finals r one after few running half =
@@ -109,7 +109,7 @@ one-asked verdicts finals r one after few running half =
       is = subst IsBracket back next.is;
       halvings = omega (arith, ap (λ (b : YieldBracket). b.halvings) half.bracket, next.halvings, running.halvings);
       within = subst (λ k. k < length finals) (sym half.candidate) running.within;
-      answered = subst (λ (b : YieldBracket). IsAnswered (verdicts b.series b.price) b) back (answered-again verdicts bracket (halved verdicts bracket) next.series next.price answered);
+      answered = subst (λ (b : YieldBracket). IsVerdictKept (verdicts b.series b.price) b) back (answered-again verdicts bracket (halved verdicts bracket) next.series next.price answered);
       guided = half.guided;
       same = ap (λ (b : YieldBracket). many_yield (outcome_of (run (19 - (r + 1)) verdicts b))) half.bracket
           ∙ (ap (λ (last : YieldBracket). many_yield (outcome_of last)) (sym (run-next r verdicts bracket few running.pending))

@@ -1,28 +1,32 @@
 -- The candidates of an issue stand for its payments.
-use Rattle.std.proofs.Common.{◌≡◌, ℕ, ◌+◌, ◌-◌, ◌<◌, true, false, List, [], ◌∷◌, ◌++◌, map, replicate, Option, Some, None, refl, sym, ap, subst, ◌∙◌, arith, inl, inr, ℤ}
-use Rattle.std.specs.Prelude.{All, Contains, slice_index_or, option_map, option_and_then, if◌then◌else◌}
-use Rattle.std.proofs.lemmas.Bool.{and_parts, ltb-true, eqb-true}
-use Rattle.std.proofs.lemmas.List.Elements.{All-nil, All-cons, All-head, All-tail, All-same, All-push, All-map, All-weaker, All-filter, All-contains_itself, filter_passes}
-use Rattle.muni_rule.specs.Civil.{Civil, order_of, is_before, is_not_after}
+use Rattle.std.proofs.Common.{◌≡◌, ℕ, ◌+◌, ◌-◌, ◌<◌, Bool, true, false, List, [], ◌∷◌, ◌++◌, map, replicate, Option, Some, None, refl, sym, ap, subst, ◌∙◌, arith, inl, inr, ℤ}
+use Rattle.std.specs.Prelude.{All, slice_index_or, option_map, option_and_then, if◌then◌else◌}
+use Rattle.std.proofs.lemmas.Bool.{ltb-true, eqb-true}
+use Rattle.std.proofs.lemmas.List.Elements.{All-nil, All-cons, All-head, All-tail, All-same, All-append, All-map, All-weaker, All-filter, filter_passes}
+use Rattle.muni_rule.specs.Civil.{Civil, order_of, is_before}
 use Rattle.muni_rule.specs.QuasiDates.{quasi_count, days_into_period}
 use Rattle.muni_rule.specs.Accrued.{coupon_accrued_days}
 use Rattle.muni_rule.specs.LastPayment.{is_last_period, last_payment}
 use Rattle.muni_rule.specs.Payments.{PaymentSeries, add_to_last, payments_of, payment_at, unpaid_count, coupon_numbers, zero_numbers, coupon_series, zero_series, coupon_payments, zero_payments}
-use Rattle.muni_rule.specs.Redemptions.{Redemption, at_maturity}
+use Rattle.muni_rule.specs.Redemptions.{Redemption, at_maturity, call_days, end_of, redemption_by, redemptions_by, is_called, final_redemption, to_come_after}
+use Rattle.muni_rule.specs.Terms.{is_call_price}
 use Rattle.muni_rule.proofs.PaymentLemmas.{coupon-series, zero-series, is_interest, quasi_count-redeemed}
 use Rattle.muni_days.specs.Day.{civil}
 use Rattle.muni_days.specs.declared.day.Day.{Day}
 use Rattle.muni_days.proofs.DayLemmas.{same_date}
-use Rattle.muni_terms.specs.Check.{fault_of}
-use Rattle.muni_terms.specs.Issue.{IsRedemption, settles, anchor_of, series_by, series_of, payments, payments_by}
+use Rattle.muni_terms.specs.Check.{fault_of, calls_fault, is_call_date}
+use Rattle.muni_terms.specs.Issue.{IsRedemption, settles, anchor_of, series_by, series_of, payments, payments_by, entry_of, entries_of, quasi_dates_of}
+use Rattle.muni_terms.specs.declared.row.Call.{Call}
 use Rattle.muni_terms.specs.declared.row.Kind.{Kind}
 use Rattle.muni_terms.specs.declared.row.Kind.TheVariants.{Periodic, Zero, AtRedemption, Discount}
 use Rattle.muni_terms.specs.declared.row.IssueRow.{IssueRow}
-use Rattle.muni_terms.proofs.IssueLemmas.{issue_payments, coupon_redemption}
-use Rattle.muni_sched.specs.Candidates.{call_redemption, redemption_of, calls_to_come, redemptions_of, HasShape}
+use Rattle.muni_terms.proofs.IssueLemmas.{IsIssue, IsSettled, is_issue, is_passed, is_settled, issue_payments, coupon_redemption}
+use Rattle.muni_sched.specs.Candidates.{redemption_of, calls_of, redemptions_of, HasShape}
 use Rattle.muni_sched.specs.CandidateLaws.{StandsFor, CandidatesStandForPayments}
 use Rattle.muni_sched.specs.Shape.{single, series_shape, shape_by}
 use Rattle.muni_sched.specs.declared.candidate.Candidate.{Candidate}
+use Rattle.muni_sched.proofs.DayLemmas.{later-call}
+use Rattle.muni_sched.proofs.RiseLemmas.{IsOnRun, call-before, all-both}
 use Rattle.muni_sched.specs.declared.candidate.Shape.{Shape}
 use Rattle.muni_sched.specs.declared.candidate.Shape.TheVariants as shape
 
@@ -117,36 +121,50 @@ ComesAt row settlement redemption = (date : Day) → civil date ≡ redemption.d
 
 abbrev IsCalledAt : IssueRow → Redemption → Type 0
 IsCalledAt row redemption =
-    (date : Day) → civil date ≡ redemption.date → Contains row.calls.items (record { date = date; price = redemption.price })
+    (is_call_date row.kind (civil row.dated) (civil row.maturity) redemption.date ≡ true) × (is_call_price redemption.price ≡ true)
 
-all-both : {X : Type 0} (P Q R : X → Type 0) (xs : List X) → ((x : X) → P x → Q x → R x) → All P xs → All Q xs → All R xs
-all-both P Q R [] f all also = All-nil R
-all-both P Q R (x ∷ xs) f all also = All-cons R x xs (f x (All-head P x xs all) (All-head Q x xs also)) (all-both P Q R xs f (All-tail P x xs all) (All-tail Q x xs also))
-
-calls-called : (row : IssueRow) → All (IsCalledAt row) (map call_redemption row.calls.items)
-calls-called row =
-    All-map (IsCalledAt row) call_redemption row.calls.items
-    (All-weaker (Contains row.calls.items) (λ call. IsCalledAt row (call_redemption call))
-    (λ call contained. λ date same. subst (λ d. Contains row.calls.items (record { date = d; price = call.price })) (sym (same_date date call.date same)) contained)
-    row.calls.items (All-contains_itself row.calls.items))
+-- a call of an issue may be redeemed on each day on which it stands
+calls-called : (row : IssueRow) (before : Option Day) (calls : List Call) → IsIssue row → calls_fault row before calls ≡ None → All (IsCalledAt row) (redemptions_by (quasi_dates_of row) (map entry_of calls) (civil row.maturity))
+unfolding redemptions_by
+calls-called row before [] issue none = All-nil (IsCalledAt row)
+calls-called row before (call ∷ calls) issue none =
+    let this = is_passed row before call calls none in
+    let is = call-before row before call calls issue this in
+    let end = end_of (map entry_of calls) (civil row.maturity) in
+    let days = call_days call.term (quasi_dates_of row) (civil call.date) end in
+    let up_to = is.end.up_to in
+    let own = All-map (IsCalledAt row) (redemption_by (entry_of call)) days
+    (All-weaker (IsOnRun is.anchor (civil call.date) end) (λ date. IsCalledAt row (redemption_by (entry_of call) date))
+    (λ date on. let below = on.before in (later-call row.kind (civil row.dated) (civil row.maturity) is.anchor (civil call.date) date is.has.anchored this.is_call.on_calendar on.quasi on.from (omega arith), this.is_call.in_range)) days is.on_run) in
+    All-append (IsCalledAt row) (map (redemption_by (entry_of call)) days) (redemptions_by (quasi_dates_of row) (map entry_of calls) (civil row.maturity)) own (calls-called row (Some call.date) calls issue this.rest)
 
 call-comes : (row : IssueRow) (settlement : Day) (redemption : Redemption) → is_before (civil settlement) redemption.date ≡ true → IsCalledAt row redemption → ComesAt row settlement redemption
 call-comes row settlement redemption before called date same =
-    record { later = subst (λ (it : Civil). order_of (civil settlement) < order_of it) (sym same) (ltb-true (order_of (civil settlement)) (order_of redemption.date) before); redeemed = inr (called date same) }
+    record {
+      later = subst (λ (it : Civil). order_of (civil settlement) < order_of it) (sym same) (ltb-true (order_of (civil settlement)) (order_of redemption.date) before);
+      redeemed = inr (subst (λ (it : Civil). is_call_date row.kind (civil row.dated) (civil row.maturity) it ≡ true) (sym same) called.0, called.1);
+    }
 
-maturity-comes : (row : IssueRow) (settlement : Day) → settles row settlement ≡ true → ComesAt row settlement (at_maturity (civil row.maturity))
+maturity-comes : (row : IssueRow) (settlement : Day) → IsSettled row settlement → ComesAt row settlement (at_maturity (civil row.maturity))
 maturity-comes row settlement settled date same =
-    let parts = and_parts (is_not_after (civil row.dated) (civil settlement)) (is_before (civil settlement) (civil row.maturity)) settled in
-    record { later = subst (λ (it : Civil). order_of (civil settlement) < order_of it) (sym same) (ltb-true (order_of (civil settlement)) (order_of (civil row.maturity)) parts.1); redeemed = inl (same_date date row.maturity same, refl) }
+    record { later = subst (λ (it : Civil). order_of (civil settlement) < order_of it) (sym same) settled.below; redeemed = inl (same_date date row.maturity same, refl) }
 
-redemptions-come : (row : IssueRow) (settlement : Day) → settles row settlement ≡ true → All (ComesAt row settlement) (redemptions_of row settlement)
-redemptions-come row settlement settled =
-    let later = λ (call : Redemption). is_before (civil settlement) call.date in
-    let calls = map call_redemption row.calls.items in
-    All-push (ComesAt row settlement) (calls_to_come settlement row.calls.items) (at_maturity (civil row.maturity))
-    (all-both (λ call. later call ≡ true) (IsCalledAt row) (ComesAt row settlement) (calls_to_come settlement row.calls.items) (call-comes row settlement)
-    (filter_passes later calls) (All-filter later (IsCalledAt row) calls (calls-called row)))
-    (maturity-comes row settlement settled)
+final-comes : (row : IssueRow) (settlement : Day) (called : Bool) → is_called (entries_of row) ≡ called → IsSettled row settlement → All (ComesAt row settlement) (final_redemption (entries_of row) (civil row.maturity))
+final-comes row settlement true is settled =
+    let none : final_redemption (entries_of row) (civil row.maturity) ≡ [] = rw is refl in
+    All-same (ComesAt row settlement) (final_redemption (entries_of row) (civil row.maturity)) [] none (All-nil (ComesAt row settlement))
+final-comes row settlement false is settled =
+    let one : final_redemption (entries_of row) (civil row.maturity) ≡ at_maturity (civil row.maturity) ∷ [] = rw is refl in
+    All-same (ComesAt row settlement) (final_redemption (entries_of row) (civil row.maturity)) (at_maturity (civil row.maturity) ∷ []) one
+    (All-cons (ComesAt row settlement) (at_maturity (civil row.maturity)) [] (maturity-comes row settlement settled) (All-nil (ComesAt row settlement)))
+
+redemptions-come : (row : IssueRow) (settlement : Day) → IsIssue row → settles row settlement ≡ true → All (ComesAt row settlement) (redemptions_of row settlement)
+redemptions-come row settlement issue settled =
+    let later = λ (it : Redemption). is_before (civil settlement) it.date in
+    All-append (ComesAt row settlement) (to_come_after (civil settlement) (calls_of row)) (final_redemption (entries_of row) (civil row.maturity))
+    (all-both (λ it. later it ≡ true) (IsCalledAt row) (ComesAt row settlement) (to_come_after (civil settlement) (calls_of row)) (call-comes row settlement)
+    (filter_passes later (calls_of row)) (All-filter later (IsCalledAt row) (calls_of row) (calls-called row None row.calls.items issue issue.calls)))
+    (final-comes row settlement (is_called (entries_of row)) refl (is_settled row settlement issue settled))
 
 -- ---- candidates
 abbrev Stands : IssueRow → Day → Candidate → Type 0
@@ -166,5 +184,5 @@ each-stands row settlement (candidate ∷ rest) none settled come shapes =
 pub candidates-stand : CandidatesStandForPayments
 candidates-stand row settlement list none settled are =
     each-stands row settlement list none settled
-    (All-same (ComesAt row settlement) (map redemption_of list) (redemptions_of row settlement) are.redemptions (redemptions-come row settlement settled))
+    (All-same (ComesAt row settlement) (map redemption_of list) (redemptions_of row settlement) are.redemptions (redemptions-come row settlement (is_issue row none) settled))
     are.shapes

@@ -27,7 +27,7 @@ use Rattle.muni_sched.specs.Search.{SearchState, IsKnownYield, missed_first, low
 use Rattle.muni_sched.specs.SearchedOut.{AreSearchedOut}
 use Rattle.muni_sched.specs.Shape.{IsPriceable}
 use Rattle.muni_sched.specs.ToCome.{ToCome, many, one, to_come_of}
-use Rattle.muni_sched.specs.YieldOutcome.{final, IsYieldOutcomeFor, IsYieldOutcome, IsKnownFor, IsKnownFirst}
+use Rattle.muni_sched.specs.YieldOutcome.{final, IsYieldOutcomeFor, IsCandidateYield, IsKnownFor, IsKnownFirst}
 use Rattle.muni_sched.proofs.BetweenLemmas.{rank_of, known_at, between}
 use Rattle.muni_sched.proofs.SearchLemmas.{IsRunning, IsSearchedFor, IsCeiling, IsMissedPlace, IsRefined, lower-ceiling, refined-keeps}
 use Rattle.muni_sched.proofs.OverLemmas.{ranked-of_all, over-none, told-of}
@@ -61,7 +61,7 @@ final-is verdicts price (many series) known is = refl
 final-is verdicts price (one least payment) known is =
     subst (λ it. IsYieldOutcomeFor verdicts price (one least payment) (unwrap_or it Above)) (sym is.2) is.1
 
-finals-are : (verdicts : PaymentSeries → ℕ → ℕ → Verdict) (price : ℕ) (list : List Candidate) (known : List (Option CandidateOutcome)) → AllZip (IsKnownFirst price) list known → AllZip (IsYieldOutcome verdicts price) list (finals-of verdicts price list known)
+finals-are : (verdicts : PaymentSeries → ℕ → ℕ → Verdict) (price : ℕ) (list : List Candidate) (known : List (Option CandidateOutcome)) → AllZip (IsKnownFirst price) list known → AllZip (IsCandidateYield verdicts price) list (finals-of verdicts price list known)
 finals-are verdicts price [] [] all = tt
 finals-are verdicts price [] (it ∷ known) all = absurd all
 finals-are verdicts price (candidate ∷ list) [] all = absurd all
@@ -190,10 +190,10 @@ ceiling-from finals c ceiling (it ∷ known) from is =
 -- so they are refined no times
 pub record IsFinal (verdicts : PaymentSeries → ℕ → ℕ → Verdict) (price : ℕ) (list : List Candidate) (r : ℕ) (search : SearchState) : Type 0 where
   pub finals : List CandidateOutcome
-  pub outcomes : AllZip (IsYieldOutcome verdicts price) list finals
+  pub outcomes : AllZip (IsCandidateYield verdicts price) list finals
   pub refined : IsRefined verdicts finals r search
 
-pub started-final : (verdicts : PaymentSeries → ℕ → ℕ → Verdict) (price : ℕ) (list : List Candidate) (search : SearchState) → AreFirstKnown verdicts price → 0 < price → All IsCandidate list → length list ≤ 41 → IsStarted price list search → IsFinal verdicts price list 0 search
+pub started-final : (verdicts : PaymentSeries → ℕ → ℕ → Verdict) (price : ℕ) (list : List Candidate) (search : SearchState) → AreFirstKnown verdicts price → 0 < price → All IsCandidate list → length list ≤ 100 → IsStarted price list search → IsFinal verdicts price list 0 search
 started-final verdicts price list search first some all few is =
     let known = search.known in
     let finals = finals-of verdicts price list known in

@@ -15,10 +15,10 @@ use Rattle.muni_sched.specs.FigureKind.{FigureKind, Price, Yield}
 use Rattle.muni_sched.specs.declared.outcome.CandidateOutcome.{CandidateOutcome}
 use Rattle.muni_sched.specs.Candidates.{IsCandidate}
 use Rattle.muni_sched.specs.Exact.{IsExactPrice, IsExactYield}
-use Rattle.muni_sched.specs.PriceOutcome.{IsAtYield, IsPriceOutcome}
+use Rattle.muni_sched.specs.PriceOutcome.{IsAtYield, IsCandidatePrice}
 use Rattle.muni_sched.specs.Range.{IsGivenFor}
 use Rattle.muni_sched.specs.ToCome.{ToCome, many, one, to_come_of}
-use Rattle.muni_sched.specs.YieldOutcome.{IsYieldOutcome}
+use Rattle.muni_sched.specs.YieldOutcome.{IsCandidateYield}
 
 pub data GivenFigure : Type 0 where
   at_yield : ℤ → GivenFigure
@@ -41,9 +41,9 @@ MayBeAsked (at_price price) list = (0 < price) × All IsCandidate list
 
 -- what the ends that an encloser gives tell of a candidate
 abbrev pub IsOutcome : (ends : PaymentSeries → ℤ → WorthEnds) → GivenFigure → Candidate → CandidateOutcome → Type 0
-IsOutcome ends (at_yield y) candidate outcome = IsPriceOutcome ends y candidate outcome
+IsOutcome ends (at_yield y) candidate outcome = IsCandidatePrice ends y candidate outcome
 IsOutcome ends (at_price price) candidate outcome =
-    IsYieldOutcome (place_verdict ends) price candidate outcome
+    IsCandidateYield (place_verdict ends) price candidate outcome
 
 -- what is exactly so of it
 abbrev pub IsExact : GivenFigure → Candidate → ExactOutcome → Type 0

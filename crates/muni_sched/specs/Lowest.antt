@@ -32,13 +32,13 @@ abbrev pub MayBeBelow : ℤ → CandidateOutcome → Type 0
 MayBeBelow least outcome = (outcome ≡ Below) ⊎ (outcome ≡ Unsure least)
 
 -- the candidate prints the figure t
-abbrev pub IsPrint : ℤ → CandidateOutcome → Type 0
-IsPrint t outcome = outcome ≡ Print t
+abbrev pub IsPrintedAt : ℤ → CandidateOutcome → Type 0
+IsPrintedAt t outcome = outcome ≡ Print t
 
 -- m is the lowest printed figure, and c the first candidate that prints it
 pub record IsLowestPrint (outcomes : List CandidateOutcome) (m : ℤ) (c : ℕ) : Type 0 where
-  pub none_lower : (k : ℕ) (t : ℤ) → IsPrint t (outcome_at outcomes k) → m ≤ℤ t
-  pub first : IsFirstWith outcomes (IsPrint m) c
+  pub none_lower : (k : ℕ) (t : ℤ) → IsPrintedAt t (outcome_at outcomes k) → m ≤ℤ t
+  pub first : IsFirstWith outcomes (IsPrintedAt m) c
 
 -- Candidate c is unsure at s, and it matters: none prints a figure, or the lowest printed one is
 -- higher than s, or it is s and the first candidate that prints it comes after c.
@@ -78,7 +78,7 @@ pub record IsLowestFigure (least : ℤ) (outcomes : List CandidateOutcome) (t : 
 pub record AllAreAbove (least : ℤ) (outcomes : List CandidateOutcome) : Type 0 where
   pub reach : AllReachFigures least outcomes
   pub none_material : (s : ℤ) (k : ℕ) → ¬ (IsMaterial outcomes s k)
-  pub none_printed : (t : ℤ) (k : ℕ) → ¬ (IsPrint t (outcome_at outcomes k))
+  pub none_printed : (t : ℤ) (k : ℕ) → ¬ (IsPrintedAt t (outcome_at outcomes k))
 
 -- The rule: a candidate without time decides first, then one that is below all its figures or may
 -- be, then a material one, and then the lowest printed figure.

@@ -44,7 +44,7 @@ one_price exact.BelowZero = Below
 abbrev pub IsManyOutcome : (ends : PaymentSeries → ℤ → WorthEnds) → ℤ → PaymentSeries
     → PriceAnswer → Type 0
 IsManyOutcome ends y series answer =
-    multi.IsPriceOutcome (λ t. at_least_verdict (ends_of series y (ends series y))
+    multi.IsSeriesPriceOutcome (λ t. at_least_verdict (ends_of series y (ends series y))
     (dirty_thousandths series.accrued t)) answer
 
 -- One payment to come has its exact outcome, and many have that of verdicts.
@@ -56,14 +56,14 @@ IsPriceOutcomeFor ends y (one least payment) outcome =
     (answer : SimplePrice) × simple.IsPriceAnswer payment.basis (AtLeast payment y) answer
     × (outcome ≡ one_price answer)
 
-abbrev pub IsPriceOutcome : (ends : PaymentSeries → ℤ → WorthEnds) → ℤ → Candidate → CandidateOutcome
+abbrev pub IsCandidatePrice : (ends : PaymentSeries → ℤ → WorthEnds) → ℤ → Candidate → CandidateOutcome
     → Type 0
-IsPriceOutcome ends y candidate outcome =
+IsCandidatePrice ends y candidate outcome =
     IsPriceOutcomeFor ends y (to_come_of candidate.shape) outcome
 
 -- the price of a candidate as it is answered
 abbrev pub IsPriceAt : (ends : PaymentSeries → ℤ → WorthEnds) → ℤ → Candidate → PriceAnswer → Type 0
-IsPriceAt ends y candidate answer = IsPriceOutcome ends y candidate (price_outcome answer)
+IsPriceAt ends y candidate answer = IsCandidatePrice ends y candidate (price_outcome answer)
 
 -- a price that is answered is one that a candidate may have
 abbrev pub IsPrintable : PriceAnswer → Type 0

@@ -159,7 +159,7 @@ pub record CanRefine (verdicts : PaymentSeries → ℕ → ℕ → Verdict) (sea
   pub each : All (IsOpen verdicts) search.searches
   pub candidates : All (λ (it : OpenSearch). it.candidate < length search.known)
       search.searches
-  pub few : length search.searches ≤ 41
+  pub few : length search.searches ≤ 100
 
 -- a candidate whose outcome is not known is above the figure that is the lowest
 abbrev pub outcomes_of : List (Option CandidateOutcome) → List CandidateOutcome

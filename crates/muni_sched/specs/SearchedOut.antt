@@ -12,14 +12,14 @@ use Rattle.muni_sched.specs.Figures.{least_unsure, IsOf}
 use Rattle.muni_sched.specs.Ranks.{IsRanked}
 use Rattle.muni_sched.specs.Rounds.{brackets_from, rounds}
 use Rattle.muni_sched.specs.Search.{ceiling_first}
-use Rattle.muni_sched.specs.YieldOutcome.{IsYieldOutcome, IsKnownFirst}
+use Rattle.muni_sched.specs.YieldOutcome.{IsCandidateYield, IsKnownFirst}
 
 -- the first of least rank among these outcomes is that among the outcomes of all candidates
 pub record AreSearchedOut
     (ends : PaymentSeries → ℤ → WorthEnds) (price : ℕ) (list : List Candidate)
     (found : List CandidateOutcome) : Type 0 where
   pub outcomes : List CandidateOutcome
-  pub each : AllZip (IsYieldOutcome (place_verdict ends) price) list outcomes
+  pub each : AllZip (IsCandidateYield (place_verdict ends) price) list outcomes
   pub ranked : (lowest : Lowest) → IsRanked (least_unsure Yield) found lowest
       → IsRanked (least_unsure Yield) outcomes lowest
   pub range : All (IsOf Yield) outcomes

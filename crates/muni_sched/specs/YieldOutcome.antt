@@ -52,8 +52,8 @@ IsYieldOutcomeFor verdicts price (many series) outcome = outcome ≡ final verdi
 IsYieldOutcomeFor verdicts price (one least payment) outcome =
     IsOneOutcome price least payment outcome
 
-abbrev pub IsYieldOutcome : (PaymentSeries → ℕ → ℕ → Verdict) → ℕ → Candidate → CandidateOutcome → Type 0
-IsYieldOutcome verdicts price candidate outcome =
+abbrev pub IsCandidateYield : (PaymentSeries → ℕ → ℕ → Verdict) → ℕ → Candidate → CandidateOutcome → Type 0
+IsCandidateYield verdicts price candidate outcome =
     IsYieldOutcomeFor verdicts price (to_come_of candidate.shape) outcome
 
 -- before the first question nothing is known of many payments

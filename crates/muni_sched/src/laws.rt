@@ -1,7 +1,7 @@
 //! Laws of the candidates and of the lowest figure over them.
 
 ghost use Rattle.muni_sched.specs.AnswerLaws.{HasOneExactOutcome, HaveOneExactOutcomes, AllowsOneAnswer, OneAnswerIsRight};
-ghost use Rattle.muni_sched.specs.CandidateLaws.{AreOneList, CandidatesStandForPayments};
+ghost use Rattle.muni_sched.specs.CandidateLaws.{AreOneList, CandidatesStandForPayments, IsAtMostEachDate};
 ghost use Rattle.muni_sched.specs.LowestLaws.{AllowsOneLowest, SoundIsRight, OneLowestIsRight, UndecidedIsUnsure, NoDoubtIsDecided};
 
 /// A law of the rule: an issue has one list of redemption candidates at a settlement.
@@ -14,6 +14,12 @@ pub fn the_candidates_are_one()
 /// left (MSRB Rule G-33(b)).
 pub fn candidates_stand_for_their_payments()
     ensures { CandidatesStandForPayments }
+{}
+
+/// A law of the rule: of an issue that may be called on or after a day, the disclosed figure is at most that of
+/// each interest date to come from that day on, before the next call or maturity, at the price of the call.
+pub fn the_lowest_is_at_most_that_of_each_date()
+    ensures { IsAtMostEachDate }
 {}
 
 /// A law of the definitions: a candidate has one exact yield at a price, and one exact price at a

@@ -3,7 +3,7 @@
 ghost use Rattle.std.specs.Prelude.{◌≡◌, ◌<◌, ◌≤◌, ◌+◌, ◌^◌, true, length, All, AllPairs, Err};
 ghost use Rattle.muni_terms.specs.Issue.{settles};
 ghost use Rattle.muni_sched.specs.Answer.{IsLowestAnswer};
-ghost use Rattle.muni_sched.specs.Candidates.{AreCandidates, IsCandidate, IsEarlier};
+ghost use Rattle.muni_sched.specs.Candidates.{AreCandidates, IsCandidate, IsRedeemedEarlier};
 ghost use Rattle.muni_sched.specs.GivenFigure.{at_price, at_yield};
 ghost use Rattle.muni_sched.specs.LowAnswers.{low_price, low_yield};
 ghost use Rattle.muni_sched.specs.PriceOutcome.{IsAtYield};
@@ -25,15 +25,16 @@ use muni_terms::{Boundary, Issue};
 use std::sync::ledger::Ledger;
 use std::thread::Threads;
 
-/// The redemption candidates of an issue at a settlement (MSRB Rule G-15(a)), in order of date: its
-/// pricing calls after the settlement, and its maturity at 100. A note has its maturity alone.
-pub fn candidates(issue: &Issue, settlement: Day) -> ArrayVec<Candidate, 41>
+/// The redemption candidates of an issue at a settlement (MSRB Rule G-15(a)), in order of date: the days
+/// after the settlement on which its calls stand, each at the price of its call, and its maturity at 100,
+/// unless it has been called. A note has its maturity alone.
+pub fn candidates(issue: &Issue, settlement: Day) -> ArrayVec<Candidate, 100>
     requires { settles issue.now settlement ≡ true }
     ensures candidates { AreCandidates issue.now settlement result.items }
     ensures some { 0 < length result.items }
-    ensures rising { AllPairs IsEarlier result.items }
+    ensures rising { AllPairs IsRedeemedEarlier result.items }
 {
-    let mut slots = [Candidate::default(); 41];
+    let mut slots = [Candidate::default(); 100];
     let count = put_candidates(&mut slots, issue, settlement);
     let mut list = ArrayVec::new();
     let _ = list.try_extend_from_slice(&slots[..count]);
@@ -47,7 +48,7 @@ pub fn candidates(issue: &Issue, settlement: Day) -> ArrayVec<Candidate, 41>
 /// The issue is no discounted note. The answer is neither `Above` nor `NoTime`.
 pub fn lowest_price<E: Encloser>(list: &[Candidate], y: Yield, encloser: &E) -> LowAnswer
     requires some { 0 < length list.now }
-    requires few { length list.now ≤ 41 }
+    requires few { length list.now ≤ 100 }
     requires candidates { All IsCandidate list.now }
     requires basis { All IsAtYield list.now }
     requires in_range { All (IsGivenFor y) list.now }
@@ -71,7 +72,7 @@ pub fn lowest_yield<R: Threads + Sync, E: Encloser + Sync, G: Gate + Sync, L: Le
     gate: &G,
     steps: &mut Steps<L>,
 ) -> LowAnswer
-    requires few { length list.now ≤ 41 }
+    requires few { length list.now ≤ 100 }
     requires candidates { All IsCandidate list.now }
     requires price { 0 < price }
     requires workers { (1 ≤ workers) × (workers ≤ 16) }
@@ -80,7 +81,7 @@ pub fn lowest_yield<R: Threads + Sync, E: Encloser + Sync, G: Gate + Sync, L: Le
     ensures rounds { CountsRounds (E.ends encloser.now) price list.now steps.old steps.new }
     ensures few { steps.new ≤ steps.old + 19 }
 {
-    let mut slots = [OpenSearch::default(); 41];
+    let mut slots = [OpenSearch::default(); 100];
     let mut search = Search::new();
     let calculator = Calculator {
         rt,

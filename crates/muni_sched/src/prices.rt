@@ -30,7 +30,7 @@ pub fn price_to_worst<E: Encloser>(
     encloser: &E,
 ) -> Result<LowestPrice, NoPrice>
     requires some { 0 < length list.now }
-    requires few { length list.now ≤ 41 }
+    requires few { length list.now ≤ 100 }
     requires candidates { All IsCandidate list.now }
     requires basis { All IsAtYield list.now }
     requires in_range { All (IsGivenFor y) list.now }
@@ -63,8 +63,8 @@ fn decided_price(
     }
 }
 
-fn prices_at<E: Encloser>(encloser: &E, list: &[Candidate], y: Yield) -> ArrayVec<PriceAnswer, 41>
-    requires few { length list.now ≤ 41 }
+fn prices_at<E: Encloser>(encloser: &E, list: &[Candidate], y: Yield) -> ArrayVec<PriceAnswer, 100>
+    requires few { length list.now ≤ 100 }
     requires candidates { All IsCandidate list.now }
     requires basis { All IsAtYield list.now }
     requires in_range { All (IsGivenFor y) list.now }

@@ -2,32 +2,36 @@
 
 ghost use Rattle.std.specs.Prelude.{◌≡◌, ◌<◌, ◌≤◌, true, take, length, AllPairs};
 ghost use Rattle.muni_rule.specs.Civil.{is_before};
+ghost use Rattle.muni_rule.specs.Redemptions.{label_of_entry};
 ghost use Rattle.muni_days.specs.Day.{civil};
 ghost use Rattle.muni_terms.specs.Issue.{settles};
-ghost use Rattle.muni_sched.specs.Candidates as spec;
-ghost use Rattle.muni_sched.specs.Candidates.{AreCallCandidates, AreCandidates, IsEarlier};
+ghost use Rattle.muni_sched.specs.Candidates.{AreCandidatesOf, AreCandidates, IsRedeemedEarlier, calls_of};
 ghost use Rattle.muni_sched.specs.Shape.{IsPricing};
 
 use crate::Candidate;
 use crate::shape::{Pricing, pricing_at, shape_at};
 use muni_days::Day;
 use muni_dec::Price;
-use muni_terms::{Call, Issue, Label};
+use muni_terms::{Call, Issue, Label, half_years_on};
 
 /// Puts the redemption candidates of an issue at a settlement (MSRB Rule G-15(a)) into the first of
-/// some slots, and answers how many they are. In order of date they are its pricing calls after the
-/// settlement, and its maturity at 100. A note has its maturity alone.
+/// some slots, and answers how many they are. In order of date they are the days after the settlement on
+/// which its calls stand, each at the price of its call, and its maturity at 100, unless it has been
+/// called. A note has its maturity alone.
 pub fn put_candidates(slots: &mut [Candidate], issue: &Issue, settlement: Day) -> usize
     requires settled { settles issue.now settlement ≡ true }
-    requires room { 41 ≤ length slots.old }
+    requires room { 100 ≤ length slots.old }
     ensures candidates { AreCandidates issue.now settlement (take result slots.new) }
-    ensures count { (1 ≤ result) × (result ≤ 41) }
-    ensures rising { AllPairs IsEarlier (take result slots.new) }
+    ensures count { (1 ≤ result) × (result ≤ 100) }
+    ensures rising { AllPairs IsRedeemedEarlier (take result slots.new) }
     ensures len { length slots.new ≡ length slots.old }
 {
+    let date = issue.row().maturity;
     let pricing = pricing_at(issue, settlement);
     let calls = put_calls(slots, issue, settlement, &pricing);
-    let date = issue.row().maturity;
+    if issue.is_called() {
+        return calls;
+    }
     slots[calls] = Candidate {
         date,
         price: Price::PAR,
@@ -37,42 +41,46 @@ pub fn put_candidates(slots: &mut [Candidate], issue: &Issue, settlement: Day) -
     calls + 1
 }
 
-// Answers how many calls are to come.
+// Answers on how many days to come the calls stand.
 fn put_calls(slots: &mut [Candidate], issue: &Issue, settlement: Day, pricing: &Pricing) -> usize
     requires settled { settles issue.now settlement ≡ true }
-    requires room { 41 ≤ length slots.old }
+    requires room { 100 ≤ length slots.old }
     requires pricing { IsPricing issue.now settlement pricing.now }
-    ensures candidates { AreCallCandidates issue.now settlement issue.now.calls.items
+    ensures candidates { AreCandidatesOf issue.now settlement (calls_of issue.now)
         (take result slots.new) }
-    ensures few { result ≤ 40 }
+    ensures few { result ≤ 99 }
     ensures len { length slots.new ≡ length slots.old }
 {
-    let row = issue.row();
-    let mut calls = 0;
-    for call in row.calls.as_slice() {
-        if is_to_come(call, settlement) {
-            slots[calls] = Candidate {
-                date: call.date,
-                price: call.price,
-                label: call_label(call.price),
-                shape: shape_at(issue, pricing, settlement, call.date, call.price),
-            };
-            calls += 1;
+    let mut count = 0;
+    for (place, call) in issue.row().calls.iter().enumerate() {
+        for half_years in 0..issue.call_days(place) {
+            let date = half_years_on(call.date, half_years);
+            if is_to_come(date, settlement) {
+                slots[count] = Candidate {
+                    date,
+                    price: call.price,
+                    label: call_label(call),
+                    shape: shape_at(issue, pricing, settlement, date, call.price),
+                };
+                count += 1;
+            }
         }
     }
-    calls
+    count
 }
 
-fn is_to_come(call: &Call, settlement: Day) -> bool
-    ensures { result ≡ is_before (civil settlement) (civil call.now.date) }
+fn is_to_come(date: Day, settlement: Day) -> bool
+    ensures { result ≡ is_before (civil settlement) (civil date) }
 {
-    settlement < call.date
+    settlement < date
 }
 
-fn call_label(price: Price) -> Label
-    ensures { result ≡ spec.label_at price }
+fn call_label(call: &Call) -> Label
+    ensures { result ≡ label_of_entry call.now.term call.now.price }
 {
-    if price == Price::PAR {
+    if call.is_certain() {
+        Label::Called
+    } else if call.price == Price::PAR {
         Label::ParOption
     } else {
         Label::Call

@@ -25,9 +25,9 @@ use std::thread::Threads;
 /// tenth of the time of a quote.
 #[derive(Drop)]
 pub struct Schedule {
-    slots: [Candidate; 41],
+    slots: [Candidate; 100],
     count: usize,
-    searches: [OpenSearch; 41],
+    searches: [OpenSearch; 100],
     rounds: u32,
 }
 
@@ -39,7 +39,7 @@ impl Model for Schedule {
 
     ghost view = { λ schedule. schedule_view (take schedule.count schedule.slots) schedule.rounds };
 
-    ghost invariant = { λ schedule. (schedule.count ≤ 41) × (schedule.rounds ≤ 19) };
+    ghost invariant = { λ schedule. (schedule.count ≤ 100) × (schedule.rounds ≤ 19) };
 }
 
 impl Schedule {
@@ -48,9 +48,9 @@ impl Schedule {
         ensures { result ≡ schedule_view [] 0 }
     {
         Schedule {
-            slots: [Candidate::default(); 41],
+            slots: [Candidate::default(); 100],
             count: 0,
-            searches: [OpenSearch::default(); 41],
+            searches: [OpenSearch::default(); 100],
             rounds: 0,
         }
     }
@@ -59,7 +59,7 @@ impl Schedule {
     pub fn fill(&mut self, issue: &Issue, settlement: Day)
         requires { settles issue.now settlement ≡ true }
         ensures candidates { AreCandidates issue.now settlement self.new.candidates }
-        ensures count { (1 ≤ length self.new.candidates) × (length self.new.candidates ≤ 41) }
+        ensures count { (1 ≤ length self.new.candidates) × (length self.new.candidates ≤ 100) }
     {
         self.count = put_candidates(&mut self.slots, issue, settlement);
     }

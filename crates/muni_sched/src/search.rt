@@ -86,7 +86,7 @@ fn is_at_ceiling(ceiling: Option<i32>, thousandths: i32) -> bool
 #[derive(Drop)]
 pub(crate) struct Search {
     /// The outcome of each candidate, if it is known.
-    known: ArrayVec<Option<CandidateOutcome>, 41>,
+    known: ArrayVec<Option<CandidateOutcome>, 100>,
     /// How many searches are left. They are in the first slots of the caller.
     left: usize,
     /// The least figure that a candidate is known not to reach, by its questions.
@@ -114,8 +114,8 @@ impl Search {
     /// Adds the candidates, before the first round.
     pub(crate) fn start(&mut self, slots: &mut [OpenSearch], list: &[Candidate], price: Price)
         requires new { IsNew self.old }
-        requires room { 41 ≤ length slots.old }
-        requires few { length list.now ≤ 41 }
+        requires room { 100 ≤ length slots.old }
+        requires few { length list.now ≤ 100 }
         requires candidates { All IsCandidate list.now }
         requires price { 0 < price }
         ensures started { IsStarted price list.now (state self.new slots.new) }
@@ -227,12 +227,12 @@ impl Search {
 }
 
 fn push_known_first(
-    known: &mut ArrayVec<Option<CandidateOutcome>, 41>,
+    known: &mut ArrayVec<Option<CandidateOutcome>, 100>,
     list: &[Candidate],
     price: Price,
 )
     requires empty { known.old.items ≡ [] }
-    requires few { length list.now ≤ 41 }
+    requires few { length list.now ≤ 100 }
     requires candidates { All IsCandidate list.now }
     requires price { 0 < price }
     ensures known { AllZip (IsKnownFirst price) list.now known.new.items }
@@ -245,8 +245,8 @@ fn push_known_first(
 
 // Answers how many searches there are.
 fn put_searches(slots: &mut [OpenSearch], list: &[Candidate], price: Price) -> usize
-    requires room { 41 ≤ length slots.old }
-    requires few { length list.now ≤ 41 }
+    requires room { 100 ≤ length slots.old }
+    requires few { length list.now ≤ 100 }
     requires candidates { All IsCandidate list.now }
     requires price { 0 < price }
     ensures searches { take result slots.new ≡ searches_from price 0 list.now }

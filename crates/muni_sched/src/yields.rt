@@ -32,8 +32,8 @@ pub(crate) fn search_yields<R: Threads + Sync, E: Encloser + Sync, G: Gate + Syn
     price: Price,
 ) -> u32
     requires new { IsNew search.old }
-    requires room { 41 ≤ length slots.old }
-    requires few { length list.now ≤ 41 }
+    requires room { 100 ≤ length slots.old }
+    requires few { length list.now ≤ 100 }
     requires candidates { All IsCandidate list.now }
     requires price { 0 < price }
     ensures found { AreSearchedOut (E.ends calculator.now.encloser.now) price list.now

@@ -2,7 +2,7 @@
 use Rattle.std.proofs.Common.{◌≡◌, ℕ, Bool, ◌+◌, ◌-◌, ◌^◌, ◌<◌, ◌≤◌, sym, subst, ⊎_elim, arith, leb, lit≤}
 use Rattle.std.proofs.lemmas.Bool.{cases_lt, le-leb, lt-leb, leb-true, leb-false}
 use Rattle.muni_span.specs.Powers.{power_end}
-use Rattle.muni_span.specs.Roots.{greatest_where, root_end, IsBracket}
+use Rattle.muni_span.specs.Roots.{greatest_where, root_end, IsRootBracket}
 use Rattle.muni_span.proofs.PowerGrowth.{power_end-grows}
 use Rattle.muni_span.proofs.Greatest.{IsGreatest, IsFound, greatest_unique, greatest_found}
 
@@ -17,7 +17,7 @@ narrowest carry v low n within under over = record {
 }
 
 -- however a bracket is narrowed, its last lower end is the root's end
-pub bracket_closed : (carry v low high : ℕ) → high - low ≤ 1 → IsBracket carry v low high → low ≡ root_end carry v
+pub bracket_closed : (carry v low high : ℕ) → high - low ≤ 1 → IsRootBracket carry v low high → low ≡ root_end carry v
 unfolding root_end
 bracket_closed carry v low high near is =
     let ordered : low < high = is.ordered in
@@ -38,7 +38,7 @@ certified carry v q within under over = bracket_closed carry v q (q + 1) (omega 
 -- an end that lies at or above a known number, and is its own narrowest bracket
 pub record IsEnd (carry v least q : ℕ) : Type 0 where
   pub above : least ≤ q
-  pub bracket : IsBracket carry v q (q + 1)
+  pub bracket : IsRootBracket carry v q (q + 1)
 
 below_high : (carry v high q : ℕ) → v < power_end carry high 180 → power_end carry q 180 ≤ v → q < high
 below_high carry v high q over under =
@@ -55,7 +55,7 @@ end_of_found carry v low high n q within over found =
     (below, under, leb-false (power_end carry (q + 1) 180) v (found.greatest.none (q + 1) (omega arith) (omega arith)))
 
 -- the root's end of any bracket
-pub root_end-is : (carry v low high : ℕ) → IsBracket carry v low high → IsEnd carry v low (root_end carry v)
+pub root_end-is : (carry v low high : ℕ) → IsRootBracket carry v low high → IsEnd carry v low (root_end carry v)
 unfolding root_end
 root_end-is carry v low high is =
     let test : ℕ → Bool = λ x. leb (power_end carry x 180) v in

@@ -23,7 +23,7 @@ abbrev pub root_high : ℕ → ℕ
 root_high v = root_end 0 (v - 1) + 1
 
 -- a bracket of a root's end: the power of the lower number is at most v, that of the upper is more
-pub record IsBracket (carry v low high : ℕ) : Type 0 where
+pub record IsRootBracket (carry v low high : ℕ) : Type 0 where
   pub ordered : low < high
   pub within : high ≤ 2 ^ 60 + 2 ^ 50
   pub under : power_end carry low 180 ≤ v

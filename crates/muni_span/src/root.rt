@@ -3,7 +3,7 @@
 ghost use Rattle.std.specs.Prelude.{◌≡◌, ℕ, ◌+◌, ◌-◌, ◌*◌, ◌^◌, ◌<◌, ◌≤◌, pos, negsuc, ◌≤ℤ◌};
 ghost use Rattle.muni_span.specs.Fractions.{IsAtMost};
 ghost use Rattle.muni_span.specs.Holding.{HoldsPower};
-ghost use Rattle.muni_span.specs.Roots.{root_end, root_low, root_high, IsBracket};
+ghost use Rattle.muni_span.specs.Roots.{root_end, root_low, root_high, IsRootBracket};
 ghost use Rattle.muni_span.specs.Rounding.{carry_of};
 ghost use Rattle.muni_span.specs.declared.root.TheConstants.{LEAST_ROOT, GREATEST_ROOT};
 
@@ -64,7 +64,7 @@ pub fn root180(v: Span) -> Span
 /// The greatest number with a power of at most `v`: a guess or the number before it, if two powers
 /// certify that, and otherwise by halving the widest bracket.
 fn end_near(rounding: Rounding, v: u64, excess: i64) -> u64
-    requires { IsBracket (carry_of rounding) v LEAST_ROOT GREATEST_ROOT }
+    requires { IsRootBracket (carry_of rounding) v LEAST_ROOT GREATEST_ROOT }
     ensures value { result ≡ root_end (carry_of rounding) v }
     ensures within { result < GREATEST_ROOT }
 {
@@ -81,7 +81,7 @@ fn end_near(rounding: Rounding, v: u64, excess: i64) -> u64
 
 /// The greatest number with a power of at most `v`, by halving a bracket that holds it.
 fn end_between(rounding: Rounding, v: u64, mut low: u64, mut high: u64) -> u64
-    requires { IsBracket (carry_of rounding) v low high }
+    requires { IsRootBracket (carry_of rounding) v low high }
     ensures value { result ≡ root_end (carry_of rounding) v }
     ensures within { result < GREATEST_ROOT }
 {

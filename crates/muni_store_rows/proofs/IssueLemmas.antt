@@ -91,8 +91,9 @@ coupon-again coupon few =
 pub issue-again : (row : IssueRow) → length row.cusip ≡ 9 → length row.name.items ≤ 60 → row.coupon ≤ 300_000_000 → length row.calls.items ≤ 40 → Check.fault_of row ≡ None → issue_of (columns_of row) ≡ Some row
 unfolding issue_of columns_of Check.fault_of
 issue-again row nine few coupon calls none =
-    let both = neither (Check.early_fault row) (Check.calls_fault row None row.calls.items) none in
+    let both = neither (Check.early_fault row) _ none in
     let early = early-passed row both.0 in
+    let passed_calls = (neither (Check.calls_fault row None row.calls.items) (Check.certain_fault row.calls.items) both.1).0 in
     rw (
       cusip-again row.cusip nine early.0,
       issue_name-again row.name few early.1,
@@ -101,6 +102,6 @@ issue-again row nine few coupon calls none =
       day_again row.dated,
       day_again row.maturity,
       coupon-again row.coupon coupon,
-      calls-read-again row.calls.items (calls-priced row None row.calls.items both.1) calls,
+      calls-read-again row.calls.items (calls-priced row None row.calls.items passed_calls) calls,
       none,
     ) refl

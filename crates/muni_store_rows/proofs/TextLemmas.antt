@@ -1,16 +1,20 @@
 -- The texts of days and of calls, read again.
-use Rattle.std.proofs.Common.{◌≡◌, ◌≤◌, ◌<◌, ◌+◌, ◌/◌, ◌%◌, ◌^◌, ◌*◌, ℕ, zero, suc, Bool, true, false, not, ◌&&◌, List, [], ◌∷◌, ◌++◌, length, map, decimal, position, Some, refl, ap, ◌∙◌, arith, Ok, Err}
+use Rattle.std.proofs.Common.{◌≡◌, ◌≤◌, ◌<◌, ◌+◌, ◌-◌, ◌/◌, ◌%◌, ◌^◌, ◌*◌, ℕ, zero, suc, Bool, true, false, not, ◌&&◌, List, [], ◌∷◌, ◌++◌, length, map, decimal, position, take, Option, Some, None, refl, sym, ap, ◌∙◌, arith, append_assoc, Ok, Err}
 use Rattle.std.specs.Prelude.{◌==◌, nat_lt, nat_le, if◌then◌else◌, ⊤}
 use Rattle.std.specs.Char.{is_ascii_digit}
-use Rattle.std.specs.List.{list_all, position_or_len}
+use Rattle.std.specs.List.{list_all, last_or, position_or_len}
+use Rattle.std.specs.Option.{option_map}
 use Rattle.std.specs.Result.{result_ok}
 use Rattle.std.specs.Str.{bytes_eq}
 use Rattle.std.proofs.lemmas.Bool.{and_parts}
 use Rattle.std.proofs.lemmas.Bool.Decides.{nat_tests}
-use Rattle.std.proofs.lemmas.List.{append-nil, length-map}
+use Rattle.std.proofs.Math.Seq.{take-append_seam}
+use Rattle.std.proofs.lemmas.List.{append-nil, length-map, length-append}
 use Rattle.std.proofs.lemmas.List.Folds.{list_all-append}
 use Rattle.std.proofs.lemmas.Slice.Eq.{bytes_eq-Decides}
 use Rattle.muni_rule.specs.Civil.{Civil}
+use Rattle.muni_rule.specs.declared.call_term.CallTerm.{CallTerm}
+use Rattle.muni_rule.specs.declared.call_term.CallTerm.TheVariants.{OnDay, OnOrAfter, Called}
 use Rattle.muni_dec.specs.Decimal.{decimal_text}
 use Rattle.muni_dec.specs.Digits.{digits_end, last_digits, number}
 use Rattle.muni_dec.specs.Values.{amount_reading, price_reading}
@@ -21,10 +25,10 @@ use Rattle.muni_days.specs.Day.{civil, day_text}
 use Rattle.muni_days.specs.declared.day.Day.{Day}
 use Rattle.muni_days.proofs.ReadingLemmas.{text-read}
 use Rattle.muni_terms.specs.declared.row.Call.{Call}
-use Rattle.muni_msg.specs.Fields.{day_in, call_reading}
+use Rattle.muni_msg.specs.Fields.{day_in, split_by, split_mark, call_price_reading, call_reading}
 use Rattle.muni_msg.specs.IssueFields.{calls_reading}
 use Rattle.muni_msg.specs.Calls.{cut_at_blanks, calls_field}
-use Rattle.muni_store_rows.specs.Calls.{call_text, calls_behind_blanks, calls_text, calls_of}
+use Rattle.muni_store_rows.specs.Calls.{mark_text, call_text, calls_behind_blanks, calls_text, calls_of}
 
 -- ---- which bytes such a text has
 all-last_digits : (p : ℕ → Bool) → ((n : ℕ) → p (48 + n % 10) ≡ true) → (count n : ℕ) → list_all p (last_digits count n) ≡ true
@@ -72,13 +76,20 @@ digit-no-blank n = grind (arith, nat_tests)
 digit-no-colon : (n : ℕ) → not ((48 + n % 10) == 58) ≡ true
 digit-no-colon n = grind (arith, nat_tests)
 
+mark-no-blank : (term : CallTerm) → list_all (λ b. not (b == 32)) (mark_text term) ≡ true
+mark-no-blank OnDay = refl
+mark-no-blank OnOrAfter = refl
+mark-no-blank Called = refl
+
 -- a call has no blank
 call-no-blank : (call : Call) → call.price < 2 ^ 64 → list_all (λ b. not (b == 32)) (call_text call) ≡ true
 call-no-blank call small =
     let p : ℕ → Bool = λ b. not (b == 32) in
     let whole = all-digits p no-blank (decimal (call.price / 10 ^ 6)) (decimal-digits (call.price / 10 ^ 6) (omega (arith, small))) in
-    list_all-append p (day_text (civil call.date)) (58 ∷ decimal_text 6 call.price)
-    ∙ rw (all-day p digit-no-blank refl (civil call.date), list_all-append p (decimal (call.price / 10 ^ 6)) (46 ∷ last_digits 6 call.price), whole, all-last_digits p digit-no-blank 6 call.price) refl
+    let price : list_all p (decimal_text 6 call.price) ≡ true =
+    list_all-append p (decimal (call.price / 10 ^ 6)) (46 ∷ last_digits 6 call.price) ∙ rw (whole, all-last_digits p digit-no-blank 6 call.price) refl in
+    list_all-append p (day_text (civil call.date)) (58 ∷ (decimal_text 6 call.price ++ mark_text call.term))
+    ∙ rw (all-day p digit-no-blank refl (civil call.date), list_all-append p (decimal_text 6 call.price) (mark_text call.term), price, mark-no-blank call.term) refl
 
 -- ---- cut at blanks
 not-true : (test : Bool) → not test ≡ true → test ≡ false
@@ -130,13 +141,45 @@ place-behind p (b ∷ text) rest byte none is =
 
 colon-place : (call : Call) → position (λ b. b == 58) (call_text call) ≡ Some 10
 colon-place call =
-    let place : position_or_len (λ b. b == 58) (call_text call) ≡ 10 = place-behind (λ b. b == 58) (day_text (civil call.date)) (decimal_text 6 call.price) 58 (all-day (λ b. not (b == 58)) digit-no-colon refl (civil call.date)) refl in
+    let place : position_or_len (λ b. b == 58) (call_text call) ≡ 10 = place-behind (λ b. b == 58) (day_text (civil call.date)) (decimal_text 6 call.price ++ mark_text call.term) 58 (all-day (λ b. not (b == 58)) digit-no-colon refl (civil call.date)) refl in
     let inside : nat_lt 10 (length (call_text call)) ≡ true = grind (arith, nat_tests) in
     rw (place, inside) refl
 
+-- ---- the mark after a price
+last-pushed : (before : Option ℕ) (text : List ℕ) (byte : ℕ) → last_or before (text ++ byte ∷ []) ≡ Some byte
+last-pushed before [] byte = refl
+last-pushed before (first ∷ text) byte = last-pushed (Some first) text byte
+
+price-last : (price : ℕ) → last_or None (decimal_text 6 price) ≡ Some (48 + price % 10)
+price-last price =
+    let front = decimal (price / 10 ^ 6) ++ 46 ∷ last_digits 5 (price / 10) in
+    let whole : decimal_text 6 price ≡ front ++ (48 + price % 10) ∷ [] = sym (append_assoc (decimal (price / 10 ^ 6)) (46 ∷ last_digits 5 (price / 10)) ((48 + price % 10) ∷ [])) in
+    rw whole (last-pushed None front (48 + price % 10))
+
+split-marked : (text : List ℕ) (mark : ℕ) → split_mark (text ++ mark ∷ []) ≡ split_by (Some mark) (text ++ mark ∷ [])
+split-marked text mark = ap (λ last. split_by last (text ++ mark ∷ [])) (last-pushed None text mark)
+
+taken : (text : List ℕ) (mark : ℕ) → take (length (text ++ mark ∷ []) - 1) (text ++ mark ∷ []) ≡ text
+taken text mark =
+    let long : length (text ++ mark ∷ []) - 1 ≡ length text = omega (arith, length-append text (mark ∷ [])) in
+    ap (λ n. take n (text ++ mark ∷ [])) long ∙ take-append_seam text (mark ∷ [])
+
+split-again : (price : ℕ) (term : CallTerm) → split_mark (decimal_text 6 price ++ mark_text term) ≡ (decimal_text 6 price, term)
+split-again price OnDay =
+    let plus : ((48 + price % 10) == 43) ≡ false = grind (arith, nat_tests) in
+    let called : ((48 + price % 10) == 33) ≡ false = grind (arith, nat_tests) in
+    ap split_mark (append-nil (decimal_text 6 price)) ∙ ap (λ last. split_by last (decimal_text 6 price)) (price-last price) ∙ rw (plus, called) refl
+split-again price OnOrAfter = split-marked (decimal_text 6 price) 43 ∙ (λ i. (taken (decimal_text 6 price) 43 i, OnOrAfter))
+split-again price Called = split-marked (decimal_text 6 price) 33 ∙ (λ i. (taken (decimal_text 6 price) 33 i, Called))
+
+marked-again : (price : ℕ) (term : CallTerm) → price ≤ 999_999_999 → call_price_reading (decimal_text 6 price ++ mark_text term) ≡ Some (price, term)
+marked-again price term few =
+    ap (λ (split : List ℕ × CallTerm). option_map (λ found. (found, split.1)) (result_ok (price_reading split.0))) (split-again price term)
+    ∙ rw (price-again price few) refl
+
 call-again : (call : Call) → call.price ≤ 999_999_999 → call_reading (call_text call) ≡ Some call
 call-again call few =
-    rw (colon-place call) (rw (day_again call.date, price-again call.price few) refl)
+    rw (colon-place call) (rw (day_again call.date, marked-again call.price call.term few) refl)
 
 calls-again : (calls : List Call) → ArePriced calls → calls_reading (map call_text calls) ≡ Some calls
 calls-again [] priced = refl

@@ -19,8 +19,8 @@ use Rattle.muni_terms.specs.declared.row.IssueRow.{IssueRow}
 use Rattle.muni_terms.specs.declared.row.Kind.{Kind}
 use Rattle.muni_terms.specs.declared.row.Kind.TheVariants.{Periodic, Zero, AtRedemption, Discount}
 use Rattle.muni_terms.specs.declared.row.TermsFault.{TermsFault}
-use Rattle.muni_terms.specs.declared.disclosure.Label.{Label}
-use Rattle.muni_terms.specs.declared.disclosure.Label.TheVariants.{Maturity, ParOption, Call as Called}
+use Rattle.muni_rule.specs.declared.label.Label.{Label}
+use Rattle.muni_rule.specs.declared.label.Label.TheVariants.{Maturity, ParOption, Call as PlainCall, Called}
 use Rattle.muni_msg.specs.Codes.{side_code, side_of_code, act_code, act_of_code, label_code, label_of_code, given_code, given_units, given_of_code, price_of_units, basis_code, basis_of_code, kind_code}
 use Rattle.muni_msg.specs.Calls.{calls_field}
 use Rattle.muni_msg.specs.Fields.{day_in}
@@ -125,8 +125,9 @@ act-coded (suc (suc (suc more))) act h = absurd cc
 label-coded : (code : ℕ) (label : Label) → label_of_code code ≡ Some label → code ≡ label_code label
 label-coded zero label h = let same : Maturity ≡ label = cc in ap label_code same
 label-coded (suc zero) label h = let same : ParOption ≡ label = cc in ap label_code same
-label-coded (suc (suc zero)) label h = let same : Called ≡ label = cc in ap label_code same
-label-coded (suc (suc (suc more))) label h = absurd cc
+label-coded (suc (suc zero)) label h = let same : PlainCall ≡ label = cc in ap label_code same
+label-coded (suc (suc (suc zero))) label h = let same : Called ≡ label = cc in ap label_code same
+label-coded (suc (suc (suc (suc more)))) label h = absurd cc
 
 side-is : (column : ℤ) (side : Side) → side_of column ≡ Some side → column ≡ pos (side_code side)
 side-is column side h = let b = bound (code_in column) side_of_code side h in code-is column b.0 b.1 ∙ ap pos (side-coded b.0 side b.2)

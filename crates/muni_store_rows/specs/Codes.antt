@@ -2,7 +2,7 @@
 use Rattle.std.specs.Prelude.{ℕ, ◌^◌, ◌==◌, nat_lt, if◌then◌else◌, ℤ, pos, negsuc, List, length, Option, Some, None, option_and_then}
 use Rattle.muni_dec.specs.Values.{if_price, if_printed_price, if_coupon, if_par, if_fee, if_money}
 use Rattle.muni_rule.specs.declared.basis.Basis.{Basis}
-use Rattle.muni_terms.specs.declared.disclosure.Label.{Label}
+use Rattle.muni_rule.specs.declared.label.Label.{Label}
 use Rattle.muni_msg.specs.Codes.{act_of_code, basis_of_code, given_of_code, label_of_code, side_of_code}
 use Rattle.muni_msg.specs.Fields.{◌>>=◌}
 use Rattle.muni_msg.specs.declared.asked.Given.{Given}

@@ -13,12 +13,12 @@ use muni_days::Day;
 use muni_dec::Price;
 use muni_dec::text::push;
 use muni_msg::read_calls;
-use muni_terms::Call;
+use muni_terms::{Call, CallTerm};
 
 /// Room for the text of 40 calls, with a blank before each.
-pub(crate) type CallsText = ArrayVec<u8, 1_640>;
+pub(crate) type CallsText = ArrayVec<u8, 1_680>;
 
-/// The calls as `2027-01-01:102.000000 2028-01-01:100.000000`, with a blank before each.
+/// The calls as `2027-01-01:102.000000 2028-01-01:100.000000+`, with a blank before each.
 pub(crate) fn print_calls(calls: &[Call]) -> CallsText
     requires { length calls.now ≤ 40 }
     ensures { result.items ≡ spec.calls_behind_blanks calls.now }
@@ -31,9 +31,9 @@ pub(crate) fn print_calls(calls: &[Call]) -> CallsText
 }
 
 fn push_call(text: &mut CallsText, call: &Call)
-    requires { array_vec_len text.old + 41 ≤ 1_640 }
+    requires { array_vec_len text.old + 42 ≤ 1_680 }
     ensures items { text.new.items ≡ text.old.items ++ spec.call_behind_blank call.now }
-    ensures len { array_vec_len text.new ≤ array_vec_len text.old + 41 }
+    ensures len { array_vec_len text.new ≤ array_vec_len text.old + 42 }
 {
     push(text, &print_call(call));
 }
@@ -59,14 +59,27 @@ fn print_price(price: Price) -> ArrayVec<u8, 32>
 
 fn print_call(call: &Call) -> ArrayVec<u8, 64>
     ensures items { result.items ≡ spec.call_behind_blank call.now }
-    ensures len { array_vec_len result ≤ 41 }
+    ensures len { array_vec_len result ≤ 42 }
 {
     let mut text = ArrayVec::new();
     text.push(b' ');
     push(&mut text, &print_day(call.date));
     text.push(b':');
     push(&mut text, &print_price(call.price));
+    push_mark(&mut text, call.term);
     text
+}
+
+fn push_mark(text: &mut ArrayVec<u8, 64>, term: CallTerm)
+    requires { array_vec_len text.old + 1 ≤ 64 }
+    ensures items { text.new.items ≡ text.old.items ++ spec.mark_text term }
+    ensures len { array_vec_len text.new ≤ array_vec_len text.old + 1 }
+{
+    match term {
+        CallTerm::OnDay => (),
+        CallTerm::OnOrAfter => text.push(b'+'),
+        CallTerm::Called => text.push(b'!'),
+    }
 }
 
 /// The text without its first byte.

@@ -1,12 +1,15 @@
 -- What follows from the tests that an issue passed.
-use Rattle.std.proofs.Common.{◌≡◌, ℕ, zero, suc, ◌<◌, ◌≤◌, Bool, true, false, cond, not, leb, ◌&&◌, List, [], ◌∷◌, length, Option, Some, None, refl, sym, subst, arith, inl, inr, ℤ, pos, ◌≤ℤ◌}
-use Rattle.std.specs.Prelude.{Contains, slice_index_or, int_le}
+use Rattle.std.proofs.Common.{◌≡◌, ℕ, ◌<◌, ◌≤◌, Bool, true, false, cond, not, leb, ◌&&◌, List, [], ◌∷◌, map, Option, Some, None, refl, sym, subst, arith, inl, inr, ℤ, pos, ◌≤ℤ◌}
+use Rattle.std.specs.Prelude.{All, int_le, if◌then◌else◌}
+use Rattle.std.specs.List.{last_or}
+use Rattle.std.proofs.lemmas.List.Elements.{All-nil, All-cons, All-head, All-tail}
 use Rattle.std.proofs.lemmas.Int.{ints}
 use Rattle.std.proofs.lemmas.Bool.{and_parts, ltb-true, leb-true}
 use Rattle.muni_rule.specs.Civil.{Civil, IsCivil, order_of, is_before, is_not_after}
 use Rattle.muni_rule.specs.DayCount.{days360, days_by}
 use Rattle.muni_rule.specs.declared.basis.Basis.{Basis}
 use Rattle.muni_rule.specs.QuasiDates.{is_quasi_date, quasi_count}
+use Rattle.muni_rule.specs.Redemptions.{CallEntry, is_certain, last_day_by}
 use Rattle.muni_rule.specs.PaymentLaws.{IsSettlementDate, IsRedeemedAfter, IsCouponRedemption}
 use Rattle.muni_rule.specs.Cusip.{is_cusip}
 use Rattle.muni_rule.specs.Terms.{is_name, is_dated_date, is_interest_day, is_call_price}
@@ -16,7 +19,7 @@ use Rattle.muni_days.specs.Day.{civil}
 use Rattle.muni_days.specs.declared.day.Day.{Day}
 use Rattle.muni_days.proofs.CivilLemmas.{is_civil, is_of_calendar, is_of_desk}
 use Rattle.muni_terms.specs.Check as Check
-use Rattle.muni_terms.specs.Issue.{IsRedemption, settles, anchor_by, anchor_of}
+use Rattle.muni_terms.specs.Issue.{IsRedemption, settles, anchor_by, anchor_of, entry_of, entries_of, last_day_of}
 use Rattle.muni_terms.specs.declared.row.Call.{Call}
 use Rattle.muni_terms.specs.declared.row.Kind.{Kind}
 use Rattle.muni_terms.specs.declared.row.Kind.TheVariants.{Periodic, Zero, AtRedemption, Discount}
@@ -40,6 +43,7 @@ pub record IsIssue (row : IssueRow) : Type 0 where
   pub start : Check.has_short_start row ≡ true
   pub term : Check.has_short_term row ≡ true
   pub calls : Check.calls_fault row None row.calls.items ≡ None
+  pub certain : Check.certain_fault row.calls.items ≡ None
 
 early-passed : (row : IssueRow) → Check.early_fault row ≡ None → (Check.has_order row ≡ true) × (Check.has_day row ≡ true) × (Check.has_short_start row ≡ true) × (Check.has_short_term row ≡ true)
 unfolding Check.early_fault
@@ -57,35 +61,68 @@ early-passed row none =
 pub is_issue : (row : IssueRow) → Check.fault_of row ≡ None → IsIssue row
 unfolding Check.fault_of
 is_issue row none =
-    let both = neither (Check.early_fault row) (Check.calls_fault row None row.calls.items) none in
+    let both = neither (Check.early_fault row) _ none in
     let early = early-passed row both.0 in
-    record { order = early.0; day = early.1; start = early.2; term = early.3; calls = both.1 }
+    let calls = neither (Check.calls_fault row None row.calls.items) (Check.certain_fault row.calls.items) both.1 in
+    record { order = early.0; day = early.1; start = early.2; term = early.3; calls = calls.0; certain = calls.1 }
 
--- each call passed its tests after the call before it
-call-passed : (row : IssueRow) (before : Option Day) (calls : List Call) (k : ℕ) (other : Call) → Check.calls_fault row before calls ≡ None → k < length calls → (last : Option Day) × (Check.call_fault row last (slice_index_or calls k other) ≡ None)
-call-passed row before [] k other none inside = absurd (omega arith)
-call-passed row before (call ∷ calls) zero other none inside = (before, (neither (Check.call_fault row before call) (Check.calls_fault row (Some call.date) calls) none).0)
-call-passed row before (call ∷ calls) (suc k) other none inside =
-    call-passed row (Some call.date) calls k other (neither (Check.call_fault row before call) (Check.calls_fault row (Some call.date) calls) none).1 (omega arith)
+-- a call that passes its tests
+pub record IsCall (row : IssueRow) (date : Civil) (price : ℕ) : Type 0 where
+  pub on_calendar : Check.is_call_date row.kind (civil row.dated) (civil row.maturity) date ≡ true
+  pub in_range : is_call_price price ≡ true
 
-record IsCall (row : IssueRow) (date : Day) (price : ℕ) : Type 0 where
-  pub on_calendar : Check.is_call_date row.kind (civil row.dated) (civil row.maturity) (civil date) ≡ true
-  pub price_from : 1_000_000 ≤ price
-  pub price_to : price ≤ 200_000_000
+-- a call passes its tests after the call before it, and so do the calls after it
+pub record IsPassed (row : IssueRow) (before : Option Day) (call : Call) (calls : List Call) : Type 0 where
+  pub is_call : IsCall row (civil call.date) call.price
+  pub rises : Check.rises before call.date ≡ true
+  pub rest : Check.calls_fault row (Some call.date) calls ≡ None
 
-is_call : (row : IssueRow) (before : Option Day) (call : Call) → Check.call_fault row before call ≡ None → IsCall row call.date call.price
-is_call row before call none =
-    let on_calendar = passed (Check.is_call_date row.kind (civil row.dated) (civil row.maturity) (civil call.date)) (CallOffCalendar call.date) _ none in
+pub is_passed : (row : IssueRow) (before : Option Day) (call : Call) (calls : List Call) → Check.calls_fault row before (call ∷ calls) ≡ None → IsPassed row before call calls
+is_passed row before call calls none =
+    let both = neither (Check.call_fault row before call) (Check.calls_fault row (Some call.date) calls) none in
+    let on_calendar = passed (Check.is_call_date row.kind (civil row.dated) (civil row.maturity) (civil call.date)) (CallOffCalendar call.date) _ both.0 in
     let rises = passed (Check.rises before call.date) (CallsNotRising call.date) _ on_calendar.1 in
     let price = passed (is_call_price call.price) (BadCallPrice call.date) _ rises.1 in
-    let range = and_parts (leb 1_000_000 call.price) (leb call.price 200_000_000) price.0 in
-    record { on_calendar = on_calendar.0; price_from = leb-true 1_000_000 call.price range.0; price_to = leb-true call.price 200_000_000 range.1 }
+    record { is_call = record { on_calendar = on_calendar.0; in_range = price.0 }; rises = rises.0; rest = both.1 }
 
-call-contained : (row : IssueRow) (date : Day) (price : ℕ) → IsIssue row → Contains row.calls.items (record { date = date; price = price }) → IsCall row date price
-call-contained row date price issue contained =
-    let call : Call = record { date = date; price = price } in
-    let none = call-passed row None row.calls.items contained.0 call issue.calls contained.1 in
-    is_call row none.0 call (rw contained.2 at none.1)
+-- a call that passes its tests is before maturity
+pub below_maturity : (kind : Kind) (dated maturity date : Civil) → Check.is_call_date kind dated maturity date ≡ true → is_before date maturity ≡ true
+below_maturity (Periodic first) dated maturity date on_calendar =
+    let parts = and_parts (is_quasi_date (civil first) date) (is_before date maturity && is_not_after (civil first) date) on_calendar in
+    (and_parts (is_before date maturity) (is_not_after (civil first) date) parts.1).0
+below_maturity Zero dated maturity date on_calendar =
+    let parts = and_parts (is_quasi_date maturity date) (is_before date maturity && is_before dated date) on_calendar in
+    (and_parts (is_before date maturity) (is_before dated date) parts.1).0
+below_maturity AtRedemption dated maturity date on_calendar = absurd (cc)
+below_maturity Discount dated maturity date on_calendar = absurd (cc)
+
+pub calls-below : (row : IssueRow) (before : Option Day) (calls : List Call) → Check.calls_fault row before calls ≡ None → All (λ entry. order_of entry.date < order_of (civil row.maturity)) (map entry_of calls)
+calls-below row before [] none = All-nil (λ entry. order_of entry.date < order_of (civil row.maturity))
+calls-below row before (call ∷ calls) none =
+    let this = is_passed row before call calls none in
+    let below = ltb-true (order_of (civil call.date)) (order_of (civil row.maturity)) (below_maturity row.kind (civil row.dated) (civil row.maturity) (civil call.date) this.is_call.on_calendar) in
+    All-cons (λ entry. order_of entry.date < order_of (civil row.maturity)) (entry_of call) (map entry_of calls) below (calls-below row (Some call.date) calls this.rest)
+
+-- the last of some entries is one of them
+last-passes : (P : CallEntry → Type 0) (before : Option CallEntry) (entries : List CallEntry) (entry : CallEntry) → ((e : CallEntry) → before ≡ Some e → P e) → All P entries → last_or before entries ≡ Some entry → P entry
+last-passes P before [] entry first all is = first entry is
+last-passes P before (e ∷ entries) entry first all is =
+    last-passes P (Some e) entries entry (λ other same. subst P (let both : Some e ≡ Some other = same in cc) (All-head P e entries all)) (All-tail P e entries all) is
+
+last_day-by : (last : Option CallEntry) (maturity : Civil) → ((e : CallEntry) → last ≡ Some e → order_of e.date < order_of maturity) → order_of (last_day_by last maturity) ≤ order_of maturity
+last_day-by None maturity below = omega arith
+last_day-by (Some entry) maturity below =
+    let less = below entry refl in
+    elim (is_certain entry.term) as (λ certain. order_of (if certain then entry.date else maturity) ≤ order_of maturity) [
+      | true ↦ omega arith
+      | false ↦ omega arith
+    ]
+
+-- an issue is not redeemed for certain after its maturity
+pub last_day-within : (row : IssueRow) → Check.calls_fault row None row.calls.items ≡ None → order_of (last_day_of row) ≤ order_of (civil row.maturity)
+last_day-within row none =
+    last_day-by (last_or None (entries_of row)) (civil row.maturity)
+    (λ entry is. last-passes (λ e. order_of e.date < order_of (civil row.maturity)) None (entries_of row) entry (λ e never. absurd (cc)) (calls-below row None row.calls.items none) is)
 
 -- an issue's quasi-coupon dates
 pub record IsAnchor (dated maturity anchor : Civil) : Type 0 where
@@ -120,7 +157,7 @@ anchor-by_kind Discount basis dated maturity anchor is_anchor day term = absurd 
 pub is_anchor : (row : IssueRow) (anchor : Civil) → IsIssue row → anchor_of row ≡ Some anchor → IsAnchor (civil row.dated) (civil row.maturity) anchor
 is_anchor row anchor issue there = anchor-by_kind row.kind row.basis row.dated row.maturity anchor there issue.day issue.term
 
-call-by_kind : (kind : Kind) (dated maturity anchor date : Civil) → anchor_by kind maturity ≡ Some anchor → Check.is_call_date kind dated maturity date ≡ true → (is_quasi_date anchor date ≡ true) × (is_before date maturity ≡ true)
+pub call-by_kind : (kind : Kind) (dated maturity anchor date : Civil) → anchor_by kind maturity ≡ Some anchor → Check.is_call_date kind dated maturity date ≡ true → (is_quasi_date anchor date ≡ true) × (is_before date maturity ≡ true)
 call-by_kind (Periodic first) dated maturity anchor date is_anchor on_calendar =
     let same : civil first ≡ anchor = cc in
     let parts = and_parts (is_quasi_date (civil first) date) (is_before date maturity && is_not_after (civil first) date) on_calendar in
@@ -147,10 +184,10 @@ is_redeemed row anchor date price issue there (inl at_maturity) =
     let at_100 = at_maturity.1 in
     subst Is (sym at_maturity.0) (record { quasi = (is_anchor row anchor issue there).quasi; up_to = omega arith; price_from = omega arith; price_to = omega arith })
 is_redeemed row anchor date price issue there (inr at_call) =
-    let call = call-contained row date price issue at_call in
-    let parts = call-by_kind row.kind (civil row.dated) (civil row.maturity) anchor (civil date) there call.on_calendar in
+    let parts = call-by_kind row.kind (civil row.dated) (civil row.maturity) anchor (civil date) there at_call.0 in
     let before = ltb-true (order_of (civil date)) (order_of (civil row.maturity)) parts.1 in
-    record { quasi = parts.0; up_to = omega arith; price_from = call.price_from; price_to = call.price_to }
+    let range = and_parts (leb 1_000_000 price) (leb price 200_000_000) at_call.1 in
+    record { quasi = parts.0; up_to = omega arith; price_from = leb-true 1_000_000 price range.0; price_to = leb-true price 200_000_000 range.1 }
 
 -- a settlement
 pub record IsSettled (row : IssueRow) (settlement : Day) : Type 0 where
@@ -161,11 +198,13 @@ pub record IsSettled (row : IssueRow) (settlement : Day) : Type 0 where
 pub is_settled : (row : IssueRow) (settlement : Day) → IsIssue row → settles row settlement ≡ true → IsSettled row settlement
 is_settled row settlement issue settled =
     let order = and_parts (is_dated_date (civil row.dated)) (Check.are_in_order row.kind (civil row.dated) (civil row.maturity)) issue.order in
-    let parts = and_parts (is_not_after (civil row.dated) (civil settlement)) (is_before (civil settlement) (civil row.maturity)) settled in
+    let parts = and_parts (is_not_after (civil row.dated) (civil settlement)) (is_before (civil settlement) (last_day_of row)) settled in
+    let before = ltb-true (order_of (civil settlement)) (order_of (last_day_of row)) parts.1 in
+    let within = last_day-within row issue.calls in
     record {
       dated_year = leb-true 1902 (civil row.dated).year order.0;
       from = leb-true (order_of (civil row.dated)) (order_of (civil settlement)) parts.0;
-      below = ltb-true (order_of (civil settlement)) (order_of (civil row.maturity)) parts.1;
+      below = omega arith;
     }
 
 -- a date that is not after another is in the same year or an earlier one
@@ -238,8 +277,7 @@ first-redeemed row first date price issue is_periodic (inl at_maturity) =
     let Is : Day → Type 0 = λ it. order_of (civil first) ≤ order_of (civil it) in
     subst Is (sym at_maturity.0) (has_coupons row first issue is_periodic).up_to
 first-redeemed row first date price issue is_periodic (inr at_call) =
-    let call = call-contained row date price issue at_call in
-    let on_calendar = and_parts (is_quasi_date (civil first) (civil date)) (is_before (civil date) (civil row.maturity) && is_not_after (civil first) (civil date)) (rw is_periodic at call.on_calendar) in
+    let on_calendar = and_parts (is_quasi_date (civil first) (civil date)) (is_before (civil date) (civil row.maturity) && is_not_after (civil first) (civil date)) (rw is_periodic at at_call.0) in
     let parts = and_parts (is_before (civil date) (civil row.maturity)) (is_not_after (civil first) (civil date)) on_calendar.1 in
     leb-true (order_of (civil first)) (order_of (civil date)) parts.1
 

@@ -1,5 +1,5 @@
 -- What `==` says of rows.
-use Rattle.std.proofs.Common.{◌≡◌, ◌==◌, ℕ, List, refl, ap, arith}
+use Rattle.std.proofs.Common.{◌≡◌, ℕ, List, refl, ap, arith}
 use Rattle.std.specs.Bool.{Decides}
 use Rattle.std.specs.Prelude.{nat_eq}
 use Rattle.std.proofs.lemmas.Bool.Decides.{Decides-eqb, Decides-and, Decides-like}
@@ -8,9 +8,10 @@ use lib.Pointwise.{pointwise}
 use Rattle.muni_rule.specs.DayCount.{year_of}
 use Rattle.muni_rule.specs.declared.basis.Basis.{Basis}
 use Rattle.muni_rule.specs.declared.basis.Basis.TheVariants.{Thirty360, Actual365}
-use Rattle.muni_days.specs.Day.{place_of}
+use Rattle.muni_rule.specs.declared.call_term.CallTerm.{CallTerm}
+use Rattle.muni_rule.specs.declared.call_term.CallTerm.TheVariants.{OnDay, OnOrAfter, Called}
 use Rattle.muni_days.proofs.DayLemmas.{same_day, day_decides}
-use Rattle.muni_terms.specs.Row.{kind_key, kind_eq, call_eq, row_eq}
+use Rattle.muni_terms.specs.Row.{kind_key, kind_eq, term_key, call_eq, row_eq}
 use Rattle.muni_terms.specs.declared.row.Call.{Call}
 use Rattle.muni_terms.specs.declared.row.Kind.{Kind}
 use Rattle.muni_terms.specs.declared.row.Kind.TheVariants.{Periodic, Zero, AtRedemption, Discount}
@@ -21,12 +22,27 @@ numbers_decide : (xs ys : List ℕ) → Decides (pointwise nat_eq xs ys) (xs ≡
 numbers_decide xs ys = slice_eq-Decides Decides-eqb xs ys (pointwise nat_eq xs ys) refl
 
 -- calls
-call_decides : (call other : Call) → Decides (call_eq call other) (call ≡ other)
+same_term : (term other : CallTerm) → term_key term ≡ term_key other → term ≡ other
+same_term OnDay OnDay same = refl
+same_term OnDay OnOrAfter same = absurd (omega arith)
+same_term OnDay Called same = absurd (omega arith)
+same_term OnOrAfter OnDay same = absurd (omega arith)
+same_term OnOrAfter OnOrAfter same = refl
+same_term OnOrAfter Called same = absurd (omega arith)
+same_term Called OnDay same = absurd (omega arith)
+same_term Called OnOrAfter same = absurd (omega arith)
+same_term Called Called same = refl
+
+term_decides : (term other : CallTerm) → Decides (nat_eq (term_key term) (term_key other)) (term ≡ other)
+term_decides term other = Decides-like (nat_eq (term_key term) (term_key other)) (same_term term other) (ap term_key) (Decides-eqb (term_key term) (term_key other))
+
+pub call_decides : (call other : Call) → Decides (call_eq call other) (call ≡ other)
 call_decides call other =
+    let price = Decides-and _ _ (Decides-eqb call.price other.price) (term_decides call.term other.term) in
     Decides-like (call_eq call other)
-    (λ same. λ i. record { date = same.0 i; price = same.1 i })
-    (λ same. (ap (λ it. it.date) same, ap (λ it. it.price) same))
-    (Decides-and (place_of call.date == place_of other.date) (call.price == other.price) (day_decides call.date other.date) (Decides-eqb call.price other.price))
+    (λ same. λ i. record { date = same.0 i; price = same.1.0 i; term = same.1.1 i })
+    (λ same. (ap (λ it. it.date) same, (ap (λ it. it.price) same, ap (λ it. it.term) same)))
+    (Decides-and _ _ (day_decides call.date other.date) price)
 
 calls_decide : (calls others : List Call) → Decides (pointwise call_eq calls others) (calls ≡ others)
 calls_decide calls others = slice_eq-Decides call_decides calls others (pointwise call_eq calls others) refl

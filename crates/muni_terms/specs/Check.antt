@@ -1,8 +1,9 @@
 -- Which rows are issues: the tests in their order, and the fault that each finds.
-use Rattle.std.specs.Prelude.{not, ◌&&◌, ◌==◌, Bool, true, false, nat_lt, if◌then◌else◌, List, [], ◌∷◌, Option, Some, None, Result, Ok, Err}
+use Rattle.std.specs.Prelude.{not, ◌&&◌, ◌==◌, Bool, true, false, nat_lt, if◌then◌else◌, List, [], ◌∷◌, length, Option, Some, None, Result, Ok, Err}
 use Rattle.muni_rule.specs.Civil.{Civil, is_before, is_not_after}
 use Rattle.muni_rule.specs.QuasiDates.{is_quasi_date}
 use Rattle.muni_rule.specs.Cusip.{is_cusip}
+use Rattle.muni_rule.specs.Redemptions.{is_certain}
 use Rattle.muni_rule.specs.declared.basis.Basis.{Basis}
 use Rattle.muni_rule.specs.Terms.{is_name, is_dated_date, is_interest_day, is_basis_of_bonds, is_first_interest_short, is_series_short, is_note_short, is_coupon_call_date, is_zero_call_date, is_call_price}
 use Rattle.muni_days.specs.Day.{civil}
@@ -12,7 +13,7 @@ use Rattle.muni_terms.specs.declared.row.Kind.{Kind}
 use Rattle.muni_terms.specs.declared.row.Kind.TheVariants.{Periodic, Zero, AtRedemption, Discount}
 use Rattle.muni_terms.specs.declared.row.IssueRow.{IssueRow}
 use Rattle.muni_terms.specs.declared.row.TermsFault.{TermsFault}
-use Rattle.muni_terms.specs.declared.row.TermsFault.TheVariants.{BadCusip, BadOrder, BadDay, BadCoupon, FirstTooLong, CallOffCalendar, CallsNotRising, BadCallPrice, TooLong, BadName, BadBasis}
+use Rattle.muni_terms.specs.declared.row.TermsFault.TheVariants.{BadCusip, BadOrder, BadDay, BadCoupon, FirstTooLong, CallOffCalendar, CallsNotRising, BadCallPrice, TooLong, BadName, BadBasis, CalledNotLast}
 
 -- interest is first paid after the dated date and up to maturity, which is after the dated date
 abbrev pub are_in_order : Kind → Civil → Civil → Bool
@@ -110,6 +111,13 @@ calls_fault row before [] = None
 calls_fault row before (call ∷ calls) =
     first_fault (call_fault row before call) (calls_fault row (Some call.date) calls)
 
+-- that a call is certain and not the last: of the first such call
+abbrev pub certain_fault : List Call → Option TermsFault
+certain_fault [] = None
+certain_fault (call ∷ calls) =
+    if is_certain call.term && nat_lt 0 (length calls) then Some (CalledNotLast call.date)
+    else certain_fault calls
+
 -- what is wrong with the rest of a row
 unfoldable pub early_fault : IssueRow → Option TermsFault
 early_fault row =
@@ -125,7 +133,9 @@ early_fault row =
 
 -- what is wrong with a row: the fault of the first test that fails
 unfoldable pub fault_of : IssueRow → Option TermsFault
-fault_of row = first_fault (early_fault row) (calls_fault row None row.calls.items)
+fault_of row =
+    first_fault (early_fault row)
+    (first_fault (calls_fault row None row.calls.items) (certain_fault row.calls.items))
 
 -- a row, or its fault
 abbrev pub unless_fault : IssueRow → Option TermsFault → Result IssueRow TermsFault

@@ -1,7 +1,7 @@
 -- The numbers of the faults that terms can have.
 use Rattle.std.specs.Prelude.{ℕ}
 use Rattle.muni_terms.specs.declared.row.TermsFault.{TermsFault}
-use Rattle.muni_terms.specs.declared.row.TermsFault.TheVariants.{BadCusip, BadOrder, BadDay, BadCoupon, FirstTooLong, CallOffCalendar, CallsNotRising, BadCallPrice, TooLong, BadName, BadBasis}
+use Rattle.muni_terms.specs.declared.row.TermsFault.TheVariants.{BadCusip, BadOrder, BadDay, BadCoupon, FirstTooLong, CallOffCalendar, CallsNotRising, BadCallPrice, TooLong, BadName, BadBasis, CalledNotLast}
 
 -- each fault has a number of its own, which the desk prints
 abbrev pub fault_number : TermsFault → ℕ
@@ -16,3 +16,4 @@ fault_number (BadCallPrice date) = 8
 fault_number TooLong = 9
 fault_number BadName = 10
 fault_number BadBasis = 11
+fault_number (CalledNotLast date) = 12

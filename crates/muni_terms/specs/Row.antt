@@ -3,6 +3,8 @@ use Rattle.std.specs.Prelude.{ℕ, Bool, nat_eq, List, [], ◌∷◌}
 use Rattle.std.specs.Ordering.{on, eq_of_both}
 use lib.Pointwise.{pointwise}
 use Rattle.muni_rule.specs.DayCount.{year_of}
+use Rattle.muni_rule.specs.declared.call_term.CallTerm.{CallTerm}
+use Rattle.muni_rule.specs.declared.call_term.CallTerm.TheVariants.{OnDay, OnOrAfter, Called}
 use Rattle.muni_days.specs.Day.{place_of}
 use Rattle.muni_terms.specs.declared.row.Call.{Call}
 use Rattle.muni_terms.specs.declared.row.Kind.{Kind}
@@ -20,9 +22,18 @@ kind_key Discount = 3 ∷ []
 abbrev pub kind_eq : Kind → Kind → Bool
 kind_eq = on kind_key (pointwise nat_eq)
 
--- of two calls: both parts are equal
+-- numbers that tell apart on which days a call stands
+abbrev pub term_key : CallTerm → ℕ
+term_key OnDay = 0
+term_key OnOrAfter = 1
+term_key Called = 2
+
+-- of two calls: all parts are equal
 abbrev pub call_eq : Call → Call → Bool
-call_eq = eq_of_both (on (λ call. place_of call.date) nat_eq) (on (λ call. call.price) nat_eq)
+call_eq =
+    eq_of_both
+    (on (λ call. place_of call.date) nat_eq)
+    (eq_of_both (on (λ call. call.price) nat_eq) (on (λ call. term_key call.term) nat_eq))
 
 -- and of two rows: all parts are
 abbrev pub row_eq : IssueRow → IssueRow → Bool

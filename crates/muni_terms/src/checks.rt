@@ -183,6 +183,18 @@ fn calls_fault(row: &IssueRow, calls: &[Call]) -> Option<TermsFault>
     None
 }
 
+// A call that is certain is the last.
+fn certain_fault(calls: &[Call]) -> Option<TermsFault>
+    ensures { result ≡ spec.certain_fault calls.now }
+{
+    for (i, call) in calls.iter().enumerate() {
+        if call.is_certain() && i + 1 < calls.len() {
+            return Some(TermsFault::CalledNotLast { date: call.date });
+        }
+    }
+    None
+}
+
 /// The fault of the first test that a row fails, if it fails one.
 #[tactic(auto, unfolding(crate::specs::Check::fault_of))]
 pub fn fault_of(row: &IssueRow) -> Option<TermsFault>
@@ -191,5 +203,8 @@ pub fn fault_of(row: &IssueRow) -> Option<TermsFault>
     if let Some(fault) = early_fault(row) {
         return Some(fault);
     }
-    calls_fault(row, &row.calls)
+    if let Some(fault) = calls_fault(row, &row.calls) {
+        return Some(fault);
+    }
+    certain_fault(&row.calls)
 }

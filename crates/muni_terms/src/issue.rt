@@ -1,15 +1,17 @@
 //! Issues: rows that passed every test.
 
-ghost use Rattle.std.specs.Prelude.{◌≡◌, ◌↔◌, ◌<◌, ◌≤ℤ◌, true, pos, Some, None, IsSome};
+ghost use Rattle.std.specs.Prelude.{◌≡◌, ◌↔◌, ◌<◌, ◌≤◌, ◌+◌, ◌*◌, ◌≤ℤ◌, true, pos, length, map, Some, None, IsSome};
+ghost use Rattle.std.specs.List.{range_with_len};
 ghost use Rattle.std.specs.Cmp.Rules.{comparing};
 ghost use Rattle.std.proofs.Common.{rules};
-ghost use Rattle.muni_rule.specs.Civil.{order_of};
+ghost use Rattle.muni_rule.specs.Civil.{order_of, month_index};
+ghost use Rattle.muni_rule.specs.QuasiDates.{half_years_after};
 ghost use Rattle.muni_rule.specs.Payments.{payments_of};
-ghost use Rattle.muni_rule.specs.Redemptions.{par_price};
+ghost use Rattle.muni_rule.specs.Redemptions.{par_price, is_called};
 ghost use Rattle.muni_days.specs.Day.{civil};
 ghost use Rattle.muni_terms.specs.Check.{checked, fault_of};
 ghost use Rattle.muni_terms.specs.Issue as spec;
-ghost use Rattle.muni_terms.specs.Issue.{anchor_of, series_of, payments, IsRedemption};
+ghost use Rattle.muni_terms.specs.Issue.{anchor_of, entries_of, series_of, payments, IsRedemption};
 
 use crate::accrued::coupon_accrued_days;
 use crate::checks::fault_of;
@@ -18,6 +20,7 @@ use crate::quasi_dates::half_years;
 use crate::row::{IssueRow, Kind, TermsFault};
 use muni_days::{Day, days_by};
 use muni_dec::Price;
+use muni_rule::CallTerm;
 use std::marker::Model;
 
 /// An issue: a row that passed every test.
@@ -42,7 +45,8 @@ impl Model for Issue {
 ///
 /// The tests are, in this order: the CUSIP, the name, the order of the dates, the day of the month
 /// on which interest falls, the coupon, the basis, the length of the first interest and that of the issue. Then
-/// each call in turn is tested: its date, that it rises, and its price.
+/// each call in turn is tested: its date, that it rises, and its price; and at last that a call that is
+/// certain is the last.
 pub fn check(row: IssueRow) -> Result<Issue, TermsFault>
     ensures { result ≡ checked row }
 {
@@ -89,11 +93,65 @@ impl Issue {
         &self.row
     }
 
-    /// Whether a trade can settle on a day: from the dated date on and before maturity.
+    /// Whether a trade can settle on a day: from the dated date on, and before the day on which the issue is
+    /// redeemed for certain.
     pub fn settles(&self, settlement: Day) -> bool
         ensures { result ≡ spec.settles self.now settlement }
     {
-        self.row.dated <= settlement && settlement < self.row.maturity
+        self.row.dated <= settlement && settlement < self.last_day()
+    }
+
+    /// Whether the issue has been called or refunded, so that the last entry of its schedule stands in the place
+    /// of its maturity.
+    pub fn is_called(&self) -> bool
+        ensures { result ≡ is_called (entries_of self.now) }
+    {
+        match self.row.calls.last() {
+            Some(call) => call.is_certain(),
+            None => false,
+        }
+    }
+
+    /// The day on which it is redeemed for certain: its maturity, or the day for which it has been called.
+    pub fn last_day(&self) -> Day
+        ensures { civil result ≡ spec.last_day_of self.now }
+    {
+        match self.row.calls.last() {
+            Some(call) => {
+                if call.is_certain() {
+                    call.date
+                } else {
+                    self.row.maturity
+                }
+            }
+            None => self.row.maturity,
+        }
+    }
+
+    /// On how many days the call at a place of the schedule stands, each half a year after the one before it:
+    /// one, or as many as there are quasi-coupon dates from its day on and before the next call or maturity.
+    pub fn call_days(&self, place: usize) -> u32
+        requires { place < length self.now.calls.items }
+        ensures days { spec.days_at self.now place
+            ≡ map (half_years_after (spec.day_at self.now place)) (range_with_len 0 result) }
+        ensures end { month_index (spec.day_at self.now place) + 6 * result
+            ≤ month_index (spec.day_at self.now (place + 1)) }
+    {
+        let call = self.row.calls[place];
+        match call.term {
+            CallTerm::OnDay | CallTerm::Called => 1,
+            CallTerm::OnOrAfter => half_years(call.date, self.day_at(place + 1)),
+        }
+    }
+
+    // The day of the call at a place, or the maturity if there is none.
+    fn day_at(&self, place: usize) -> Day
+        ensures { civil result ≡ spec.day_at self.now place }
+    {
+        match self.row.calls.get(place) {
+            Some(call) => call.date,
+            None => self.row.maturity,
+        }
     }
 
     /// The days for which interest has accrued at a settlement.

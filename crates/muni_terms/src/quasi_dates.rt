@@ -1,13 +1,13 @@
 //! The calendar of quasi-coupon dates, computed with months.
 
-ghost use Rattle.std.specs.Prelude.{◌≡◌, ◌-◌, ◌/◌, ◌<◌, ◌≤◌, Some, pos};
+ghost use Rattle.std.specs.Prelude.{◌≡◌, ◌+◌, ◌*◌, ◌-◌, ◌/◌, ◌<◌, ◌≤◌, Some, pos};
 ghost use Rattle.muni_rule.specs.Civil as rule;
 ghost use Rattle.muni_rule.specs.Civil.{order_of};
 ghost use Rattle.muni_rule.specs.QuasiDates as dates;
 ghost use Rattle.muni_days.specs.Day.{civil};
 ghost use Rattle.muni_terms.specs.LastMonth.{IsLastMonth};
 
-use muni_days::Day;
+use muni_days::{Day, months_on};
 
 fn month_index(date: Day) -> u32
     ensures value { result ≡ rule.month_index (civil date) }
@@ -57,6 +57,23 @@ pub fn half_years(start: Day, end: Day) -> u32
     ensures { result ≡ (rule.month_index (civil end) - rule.month_index (civil start)) / 6 }
 {
     (month_index(end) - month_index(start)) / 6
+}
+
+/// The day so many half years after another, on the same day of the month.
+pub fn half_years_on(date: Day, half_years: u32) -> Day
+    requires day { (civil date).day ≤ 28 }
+    requires few { half_years ≤ 200 }
+    requires of_desk { rule.month_index (civil date) + 6 * half_years < 26_400 }
+    ensures { civil result ≡ dates.half_years_after (civil date) half_years }
+{
+    if half_years == 0 {
+        return date;
+    }
+    match months_on(date, 6 * half_years as i32) {
+        Some(later) => later,
+        // `of_desk` has it before 2200.
+        None => unreachable!(),
+    }
 }
 
 /// The days from the last quasi-coupon date not after a settlement up to the settlement.

@@ -3,19 +3,35 @@
 ghost use Rattle.std.specs.Prelude.{◌≡◌, ◌↔◌, true};
 ghost use Rattle.std.specs.Cmp.Rules.{comparing};
 ghost use Rattle.std.proofs.Common.{rules};
+ghost use Rattle.muni_rule.specs.Redemptions.{is_certain};
 ghost use Rattle.muni_terms.specs.Check.{pays_interest};
 ghost use Rattle.muni_terms.specs.Fault.{fault_number};
 
 use arrayvec::ArrayVec;
 use muni_days::{Basis, Day};
 use muni_dec::{Coupon, Price};
+use muni_rule::CallTerm;
 use thiserror::Error;
 
-/// A pricing call: the issuer may redeem the whole issue on this day at this price.
-#[derive(Clone, Copy, Debug, PartialEq, Eq)]
+/// An entry of a call schedule: the issuer may redeem the whole issue at this price on this day, or on it
+/// and later, or has called the issue for it.
+#[derive(Clone, Copy, Debug)]
 pub struct Call {
     pub date: Day,
     pub price: Price,
+    pub term: CallTerm,
+}
+
+impl Call {
+    /// Whether the issue is redeemed by it for certain, and not at maturity.
+    pub fn is_certain(&self) -> bool
+        ensures { result ≡ is_certain self.now.term }
+    {
+        match self.term {
+            CallTerm::OnDay | CallTerm::OnOrAfter => false,
+            CallTerm::Called => true,
+        }
+    }
 }
 
 impl Default for Call {
@@ -24,6 +40,7 @@ impl Default for Call {
         Call {
             date: Day::FIRST,
             price: Price::new(0),
+            term: CallTerm::OnDay,
         }
     }
 }
@@ -53,7 +70,7 @@ impl Kind {
     }
 }
 
-/// The terms of an issue as they are given. At maturity it is redeemed at 100.
+/// The terms of an issue as they are given. At maturity it is redeemed at 100, unless it has been called.
 #[derive(Debug, Drop)]
 pub struct IssueRow {
     /// Eight digits and capital letters, and a check digit.
@@ -68,7 +85,7 @@ pub struct IssueRow {
     pub maturity: Day,
     /// The yearly coupon, which is 0 if no interest is paid.
     pub coupon: Coupon,
-    /// The calls in order of date.
+    /// The entries of the call schedule in order of date.
     pub calls: ArrayVec<Call, 40>,
 }
 
@@ -109,10 +126,13 @@ pub enum TermsFault {
     /// Days are counted by actual/365, and the issue is no note.
     #[error("actual/365 for an issue that is no note")]
     BadBasis,
+    /// This call redeems the issue for certain, and is not the last.
+    #[error("a call that is certain is not the last")]
+    CalledNotLast { date: Day },
 }
 
 impl TermsFault {
-    /// The number of the fault, from 1 to 11.
+    /// The number of the fault, from 1 to 12.
     pub fn number(&self) -> u32
         ensures { result ≡ fault_number self.now }
     {
@@ -128,6 +148,7 @@ impl TermsFault {
             TermsFault::TooLong => 9,
             TermsFault::BadName => 10,
             TermsFault::BadBasis => 11,
+            TermsFault::CalledNotLast { .. } => 12,
         }
     }
 }
@@ -138,6 +159,26 @@ fn copy_calls(calls: &ArrayVec<Call, 40>) -> ArrayVec<Call, 40>
     let mut copy = ArrayVec::new();
     let _ = copy.try_extend_from_slice(calls);
     copy
+}
+
+impl PartialEq for Call {
+    ghost use Rattle.muni_terms.specs.Row.{call_eq};
+
+    ghost eq = { call_eq };
+
+    ghost laws = { Prim.search (comparing, rules) };
+
+    #[tactic(auto, using(crate::proofs::RowLemmas::call_decides))]
+    fn eq(&self, other: &Call) -> bool
+        ensures value { result ≡ call_eq self.now other.now }
+        ensures same { (result ≡ true) ↔ (self.now ≡ other.now) }
+    {
+        self.date == other.date && self.price == other.price && self.term == other.term
+    }
+}
+
+impl Eq for Call {
+    ghost laws = { Prim.search (comparing, rules) };
 }
 
 impl PartialEq for Kind {

@@ -6,7 +6,7 @@ use crate::Sample;
 use arrayvec::ArrayVec;
 use muni_days::{Basis, Day};
 use muni_dec::{Coupon, Price};
-use muni_terms::{Call, Flows, Issue, IssueRow, Kind, check};
+use muni_terms::{Call, CallTerm, Flows, Issue, IssueRow, Kind, check};
 
 impl<'a> Sample<'a> {
     /// The terms of the issue, which may have faults.
@@ -86,6 +86,7 @@ fn call_of(text: &[u8]) -> Option<Call> {
     Some(Call {
         date: Day::read(parts.next()?).ok()?,
         price: Price::read(parts.next()?).ok()?,
+        term: CallTerm::OnDay,
     })
 }
 

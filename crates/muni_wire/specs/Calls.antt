@@ -1,21 +1,19 @@
 -- The calls of an issue in a body.
 use Rattle.std.specs.Prelude.{List, [], ◌∷◌, length, nat_le, codes, Option, Some, None, if◌then◌else◌}
-use Rattle.std.specs.Result.{result_ok}
 use Rattle.serde_json.specs.Data.{Data, Items, no_items, item}
 use Rattle.serde_json.specs.Find.{get, as_array}
-use Rattle.muni_dec.specs.Values.{price_reading}
 use Rattle.muni_terms.specs.declared.row.Call.{Call}
-use Rattle.muni_msg.specs.Fields.{◌>>=◌, day_in}
+use Rattle.muni_msg.specs.Fields.{◌>>=◌, day_in, call_price_reading}
 use Rattle.muni_wire.specs.Members.{member}
 
--- a call: a date and a price
+-- a call: a date, and a price with its mark
 abbrev pub call_in : Data → Option Call
 call_in value = do
   date ← member (codes "date") value
   date ← day_in date
   price ← member (codes "price") value
-  price ← result_ok (price_reading price)
-  Some (record { date = date; price = price })
+  found ← call_price_reading price
+  Some (record { date = date; price = found.0; term = found.1 })
 
 -- the items of an array, as a list
 abbrev pub listed : Items → List Data

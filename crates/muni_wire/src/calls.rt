@@ -7,7 +7,7 @@ ghost use Rattle.muni_wire.specs.Calls as spec;
 use crate::body::member;
 use arrayvec::ArrayVec;
 use muni_days::Day;
-use muni_dec::Price;
+use muni_msg::read_call_price;
 use muni_terms::Call;
 use serde_json::Value;
 
@@ -39,8 +39,7 @@ fn read_each(items: &[Value]) -> Option<ArrayVec<Call, 40>>
 fn call(value: &Value) -> Option<Call>
     ensures { result ≡ spec.call_in (view value.now) }
 {
-    Some(Call {
-        date: Day::read(member(value, "date")?).ok()?,
-        price: Price::read(member(value, "price")?).ok()?,
-    })
+    let date = Day::read(member(value, "date")?).ok()?;
+    let (price, term) = read_call_price(member(value, "price")?)?;
+    Some(Call { date, price, term })
 }

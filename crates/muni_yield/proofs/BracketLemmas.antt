@@ -7,7 +7,7 @@ use Rattle.std.proofs.Math.Nat.{pow-suc}
 use Rattle.muni_rule.specs.Payments.{PaymentSeries}
 use Rattle.muni_rule.specs.declared.verdict.Verdict.{Verdict}
 use Rattle.muni_rule.specs.declared.verdict.Verdict.TheVariants.{Yes, No, Unsure}
-use Rattle.muni_yield.specs.Bracket.{YieldBracket, start_of, is_settled, question, answered, halved, run, IsBracket, IsQuestion, IsAnswered}
+use Rattle.muni_yield.specs.Bracket.{YieldBracket, start_of, is_settled, question, answered, halved, run, IsBracket, IsQuestion, IsVerdictKept}
 
 half-power : (halvings : ℕ) → halvings < 19 → 2 ^ (19 - halvings) ≡ 2 * 2 ^ (19 - (halvings + 1))
 half-power halvings few =
@@ -171,12 +171,12 @@ start-is series price many some = record {
 }
 
 -- what was answered
-answered-more : (verdict : ℕ → Verdict) (bracket : YieldBracket) (place : ℕ) (said : Verdict) → place ≤ 105002 → verdict place ≡ said → IsAnswered verdict bracket → IsAnswered verdict (answered said place bracket)
+answered-more : (verdict : ℕ → Verdict) (bracket : YieldBracket) (place : ℕ) (said : Verdict) → place ≤ 105002 → verdict place ≡ said → IsVerdictKept verdict bracket → IsVerdictKept verdict (answered said place bracket)
 answered-more verdict bracket place Yes most same before = record { low = inr same; high = before.high }
 answered-more verdict bracket place No most same before = record { low = before.low; high = inr (record { most = most; same = same; not_reached = λ never. cc }) }
 answered-more verdict bracket place Unsure most same before = record { low = before.low; high = inr (record { most = most; same = same; not_reached = λ never. cc }) }
 
-pub halved-answered : (verdicts : PaymentSeries → ℕ → ℕ → Verdict) (bracket : YieldBracket) → IsBracket bracket → is_settled bracket ≡ false → IsAnswered (verdicts bracket.series bracket.price) bracket → IsAnswered (verdicts bracket.series bracket.price) (halved verdicts bracket)
+pub halved-answered : (verdicts : PaymentSeries → ℕ → ℕ → Verdict) (bracket : YieldBracket) → IsBracket bracket → is_settled bracket ≡ false → IsVerdictKept (verdicts bracket.series bracket.price) bracket → IsVerdictKept (verdicts bracket.series bracket.price) (halved verdicts bracket)
 halved-answered verdicts bracket is pending before =
     let asked = is-question bracket is pending in
     answered-more (verdicts bracket.series bracket.price) bracket (question bracket) (verdicts bracket.series bracket.price (question bracket)) asked.most refl before
@@ -203,7 +203,7 @@ rest-next verdicts start bracket more few pending is count rest =
     ∙ (ap (λ b. run (19 - (bracket.halvings + 1)) verdicts b) is
     ∙ (sym (run-next bracket.halvings verdicts bracket few pending) ∙ rest))
 
-pub answered-next : (verdicts : PaymentSeries → ℕ → ℕ → Verdict) (series : PaymentSeries) (price : ℕ) (bracket more : YieldBracket) → bracket.series ≡ series → bracket.price ≡ price → (IsAnswered (verdicts bracket.series bracket.price) bracket → IsAnswered (verdicts bracket.series bracket.price) more) → IsAnswered (verdicts series price) bracket → IsAnswered (verdicts series price) more
+pub answered-next : (verdicts : PaymentSeries → ℕ → ℕ → Verdict) (series : PaymentSeries) (price : ℕ) (bracket more : YieldBracket) → bracket.series ≡ series → bracket.price ≡ price → (IsVerdictKept (verdicts bracket.series bracket.price) bracket → IsVerdictKept (verdicts bracket.series bracket.price) more) → IsVerdictKept (verdicts series price) bracket → IsVerdictKept (verdicts series price) more
 answered-next verdicts series price bracket more same_series same_price step before =
     let verdict : verdicts bracket.series bracket.price ≡ verdicts series price = rw (same_series, same_price) refl in
-    subst (λ v. IsAnswered v more) verdict (step (subst (λ v. IsAnswered v bracket) (sym verdict) before))
+    subst (λ v. IsVerdictKept v more) verdict (step (subst (λ v. IsVerdictKept v bracket) (sym verdict) before))

@@ -6,7 +6,7 @@ use Rattle.muni_rule.specs.Payments.{PaymentSeries, IsSeries}
 use Rattle.muni_rule.specs.declared.verdict.Verdict.{Verdict}
 use Rattle.muni_rule.specs.declared.verdict.Verdict.TheVariants.{Yes, No}
 use Rattle.muni_rule.specs.WorthEnds.{WorthEnds}
-use Rattle.muni_yield.specs.Bracket.{YieldBracket, start_of, is_settled, halved, run, IsBracket, IsMissed, IsAnswered}
+use Rattle.muni_yield.specs.Bracket.{YieldBracket, start_of, is_settled, halved, run, IsBracket, IsMissed, IsVerdictKept}
 use Rattle.muni_yield.specs.Known.{IsWindow}
 use Rattle.muni_yield.specs.declared.window.Window.{Window}
 use Rattle.muni_yield.specs.Outcome.{IsYieldOutcome, IsDoubtfulOutcome, IsVerdictOutcome}
@@ -46,15 +46,15 @@ run-out (suc count) verdicts bracket is enough =
     (record { is = rest.is; settled = rest.settled; low = omega (arith, next.low, rest.low); high = omega (arith, next.high, rest.high) }))
     (settled-or_pending bracket)
 
-pub run-answered : (count : ℕ) (verdicts : PaymentSeries → ℕ → ℕ → Verdict) (series : PaymentSeries) (price : ℕ) (bracket : YieldBracket) → IsBracket bracket → bracket.series ≡ series → bracket.price ≡ price → IsAnswered (verdicts series price) bracket → IsAnswered (verdicts series price) (run count verdicts bracket)
+pub run-answered : (count : ℕ) (verdicts : PaymentSeries → ℕ → ℕ → Verdict) (series : PaymentSeries) (price : ℕ) (bracket : YieldBracket) → IsBracket bracket → bracket.series ≡ series → bracket.price ≡ price → IsVerdictKept (verdicts series price) bracket → IsVerdictKept (verdicts series price) (run count verdicts bracket)
 unfolding run
 run-answered zero verdicts series price bracket is same_series same_price answered = answered
 run-answered (suc count) verdicts series price bracket is same_series same_price answered =
     ⊎_elim
-    (λ (settled : is_settled bracket ≡ true). subst (IsAnswered (verdicts series price)) (sym (run-settled (suc count) verdicts bracket settled)) answered)
+    (λ (settled : is_settled bracket ≡ true). subst (IsVerdictKept (verdicts series price)) (sym (run-settled (suc count) verdicts bracket settled)) answered)
     (λ (pending : is_settled bracket ≡ false).
     let next = halved-next verdicts bracket is pending in
-    subst (IsAnswered (verdicts series price)) (sym (run-pending count verdicts bracket pending))
+    subst (IsVerdictKept (verdicts series price)) (sym (run-pending count verdicts bracket pending))
     (run-answered count verdicts series price (halved verdicts bracket) next.is (next.series ∙ same_series) (next.price ∙ same_price)
     (answered-next verdicts series price bracket (halved verdicts bracket) same_series same_price (halved-answered verdicts bracket is pending) answered)))
     (settled-or_pending bracket)
@@ -64,7 +64,7 @@ pub record IsHeld (window : Window) (last : YieldBracket) : Type 0 where
   pub yes : window.yes ≤ last.low
   pub no : last.low < window.no
 
-last-held : (verdict : ℕ → Verdict) (last : YieldBracket) (window : Window) → IsBracket last → last.high ≡ last.low + 1 → IsAnswered verdict last → IsWindow verdict window → IsHeld window last
+last-held : (verdict : ℕ → Verdict) (last : YieldBracket) (window : Window) → IsBracket last → last.high ≡ last.low + 1 → IsVerdictKept verdict last → IsWindow verdict window → IsHeld window last
 last-held verdict last window is next answered known =
     let top = is.top in
     let most = known.most in
@@ -86,7 +86,7 @@ last-held verdict last window is next answered known =
           (cases_lt last.low window.no);
     }
 
-pub run-held : (count : ℕ) (verdicts : PaymentSeries → ℕ → ℕ → Verdict) (bracket : YieldBracket) (window : Window) → IsBracket bracket → 19 ≤ count + bracket.halvings → IsAnswered (verdicts bracket.series bracket.price) bracket → IsWindow (verdicts bracket.series bracket.price) window → IsHeld window (run count verdicts bracket)
+pub run-held : (count : ℕ) (verdicts : PaymentSeries → ℕ → ℕ → Verdict) (bracket : YieldBracket) (window : Window) → IsBracket bracket → 19 ≤ count + bracket.halvings → IsVerdictKept (verdicts bracket.series bracket.price) bracket → IsWindow (verdicts bracket.series bracket.price) window → IsHeld window (run count verdicts bracket)
 run-held count verdicts bracket window is enough answered known =
     let out = run-out count verdicts bracket is enough in
     last-held (verdicts bracket.series bracket.price) (run count verdicts bracket) window out.is (settled-next (run count verdicts bracket) out.settled)

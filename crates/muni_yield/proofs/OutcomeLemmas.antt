@@ -14,7 +14,7 @@ use Rattle.muni_rule.proofs.YieldLemmas.{print-in_range}
 use Rattle.muni_rule.proofs.OutcomeLemmas.{one_outcome}
 use Rattle.muni_rule.proofs.ManyPeriodFallLemmas.{many_periods-fall, at_least-decided, more-decided}
 use Rattle.muni_yield.specs.Places.{yield_at, yield_verdict}
-use Rattle.muni_yield.specs.Bracket.{YieldBracket, start_of, is_settled, run, IsBracket, IsMissed, IsAnswered}
+use Rattle.muni_yield.specs.Bracket.{YieldBracket, start_of, is_settled, run, IsBracket, IsMissed, IsVerdictKept}
 use Rattle.muni_yield.specs.Settled.{printed_as, outcome_at, outcome_of, settled_as, final_of}
 use Rattle.muni_yield.specs.Outcome.{least_printed, greatest_printed, IsYieldOutcome, IsDoubtfulOutcome, IsVerdictOutcome, IsOutcomeInRange, IsSure, OneYieldIsRight}
 use Rattle.muni_yield.specs.declared.outcome.Outcome.{Outcome}
@@ -31,7 +31,7 @@ record IsEnd (said : ℤ → Verdict) (low : ℕ) (at_high : Verdict) : Type 0 w
   reached : (low ≡ 0) ⊎ (said (yield_at low) ≡ verdict.Yes)
   missed : ((low ≡ 105002) × (at_high ≡ verdict.No)) ⊎ ((low < 105002) × (said (yield_at (low + 1)) ≡ at_high) × ¬ (at_high ≡ verdict.Yes))
 
-bracket-end : (said : ℤ → Verdict) (bracket : YieldBracket) → IsBracket bracket → bracket.high ≡ bracket.low + 1 → IsAnswered (λ place. said (yield_at place)) bracket → IsEnd said bracket.low bracket.at_high
+bracket-end : (said : ℤ → Verdict) (bracket : YieldBracket) → IsBracket bracket → bracket.high ≡ bracket.low + 1 → IsVerdictKept (λ place. said (yield_at place)) bracket → IsEnd said bracket.low bracket.at_high
 bracket-end said bracket is next answered =
     let top = is.top in
     record {
@@ -103,7 +103,7 @@ end-verdict said low verdict.Yes end =
 end-verdict said low verdict.No end = printed-verdict said low end
 end-verdict said low verdict.Unsure end = unsure-verdict said low end
 
-pub settled-verdict : (said : ℤ → Verdict) (bracket : YieldBracket) → IsBracket bracket → is_settled bracket ≡ true → IsAnswered (λ place. said (yield_at place)) bracket → IsVerdictOutcome said (outcome_of bracket)
+pub settled-verdict : (said : ℤ → Verdict) (bracket : YieldBracket) → IsBracket bracket → is_settled bracket ≡ true → IsVerdictKept (λ place. said (yield_at place)) bracket → IsVerdictOutcome said (outcome_of bracket)
 settled-verdict said bracket is settled answered =
     end-verdict said bracket.low bracket.at_high (bracket-end said bracket is (settled-next bracket settled) answered)
 

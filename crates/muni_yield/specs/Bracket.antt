@@ -107,7 +107,7 @@ pub record IsMissed (verdict : ℕ → Verdict) (high : ℕ) (at_high : Verdict)
   pub not_reached : ¬ (at_high ≡ Yes)
 
 -- as far as the two places were asked, the lower was answered by yes and the higher was not
-pub record IsAnswered (verdict : ℕ → Verdict) (bracket : YieldBracket) : Type 0 where
+pub record IsVerdictKept (verdict : ℕ → Verdict) (bracket : YieldBracket) : Type 0 where
   pub low : (bracket.low ≡ 0) ⊎ (verdict bracket.low ≡ Yes)
   pub high : ((bracket.high ≡ 105_003) × (bracket.at_high ≡ No))
       ⊎ IsMissed verdict bracket.high bracket.at_high
@@ -116,5 +116,5 @@ pub record IsAnswered (verdict : ℕ → Verdict) (bracket : YieldBracket) : Typ
 pub record HalvesBy (verdicts : PaymentSeries → ℕ → ℕ → Verdict) (old new : YieldBracket) : Type 0 where
   pub halved : new ≡ halved verdicts old
   pub count : new.halvings ≡ old.halvings + 1
-  pub answered : IsAnswered (verdicts old.series old.price) old
-      → IsAnswered (verdicts old.series old.price) new
+  pub answered : IsVerdictKept (verdicts old.series old.price) old
+      → IsVerdictKept (verdicts old.series old.price) new

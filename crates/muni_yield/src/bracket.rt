@@ -4,7 +4,7 @@ ghost use Rattle.std.specs.Prelude.{◌≡◌, ◌+◌, ◌<◌, ◌≤◌, fals
 ghost use Rattle.muni_rule.specs.Payments.{PaymentSeries, IsSeries};
 ghost use Rattle.muni_rule.specs.declared.verdict.Verdict.{Verdict};
 ghost use Rattle.muni_yield.specs.Bracket as spec;
-ghost use Rattle.muni_yield.specs.Bracket.{IsAnswered, IsBracket, IsQuestion};
+ghost use Rattle.muni_yield.specs.Bracket.{IsVerdictKept, IsBracket, IsQuestion};
 ghost use Rattle.muni_yield.specs.Places.{yield_at};
 ghost use Rattle.muni_yield.specs.Settled.{settled_as, outcome_at};
 
@@ -65,7 +65,7 @@ impl Bracket {
         requires many { 2 ≤ flows.n }
         requires price { 0 < price }
         ensures start { result ≡ spec.start_of flows price }
-        ensures answered { (verdict : ℕ → Verdict) → IsAnswered verdict result }
+        ensures answered { (verdict : ℕ → Verdict) → IsVerdictKept verdict result }
     {
         Bracket {
             flows,

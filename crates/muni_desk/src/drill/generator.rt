@@ -3,7 +3,7 @@
 ghost use Rattle.std.specs.Prelude.{◌≡◌, ◌+◌, ◌-◌, ◌*◌, ◌<◌, ◌≤◌, ◌++◌, map, max};
 ghost use Rattle.arrayvec.specs.ArrayVec.{array_vec_len};
 ghost use Rattle.muni_days.specs.Day.{civil};
-ghost use Rattle.muni_sched.specs.Candidates.{call_redemption};
+ghost use Rattle.muni_terms.specs.Issue.{entry_of};
 ghost use Rattle.muni_desk.specs.Generator as spec;
 ghost use Rattle.muni_desk.specs.Generator.{IsGenerated};
 
@@ -12,7 +12,7 @@ use arrayvec::ArrayVec;
 use muni_days::{Basis, Day, months_on};
 use muni_dec::{Coupon, Fee, Par, Price};
 use muni_msg::{Asked, Given, Side};
-use muni_terms::{Call, IssueRow, Kind};
+use muni_terms::{Call, CallTerm, IssueRow, Kind};
 use std::marker::Model;
 
 const MULTIPLIER: u64 = 6_364_136_223_846_793_005;
@@ -136,7 +136,7 @@ fn interest_date(half_years: u64) -> Day
 
 fn calls_before(maturity: Day, count: u64) -> ArrayVec<Call, 40>
     requires { count ≤ 40 }
-    ensures { map call_redemption result.items ≡ spec.calls_before (civil maturity) count }
+    ensures { map entry_of result.items ≡ spec.calls_before (civil maturity) count }
 {
     let mut calls = ArrayVec::new();
     for place in 0..count {
@@ -147,9 +147,9 @@ fn calls_before(maturity: Day, count: u64) -> ArrayVec<Call, 40>
 
 fn push_if_before(calls: &mut ArrayVec<Call, 40>, call: Call, maturity: Day)
     requires { array_vec_len calls.old < 40 }
-    ensures items { map call_redemption calls.new.items
-        ≡ map call_redemption calls.old.items
-        ++ spec.if_before (civil maturity) (call_redemption call) }
+    ensures items { map entry_of calls.new.items
+        ≡ map entry_of calls.old.items
+        ++ spec.if_before (civil maturity) (entry_of call) }
     ensures len { array_vec_len calls.new ≤ array_vec_len calls.old + 1 }
 {
     if call.date < maturity {
@@ -159,10 +159,11 @@ fn push_if_before(calls: &mut ArrayVec<Call, 40>, call: Call, maturity: Day)
 
 fn call_at(place: u64) -> Call
     requires { place < 40 }
-    ensures { call_redemption result ≡ spec.call_at place }
+    ensures { entry_of result ≡ spec.call_at place }
 {
     Call {
         date: interest_date(2 + place),
         price: Price::new((102_000_000 - 250_000 * place).max(100_000_000)),
+        term: CallTerm::OnDay,
     }
 }

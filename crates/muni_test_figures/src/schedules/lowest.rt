@@ -15,7 +15,7 @@ use muni_sched::{
     lowest_yield, out_of_range,
 };
 use muni_span::worth::Worth;
-use muni_terms::{Call, Flows, Issue, check};
+use muni_terms::{Call, CallTerm, Flows, Issue, check};
 use muni_test_samples::Sample;
 use std::marker::Brand;
 use std::sync::atomic::{AtomicU32, Ordering};
@@ -23,7 +23,7 @@ use std::sync::ledger::{Blank, Ledger};
 use std::test::Fail;
 use std::thread::Threads;
 
-fn list_of(case: &Sample<'_>) -> Result<ArrayVec<Candidate, 41>, Fail>
+fn list_of(case: &Sample<'_>) -> Result<ArrayVec<Candidate, 100>, Fail>
     ensures { IfOk result (λ list. All IsCandidate list.items) }
 {
     let issue = case.issue().ok_or("an issue")?;
@@ -46,7 +46,7 @@ fn price_over_0(case: &Sample<'_>) -> Result<Price, Fail>
 
 fn count_rounds<R: Threads + Sync, E: Encloser + Sync, G: Gate + Sync, L: Ledger>(
     rt: &R,
-    list: &ArrayVec<Candidate, 41>,
+    list: &ArrayVec<Candidate, 100>,
     price: Price,
     workers: u32,
     encloser: &E,
@@ -74,7 +74,7 @@ fn count_rounds<R: Threads + Sync, E: Encloser + Sync, G: Gate + Sync, L: Ledger
 
 fn by_rounds<R: Threads + Sync, E: Encloser + Sync, G: Gate + Sync>(
     rt: &R,
-    list: &ArrayVec<Candidate, 41>,
+    list: &ArrayVec<Candidate, 100>,
     price: Price,
     workers: u32,
     encloser: &E,
@@ -147,7 +147,8 @@ fn forty_calls() -> Result<Issue, Fail> {
     for i in 0u64..40 {
         let date = Day::of(2025 + i / 2, 1 + 6 * (i % 2), 1).ok_or("a day")?;
         let price = Price::PAR;
-        let _ = row.calls.try_push(Call { date, price });
+        let term = CallTerm::OnDay;
+        let _ = row.calls.try_push(Call { date, price, term });
     }
     Ok(check(row).ok().ok_or("an issue")?)
 }

@@ -3,7 +3,7 @@ use muni_days::{Basis, Day};
 use muni_dec::Price;
 use muni_sched::{Candidate, Label, Shape, candidates};
 use muni_simple::Single;
-use muni_terms::{Call, Issue, check};
+use muni_terms::{Call, CallTerm, Issue, check};
 use muni_test_samples::{Sample, Table};
 use std::test::Fail;
 
@@ -12,6 +12,7 @@ fn name_of(label: Label) -> &'static str {
         Label::Maturity => "MATURITY",
         Label::ParOption => "PAR",
         Label::Call => "CALL",
+        Label::Called => "CALLED",
     }
 }
 
@@ -98,7 +99,8 @@ fn with_forty_calls() -> Option<Issue> {
     let price = Price::of(101_000_000)?;
     for i in 0u64..40 {
         let date = Day::of(2021 + i / 2, 1 + 6 * (i % 2), 1)?;
-        let _ = row.calls.try_push(Call { date, price });
+        let term = CallTerm::OnDay;
+        let _ = row.calls.try_push(Call { date, price, term });
     }
     check(row).ok()
 }

@@ -15,8 +15,8 @@ loop-i-preserved c =
     let here : get_or calls i x ≡ x = search rules in
     let more : take (i + 1) calls ≡ take i calls ++ x ∷ [] = take_more calls i x c.loop-i-test.true ∙ ap (λ (y : Call). take i calls ++ y ∷ []) here in
     record {
-      items = c.push_call.ensures.items ∙ ap (λ (b : List ℕ). b ++ call_bytes x) c.loop-i.invariant.items ∙ flat_map_more call_bytes old (take i calls) x
-          ∙ ap (λ (l : List Call). old ++ flat_map call_bytes l) (sym more);
+      items = c.push_call.ensures.items ∙ ap (λ (b : List ℕ). b ++ call_bytes c.args.marked x) c.loop-i.invariant.items ∙ flat_map_more (call_bytes c.args.marked) old (take i calls) x
+          ∙ ap (λ (l : List Call). old ++ flat_map (call_bytes c.args.marked) l) (sym more);
       len = omega arith;
       fits = All-more CallFits calls i x c.loop-i-test.true c.loop-i.invariant.fits (rw here c.push_call.ensures.fits);
     }

@@ -5,7 +5,7 @@ use Rattle.std.proofs.lemmas.Slice.Zip.{AllZip-long}
 use Rattle.muni_sched.specs.declared.outcome.CandidateOutcome.TheVariants.{Above}
 use Rattle.muni_sched.specs.GivenFigure.{at_yield}
 use Rattle.muni_sched.specs.Lowest.{IsLowest, outcome_at}
-use Rattle.muni_sched.specs.PriceOutcome.{price_outcome, IsPriceAt, IsPriceOutcome}
+use Rattle.muni_sched.specs.PriceOutcome.{price_outcome, IsPriceAt, IsCandidatePrice}
 use Rattle.muni_sched.specs.Figures.{least_unsure, IsOf, IsLowestOf}
 use Rattle.muni_sched.specs.FigureKind.{Price}
 use Rattle.muni_sched.specs.Ranks.{decided_by, decided_at}
@@ -50,7 +50,7 @@ returns g c =
     let candidate = c.lowest_of-candidate.result in
     let found = decided_at outcomes candidate in
     let place = (goal.at.returns g c).After-lowest_of-candidate in
-    let each = zip-map (IsPriceOutcome ends c.args.y) price_outcome list prices c.prices_at-prices.ensures.each in
+    let each = zip-map (IsCandidatePrice ends c.args.y) price_outcome list prices c.prices_at-prices.ensures.each in
     let rule : IsLowest (least_unsure Price) outcomes found = subst (λ xs. IsLowest (least_unsure Price) (map price_outcome xs) (decided_at (map price_outcome xs) candidate)) c.as_slice.ensures.value c.lowest_of-candidate.ensures.lowest in
     let of : IsLowestOf Price (length list) found = subst (λ n. IsLowestOf Price n found) (long g place)
     (subst (λ xs. IsLowestOf Price (length c.as_slice.result.now) (decided_at (map price_outcome xs) candidate)) c.as_slice.ensures.value c.lowest_of-candidate.ensures.candidate) in

@@ -8,7 +8,7 @@ use Rattle.muni_sched.specs.FigureKind.{Yield}
 use Rattle.muni_sched.specs.Ranks.{decided_by, IsRanked, IsFirstOfLeastRank}
 use Rattle.muni_sched.specs.Search.{outcomes_of}
 use Rattle.muni_sched.specs.SearchedOut.{AreSearchedOut}
-use Rattle.muni_sched.specs.YieldOutcome.{IsYieldOutcome}
+use Rattle.muni_sched.specs.YieldOutcome.{IsCandidateYield}
 use Rattle.muni_sched.proofs.AllSoundLemmas.{lowest-answer}
 use Rattle.muni_sched.proofs.RankLemmas.{ranked_lowest, ranked_of}
 use Rattle.muni_sched.proofs.ZipLemmas.{zip-long}
@@ -37,7 +37,7 @@ ranked g c all =
 of : (g : given.Over) (c : After-outcome_at g) (all : AreSearchedOut (g.E.Encloser.ends c.args.encloser.now) c.args.price c.args.list.now (outcomes_of c.known-known.result.now)) → IsLowestOf Yield (length c.args.list.now) (decided_by c.outcome_at.result c.lowest_of-candidate.result)
 of g c all =
     let found = decided_by c.outcome_at.result c.lowest_of-candidate.result in
-    zip-long (IsYieldOutcome (place_verdict (g.E.Encloser.ends c.args.encloser.now)) c.args.price) c.args.list.now all.outcomes (λ n. IsLowestOf Yield n found) all.each
+    zip-long (IsCandidateYield (place_verdict (g.E.Encloser.ends c.args.encloser.now)) c.args.price) c.args.list.now all.outcomes (λ n. IsLowestOf Yield n found) all.each
     (ranked_of Yield all.outcomes found all.range (ranked g c all))
 
 pub decided_yield-requires : goal.decided_yield-requires

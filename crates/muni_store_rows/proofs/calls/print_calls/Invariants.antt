@@ -6,5 +6,5 @@ use Rattle.muni_store_rows.proofs.calls.print_calls.Given as goal
 abbrev pub invariant-loop-call : goal.invariant-loop-call
 invariant-loop-call l = record {
   left : l.text.items ++ calls_behind_blanks (drop l.call-index l.calls) ≡ calls_behind_blanks l.calls;
-  room : length l.text.items ≤ 41 * l.call-index;
+  room : length l.text.items ≤ 42 * l.call-index;
 }

@@ -1,5 +1,5 @@
 use Rattle.std.proofs.Common.{rules, ◌≡◌, subst, sym}
-use Rattle.muni_yield.specs.Bracket.{question, halved, IsAnswered}
+use Rattle.muni_yield.specs.Bracket.{question, halved, IsVerdictKept}
 use Rattle.muni_yield.specs.Places.{place_verdict}
 use Rattle.muni_yield.proofs.BracketLemmas.{halved-answered}
 use Rattle.muni_yield.proofs.bracket.Bracket.halve_at.Goals as goal
@@ -13,5 +13,5 @@ returns g c =
     record {
       halved = next;
       count = c.halve_known.ensures.count;
-      answered = λ before. subst (IsAnswered (verdicts bracket.series bracket.price)) (sym next) (halved-answered verdicts bracket c.searches_are_in_order.ensures.places c.requires before);
+      answered = λ before. subst (IsVerdictKept (verdicts bracket.series bracket.price)) (sym next) (halved-answered verdicts bracket c.searches_are_in_order.ensures.places c.requires before);
     }
