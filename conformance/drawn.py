@@ -42,6 +42,11 @@ def decimal_text(value, places):
     return sign + whole + ("." + part if part else "")
 
 
+def call_text(call):
+    """A call as a row has it, with its mark."""
+    return "%s:%s%s" % (call.day, decimal_text(call.price, 6), call.mark)
+
+
 def row_of(case):
     """The row of a case, without its answer."""
     issue, row = case.issue, dict.fromkeys(cases.COLUMNS, "")
@@ -64,7 +69,7 @@ def row_of(case):
         "days": "actual/365" if issue.basis else "",
         "first": issue.first.isoformat() if issue.first else "",
         "par": str(case.par),
-        "calls": " ".join("%s:%s" % (day, decimal_text(price, 6)) for day, price in issue.calls),
+        "calls": " ".join(map(call_text, issue.calls)),
     }
     if command == "trade":
         row |= {

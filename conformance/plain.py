@@ -5,7 +5,7 @@ import datetime
 import exact
 from calculator.days import days_30_360, days_between, months_later, quasi_coupon_dates
 from calculator.redemptions import Form, accrued_days, redemptions, side_of_range
-from calculator.terms import fault_of
+from calculator.terms import Call, fault_of
 from drawn import Case, said_of
 
 ONE_DAY = datetime.timedelta(1)
@@ -173,13 +173,13 @@ def called(draw):
         dates = dates[begin : begin + draw.one_of((1, 2, 3, 8, 40))]
         price, calls = 1_000_000 * draw.number(98, 104), []
         for day in dates:
-            calls.append((day, price))
+            calls.append(Call(day, price))
             price = draw.one_of((price, max(100_000_000, price - 250_000), 100_000_000, price + 125_000))
         issue = dataclasses.replace(issue, calls=tuple(calls))
         settle = draw.settlement(issue)
         when = said_of(settle, issue)
         if draw.chance(15):
-            settle, when = calls[0][0], ", settled on the first call, which is no candidate then"
+            settle, when = calls[0].day, ", settled on the first call, which is no candidate then"
         given = draw.one_of(("yield", "price"))
         value = draw.yield_() if given == "yield" else draw.price_of(issue, settle, draw.yield_())
         if value is not None:

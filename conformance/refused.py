@@ -6,7 +6,7 @@ import exact
 from calculator.days import DayBasis, months_later, quasi_coupon_dates
 from calculator.numerals import PRICE_MAX
 from calculator.redemptions import PRINTED, Form, redemptions
-from calculator.terms import check_digit, fault_of
+from calculator.terms import Call, check_digit, fault_of
 from drawn import TRADED, Case
 
 ONE_DAY = datetime.timedelta(1)
@@ -161,14 +161,14 @@ def terms(draw):
                     first,
                 )
             )
-            change, tries = {"calls": ((days, 100_000_000),)}, "a call on or beside the days on which one may be"
+            change, tries = {"calls": (Call(days, 100_000_000),)}, "a call on or beside the days on which one may be"
         elif how == 8:
             one, other = months_later(first, 6), months_later(first, 12)
             calls = draw.one_of(((other, one), (one, one), (one, other)))
-            change, tries = {"calls": tuple((day, 101_000_000) for day in calls)}, "calls out of order, and in order"
+            change, tries = {"calls": tuple(Call(day, 101_000_000) for day in calls)}, "calls out of order, and in order"
         elif how == 9:
             price = draw.one_of((0, 999_999, 1_000_000, 200_000_000, 200_000_001))
-            change, tries = {"calls": ((months_later(first, 6), price),)}, "the ends of a call's price"
+            change, tries = {"calls": (Call(months_later(first, 6), price),)}, "the ends of a call's price"
         elif how == 10:
             note = draw.note(draw.one_of(("at-redemption", "discount")), draw.number(0, 1))
             span = draw.one_of((719, 720, 721, 729, 730, 731))
@@ -238,7 +238,8 @@ def decides(draw):
         issue = draw.regular(draw.number(3, 30), 1_250_000 * draw.number(2, 60))
         dates = [day for day in quasi_coupon_dates(issue.first) if issue.first <= day < issue.maturity]
         soon = draw.number(0, len(dates) - 1)
-        calls = [(day, draw.one_of((1_000_000, 80_000_000, 100_000_000, 120_000_000, 200_000_000))) for day in dates]
+        prices = (1_000_000, 80_000_000, 100_000_000, 120_000_000, 200_000_000)
+        calls = [Call(day, draw.one_of(prices)) for day in dates]
         issue = dataclasses.replace(issue, calls=tuple(calls[soon : soon + draw.one_of((1, 2, 5))]))
         settle = draw.day_between(months_later(dates[soon], -6), dates[soon])
         how = draw.number(1, 4)

@@ -8,7 +8,7 @@ from calculator.days import days_between, months_later, quasi_coupon_dates
 from calculator.numerals import PRICE_MAX
 from calculator.price import HALVES, ManyPayments
 from calculator.redemptions import PAR, Form, redemptions
-from calculator.terms import fault_of
+from calculator.terms import Call, fault_of
 from drawn import Case, decimal_text
 from exact import MICRO, MILL
 
@@ -45,7 +45,7 @@ def par_bonds(draw):
             call = months_later(issue.maturity, -6 * draw.number(1, 8))
             if not max(settle, issue.first) < call:
                 continue
-            issue = dataclasses.replace(issue, calls=((call, price),))
+            issue = dataclasses.replace(issue, calls=(Call(call, price),))
             tries = "the coupon is the yield on the call's price, so the price up to the call is exactly that price"
         yield Case(tries, issue, settle, "yield", y)
 
@@ -162,7 +162,7 @@ def tied_calls(draw):
         unit = (1000 * growth**n).numerator
         prices = [price for price in range(unit, int(greatest), unit) if price >= 1_000_000]
         if prices:
-            issue = draw.issue("zero", dated, maturity, calls=((call, draw.one_of(prices)),))
+            issue = draw.issue("zero", dated, maturity, calls=(Call(call, draw.one_of(prices)),))
             yield Case(
                 "an exact price of a whole thousandth up to the call, in no exact case", issue, settle, "yield", y
             )
@@ -177,14 +177,14 @@ def tied_schedules(draw, yields, unit):
         call = months_later(begin, 6 * n + (6 if settle.day > 28 else 0))
         if not issue.dated <= settle or not issue.first <= call < issue.maturity:
             continue
-        to_call = redemptions(dataclasses.replace(issue, calls=((call, PAR),)), settle)[0]
+        to_call = redemptions(dataclasses.replace(issue, calls=(Call(call, PAR),)), settle)[0]
         with_par = to_call.paid.price(y)
         worth = dearer(to_call).paid.price(y) - with_par
         price = exact.whole_at(
             worth / unit, (with_par - PAR * worth) / unit, 0, draw.number(80_000_000, 100_000_000), 104_000_000
         )
         if price:
-            issue = dataclasses.replace(issue, calls=((call, price),))
+            issue = dataclasses.replace(issue, calls=(Call(call, price),))
             yield issue, settle, y, (with_par + (price - PAR) * worth) / MICRO
 
 
@@ -215,7 +215,7 @@ def passed_over(draw):
         call = months_later(issue.first, 6 * draw.number(5, 11))
         y = draw.number(20_000, 80_000)
         plain = redemptions(issue, settle)[-1]
-        to_call = redemptions(dataclasses.replace(issue, calls=((call, PAR),)), settle)[0]
+        to_call = redemptions(dataclasses.replace(issue, calls=(Call(call, PAR),)), settle)[0]
         if to_call.form is not Form.MANY:
             continue
         last, with_par = Fraction(exact.decimal(plain, y)), Fraction(exact.decimal(to_call, y))
@@ -227,7 +227,7 @@ def passed_over(draw):
         if off < Fraction(1, 10**9) and 1_000_000 <= price <= 200_000_000:
             yield Case(
                 "a call within 10^-9 dollars of a boundary, which a lower price at maturity makes immaterial",
-                dataclasses.replace(issue, calls=((call, price),)),
+                dataclasses.replace(issue, calls=(Call(call, price),)),
                 settle,
                 "yield",
                 y,
@@ -248,7 +248,7 @@ def equal_figures(draw):
         settle = draw.day_between(issue.first, months_later(issue.first, 12))
         call = months_later(issue.first, 6 * draw.number(4, 11))
         y = draw.number(10_000, 90_000)
-        to_call = redemptions(dataclasses.replace(issue, calls=((call, PAR),)), settle)[0]
+        to_call = redemptions(dataclasses.replace(issue, calls=(Call(call, PAR),)), settle)[0]
         last = Fraction(exact.decimal(redemptions(issue, settle)[-1], y))
         with_par = Fraction(exact.decimal(to_call, y))
         worth = Fraction(exact.decimal(dearer(to_call), y)) - with_par
@@ -265,7 +265,7 @@ def equal_figures(draw):
         price = PAR + round((last + off - with_par) / worth)
         if not 1_000_000 <= price <= 200_000_000:
             continue
-        issue = dataclasses.replace(issue, calls=((call, price),))
+        issue = dataclasses.replace(issue, calls=(Call(call, price),))
         same = int(last / MILL) == int((with_par + (price - PAR) * worth) / MILL)
         lower = "the call" if off < 0 else "maturity"
         tries = "exact prices up to the call and maturity %s dollars apart, %s the lower: %s" % (
@@ -285,7 +285,7 @@ def equal_yields(draw):
         value = draw.price_of(issue, settle, draw.number(10_000, 90_000))
         y = exact.exact_yield(redemptions(issue, settle)[-1], MICRO * value)
         off = draw.one_of((3, -3, 1, -1, 8, -8, 12))
-        to_call = redemptions(dataclasses.replace(issue, calls=((call, PAR),)), settle)[0]
+        to_call = redemptions(dataclasses.replace(issue, calls=(Call(call, PAR),)), settle)[0]
         with_par = Fraction(exact.decimal(to_call, y + off))
         worth = Fraction(exact.decimal(dearer(to_call), y + off)) - with_par
         price = PAR + round((MICRO * value - with_par) / worth)
@@ -294,7 +294,7 @@ def equal_yields(draw):
                 decimal_text(abs(off), 4),
                 "the call" if off < 0 else "maturity",
             )
-            yield Case(tries, dataclasses.replace(issue, calls=((call, price),)), settle, "price", value)
+            yield Case(tries, dataclasses.replace(issue, calls=(Call(call, price),)), settle, "price", value)
 
 
 def par_calls(draw):
@@ -304,7 +304,7 @@ def par_calls(draw):
         dates = [
             day for day in quasi_coupon_dates(issue.first) if max(settle, issue.first) <= day < issue.maturity
         ]
-        calls = tuple((day, PAR) for day in dates[draw.number(0, 3) :][: draw.one_of((1, 3, 10, 40))])
+        calls = tuple(Call(day, PAR) for day in dates[draw.number(0, 3) :][: draw.one_of((1, 3, 10, 40))])
         if not calls or not issue.dated <= settle:
             continue
         issue = dataclasses.replace(issue, calls=calls)

@@ -5,7 +5,7 @@ import dataclasses
 import enum
 from typing import NamedTuple
 
-from calculator.figures import Asked, Choice, Figures, Refusal, Refused, Side, answers, likely
+from calculator.figures import Asked, Choice, Each, Figures, Refusal, Refused, Side, answers, each_of, likely
 from calculator.terms import Issue, fault_of
 
 MOST_TRADES = 100_000
@@ -49,7 +49,10 @@ class ListTrades(NamedTuple):
 
 
 class Quote(NamedTuple):
+    """A question for figures, and whether each redemption is told."""
+
     asked: Asked
+    is_each: bool = False
 
 
 Command = AddIssue | Enter | Correct | Cancel | Confirm | ListTrades | Quote
@@ -84,6 +87,7 @@ class Confirmed(NamedTuple):
 class Quoted(NamedTuple):
     asked: Asked
     figures: Figures
+    each: list[Each]
 
 
 class Listed(NamedTuple):
@@ -129,9 +133,11 @@ class Book:
         match command:
             case AddIssue(issue):
                 return self.add(issue)
-            case Quote(asked):
+            case Quote(asked, is_each):
                 found = self.quote(asked, choose)
-                return Quoted(asked, found) if isinstance(found, Figures) else found
+                if isinstance(found, Refusal):
+                    return found
+                return Quoted(asked, found, each_of(self.issues[asked.cusip], asked, choose) if is_each else [])
             case ListTrades(desk, after):
                 return self.listed(desk, after)
             case Confirm(desk, reference):

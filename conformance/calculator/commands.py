@@ -7,9 +7,9 @@ from typing import NamedTuple
 
 from calculator import drill, rows
 from calculator.book import Book, Confirm, refused_terms
-from calculator.figures import Choice, Refusal, answers, likely, quote_one
+from calculator.figures import Choice, Refusal, answers, each_of, likely, quote_one
 from calculator.numerals import shown_figure
-from calculator.texts import confirmation, figure_lines, position_line, refusal_line, text_of
+from calculator.texts import confirmation, each_lines, figure_lines, position_line, refusal_line, text_of
 from calculator.words import Drill, Help, OverStore, QuoteOne, QuoteTerms, Usage, job
 
 IMPORTED_MAX = 4_194_304
@@ -73,7 +73,10 @@ def run(words: Sequence[str], books: dict[str, Book] | None = None, data: bytes 
 
 def quoted(asked: QuoteTerms, choose: Choice) -> Said:
     found = refused_terms(asked.issue) or choose(answers(asked.issue, asked.asked))
-    return refused(found) if isinstance(found, Refusal) else said(figure_lines(asked.asked, found))
+    if isinstance(found, Refusal):
+        return refused(found)
+    each = each_of(asked.issue, asked.asked, choose) if asked.is_each else []
+    return said([*figure_lines(asked.asked, found), *each_lines(asked.asked, each)])
 
 
 def over_store(asked: OverStore, book: Book, data: bytes | Callable[[], bytes], choose: Choice) -> Said:

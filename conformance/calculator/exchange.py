@@ -14,7 +14,7 @@ from calculator.heads import Head, Incomplete, Malformed, head
 from calculator.json_text import BadJson
 from calculator.numerals import Unreadable
 from calculator.terms import Call, Issue, Kind
-from calculator.texts import confirmation, figure_lines, list_line, refusal_line, text_of
+from calculator.texts import confirmation, each_lines, figure_lines, list_line, refusal_line, text_of
 
 HEAD_MAX = 16_384
 FIELDS_MAX = 64
@@ -136,12 +136,19 @@ class Members:
         """A member that may be left out."""
         return self[name] if name in self else ""
 
+    def is_true(self, name: str) -> bool:
+        """A member that is a Boolean, and may be left out."""
+        found = self.body.get(name, False)
+        if not isinstance(found, bool):
+            raise Unreadable
+        return found
+
     def calls(self) -> Iterator[Call]:
         listed = self.body.get("calls", [])
         if not isinstance(listed, list) or len(listed) > fields.MOST_CALLS:
             raise Unreadable
         for each in map(Members, listed):
-            yield Call(numerals.day(each["date"]), numerals.price(each["price"]))
+            yield Call(numerals.day(each["date"]), *fields.marked_price(each["price"]))
 
 
 def posted(path: str, body: bytes) -> Command:
@@ -149,7 +156,7 @@ def posted(path: str, body: bytes) -> Command:
     if path == "/issues":
         return AddIssue(issue(members))
     if path == "/quotes":
-        return Quote(asked(members, Side.BUY, 0))
+        return Quote(asked(members, Side.BUY, 0), members.is_true("each"))
     key = numerals.desk(members["desk"]), numerals.reference(members["reference"])
     if path == "/cancels":
         return Cancel(*key, fields.number(members["number"]))
@@ -193,8 +200,8 @@ def answer_of_reply(reply: Reply) -> bytes:
             return answer(200, f"ADDED {cusip}\n")
         case Confirmed():
             return answer(200, text_of(confirmation(reply)))
-        case Quoted(asked_, figures):
-            return answer(200, text_of(figure_lines(asked_, figures)))
+        case Quoted(asked_, figures, each):
+            return answer(200, text_of([*figure_lines(asked_, figures), *each_lines(asked_, each)]))
         case Listed(trades):
             return answer(200, text_of(list_line(*trade) for trade in trades))
         case Refusal(number, _):

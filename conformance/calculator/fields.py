@@ -7,7 +7,7 @@ from calculator import numerals
 from calculator.days import DayBasis
 from calculator.figures import Given, Side
 from calculator.numerals import Unreadable
-from calculator.terms import LONGEST_NAME, Call, Kind
+from calculator.terms import LONGEST_NAME, Call, Kind, Mark
 
 MOST_CALLS = 40
 BASES = {"": DayBasis.THIRTY_360, "30/360": DayBasis.THIRTY_360, "actual/365": DayBasis.ACTUAL_365}
@@ -80,7 +80,13 @@ def call(text: str) -> Call:
     day, colon, price = text.partition(":")
     if not colon:
         raise Unreadable
-    return Call(numerals.day(day), numerals.price(price))
+    return Call(numerals.day(day), *marked_price(price))
+
+
+def marked_price(text: str) -> tuple[int, Mark]:
+    """The price of a call, with the mark that may stand after it."""
+    mark = Mark(text[-1:]) if text.endswith((Mark.ON_OR_AFTER, Mark.CALLED)) else Mark.NONE
+    return numerals.price(text.removesuffix(mark)), mark
 
 
 def calls(text: str) -> tuple[Call, ...]:

@@ -10,7 +10,7 @@ from typing import NamedTuple
 from calculator.days import days_30_360, months_later
 from calculator.numerals import PRICE_MAX, shown, shown_figure
 from calculator.price import PERIOD, OnePayment
-from calculator.printed import Ending, Outcome, boundary_of, price_of, rounded, yield_of
+from calculator.printed import Ending, Outcome, Outcomes, boundary_of, price_of, rounded, yield_of
 from calculator.redemptions import (DAILY, MICROS, PRINTED, Decided, Form, Label, Redemption, accrued_days,
                                     all_deciding, deciding, redemptions, side_of_range)
 from calculator.terms import Issue, Kind
@@ -113,11 +113,18 @@ class Answers(NamedTuple):
     allowed: tuple[Figures | Refusal, ...]
 
 
-# Picks one of the answers.
-Choice = Callable[[Answers], Figures | Refusal]
+class Each(NamedTuple):
+    """A redemption by itself, and what it comes to."""
+
+    redemption: Redemption
+    outcome: Outcome
 
 
-def likely(answers: Answers) -> Figures | Refusal:
+# Picks one of the answers, or of the outcomes of one redemption.
+Choice = Callable[[Answers | Outcomes], Figures | Refusal | Outcome]
+
+
+def likely(answers: Answers | Outcomes) -> Figures | Refusal | Outcome:
     return answers.allowed[0]
 
 
@@ -169,20 +176,40 @@ def answers(issue: Issue, asked: Asked) -> Answers:
     if refusal:
         return sure(refusal)
     found = redemptions(issue, asked.settlement)
+    outcomes = outcomes_of(issue, asked, found)
     if asked.given == Given.RATE:
-        return sure(at_a_rate(issue, asked, found[0]))
-    if asked.given == Given.YIELD:
-        outcomes = [price_of(redemption.paid, asked.value) for redemption in found]
-        lowest = Outcome(Ending.UNDECIDED, -1)
-    else:
-        price = issue.basis.year * MICROS * asked.net_price
-        outcomes = [yield_of(redemption.paid, price, PRINTED[redemption.form]) for redemption in found]
-        lowest = Outcome(Ending.UNDECIDED, PRINTED[Form.MANY][0] - 1)
+        return sure(at_a_rate(issue, asked, found[0], outcomes[0].exact))
+    least = 0 if asked.given == Given.YIELD else PRINTED[Form.MANY][0]
+    lowest = Outcome(Ending.UNDECIDED, least - 1)
     exact = deciding((each.exact for each in outcomes), lowest)
     first = deciding((each.allowed[0] for each in outcomes), lowest)
     others = all_deciding((each.allowed for each in outcomes), lowest) - {first}
     return Answers(answer_of(issue, asked, found, exact),
                    tuple(answer_of(issue, asked, found, each) for each in (first, *sorted(others, key=repr))))
+
+
+def outcomes_of(issue: Issue, asked: Asked, found: list[Redemption]) -> list[Outcomes]:
+    """What each redemption comes to by itself: a price at a yield, and else a yield."""
+    if asked.given == Given.YIELD:
+        return [price_of(redemption.paid, asked.value) for redemption in found]
+    price = issue.basis.year * MICROS * asked.net_price
+    if asked.given == Given.RATE:
+        price = price_at_a_rate(asked, found[0])
+    return [yield_of(redemption.paid, price, PRINTED[redemption.form]) for redemption in found]
+
+
+def each_of(issue: Issue, asked: Asked, choose: Choice = likely) -> list[Each]:
+    """What each redemption of a trade comes to, if the trade has figures."""
+    found = redemptions(issue, asked.settlement)
+    return [Each(*each) for each in zip(found, map(choose, outcomes_of(issue, asked, found)))]
+
+
+def boundary_text(asked: Asked, lower: int) -> str:
+    """The boundary between a printed figure and the one above it, as a refusal names it."""
+    above = lower + 1
+    if asked.given == Given.YIELD:
+        return f"price {shown_figure(above)}"
+    return f"yield {shown(boundary_of(above), 4)}"
 
 
 def answer_of(issue: Issue, asked: Asked, found: list[Redemption], decided: Decided) -> Figures | Refusal:
@@ -197,22 +224,23 @@ def answer_of(issue: Issue, asked: Asked, found: list[Redemption], decided: Deci
         return (Refusal(Refused.GIVEN_OUT_OF_RANGE, "price below zero") if at_yield
                 else Refusal(Refused.YIELD_BELOW, str(redemption.day)))
     if decided.ending is Ending.UNDECIDED:
-        above = decided.figure + 1
-        boundary = f"price {shown_figure(above)}" if at_yield else f"yield {shown(boundary_of(above), 4)}"
-        return Refusal(Refused.UNDECIDED, f"{redemption.day} {boundary}")
+        return Refusal(Refused.UNDECIDED, f"{redemption.day} {boundary_text(asked, decided.figure)}")
     if at_yield:
         return figures(issue, asked, redemption, decided.figure, rounded(asked.value))
     return figures(issue, asked, redemption, asked.value // 1000, decided.figure)
 
 
-def at_a_rate(issue: Issue, asked: Asked, maturity: Redemption) -> Figures | Refusal:
-    """A discounted note at a rate (section (c)). Its return is that of the price before it is cut off."""
-    paid = maturity.paid
-    if paid.left == 0:
+def price_at_a_rate(asked: Asked, maturity: Redemption) -> int:
+    """The exact price of a discounted note at a rate, in units (section (c))."""
+    return maturity.paid.due - 100_000 * asked.value * maturity.paid.left
+
+
+def at_a_rate(issue: Issue, asked: Asked, maturity: Redemption, yield_: Outcome) -> Figures | Refusal:
+    """A discounted note at a rate. Its return is that of the price before it is cut off."""
+    if yield_.ending is Ending.NO_TIME:
         return Refusal(Refused.NO_TIME, str(maturity.day))
-    price = paid.due - 100_000 * asked.value * paid.left
-    yield_ = yield_of(paid, price, PRINTED[Form.DISCOUNT]).exact.figure
-    return figures(issue, asked, maturity, price * 1000 // paid.unit, yield_)
+    price = price_at_a_rate(asked, maturity)
+    return figures(issue, asked, maturity, price * 1000 // maturity.paid.unit, yield_.figure)
 
 
 def quote_one(coupon: int, interest: date, settlement: date, redemption_price: int, yield_: int) -> int | Refusal:

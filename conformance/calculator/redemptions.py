@@ -7,14 +7,14 @@ from __future__ import annotations
 
 import enum
 import functools
-from collections.abc import Iterable
+from collections.abc import Iterable, Iterator
 from datetime import date
 from typing import NamedTuple
 
 from calculator.days import days_30_360, days_between, days_of_period, quasi_coupon_dates
 from calculator.price import PERIOD, ManyPayments, OnePayment
 from calculator.printed import Ending, Outcome
-from calculator.terms import Call, Issue, Kind
+from calculator.terms import Call, Issue, Kind, Mark
 
 # 100 dollars, in 10^-6 dollars.
 PAR = 100_000_000
@@ -42,6 +42,7 @@ class Label(enum.StrEnum):
     MATURITY = "MATURITY"
     PAR_OPTION = "PAR OPTION"
     CALL = "CALL"
+    CALLED = "CALLED"
 
 
 class Redemption(NamedTuple):
@@ -65,15 +66,31 @@ def accrued_days(issue: Issue, settlement: date) -> int:
 
 
 def redemptions(issue: Issue, settlement: date) -> list[Redemption]:
-    """The calls after the settlement and the maturity, in order of date."""
+    """The calls after the settlement and the maturity, or the call that stands in its place, in order of date."""
     if issue.is_note:
         return [maturity_of_note(issue, settlement)]
-    found = []
-    for day, price in (*issue.calls, Call(issue.maturity, PAR)):
-        if day > settlement:
-            label = Label.MATURITY if day == issue.maturity else Label.PAR_OPTION if price == PAR else Label.CALL
-            found.append(redemption_of(issue, settlement, Call(day, price), label))
-    return found
+    return [redemption_of(issue, settlement, day) for day in days_of_redemption(issue) if day.day > settlement]
+
+
+def days_of_redemption(issue: Issue) -> Iterator[Call]:
+    """The days that the calls stand for, each at its price, and the maturity at 100 if no call has `!`."""
+    ends = [call.day for call in issue.calls[1:]] + [issue.maturity]
+    for call, end in zip(issue.calls, ends):
+        yield call
+        if call.mark == Mark.ON_OR_AFTER:
+            for day in quasi_coupon_dates(issue.anchor):
+                if call.day < day < end:
+                    yield call._replace(day=day)
+    if issue.end == issue.maturity:
+        yield Call(issue.maturity, PAR)
+
+
+def label_of(issue: Issue, call: Call) -> Label:
+    if call.day == issue.maturity:
+        return Label.MATURITY
+    if call.mark == Mark.CALLED:
+        return Label.CALLED
+    return Label.PAR_OPTION if call.price == PAR else Label.CALL
 
 
 def maturity_of_note(issue: Issue, settlement: date) -> Redemption:
@@ -88,14 +105,17 @@ def maturity_of_note(issue: Issue, settlement: date) -> Redemption:
     return Redemption(issue.maturity, PAR, Label.MATURITY, Form.AT_REDEMPTION, paid)
 
 
-def redemption_of(issue: Issue, settlement: date, call: Call, label: Label) -> Redemption:
+def redemption_of(issue: Issue, settlement: date, call: Call) -> Redemption:
+    label = label_of(issue, call)
     interest = [interest_on(issue, day) for day in quasi_coupon_dates(issue.anchor) if settlement < day <= call.day]
     payments = (*interest[:-1], interest[-1] + 360 * MICROS * call.price)
     accrued = DAILY * issue.coupon * accrued_days(issue, settlement)
     elapsed = days_of_period(issue.anchor, settlement)
     if len(payments) == 1:
-        return Redemption(*call, label, Form.ONE, OnePayment(payments[0], accrued, PERIOD - elapsed))
-    return Redemption(*call, label, Form.MANY, ManyPayments(payments, accrued, elapsed, issue.coupon, call.price))
+        paid = OnePayment(payments[0], accrued, PERIOD - elapsed)
+        return Redemption(call.day, call.price, label, Form.ONE, paid)
+    paid = ManyPayments(payments, accrued, elapsed, issue.coupon, call.price)
+    return Redemption(call.day, call.price, label, Form.MANY, paid)
 
 
 def interest_on(issue: Issue, day: date) -> int:

@@ -26,11 +26,24 @@ class Kind(enum.StrEnum):
     DISCOUNT = "discount"
 
 
+class Mark(enum.StrEnum):
+    """What may stand after the price of a call."""
+
+    NONE = ""
+    ON_OR_AFTER = "+"
+    CALLED = "!"
+
+
 class Call(NamedTuple):
-    """A day on which the issuer may redeem the whole issue, and its price in 10^-6 dollars."""
+    """A day on which the issuer may redeem the whole issue, and its price in 10^-6 dollars.
+
+    With the mark `+` he may on each interest date after it too, up to the next call. With `!` he does: the issue is
+    redeemed on this day, and not at maturity.
+    """
 
     day: date
     price: int
+    mark: Mark = Mark.NONE
 
 
 @dataclasses.dataclass(frozen=True)
@@ -60,8 +73,13 @@ class Issue:
         """The day from which the quasi-coupon dates are counted."""
         return self.first if self.kind == Kind.PERIODIC else self.maturity
 
+    @property
+    def end(self) -> date:
+        """The day on which the issue is redeemed for certain: that of a call with `!`, or maturity."""
+        return next((call.day for call in self.calls if call.mark == Mark.CALLED), self.maturity)
+
     def settles(self, settlement: date) -> bool:
-        return self.dated <= settlement < self.maturity
+        return self.dated <= settlement < self.end
 
 
 class Fault(enum.IntEnum):
@@ -78,6 +96,7 @@ class Fault(enum.IntEnum):
     TOO_LONG = 9
     BAD_NAME = 10
     BAD_BASIS = 11
+    CALLED_NOT_LAST = 12
 
 
 class BadTerms(NamedTuple):
@@ -152,6 +171,9 @@ def faults_of_calls(issue: Issue) -> Iterator[BadTerms]:
         if not CALL_PRICES[0] <= call.price <= CALL_PRICES[1]:
             yield BadTerms(Fault.BAD_CALL_PRICE, call.day)
         before = call.day
+    for call in issue.calls[:-1]:
+        if call.mark == Mark.CALLED:
+            yield BadTerms(Fault.CALLED_NOT_LAST)
 
 
 def is_on_calendar(issue: Issue, day: date) -> bool:

@@ -1,12 +1,13 @@
 """The lines of figures, confirmations, refusals, lists and positions (docs/FORMATS.md)."""
 from __future__ import annotations
 
-from collections.abc import Iterable
+from collections.abc import Iterable, Iterator
 
 from calculator.book import Act, Confirmed, Position, Version
 from calculator.days import DayBasis
-from calculator.figures import Asked, Figures, Given, Refusal, Side
+from calculator.figures import Asked, Each, Figures, Given, Refusal, Side, boundary_text
 from calculator.numerals import shown, shown_figure, shown_money, shown_price
+from calculator.printed import Ending
 
 
 def text_of(lines: Iterable[str]) -> str:
@@ -26,6 +27,17 @@ def figure_lines(asked: Asked, figures: Figures) -> list[str]:
     if asked.fee:
         lines.append(f"COMMISSION {shown_money(figures.commission)}")
     return lines + [f"TOTAL {shown_money(figures.total)}"]
+
+
+def each_lines(asked: Asked, each: list[Each]) -> Iterator[str]:
+    """A line for each redemption, with its figure or what it has in its place."""
+    for redemption, (ending, figure) in each:
+        came = ending.name.replace("_", " ")
+        if ending is Ending.PRINTED:
+            came = f"{'PRICE' if asked.given == Given.YIELD else 'YIELD'} {shown_figure(figure)}"
+        elif ending is Ending.UNDECIDED:
+            came += f" {boundary_text(asked, figure)}"
+        yield f"EACH {redemption.day} {shown_price(redemption.price)} {redemption.label} {came}"
 
 
 def confirmation(confirmed: Confirmed) -> list[str]:

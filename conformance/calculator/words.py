@@ -17,6 +17,8 @@ Read = TypeVar("Read")
 QUOTED = ("000000000", "QUOTE")
 QUOTED_PAR = 100
 SEEDS = 2**64
+# The options without a value.
+PLAIN = ("--each",)
 
 
 class Usage(Exception):
@@ -36,6 +38,7 @@ class QuoteOne:
 class QuoteTerms:
     issue: Issue
     asked: Asked
+    is_each: bool = False
 
 
 @dataclasses.dataclass(frozen=True)
@@ -69,7 +72,7 @@ class Options:
         self.values: dict[str, list[str]] = {}
         for word in words:
             name, _, value = word.partition("=")
-            if not name.startswith("--") or not value:
+            if not name.startswith("--") or not value and word not in PLAIN:
                 raise Usage
             self.values.setdefault(name[2:], []).append(value)
 
@@ -93,6 +96,13 @@ class Options:
         if is_needed != (name in self.values):
             raise Usage
         return self.maybe(name, reader, default)
+
+    def plain(self, name: str) -> bool:
+        """Whether an option is given that has no value."""
+        found = self.values.pop(name, None)
+        if found not in (None, [""]):
+            raise Usage
+        return found is not None
 
     def end(self) -> None:
         if self.values:
@@ -162,7 +172,7 @@ def quote(options: Options) -> QuoteTerms:
         raise Usage
     value = options.one(given[0], lambda text: fields.value(given[0], text))
     issue = Issue(*QUOTED, kind, dated, maturity, coupon, first, tuple(calls), basis)
-    return QuoteTerms(issue, Asked(issue.cusip, par, settlement, given[0], value))
+    return QuoteTerms(issue, Asked(issue.cusip, par, settlement, given[0], value), options.plain("each"))
 
 
 def over_store(name: str, options: Options) -> OverStore:

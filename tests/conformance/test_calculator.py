@@ -14,7 +14,7 @@ from calculator.days import DayBasis, days_between
 from calculator.figures import Asked, Given, Refusal, Refused, Side, answers
 from calculator.printed import Ending, Outcome, price_of
 from calculator.redemptions import interest_on, redemptions
-from calculator.terms import BadTerms, Call, Fault, Issue, Kind, check_digit, fault_of, is_cusip
+from calculator.terms import BadTerms, Call, Fault, Issue, Kind, Mark, check_digit, fault_of, is_cusip
 from hypothesis import given
 from hypothesis import strategies as st
 
@@ -141,13 +141,19 @@ def changed(issue: Issue, **changes: object) -> Issue:
     (changed(BOND, calls=(Call(date(2020, 1, 1), 100_000_000),)), Fault.CALL_OFF_CALENDAR, date(2020, 1, 1)),
     (changed(BOND, calls=(Call(date(2024, 1, 1), 100_000_000),) * 2), Fault.CALLS_NOT_RISING, date(2024, 1, 1)),
     (changed(BOND, calls=(Call(date(2024, 1, 1), 999_999),)), Fault.BAD_CALL_PRICE, date(2024, 1, 1)),
+    (changed(BOND, calls=(Call(date(2023, 1, 1), 100_000_000, Mark.CALLED), Call(date(2024, 1, 1), 100_000_000))),
+     Fault.CALLED_NOT_LAST, None),
+    (changed(BOND, calls=(Call(date(2023, 1, 1), 100_000_000, Mark.CALLED), Call(date(2024, 1, 1), 999_999))),
+     Fault.BAD_CALL_PRICE, date(2024, 1, 1)),
 ])
 def test_terms_that_fail_a_test_have_its_fault(issue, fault, call):
     assert fault_of(issue) == BadTerms(fault, call)
 
 
 @pytest.mark.parametrize("issue", [BOND, NOTE, changed(BOND, maturity=date(2070, 1, 1)),
-                                   changed(NOTE, maturity=date(2026, 1, 1))])
+                                   changed(NOTE, maturity=date(2026, 1, 1)),
+                                   changed(BOND, calls=(Call(date(2023, 1, 1), 100_000_000, Mark.ON_OR_AFTER),
+                                                        Call(date(2024, 1, 1), 200_000_000, Mark.CALLED)))])
 def test_terms_at_the_ends_of_what_is_taken_are_good(issue):
     assert fault_of(issue) is None
 
@@ -156,6 +162,53 @@ def test_interest_before_the_first_date_and_of_a_zero_is_none():
     zero = Issue("990034AA8", "ZERO", Kind.ZERO, date(2020, 1, 1), date(2026, 7, 1))
     assert interest_on(zero, date(2024, 1, 1)) == 0
     assert interest_on(changed(BOND, dated=date(2019, 12, 1)), date(2020, 1, 1)) == 0
+
+
+def days_of(calls: tuple[Call, ...], settlement: date) -> list[tuple[str, int, str]]:
+    found = redemptions(changed(BOND, calls=calls), settlement)
+    return [(str(each.day), each.price // 1_000_000, str(each.label)) for each in found]
+
+
+def test_a_mark_stands_for_the_interest_dates_up_to_the_next_call_or_maturity():
+    calls = (Call(date(2022, 7, 1), 102_000_000, Mark.ON_OR_AFTER), Call(date(2023, 7, 1), 101_000_000),
+             Call(date(2024, 1, 1), 100_000_000, Mark.ON_OR_AFTER))
+    assert days_of(calls, date(2022, 7, 1)) == [
+        ("2023-01-01", 102, "CALL"), ("2023-07-01", 101, "CALL"), ("2024-01-01", 100, "PAR OPTION"),
+        ("2024-07-01", 100, "PAR OPTION"), ("2025-01-01", 100, "MATURITY")]
+
+
+def test_an_issue_that_has_been_called_is_not_redeemed_at_maturity():
+    called = (Call(date(2023, 1, 1), 100_000_000), Call(date(2024, 1, 1), 100_000_000, Mark.CALLED))
+    assert days_of(called, date(2022, 12, 31)) == [("2023-01-01", 100, "PAR OPTION"), ("2024-01-01", 100, "CALLED")]
+    issue = changed(BOND, calls=called)
+    assert [issue.settles(date(2023, 12, 31)), issue.settles(date(2024, 1, 1))] == [True, False]
+
+
+QUOTED = ("quote --kind=periodic --dated=2022-01-01 --first=2022-07-01 --maturity=2044-01-01 --coupon=4"
+          " --call=2034-01-01:100 --settle=2024-01-01")
+
+
+@pytest.mark.parametrize(("given", "lines"), [
+    ("--price=108.584", ["PAR OPTION YIELD 3.000", "MATURITY YIELD 3.405"]),
+    ("--yield=3", ["PAR OPTION PRICE 108.584", "MATURITY PRICE 114.957"]),
+])
+def test_each_redemption_is_told_by_itself(given, lines):
+    plain = commands.run(f"{QUOTED} {given}".split())
+    days = ["2034-01-01 100.000000", "2044-01-01 100.000000"]
+    more = "".join(f"EACH {day} {line}\n" for day, line in zip(days, lines))
+    assert commands.run(f"{QUOTED} {given} --each".split()) == (0, plain.output + more.encode())
+
+
+def test_a_redemption_that_is_undecided_and_does_not_matter_is_told_with_its_boundary():
+    words = ("quote --kind=periodic --dated=2020-01-01 --first=2020-07-01 --maturity=2034-01-01 --coupon=10"
+             " --settle=2024-01-01 --call=2026-07-01:130.5255 --yield=20 --each")
+    assert commands.run(words.split()).output.decode().splitlines()[-2:] == [
+        "EACH 2026-07-01 130.525500 CALL UNDECIDED price 100.000", "EACH 2034-01-01 100.000000 MATURITY PRICE 57.432"]
+
+
+@pytest.mark.parametrize("word", ["--each=", "--each=1", "--each --each", "--eac"])
+def test_a_word_that_is_like_each_is_none(word):
+    assert commands.run(f"{QUOTED} --yield=3 {word}".split()) == (2, b"")
 
 
 # Texts, tables and requests.

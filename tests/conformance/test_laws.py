@@ -1,15 +1,16 @@
 """Laws that days, powers, prices, yields and disclosed redemptions of the exact calculator keep."""
+import dataclasses
 import math
 from datetime import date
 from fractions import Fraction
 
-from calculator.days import days_30_360, days_of_period, quasi_coupon_dates
+from calculator.days import days_30_360, days_of_period, months_later, quasi_coupon_dates
 from calculator.figures import Asked, Figures, Given, answers
 from calculator.powers import enclosed, is_below, power, product
 from calculator.price import HALVES, ManyPayments, OnePayment
 from calculator.printed import Ending, Outcome, boundary_of, price_of, rounded
-from calculator.redemptions import Decided, all_deciding, deciding, redemptions, side_of_range
-from calculator.terms import Issue, Kind, fault_of
+from calculator.redemptions import PAR, Decided, Label, all_deciding, deciding, redemptions, side_of_range
+from calculator.terms import Call, Issue, Kind, Mark, fault_of
 from hypothesis import assume, given
 from hypothesis import strategies as st
 
@@ -112,6 +113,41 @@ def test_the_lowest_price_is_disclosed_at_its_earliest_redemption(settlement_of_
         assert (said.exact.price, said.exact.redemption) == (lowest, earliest.day)
     if isinstance(said.allowed[0], Figures):
         assert said.exact in said.allowed
+
+
+def told(issue: Issue, settlement: date, given_: Given, value: int) -> tuple[Figures | object, ...]:
+    return answers(issue, Asked(issue.cusip, 100, settlement, given_, value)).allowed
+
+
+values = st.tuples(st.just(Given.YIELD), yields) | st.tuples(st.just(Given.PRICE), st.integers(1, 140_000_000))
+
+
+@given(settled(bonds(calls=6)), values)
+def test_marks_answer_as_the_days_they_stand_for(settlement_of_issue, value):
+    issue, settlement = settlement_of_issue
+    days = []
+    for place, call in enumerate(issue.calls):
+        days.append(call._replace(mark=Mark.CALLED if call.mark == Mark.CALLED else Mark.NONE))
+        end = issue.calls[place + 1].day if place + 1 < len(issue.calls) else issue.maturity
+        day = months_later(call.day, 6)
+        while call.mark == Mark.ON_OR_AFTER and day < end:
+            days.append(Call(day, call.price))
+            day = months_later(day, 6)
+    spelled = dataclasses.replace(issue, calls=tuple(days))
+    assert fault_of(spelled) is None and told(spelled, settlement, *value) == told(issue, settlement, *value)
+
+
+@given(settled(bonds(calls=6)), values)
+def test_an_issue_called_at_100_answers_as_one_that_matures_then(settlement_of_issue, value):
+    issue, settlement = settlement_of_issue
+    assume(issue.calls and issue.calls[-1].day > settlement)
+    *calls, last = issue.calls
+    called = dataclasses.replace(issue, calls=(*calls, Call(last.day, PAR, Mark.CALLED)))
+    matures = dataclasses.replace(issue, calls=tuple(calls), maturity=last.day)
+    wanted = [dataclasses.replace(each, label=Label.CALLED)
+              if isinstance(each, Figures) and each.label == Label.MATURITY else each
+              for each in told(matures, settlement, *value)]
+    assert list(told(called, settlement, *value)) == wanted
 
 
 @given(st.integers(500, 9_000).map(lambda thousandths: 10 * thousandths), st.integers(2, 60))

@@ -8,7 +8,7 @@ from hypothesis import strategies as st
 
 from calculator.days import DayBasis, months_later
 from calculator.redemptions import PAR
-from calculator.terms import Call, Issue, Kind
+from calculator.terms import Call, Issue, Kind, Mark
 
 Draw = Callable[[st.SearchStrategy], object]
 CUSIP = "990034AA8"
@@ -17,7 +17,7 @@ coupons = st.integers(1, 160).map(lambda eighths: 1_250_000 * eighths) | st.inte
 
 @st.composite
 def bonds(draw: Draw, calls: int = 0) -> Issue:
-    """A periodic or a zero issue, with up to so many calls."""
+    """A periodic or a zero issue, with up to so many calls, of which some have marks."""
     dated = date(draw(st.integers(1950, 2050)), draw(st.integers(1, 12)), draw(st.integers(1, 28)))
     first = months_later(dated, 6)
     is_zero = draw(st.booleans())
@@ -26,10 +26,13 @@ def bonds(draw: Draw, calls: int = 0) -> Issue:
     days = draw(st.lists(st.sampled_from([day for day in half_years if day < maturity] or [first]), unique=True,
                          max_size=calls))
     prices = st.sampled_from((PAR, 102_000_000)) | st.integers(80_000_000, 120_000_000)
-    called = tuple(Call(day, draw(prices)) for day in sorted(days) if day < maturity)
+    called = [Call(day, draw(prices), draw(st.sampled_from((Mark.NONE, Mark.NONE, Mark.ON_OR_AFTER))))
+              for day in sorted(days) if day < maturity]
+    if called and draw(st.sampled_from((False, False, True))):
+        called[-1] = called[-1]._replace(mark=Mark.CALLED)
     if is_zero:
-        return Issue(CUSIP, "ZERO", Kind.ZERO, dated, maturity, calls=called)
-    return Issue(CUSIP, "BOND", Kind.PERIODIC, dated, maturity, draw(coupons), first, called)
+        return Issue(CUSIP, "ZERO", Kind.ZERO, dated, maturity, calls=tuple(called))
+    return Issue(CUSIP, "BOND", Kind.PERIODIC, dated, maturity, draw(coupons), first, tuple(called))
 
 
 @st.composite
@@ -44,4 +47,4 @@ def notes(draw: Draw) -> Issue:
 def settled(draw: Draw, issues: st.SearchStrategy[Issue]) -> tuple[Issue, date]:
     """An issue with a settlement of it."""
     issue = draw(issues)
-    return issue, issue.dated + timedelta(draw(st.integers(0, (issue.maturity - issue.dated).days - 1)))
+    return issue, issue.dated + timedelta(draw(st.integers(0, (issue.end - issue.dated).days - 1)))

@@ -20,7 +20,9 @@ FIELDS = [
     b"rate", b"30/360", b"actual/365", b"actual/360", b"123456AA3", b"123456AA4", b"123456aa3", b"123456AA",
     b"000000000", b"A" * 16, b"A" * 17, b"a" * 20, b"a" * 21, b"alpha", b"ALPHA", b"A B", b"x" * 60, b"x" * 61,
     b"x" * 70000, b"2034-01-01:100", b"2034-01-01:100 ", b"2034-01-01", b"2034-01-01:", b":100",
-    b"2034-01-01:100  2035-01-01:100", b" ".join(b"%d-01-01:100" % year for year in range(2024, 2065)),
+    b"2034-01-01:100  2035-01-01:100", b"2034-01-01:100+", b"2034-01-01:100!", b"2034-01-01:100!  ", b"100+", b"+", b"!",
+    b"2034-01-01:100++", b"2034-01-01:100+!", b"2034-01-01:+", b"2034-01-01:!100", b"2034-01-01:100 +", b"2034-01-01+:100",
+    b"2030-01-01:100! 2034-01-01:100+", b"2030-01-01:102+ 2034-01-01:100+", b" ".join(b"%d-01-01:100" % year for year in range(2024, 2065)),
     b"\x00", b"\xff", b"\xc3\xa9", b"\xef\xbb\xbf4", b"4\x00", b"4\r", b"\t4", b"'; DROP TABLE issues; --",
     b"../../etc/passwd", b"%s%n", b"=1+1", b"a,b", b'a"b', b'""', b"a\nb", b"a\r\nb",
 ]
@@ -102,6 +104,13 @@ def day(draw: Draw) -> bytes:
                               draw(any_of(1, 1, 1, 15, 28, 29, 30, 31, 2, 7, 12, 20)))
 
 
+def mark(draw: Draw, is_last: bool) -> str:
+    """What stands after the price of a call. A `!` is right after the last one alone."""
+    if is_last:
+        return draw(any_of("", "", "+", "+", "!"))
+    return draw(any_of("!", *["", "", "", "+"] * 6))
+
+
 def issue(draw: Draw) -> list[bytes]:
     kind = draw(any_of(b"periodic", b"periodic", b"zero", b"at-redemption", b"discount"))
     is_note = kind in (b"at-redemption", b"discount")
@@ -118,8 +127,9 @@ def issue(draw: Draw) -> list[bytes]:
         b"periodic", b"at-redemption") else b""
     calls = b""
     if not is_note and draw(any_of(False, False, False, True, True)):
+        count = draw(whole(1, 8))
         calls = b" ".join(b"%d-%02d-%02d:%d" % (year + 3 + each, month, place, draw(whole(90, 110)))
-                          for each in range(draw(whole(1, 8))))
+                          + mark(draw, each == count - 1).encode() for each in range(count))
     return [b"issue", draw(any_of(*CUSIPS)), b"BOND %d" % draw(whole(1, 3)), kind, dated, first, maturity,
             coupon, calls, days]
 
@@ -227,8 +237,9 @@ def issue_members(draw: Draw) -> dict[str, object]:
     members = dict(ISSUE, maturity=f"20{draw(whole(25, 60))}-{draw(any_of('01', '07', '02'))}-01",
                    cusip=draw(any_of("123456AA3", "990021AA5", "123456AA4")))
     if draw(st.booleans()):
-        members["calls"] = [{"date": f"20{24 + each}-01-01", "price": f"10{9 - each}"}
-                            for each in range(draw(whole(0, 6)))]
+        count = draw(whole(0, 6))
+        members["calls"] = [{"date": f"20{24 + each}-01-01", "price": f"10{9 - each}{mark(draw, each == count - 1)}"}
+                            for each in range(count)]
     if draw(one_in(3)):
         members["days"] = draw(any_of("30/360", "actual/365", ""))
     return members
