@@ -141,10 +141,10 @@ class Drawer:
     def settlement(self, issue):
         """A settlement of an issue; at times an interest date or the day before one."""
         if issue.kind == "periodic" and self.chance(15):
-            dates = [day for day in quasi_coupon_dates(issue.first) if issue.dated < day < issue.maturity]
+            dates = [day for day in quasi_coupon_dates(issue.first) if issue.dated < day < issue.end]
             if dates:
                 return self.one_of(dates) - datetime.timedelta(self.number(0, 1))
-        return self.day_between(issue.dated, issue.maturity)
+        return self.day_between(issue.dated, issue.end)
 
     def yield_(self):
         """A yield as one is given: from 0 to 9 percent for the most part."""
@@ -163,6 +163,12 @@ class Drawer:
         unit = self.one_of((1000, 1000, 10, 1))
         price = price // unit * unit
         return price if 0 < price <= PRICE_MAX else None
+
+
+def call_days(issue):
+    """The days on which an issue may be called."""
+    begin = issue.first or issue.dated
+    return [day for day in quasi_coupon_dates(issue.anchor) if issue.dated < day and begin <= day < issue.maturity]
 
 
 def said_of(settle, issue):

@@ -6,7 +6,7 @@ import exact
 from calculator.days import days_30_360, days_between, months_later, quasi_coupon_dates
 from calculator.redemptions import Form, accrued_days, redemptions, side_of_range
 from calculator.terms import Call, fault_of
-from drawn import Case, said_of
+from drawn import Case, call_days, said_of
 
 ONE_DAY = datetime.timedelta(1)
 BASES = {0: "30/360", 1: "actual/365"}
@@ -163,12 +163,7 @@ def called(draw):
     """Schedules of calls: the lowest figure decides, and the redemption is labelled."""
     while True:
         issue = draw.regular(draw.number(6, 60)) if draw.chance(75) else draw.zero(draw.number(6, 60))
-        anchor = issue.first or issue.maturity
-        dates = [
-            day
-            for day in quasi_coupon_dates(anchor)
-            if max(issue.dated, issue.first or issue.dated) <= day < issue.maturity and day > issue.dated
-        ]
+        dates = call_days(issue)
         begin = draw.number(0, len(dates) - 1)
         dates = dates[begin : begin + draw.one_of((1, 2, 3, 8, 40))]
         price, calls = 1_000_000 * draw.number(98, 104), []
