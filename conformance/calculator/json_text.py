@@ -37,11 +37,11 @@ def refuse_depth(text: str) -> None:
             raise BadJson
 
 
-def number(text: str) -> bool:
-    """Takes a number that is no text, no array and no object."""
+def number(text: str) -> float:
+    """Takes a number that is no text, no Boolean, no array and no object."""
     if not is_double(text):
         raise BadJson
-    return False
+    return 0.0
 
 
 def is_double(text: str) -> bool:

@@ -12,6 +12,7 @@ from calculator import commands, exchange, json_text, rows
 from calculator.book import Book
 from calculator.days import DayBasis, days_between
 from calculator.figures import Asked, Given, Refusal, Refused, Side, answers
+from calculator.numerals import Unreadable
 from calculator.printed import Ending, Outcome, price_of
 from calculator.redemptions import interest_on, redemptions
 from calculator.terms import BadTerms, Call, Fault, Issue, Kind, Mark, check_digit, fault_of, is_cusip
@@ -234,6 +235,19 @@ def test_what_is_json_is_read():
     text = '{"a":"\\ud83d\\ude00","a":[{"b":null},true],"c":"[{"}'
     assert json_text.value(text.encode()) == json.loads(text)
     assert json_text.value(("[" * 127 + "]" * 127).encode())
+
+
+@pytest.mark.parametrize(("member", "is_each"), [("", False), (',"each":true', True), (',"each":false', False)])
+def test_a_question_for_figures_may_ask_for_each_redemption(member, is_each):
+    body = '{"cusip":"123456AA3","par":"100","settle":"2024-01-01","basis":"yield","value":"3"' + member + "}"
+    assert exchange.posted("/quotes", body.encode()).is_each == is_each
+
+
+@pytest.mark.parametrize("value", ['"true"', "1", "0", "null", "[]", "{}", '""'])
+def test_what_is_no_boolean_does_not_ask_for_each_redemption(value):
+    body = '{"cusip":"123456AA3","par":"100","settle":"2024-01-01","basis":"yield","value":"3","each":' + value + "}"
+    with pytest.raises(Unreadable):
+        exchange.posted("/quotes", body.encode())
 
 
 fields = st.text(st.sampled_from('ab,"\r\n \u00ff'), max_size=6)
