@@ -165,7 +165,8 @@ def terms(draw):
         elif how == 8:
             one, other = months_later(first, 6), months_later(first, 12)
             calls = draw.one_of(((other, one), (one, one), (one, other)))
-            change, tries = {"calls": tuple(Call(day, 101_000_000) for day in calls)}, "calls out of order, and in order"
+            calls = tuple(Call(day, 101_000_000) for day in calls)
+            change, tries = {"calls": calls}, "calls out of order, and in order"
         elif how == 9:
             price = draw.one_of((0, 999_999, 1_000_000, 200_000_000, 200_000_001))
             change, tries = {"calls": (Call(months_later(first, 6), price),)}, "the ends of a call's price"

@@ -1,5 +1,5 @@
-"""What a store keeps of calls on or after a day and of issues that have been called, as sqlite reads it and by the bytes
-of a journal."""
+"""What a store keeps of calls on or after a day and of issues that have been called: as sqlite reads it, and by the
+bytes of a journal."""
 from __future__ import annotations
 
 from collections.abc import Iterator
