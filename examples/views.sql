@@ -37,7 +37,7 @@ SELECT
         abs(version.yld) / 1000, abs(version.yld) % 1000) AS yield,
     version.redemption,
     printf('%d.%06d', version.at_price / 1000000, version.at_price % 1000000) AS redeemed_at,
-    CASE version.label WHEN 0 THEN 'MATURITY' WHEN 1 THEN 'PAR OPTION' ELSE 'CALL' END AS label,
+    CASE version.label WHEN 0 THEN 'MATURITY' WHEN 1 THEN 'PAR OPTION' WHEN 2 THEN 'CALL' ELSE 'CALLED' END AS label,
     version.days AS accrued_days,
     printf('%d.%02d', version.principal / 100, version.principal % 100) AS principal,
     printf('%d.%02d', version.accrued / 100, version.accrued % 100) AS accrued,

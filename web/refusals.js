@@ -5,7 +5,7 @@ export const REFUSALS = {
   2: ["UnknownTrade", "the desk keeps no trade of this reference", "check the desk and the reference, in which capitals and small letters differ"],
   3: ["Conflict", "this CUSIP, or this number of the trade, is kept with other contents or by another act; what is sent again as it was is answered as before", {"issue": "compare the terms, since what is kept is never changed", "trade": "correct it under the next number, or enter it under another reference"}],
   4: ["BadTerms", "the terms fail a test, so the desk cannot price the issue", "mend the terms"],
-  5: ["SettleOutside", "the settlement is before the dated date, or not before maturity", "check the settlement"],
+  5: ["SettleOutside", "the settlement is before the dated date, or not before maturity or the day for which the issue has been called", "check the settlement"],
   6: ["GivenOutOfRange", "what is given, or a price with its commission, lies below or above its range, or the price at this yield would be below zero", "look for a slipped point, or a price where a yield belongs"],
   7: ["YieldBelow", "up to this redemption so little is earned at the price that no yield is printed", "check the price against that call's, or the maturity"],
   8: ["YieldAbove", "at the price every yield is above all that are printed", "check the price for a slipped point"],
@@ -31,4 +31,5 @@ export const FAULTS = {
   6: ["CallOffCalendar", "calls", "its date is a quasi-coupon date before maturity, and not before the first interest date (periodic), or after the dated date (zero); a note has no calls"],
   7: ["CallsNotRising", "calls", "it is after the call before it"],
   8: ["BadCallPrice", "calls", "its price is from 1 to 200"],
+  12: ["CalledNotLast", "calls", "a call that is certain is the last one"],
 };

@@ -102,14 +102,12 @@ def table_of_refusals(refusals):
 
 
 def table_of_faults(faults):
-    """The tests of terms. Those of a call come last, and their fault has its date."""
-    lines, calls = ["| test | fault | number |", "|---|---|---|"], False
+    """The tests of terms. Those of calls come last, and their fault has the date of the call."""
+    lines = ["| test | fault | number |", "|---|---|---|"]
     for each in faults:
-        has_date = each.get("date", False)
-        begin = "then each call in turn: " if has_date and not calls else ""
-        calls = calls or has_date
-        end = ", with the date" if has_date else ""
-        lines.append("| %s%s | `%s`%s | %d |" % (begin, each["test"], each["name"], end, each["number"]))
+        end = ", with the date" if each.get("date", False) else ""
+        lines.append("| %s%s | `%s`%s | %d |" % (each.get("begin", ""), each["test"], each["name"], end,
+                                                each["number"]))
     return "".join(line + "\n" for line in lines)
 
 

@@ -23,7 +23,8 @@ WORDS: dict[int, tuple[str, str]] = {
         "mend the terms",
     ),
     5: (
-        "the settlement is before the dated date, or not before maturity",
+        "the settlement is before the dated date, or not before maturity or the day for which the issue has "
+        "been called",
         "check the settlement",
     ),
     6: (
