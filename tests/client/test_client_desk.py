@@ -11,7 +11,7 @@ from typing import Any
 import pytest
 
 import muni
-from muni import Basis, Call, DayCount, Issue, Side, Trade
+from muni import Basis, Call, CallKind, DayCount, Issue, Kind, Label, Side, Trade
 from support.issues import DISCOUNT, ELM_GROVE, MARLOW, NOTE, RIVERTON, ZERO
 from support.server import Server
 
@@ -50,6 +50,41 @@ def test_a_quote_by_yield_has_each_figure(desk: muni.Client) -> None:
 def test_a_quote_by_a_rate_of_discount_has_its_rate(desk: muni.Client) -> None:
     figures = quote(desk, DISCOUNT, date(2024, 1, 1), Basis.RATE, 3)
     assert (figures.given, figures.rate, figures.price) == (Basis.RATE, Decimal("3.0000"), Decimal("99.250"))
+
+
+ON_OR_AFTER = Issue("990010AC4", "RIVERTON WATER REV 5S 2034", Kind.PERIODIC, date(2024, 1, 1), date(2034, 7, 1),
+                    coupon=5, first=date(2024, 7, 1), calls=(Call(date(2030, 7, 1), 100, CallKind.ON_OR_AFTER),))
+ON_DAY = replace(ON_OR_AFTER, cusip="990000085", calls=(Call(date(2030, 7, 1), 100),))
+CALLED = Issue("990000093", "PINE BRIDGE 5S 2034", Kind.PERIODIC, date(2020, 1, 1), date(2034, 1, 1), coupon=5,
+               first=date(2020, 7, 1), calls=(Call(date(2026, 7, 1), Decimal("101.00"), CallKind.CALLED),))
+
+
+@pytest.fixture(scope="module")
+def callable_issues(desk: muni.Client) -> None:
+    for issue in (ON_OR_AFTER, ON_DAY, CALLED):
+        assert desk.add_issue(issue) == issue.cusip
+
+
+@pytest.mark.parametrize(("issue", "yield_", "day", "label"), [
+    (ON_OR_AFTER, "-3.380", date(2031, 7, 1), Label.PAR_OPTION),
+    (ON_DAY, "3.893", date(2034, 7, 1), Label.MATURITY),
+], ids=["on or after it", "on it alone"])
+def test_a_day_after_that_of_a_call(desk: muni.Client, callable_issues: None, issue: Issue, yield_: str, day: date,
+                                    label: Label) -> None:
+    figures = quote(desk, issue, date(2031, 2, 3), Basis.PRICE, Decimal("103.5"))
+    assert (figures.yield_, figures.redemption) == (Decimal(yield_), muni.Redemption(day, Decimal(100), label))
+
+
+def test_an_issue_that_has_been_called_is_redeemed_on_that_day(desk: muni.Client, callable_issues: None) -> None:
+    figures = quote(desk, CALLED, date(2024, 1, 1), Basis.YIELD, 3)
+    assert figures.price == Decimal("105.710")
+    assert figures.redemption == muni.Redemption(date(2026, 7, 1), Decimal(101), Label.CALLED)
+    refused(muni.SettleOutside, lambda: quote(desk, CALLED, date(2026, 7, 1), Basis.YIELD, 3))
+
+
+def test_a_call_that_is_certain_and_not_the_last_is_refused(desk: muni.Client) -> None:
+    calls = (*CALLED.calls, Call(date(2027, 1, 1), 100))
+    assert refused(muni.BadTerms, lambda: desk.add_issue(replace(CALLED, calls=calls))).fault == 12
 
 
 def test_a_trade_is_entered_corrected_and_canceled(desk: muni.Client) -> None:

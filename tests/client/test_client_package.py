@@ -58,7 +58,7 @@ def test_an_example_of_the_code_gives_what_it_shows(case: doctest.DocTest) -> No
 
 
 def test_no_example_of_the_code_is_left_out() -> None:
-    assert len(EXAMPLES) == 11
+    assert len(EXAMPLES) == 12
 
 
 def test_the_program_of_the_readme_prints_the_same_twice(served: Server) -> None:

@@ -35,8 +35,8 @@ from typing import Any, ClassVar, Union
 from ._refusals import WORDS
 
 __all__ = [
-    "Act", "BadTerms", "Basis", "Call", "Canceled", "Client", "Confirmation", "Conflict", "DayCount", "DeskFull",
-    "Error", "Figures", "GivenOutOfRange", "Issue", "Kind", "Label", "Listed", "NoTime", "PAGE", "REFUSALS",
+    "Act", "BadTerms", "Basis", "Call", "CallKind", "Canceled", "Client", "Confirmation", "Conflict", "DayCount",
+    "DeskFull", "Error", "Figures", "GivenOutOfRange", "Issue", "Kind", "Label", "Listed", "NoTime", "PAGE", "REFUSALS",
     "Redemption", "Refused", "SettleOutside", "Side", "Status", "Trade", "Unanswered", "Undecided", "UnknownIssue",
     "UnknownTrade", "VersionsFull", "WrongBasis", "WrongNumber", "YieldAbove", "YieldBelow", "read_confirmation",
     "read_figures", "read_list",
@@ -89,19 +89,33 @@ class Act(enum.Enum):
 
 
 class Label(enum.Enum):
-    """What a redemption is: the maturity, a call at exactly 100, or any other call."""
+    """What a redemption is: the maturity, a call at exactly 100, any other call, or that for which the issue has
+    been called."""
 
     MATURITY = "MATURITY"
     PAR_OPTION = "PAR OPTION"
     CALL = "CALL"
+    CALLED = "CALLED"
+
+
+class CallKind(enum.Enum):
+    """When an issue is redeemed by a call: on its day alone if the issuer calls it, on its day or an interest date
+    after it and before the next call, or on its day for certain, since it has been called or refunded."""
+
+    ON_DAY = ""
+    ON_OR_AFTER = "+"
+    CALLED = "!"
 
 
 @dataclass(frozen=True)
 class Call:
-    """A call of an issue: its day and its price per 100."""
+    """A call of an issue: its day, its price per 100, and when it holds. Of a bond that is callable on or after a day
+    the kind is ON_OR_AFTER; CALLED is for the last call alone. Redemption between interest dates, and on notice within
+    a half-year, is not covered."""
 
     day: date
     price: Amount
+    kind: CallKind = CallKind.ON_DAY
 
 
 @dataclass(frozen=True)
@@ -273,7 +287,8 @@ class BadTerms(Refused):
 
 
 class SettleOutside(Refused):
-    """Refusal 5: the settlement is before the dated date, or not before maturity."""
+    """Refusal 5: the settlement is before the dated date, or not before maturity or the day of a call that is
+    certain."""
 
     number = 5
 
@@ -584,9 +599,18 @@ def _issue(issue: Issue) -> dict[str, Any]:
     if len(issue.calls) > 40:
         raise ValueError(f"calls: up to 40, not {len(issue.calls)}")
     if issue.calls:
-        body["calls"] = [{"date": _day("call", call.day), "price": _amount("call", call.price, 6, "0", "999.999999")}
-                         for call in issue.calls]
+        body["calls"] = [_call(call) for call in issue.calls]
     return body
+
+
+def _call(call: Call) -> dict[str, str]:
+    """A call as the body of an issue has it: the mark of its kind stands after its price.
+
+    >>> _call(Call(date(2030, 7, 1), Decimal("100.50"), CallKind.ON_OR_AFTER))
+    {'date': '2030-07-01', 'price': '100.5+'}
+    """
+    return {"date": _day("call", call.day),
+            "price": _amount("call", call.price, 6, "0", "999.999999") + call.kind.value}
 
 
 class Client:
