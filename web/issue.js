@@ -9,6 +9,9 @@ const form = $("issue");
 const told = $("issue-told");
 const body = form.querySelector("tbody");
 const MOST = 40;
+// When a call holds: what it is in words, and the mark that stands after its price when it is sent.
+const KINDS = [["on this day", ""], ["on or after this day", "+"], ["called (certain)", "!"]];
+const CERTAIN = "!";
 const NAMES = ["cusip", "name", "kind", "dated", "first", "maturity", "coupon", "days"];
 let isBusy = false;
 let quoteIssue = null;
@@ -22,40 +25,58 @@ function callField(number, name, word, kind) {
   return field;
 }
 
+// A call is as the one before it, and the first as most bonds are callable.
+function kindField(number, before) {
+  const field = element("select", "", "", { id: `issue-call-${number}-kind` });
+  field.append(...KINDS.map(([words, value]) => element("option", words, "", { value })));
+  field.value = before && kindOf(before).value !== CERTAIN ? kindOf(before).value : "+";
+  field.setAttribute("aria-label", `When call ${number} holds`);
+  return field;
+}
+
 function addCall() {
   const number = body.rows.length + 1;
   if (number > MOST) return;
+  const kind = kindField(number, body.rows[number - 2]);
   const row = body.insertRow();
   row.append(element("th", number, "", { scope: "row" }));
   for (const field of [callField(number, "date", "Date", "day"), callField(number, "price", "Price", "price")]) {
     row.insertCell().append(field);
     dressField(field);
   }
+  row.insertCell().append(kind);
+  dressField(kind);
 }
 
 const fieldsOf = row => [...row.querySelectorAll("input")];
+const kindOf = row => row.querySelector("select");
 const isFilled = row => fieldsOf(row).some(field => field.value.trim() !== "");
 
 function growCalls() {
   if (!body.rows.length || isFilled(body.rows[body.rows.length - 1])) addCall();
 }
 
-// A schedule that is pasted: a date and a price in turn, with anything of blanks, commas and the like between.
+// A schedule that is pasted: a date and a price in turn, with anything of blanks, commas and the like between. If a
+// price has a mark, those without one are calls on their day alone; if none has, the choices stay.
 function pasteCalls(event) {
   const pasted = event.clipboardData.getData("text").split(/[\s,;:|]+/).filter(Boolean);
-  if (pasted.length < 2) return;
-  event.preventDefault();
   const flat = () => [...body.querySelectorAll("input")];
   const from = flat().indexOf(event.target);
+  if (pasted.length < 2 || from < 0) return;
+  event.preventDefault();
   const count = Math.ceil((from + pasted.length) / 2);
   if (count > MOST) {
     const words = `It would make ${count} calls, and an issue has ${MOST} at most.`;
     say(told, "bad", ["The schedule was not pasted", words]);
     return;
   }
+  const isMarked = pasted.some(word => /[+!]$/.test(word));
   pasted.forEach((word, place) => {
     growCalls();
-    flat()[from + place].value = word;
+    const field = flat()[from + place];
+    const [, text, marked] = word.match(/^(.*?)([+!]?)$/);
+    field.value = text;
+    if (isMarked && field.dataset.form === "price") kindOf(field.closest("tr")).value = marked;
   });
   growCalls();
 }
@@ -74,7 +95,9 @@ function readCalls() {
       mark(field, `Not of its form: ${rule.words}.`);
       first ??= field;
     }
-    calls.push({ date: date.value, price: price.value });
+    const kind = kindOf(row);
+    unmark(kind);
+    calls.push({ date: date.value, price: price.value, mark: kind.value, words: kind.selectedOptions[0].textContent });
   }
   first?.focus();
   return first ? null : calls;
@@ -99,6 +122,11 @@ function markFault(answer) {
   const words = `Test ${number} fails: see below.`;
   if (name && name !== "calls") mark(form.elements[name], words);
   if (name !== "calls") return;
+  if (number === "12") {
+    const certain = [...body.rows].find(each => kindOf(each).value === CERTAIN);
+    if (certain) mark(kindOf(certain), words);
+    return;
+  }
   const row = [...body.rows].find(each => fieldsOf(each)[0].value === day);
   if (row) mark(fieldsOf(row)[number === "8" ? 1 : 0], words);
 }
@@ -107,9 +135,9 @@ async function add() {
   const typed = read(form, NAMES);
   const calls = hasCalls() ? readCalls() : [];
   if (!typed || !calls) return;
-  if (calls.length) typed.calls = calls;
+  if (calls.length) typed.calls = calls.map(call => ({ date: call.date, price: call.price + call.mark }));
   const rows = Object.keys(typed).filter(name => name !== "calls").map(name => [labelOf(name), wordOf(name)]);
-  rows.push(...calls.map(({ date, price }, place) => [`Call ${place + 1}`, `${date} at ${price}`]));
+  rows.push(...calls.map(({ date, price, words }, place) => [`Call ${place + 1}`, `${date} at ${price}, ${words}`]));
   if (!await sure("Add this issue? It is never changed or removed.", rows, "Add issue")) return;
   hush(told);
   const answer = await ask("/issues", typed, waitingIn(told));
@@ -127,7 +155,7 @@ function clear() {
   body.replaceChildren();
   growCalls();
   kindChanged();
-  for (const field of form.querySelectorAll("input")) unmark(field);
+  for (const field of form.querySelectorAll("input, select")) unmark(field);
   hush(told);
   form.elements.cusip.focus();
 }

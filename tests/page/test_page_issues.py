@@ -6,7 +6,7 @@ import json
 import pytest
 from selenium.webdriver.common.keys import Keys
 
-from support.page import missing
+from support.page import TICKET, missing
 
 pytestmark = pytest.mark.xdist_group("page_issues")
 
@@ -20,6 +20,9 @@ const data = new DataTransfer();
 data.setData("text", arguments[1]);
 document.getElementById(arguments[0]).dispatchEvent(
     new ClipboardEvent("paste", { clipboardData: data, bubbles: true, cancelable: true }));
+"""
+KINDS = """
+return [...document.querySelectorAll("#issue-calls select")].map(each => each.selectedOptions[0].textContent);
 """
 SCHEDULE = """
 return [...document.querySelectorAll("#issue-calls tbody tr")]
@@ -37,6 +40,24 @@ def test_a_schedule_is_pasted(page):
     assert pasted(page) == CALLS + [["", ""]]
 
 
+def test_a_call_holds_on_or_after_its_day_if_nothing_else_is_chosen_and_is_as_the_one_before_it(page):
+    assert page.js(KINDS) == ["on or after this day"]
+    page.browser.choose("#issue-call-1-kind", "")
+    pasted(page)
+    assert page.js(KINDS) == ["on this day"] * 4
+    assert page.texts("#issue-call-1-kind option") == ["on this day", "on or after this day", "called (certain)"]
+
+
+def test_the_marks_of_a_schedule_that_is_pasted_are_chosen(page):
+    assert pasted(page, "2033-08-01:102 2034-08-01:101+ 2035-08-01:100!") == CALLS + [["", ""]]
+    assert page.js(KINDS)[:3] == ["on this day", "on or after this day", "called (certain)"]
+
+
+def test_what_is_not_covered_is_told(page):
+    assert missing(["Redemption between interest dates, and on notice within a half-year, is not covered."],
+                   " ".join(page.text("issue-calls").split())) == []
+
+
 def test_a_schedule_of_more_than_40_calls_is_not_pasted_in_part(page):
     pasted(page)
     assert pasted(page, " 2036-08-01:100" * 38, "issue-call-3-price") == CALLS + [["", ""]]
@@ -49,7 +70,7 @@ def test_an_issue_is_asked_for_once_more_and_sent_with_its_calls(page):
     page.click("#issue .first")
     page.asks()
     asked = [row for row in page.rows("#sure-lines tr") if row[0] in ("CUSIP", "Call 3")]
-    assert asked == [["CUSIP", "990000077"], ["Call 3", "2035-08-01 at 100"]]
+    assert asked == [["CUSIP", "990000077"], ["Call 3", "2035-08-01 at 100, on or after this day"]]
     page.shot("sure")
     sent = len(page.relay.sent("POST /issues"))
     page.browser.press(Keys.ESCAPE)
@@ -57,13 +78,15 @@ def test_an_issue_is_asked_for_once_more_and_sent_with_its_calls(page):
     page.settle()
     assert len(page.relay.sent("POST /issues")) == sent, "an issue that is not sure is not sent"
     assert "ADDED 990000077" in page.press("#issue .first", "issue-told", "#sure-yes")
-    calls = [{"date": at, "price": price} for at, price in CALLS]
+    calls = [{"date": at, "price": f"{price}+"} for at, price in CALLS]
     assert json.loads(page.relay.sent("POST /issues")[sent]) == OAK_HILL | {"calls": calls}
 
 
 REFUSED = {
     "another issue under its CUSIP": ("REFUSED 3 Conflict issue", {"coupon": "4.25"}, LINES, []),
     "a wrong check digit": ("REFUSED 4 BadTerms 1", {"cusip": "990034AA9"}, LINES, ["issue-cusip"]),
+    "a certain call that is not the last": ("REFUSED 4 BadTerms 12", {"cusip": "990000044"},
+                                            "2033-08-01:102 2034-08-01:101! 2035-08-01:100", ["issue-call-2-kind"]),
     "a call beside the interest dates": ("REFUSED 4 BadTerms 6 2034-08-02", {"cusip": "990000044"},
                                          LINES.replace("2034-08-01", "2034-08-02"), ["issue-call-2-date"]),
 }
@@ -79,6 +102,23 @@ def test_an_issue_is_refused_in_words_and_its_fault_is_marked(page, line, change
     assert page.ids("#issue [aria-invalid]") == marked
     if marked == ["issue-call-2-date"]:
         page.shot("issue-refused")
+
+
+def test_an_issue_that_has_been_called_is_kept_and_quoted_as_called(page):
+    page.fill("issue", **OAK_HILL | {"cusip": "990000085"})
+    pasted(page, "2033-08-01:102+ 2034-08-01:101!")
+    assert "ADDED 990000085" in page.press("#issue .first", "issue-told", "#sure-yes")
+    calls = json.loads(page.relay.sent("POST /issues")[-1])["calls"]
+    assert calls == [{"date": "2033-08-01", "price": "102+"}, {"date": "2034-08-01", "price": "101!"}]
+    page.fill("ticket", **TICKET | {"cusip": "990000085", "value": "98"})
+    page.press("ticket-quote")
+    assert ["Redemption", "at 101.000000, called", "2034-08-01"] in page.rows("#figures-lines tr")
+
+
+def test_a_new_issue_with_its_calls_can_be_read(page):
+    pasted(page, "2033-08-01:102 2034-08-01:101.5+ 2035-08-01:100!")
+    assert page.faults("issue-calls") == []
+    assert page.faults_when_narrow("issue-calls") == []
 
 
 def test_a_name_that_is_too_long_is_marked_and_not_cut_or_sent(page):
