@@ -85,8 +85,6 @@ def test_an_issue_is_asked_for_once_more_and_sent_with_its_calls(page):
 REFUSED = {
     "another issue under its CUSIP": ("REFUSED 3 Conflict issue", {"coupon": "4.25"}, LINES, []),
     "a wrong check digit": ("REFUSED 4 BadTerms 1", {"cusip": "990034AA9"}, LINES, ["issue-cusip"]),
-    "a certain call that is not the last": ("REFUSED 4 BadTerms 12", {"cusip": "990000044"},
-                                            "2033-08-01:102 2034-08-01:101! 2035-08-01:100", ["issue-call-2-kind"]),
     "a call beside the interest dates": ("REFUSED 4 BadTerms 6 2034-08-02", {"cusip": "990000044"},
                                          LINES.replace("2034-08-01", "2034-08-02"), ["issue-call-2-date"]),
 }
@@ -104,6 +102,14 @@ def test_an_issue_is_refused_in_words_and_its_fault_is_marked(page, line, change
         page.shot("issue-refused")
 
 
+def test_a_certain_call_that_is_not_the_last_is_refused_in_words_and_marked(page):
+    page.fill("issue", **ELM_GROVE | {"cusip": "990000044"})
+    pasted(page, "2033-08-01:102 2034-08-01:101! 2035-08-01:100")
+    told, stays = page.refused("issue", "#issue .first", "#sure-yes")
+    assert told.startswith("REFUSED 4 BadTerms 12") and "a call that is certain is the last one." in told
+    assert stays and page.ids("#issue [aria-invalid]") == ["issue-call-2-kind"]
+
+
 def test_an_issue_that_has_been_called_is_kept_and_quoted_as_called(page):
     page.fill("issue", **OAK_HILL | {"cusip": "990000085"})
     pasted(page, "2033-08-01:102+ 2034-08-01:101!")
@@ -116,7 +122,7 @@ def test_an_issue_that_has_been_called_is_kept_and_quoted_as_called(page):
 
 
 def test_a_new_issue_with_its_calls_can_be_read(page):
-    pasted(page, "2033-08-01:102 2034-08-01:101.5+ 2035-08-01:100!")
+    pasted(page, "2033-08-01:102 2034-08-01:101.125+ 2035-08-01:100!")
     assert page.faults("issue-calls") == []
     assert page.faults_when_narrow("issue-calls") == []
 
