@@ -135,6 +135,14 @@ def test_the_schema_and_the_program_refuse_the_same_bodies(description, server, 
     assert description.takes(path, body) == (not answer.startswith(b"HTTP/1.1 400"))
 
 
+@pytest.mark.parametrize("price", ["100", "100+", "100.5!", "100++", "100+!", "+100", "100*", "100 +", "!", ""])
+def test_the_schema_and_the_program_take_the_same_marks_of_a_call(description, server, price):
+    issue = json.loads((ROOT / "examples/http/issue.json").read_text())
+    body = {**issue, "calls": [{"date": "2033-08-01", "price": price}]}
+    answer = server.ask(request("POST", "/issues", json.dumps(body).encode()).sent)
+    assert description.takes("/issues", body) == (not answer.startswith(b"HTTP/1.1 400"))
+
+
 @pytest.mark.parametrize("place", range(len(ASKED)), ids=[f"{each.method} {each.path}" for each in ASKED])
 def test_an_answer_is_one_that_its_operation_lists(description, answers, place):
     head, _, text = answers[place].partition("\r\n\r\n")
