@@ -8,6 +8,8 @@ use Rattle.muni_rule.specs.declared.basis.Basis.TheVariants.{Thirty360, Actual36
 use Rattle.muni_dec.specs.Digits.{number_reading}
 use Rattle.muni_dec.specs.Values.{coupon_reading, par_reading, price_reading, yield_reading}
 use Rattle.muni_days.specs.Day.{day_reading}
+use Rattle.muni_rule.specs.declared.call_term.CallTerm.{CallTerm}
+use Rattle.muni_rule.specs.declared.call_term.CallTerm.TheVariants.{OnDay, OnOrAfter, Called}
 use Rattle.muni_terms.specs.declared.row.Call.{Call}
 use Rattle.muni_terms.specs.declared.row.Kind.{Kind}
 use Rattle.muni_terms.specs.declared.row.Kind.TheVariants.{Periodic, Zero, AtRedemption, Discount}
@@ -103,11 +105,17 @@ SaysCoupon words AtRedemption coupon =
     Reads words (codes "--coupon=") (λ text. coupon_reading text ≡ Ok coupon)
 SaysCoupon words Discount coupon = Lacks words (codes "--coupon=") × (coupon ≡ 0)
 
--- a text says a call: a date, a colon and a price
+-- the mark that says on which days a call stands
+abbrev pub mark : CallTerm → List ℕ
+mark OnDay = []
+mark OnOrAfter = codes "+"
+mark Called = codes "!"
+
+-- a text says a call: a date, a colon, a price and a mark
 pub record IsCall (text : List ℕ) (call : Call) : Type 0 where
   pub date : List ℕ
   pub price : List ℕ
-  pub joined : text ≡ date ++ codes ":" ++ price
+  pub joined : text ≡ date ++ codes ":" ++ (price ++ mark call.term)
   pub is_date : day_reading date ≡ Ok call.date
   pub is_price : price_reading price ≡ Ok call.price
 

@@ -1,13 +1,13 @@
 use Rattle.std.proofs.Common.{rules, ◌≡◌, ◌++◌, ◌∙◌, ap, map, sym, arith}
 use Rattle.muni_days.specs.Day.{civil}
-use Rattle.muni_sched.specs.Candidates.{call_redemption}
+use Rattle.muni_terms.specs.Issue.{entry_of}
 use Rattle.muni_desk.specs.Generator.{if_before, calls_before}
 use Rattle.muni_desk.proofs.GeneratorLemmas.{calls-none, calls-more}
 use Rattle.muni_desk.proofs.drill.generator.calls_before.Goals as goal
 
 pub loop-place-init : goal.loop-place-init
 loop-place-init c = record {
-  read = ap (map call_redemption) c.new-calls.ensures ∙ calls-none (civil c.args.maturity);
+  read = ap (map entry_of) c.new-calls.ensures ∙ calls-none (civil c.args.maturity);
   room = search rules;
 }
 
