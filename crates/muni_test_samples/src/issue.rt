@@ -6,7 +6,8 @@ use crate::Sample;
 use arrayvec::ArrayVec;
 use muni_days::{Basis, Day};
 use muni_dec::{Coupon, Price};
-use muni_terms::{Call, CallTerm, Flows, Issue, IssueRow, Kind, check};
+use muni_msg::read_call;
+use muni_terms::{Call, Flows, Issue, IssueRow, Kind, check};
 
 impl<'a> Sample<'a> {
     /// The terms of the issue, which may have faults.
@@ -73,21 +74,12 @@ impl<'a> Sample<'a> {
         for words in self.words() {
             for word in words.split(|b| *b == b' ') {
                 if let Some(call) = word.strip_prefix(b"call=".as_slice()) {
-                    calls.try_push(call_of(call)?).ok()?;
+                    calls.try_push(read_call(call)?).ok()?;
                 }
             }
         }
         Some(calls)
     }
-}
-
-fn call_of(text: &[u8]) -> Option<Call> {
-    let mut parts = text.split(|b| *b == b':');
-    Some(Call {
-        date: Day::read(parts.next()?).ok()?,
-        price: Price::read(parts.next()?).ok()?,
-        term: CallTerm::OnDay,
-    })
 }
 
 fn flows_at(issue: &Issue, settlement: Day) -> Option<Flows> {

@@ -103,4 +103,23 @@ base at-redemption actual/365 dated=2024-01-31 maturity=2025-03-31 coupon=4 sett
      candidates=1
 no=0 date=2025-03-31 at=100 MATURITY note due=38200000000000 accrued=728000000000 left=243
 base discount actual/365 dated=2024-01-31 maturity=2025-03-31 settle=2024-02-29 candidates=1
-no=0 date=2025-03-31 at=100 MATURITY discounted days=396";
+no=0 date=2025-03-31 at=100 MATURITY discounted days=396
+base periodic dated=2020-01-01 first=2020-07-01 maturity=2032-01-01 coupon=4 call=2030-07-01:102+ \
+     call=2031-07-01:100! settle=2030-03-31 candidates=3
+no=0 date=2030-07-01 at=102 CALL one due=37440000000000 accrued=360000000000 left=90
+no=1 date=2031-01-01 at=102 CALL many n=2 a=90 accrued=360000000000 redemption=36720000000000
+no=2 date=2031-07-01 at=100 CALLED many n=3 a=90 accrued=360000000000 redemption=36000000000000
+base periodic dated=2020-01-01 first=2020-07-01 maturity=2032-01-01 coupon=4 call=2030-07-01:102+ \
+     settle=2030-07-01 candidates=3
+no=0 date=2031-01-01 at=102 CALL one due=37440000000000 accrued=0 left=180
+no=1 date=2031-07-01 at=102 CALL many n=2 a=0 accrued=0 redemption=36720000000000
+no=2 date=2032-01-01 at=100 MATURITY many n=3 a=0 accrued=0 redemption=36000000000000
+base periodic dated=2020-01-01 first=2020-07-01 maturity=2070-01-01 coupon=4 call=2020-07-01:100+ \
+     settle=2020-01-01 candidates=100
+no=98 date=2069-07-01 at=100 PAR many n=99 a=0 accrued=0 redemption=36000000000000
+no=99 date=2070-01-01 at=100 MATURITY many n=100 a=0 accrued=0 redemption=36000000000000
+base zero dated=2020-01-01 maturity=2030-01-01 call=2028-01-01:90+ call=2029-01-01:95 \
+     settle=2027-10-01 candidates=4
+no=1 date=2028-07-01 at=90 CALL many n=2 a=90 accrued=0 redemption=32400000000000
+no=2 date=2029-01-01 at=95 CALL many n=3 a=90 accrued=0 redemption=34200000000000
+";

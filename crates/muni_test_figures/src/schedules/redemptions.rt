@@ -88,7 +88,7 @@ fn first_bad(cases: &str) -> Result<(Option<&str>, u32), Fail> {
 
 #[test]
 fn candidates_are_those_computed_outside(rt: HostRuntime) -> Result<(), Fail> {
-    assert_eq!(rt; first_bad(CASES)?, (None, 48));
+    assert_eq!(rt; first_bad(CASES)?, (None, 58));
     Ok(())
 }
 
