@@ -173,7 +173,7 @@ def faults_of_calls(issue: Issue) -> Iterator[BadTerms]:
         before = call.day
     for call in issue.calls[:-1]:
         if call.mark == Mark.CALLED:
-            yield BadTerms(Fault.CALLED_NOT_LAST)
+            yield BadTerms(Fault.CALLED_NOT_LAST, call.day)
 
 
 def is_on_calendar(issue: Issue, day: date) -> bool:

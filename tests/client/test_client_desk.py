@@ -84,7 +84,8 @@ def test_an_issue_that_has_been_called_is_redeemed_on_that_day(desk: muni.Client
 
 def test_a_call_that_is_certain_and_not_the_last_is_refused(desk: muni.Client) -> None:
     calls = (*CALLED.calls, Call(date(2027, 1, 1), 100))
-    assert refused(muni.BadTerms, lambda: desk.add_issue(replace(CALLED, calls=calls))).fault == 12
+    bad = refused(muni.BadTerms, lambda: desk.add_issue(replace(CALLED, calls=calls)))
+    assert (bad.fault, bad.call) == (12, date(2026, 7, 1))
 
 
 def test_a_trade_is_entered_corrected_and_canceled(desk: muni.Client) -> None:

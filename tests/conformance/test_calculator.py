@@ -143,7 +143,10 @@ def changed(issue: Issue, **changes: object) -> Issue:
     (changed(BOND, calls=(Call(date(2024, 1, 1), 100_000_000),) * 2), Fault.CALLS_NOT_RISING, date(2024, 1, 1)),
     (changed(BOND, calls=(Call(date(2024, 1, 1), 999_999),)), Fault.BAD_CALL_PRICE, date(2024, 1, 1)),
     (changed(BOND, calls=(Call(date(2023, 1, 1), 100_000_000, Mark.CALLED), Call(date(2024, 1, 1), 100_000_000))),
-     Fault.CALLED_NOT_LAST, None),
+     Fault.CALLED_NOT_LAST, date(2023, 1, 1)),
+    (changed(BOND, calls=(Call(date(2022, 1, 1), 100_000_000), Call(date(2023, 1, 1), 100_000_000, Mark.CALLED),
+                          Call(date(2024, 1, 1), 100_000_000, Mark.CALLED), Call(date(2024, 7, 1), 100_000_000))),
+     Fault.CALLED_NOT_LAST, date(2023, 1, 1)),
     (changed(BOND, calls=(Call(date(2023, 1, 1), 100_000_000, Mark.CALLED), Call(date(2024, 1, 1), 999_999))),
      Fault.BAD_CALL_PRICE, date(2024, 1, 1)),
 ])

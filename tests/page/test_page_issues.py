@@ -106,7 +106,8 @@ def test_a_certain_call_that_is_not_the_last_is_refused_in_words_and_marked(page
     page.fill("issue", **ELM_GROVE | {"cusip": "990000044"})
     pasted(page, "2033-08-01:102 2034-08-01:101! 2035-08-01:100")
     told, stays = page.refused("issue", "#issue .first", "#sure-yes")
-    assert told.startswith("REFUSED 4 BadTerms 12") and "a call that is certain is the last one." in told
+    assert told.startswith("REFUSED 4 BadTerms 12 2034-08-01\n")
+    assert "at the call of 2034-08-01: a call that is certain is the last one." in told
     assert stays and page.ids("#issue [aria-invalid]") == ["issue-call-2-kind"]
 
 
