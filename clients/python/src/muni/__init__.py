@@ -42,7 +42,7 @@ __all__ = [
     "read_figures", "read_list",
 ]
 
-__version__ = "1.2.1"
+__version__ = "1.3.0"
 
 Amount = Union[Decimal, int]
 
