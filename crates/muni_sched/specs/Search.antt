@@ -128,10 +128,6 @@ state search slots = record {
   missed = search.missed;
 }
 
--- before there are candidates
-abbrev pub IsNew : Search → Type 0
-IsNew search = (search.known.items ≡ []) × (search.left ≡ 0) × (search.missed ≡ 105_003)
-
 -- all that is known before the first round
 pub record IsStarted (price : ℕ) (list : List Candidate) (search : SearchState) : Type 0 where
   pub known : AllZip (IsKnownFirst price) list search.known

@@ -1,6 +1,6 @@
 //! The redemption candidates of an issue, with room for the searches for their yields.
 
-ghost use Rattle.std.specs.Prelude.{◌≡◌, ◌<◌, ◌≤◌, [], true, length, All};
+ghost use Rattle.std.specs.Prelude.{◌≡◌, ◌<◌, ◌≤◌, [], ◌∷◌, true, length, All};
 ghost use Rattle.muni_terms.specs.Issue.{settles};
 ghost use Rattle.muni_sched.specs.Answer.{IsLowestAnswer};
 ghost use Rattle.muni_sched.specs.Candidates.{AreCandidates, IsCandidate};
@@ -28,6 +28,7 @@ pub struct Schedule {
     slots: [Candidate; 100],
     count: usize,
     searches: [OpenSearch; 100],
+    search: Search,
     rounds: u32,
 }
 
@@ -51,6 +52,7 @@ impl Schedule {
             slots: [Candidate::default(); 100],
             count: 0,
             searches: [OpenSearch::default(); 100],
+            search: Search::new(),
             rounds: 0,
         }
     }
@@ -62,6 +64,14 @@ impl Schedule {
         ensures count { (1 ≤ length self.new.candidates) × (length self.new.candidates ≤ 100) }
     {
         self.count = put_candidates(&mut self.slots, issue, settlement);
+    }
+
+    /// Puts one candidate in place of those at hand.
+    pub fn fill_one(&mut self, candidate: Candidate)
+        ensures { self.new.candidates ≡ candidate ∷ [] }
+    {
+        self.slots[0] = candidate;
+        self.count = 1;
     }
 
     /// The candidates.
@@ -96,8 +106,13 @@ impl Schedule {
         ensures same { self.new.candidates ≡ self.old.candidates }
     {
         let list = &self.slots[..self.count];
-        let mut search = Search::new();
-        self.rounds = search_yields(calculator, &mut search, &mut self.searches, list, price);
-        lowest_of_search(&search, list, price, calculator.encloser)
+        self.rounds = search_yields(
+            calculator,
+            &mut self.search,
+            &mut self.searches,
+            list,
+            price,
+        );
+        lowest_of_search(&self.search, list, price, calculator.encloser)
     }
 }

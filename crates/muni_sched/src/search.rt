@@ -8,7 +8,7 @@ ghost use Rattle.muni_yield.specs.Settled.{settled_as};
 ghost use Rattle.muni_sched.specs.Candidates.{IsCandidate};
 ghost use Rattle.muni_sched.specs.Figures.{IsOf};
 ghost use Rattle.muni_sched.specs.Search as spec;
-ghost use Rattle.muni_sched.specs.Search.{IsSearch, IsKnownYield, CanRefine, IsNew, IsStarted, IsRound, state, noted, recorded, missed, missed_first, missed_after, ceiling_after, ceiling_first, searches_from};
+ghost use Rattle.muni_sched.specs.Search.{IsSearch, IsKnownYield, CanRefine, IsStarted, IsRound, state, noted, recorded, missed, missed_first, missed_after, ceiling_after, ceiling_first, searches_from};
 ghost use Rattle.muni_sched.specs.YieldOutcome.{IsKnownFirst, many_yield};
 ghost use Rattle.muni_sched.specs.FigureKind.{Yield};
 
@@ -98,10 +98,8 @@ pub(crate) struct Search {
 }
 
 impl Search {
-    /// With no candidates.
-    pub(crate) fn new() -> Search
-        ensures { IsNew result }
-    {
+    /// With no candidates. No contract reads it.
+    pub(crate) fn new() -> Search {
         Search {
             known: ArrayVec::new(),
             left: 0,
@@ -111,9 +109,8 @@ impl Search {
         }
     }
 
-    /// Adds the candidates, before the first round.
+    /// Begins with the candidates, before the first round, whatever it knew before.
     pub(crate) fn start(&mut self, slots: &mut [OpenSearch], list: &[Candidate], price: Price)
-        requires new { IsNew self.old }
         requires room { 100 ≤ length slots.old }
         requires few { length list.now ≤ 100 }
         requires candidates { All IsCandidate list.now }
@@ -121,7 +118,9 @@ impl Search {
         ensures started { IsStarted price list.now (state self.new slots.new) }
         ensures fits { self.new.left ≤ length slots.new }
     {
+        self.known.clear();
         push_known_first(&mut self.known, list, price);
+        self.missed = Place::ABOVE;
         self.left = put_searches(slots, list, price);
         self.ceiling = ceiling_first(self.known.as_slice());
         self.aim = Aim::first(&slots[..self.left]);

@@ -10,7 +10,7 @@ ghost use Rattle.muni_sched.specs.GivenFigure.{at_price};
 ghost use Rattle.muni_sched.specs.LowAnswers.{low_yield};
 ghost use Rattle.muni_sched.specs.Lowest as spec;
 ghost use Rattle.muni_sched.specs.Ranks.{decided_by};
-ghost use Rattle.muni_sched.specs.Search.{IsNew, outcomes_of};
+ghost use Rattle.muni_sched.specs.Search.{outcomes_of};
 ghost use Rattle.muni_sched.specs.SearchedOut.{AreSearchedOut, CountsRounds};
 ghost use Rattle.muni_sched.specs.declared.outcome.CandidateOutcome.TheVariants.{Unsure};
 
@@ -31,7 +31,6 @@ pub(crate) fn search_yields<R: Threads + Sync, E: Encloser + Sync, G: Gate + Syn
     list: &[Candidate],
     price: Price,
 ) -> u32
-    requires new { IsNew search.old }
     requires room { 100 ≤ length slots.old }
     requires few { length list.now ≤ 100 }
     requires candidates { All IsCandidate list.now }
