@@ -304,10 +304,10 @@ fn cost_of<R: Threads + Sync>(
 fn questions_go_by_rounds_and_end_where_yields_part(rt: HostRuntime) -> Result<(), Fail> {
     for (given, cost) in FORTY_CALLS {
         let price = price_over_0(&Sample::of(given))?;
-        for workers in [1, 2, 16] {
+        for workers in [Workers::ONE, Workers::new(2), Workers::new(16)] {
             let mut schedule = schedule_of(&forty_calls()?, &Sample::of(UNCALLED))?;
-            let own = cost_of(&rt, &mut schedule, price, Workers::new(workers));
-            assert_eq!(rt; own, Some(cost), "{given} by {workers}");
+            let own = cost_of(&rt, &mut schedule, price, workers);
+            assert_eq!(rt; own, Some(cost), "{given} by {}", workers.count());
         }
     }
     Ok(())
