@@ -37,7 +37,7 @@ use Rattle.muni_book.proofs.PutLemmas.{last-kept}
 -- What an answer has to be: a refusal has its cause, and what is confirmed is kept.
 abbrev pub IsAnswerFor : Tables → Command → Reply → Type 0
 IsAnswerFor t c (Added cusip) = Unit {0}
-IsAnswerFor t c (Quoted asked figures) = ⊥
+IsAnswerFor t c (Quoted issue asked figures each) = ⊥
 IsAnswerFor t c (Listed lines) = AsksToKeep c → ⊥
 IsAnswerFor t c (Confirmed issue key number version) =
     (version_at t key number ≡ Some version) × (issue_at t version.terms.asked.cusip ≡ Some issue)
@@ -46,7 +46,7 @@ IsAnswerFor t c (Refused why) = HasCause t c why
 -- and a plan: what is quoted is asked of an issue that is kept
 abbrev pub IsFor : Tables → Command → Plan → Type 0
 IsFor t c (Answer reply) = IsAnswerFor t c reply
-IsFor t c (Quote issue asked) = issue_at t asked.cusip ≡ Some issue
+IsFor t c (Quote issue asked each) = issue_at t asked.cusip ≡ Some issue
 IsFor t c (KeepIssue issue) = Unit {0}
 IsFor t c (KeepVersion issue key number version) = Unit {0}
 IsFor t c (KeepPriced issue key number act terms) = Unit {0}
@@ -205,5 +205,5 @@ is-for t (command.Enter key terms) = of-entry t key terms
 is-for t (command.Correct key number terms) = of-correction t key number terms
 is-for t (command.Cancel key number) = of-cancel t key number
 is-for t (command.Confirm key) = of-confirmation t key
-is-for t (command.Quote asked) = of-issue t (command.Quote asked) _ asked.cusip (issue_at t asked.cusip) refl (inr refl) (λ issue there. there)
+is-for t (command.Quote asked each) = of-issue t (command.Quote asked each) _ asked.cusip (issue_at t asked.cusip) refl (inr refl) (λ issue there. there)
 is-for t (command.List desk from) = λ never. never

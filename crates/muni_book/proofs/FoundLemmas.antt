@@ -1,6 +1,6 @@
 -- What is found over the candidates at what is given is unique.
 use Rattle.std.proofs.Common.{◌≡◌, ℕ, ◌*◌, ◌≤◌, ◌<◌, List, Option, Some, None, refl, sym, subst, ap, ◌∙◌, arith, ℤ, pos, negsuc, ◌+ℤ◌, ◌≤ℤ◌, ◌<ℤ◌, Result}
-use Rattle.std.specs.Prelude.{All, option_map}
+use Rattle.std.specs.Prelude.{option_map}
 use Rattle.std.proofs.Math.Nat.{mul-le-mul}
 use Rattle.std.proofs.lemmas.Int.{ints}
 use Rattle.muni_rule.specs.Accuracy.{TruncatesBy, Reaches}
@@ -31,7 +31,7 @@ use Rattle.muni_msg.specs.declared.asked.Side.{Side}
 use Rattle.muni_msg.specs.declared.refusal.Refusal.{Refusal}
 use Rattle.muni_book.specs.Trade.{net_price, price_side, side_left}
 use Rattle.muni_book.specs.Answers.{PriceAndYield, found_at_yield, found_at_price, found_at_rate, IsReturn, IsFoundAtRate, IsFound}
-use Rattle.muni_book.specs.GivenFor.{IsInRange, IsOnBasis}
+use Rattle.muni_book.specs.GivenFor.{IsInRange, MayBeGiven}
 use Rattle.muni_book.proofs.CandidateLemmas.{of-first, rate-in_range}
 
 -- ---- what is given lies in its range
@@ -46,12 +46,6 @@ pub inside-range : (given : Given) (side : Side) (fee : ℕ) (list : List Candid
 inside-range (AtYield y) side fee list none = all-given y list (none-mapped range_of (side_of_first y list) none)
 inside-range (AtPrice price) side fee list none = net-inside price (net_price side price fee) none
 inside-range (AtRate rate) side fee list none = all-given rate list (none-mapped range_of (side_of_first rate list) none)
-
--- what is given may be given for the candidates
-pub record IsCase (given : Given) (side : Side) (fee : ℕ) (list : List Candidate) : Type 0 where
-  pub candidates : All IsCandidate list
-  pub basis : IsOnBasis given fee list
-  pub in_range : IsInRange given side fee list
 
 -- ---- at a rate
 par-least : (basis : Basis) → 360 ≤ year_of basis
@@ -76,7 +70,7 @@ return-unique basis rate days return other given range is also =
 at_most-closed : (price : ℤ) → IsClosed (Reaches price)
 at_most-closed price = λ amount smaller less reached. omega (arith, ints, less, reached)
 
-pub at_rate-unique : (rate : ℤ) (side : Side) (fee : ℕ) (list : List Candidate) (found other : Result PriceAndYield Refusal) → IsCase (AtRate rate) side fee list → IsFoundAtRate rate list found → IsFoundAtRate rate list other → found ≡ other
+pub at_rate-unique : (rate : ℤ) (side : Side) (fee : ℕ) (list : List Candidate) (found other : Result PriceAndYield Refusal) → MayBeGiven (AtRate rate) side fee list → IsFoundAtRate rate list found → IsFoundAtRate rate list other → found ≡ other
 at_rate-unique rate side fee list found other case is also =
     let note : is.note ≡ also.note = same_Some is.note also.note (sym is.there ∙ also.there) in
     let shapes : shape.Discount is.days is.basis ≡ shape.Discount also.days also.basis = sym is.shape ∙ ap (λ (c : Candidate). c.shape) note ∙ also.shape in
@@ -91,7 +85,7 @@ at_rate-unique rate side fee list found other case is also =
     is.is_found ∙ (λ i. found_at_rate (note i) (price i) (return i)) ∙ sym also.is_found
 
 -- ---- at each basis
-pub found-unique : (ends : PaymentSeries → ℤ → WorthEnds) (given : Given) (side : Side) (fee : ℕ) (list : List Candidate) (found other : Result PriceAndYield Refusal) → IsCase given side fee list → IsFound ends given side fee list found → IsFound ends given side fee list other → found ≡ other
+pub found-unique : (ends : PaymentSeries → ℤ → WorthEnds) (given : Given) (side : Side) (fee : ℕ) (list : List Candidate) (found other : Result PriceAndYield Refusal) → MayBeGiven given side fee list → IsFound ends given side fee list found → IsFound ends given side fee list other → found ≡ other
 found-unique ends (AtYield y) side fee list found other case is also =
     let askable : ArePriced y list = record { candidates = case.candidates; basis = case.basis.1; in_range = case.in_range } in
     let low : is.0 ≡ also.0 = one-answer ends (at_yield y) list is.0 also.0 askable is.1.rule also.1.rule in

@@ -4,6 +4,7 @@ pub mod FoundLemmas
 pub mod UniqueLemmas
 pub mod RightLemmas
 pub mod OneFigureLemmas
+pub mod EachLemmas
 pub mod PutLemmas
 pub mod CauseLemmas
 pub mod RefusedLemmas

@@ -1,5 +1,5 @@
 -- What the commands that keep nothing are answered.
-use Rattle.std.proofs.Common.{◌≡◌, inl, inr, ℕ, refl, sym, ap, subst, Option, Some, None, Result, Ok, Err}
+use Rattle.std.proofs.Common.{◌≡◌, inl, inr, ℕ, Bool, refl, sym, ap, subst, Option, Some, None, Result, Ok, Err}
 use Rattle.muni_terms.specs.declared.row.IssueRow.{IssueRow}
 use Rattle.muni_msg.specs.declared.asked.Asked.{Asked}
 use Rattle.muni_msg.specs.declared.command.Key.{Key}
@@ -34,16 +34,16 @@ pub pages-listed : (P : Pricing) → PagesAreListed P
 pages-listed P t desk from reply entry step = (ap (λ (o : Outcome). o.reply) step, ap (λ (o : Outcome). o.entry) step)
 
 -- ---- quotes
-abbrev ByFigures : Pricing → Tables → Asked → Outcome → Type 0
-ByFigures P t asked outcome = QuotesFigures P t asked outcome.reply × (outcome.entry ≡ None)
+abbrev ByFigures : Pricing → Tables → Asked → Bool → Outcome → Type 0
+ByFigures P t asked each outcome = QuotesFigures P t asked each outcome.reply × (outcome.entry ≡ None)
 
-by-answer : (P : Pricing) (t : Tables) (asked : Asked) (issue : IssueRow) (answer : Result Figures Refusal) → issue_at t asked.cusip ≡ Some issue → P issue asked answer → ByFigures P t asked (quoted asked answer)
-by-answer P t asked issue (Ok figures) there prices = ((refl, issue, there, prices), refl)
-by-answer P t asked issue (Err why) there prices = (inr (issue, there, prices), refl)
+by-answer : (P : Pricing) (t : Tables) (asked : Asked) (each : Bool) (issue : IssueRow) (answer : Result Figures Refusal) → issue_at t asked.cusip ≡ Some issue → P issue asked answer → ByFigures P t asked each (quoted issue asked each answer)
+by-answer P t asked each issue (Ok figures) there prices = ((refl, refl, there, prices), refl)
+by-answer P t asked each issue (Err why) there prices = (inr (issue, there, prices), refl)
 
-by-figures : (P : Pricing) (t : Tables) (asked : Asked) (o : Option IssueRow) (outcome : Outcome) → issue_at t asked.cusip ≡ o → IsOutcome P (for_issue (λ issue. Quote issue asked) o) outcome → ByFigures P t asked outcome
-by-figures P t asked None outcome there step = subst (ByFigures P t asked) (sym step) (inl (refl, there), refl)
-by-figures P t asked (Some issue) outcome there step = subst (ByFigures P t asked) (sym step.2) (by-answer P t asked issue step.0 there step.1)
+by-figures : (P : Pricing) (t : Tables) (asked : Asked) (each : Bool) (o : Option IssueRow) (outcome : Outcome) → issue_at t asked.cusip ≡ o → IsOutcome P (for_issue (λ issue. Quote issue asked each) o) outcome → ByFigures P t asked each outcome
+by-figures P t asked each None outcome there step = subst (ByFigures P t asked each) (sym step) (inl (refl, there), refl)
+by-figures P t asked each (Some issue) outcome there step = subst (ByFigures P t asked each) (sym step.2) (by-answer P t asked each issue step.0 there step.1)
 
 pub figures-quoted : (P : Pricing) → FiguresAreQuoted P
-figures-quoted P t asked reply entry step = by-figures P t asked (issue_at t asked.cusip) (record { reply = reply; entry = entry }) refl step
+figures-quoted P t asked each reply entry step = by-figures P t asked each (issue_at t asked.cusip) (record { reply = reply; entry = entry }) refl step

@@ -18,11 +18,12 @@ use Rattle.muni_msg.specs.declared.figures.Figures.{Figures}
 use Rattle.muni_msg.specs.declared.refusal.Refusal.{Refusal}
 use Rattle.muni_msg.specs.declared.refusal.Refusal.TheVariants as refusal
 use Rattle.muni_book.specs.AnswerLaws.{RightFiguresAreOne, AnsweredFiguresAreOne, HaveOutcomesAt, RightFiguresHaveOutcomes}
+use Rattle.muni_book.specs.GivenFor.{MayBeGiven}
 use Rattle.muni_book.specs.Answers.{PriceAndYield, found_at_yield, found_at_price, figures_of}
 use Rattle.muni_book.specs.RightFigures.{AreRightAt, AreRightFigures}
 use Rattle.muni_book.specs.Trade.{net_price}
 use Rattle.muni_book.proofs.CandidateLemmas.{on-basis}
-use Rattle.muni_book.proofs.FoundLemmas.{IsCase, inside-range, at_rate-unique}
+use Rattle.muni_book.proofs.FoundLemmas.{inside-range, at_rate-unique}
 use Rattle.muni_book.proofs.RightLemmas.{answered-right}
 
 -- ---- a price and a yield that are found are decided
@@ -50,10 +51,10 @@ same-found : (found other : PriceAndYield) → ◌≡◌ {A = Option (Result Pri
 same-found found other is = same-ok found other (same_Some (Ok found) (Ok other) is)
 
 -- ---- at each basis
-at-yield : (y : ℤ) (side : Side) (fee : ℕ) (list : List Candidate) → IsCase (AtYield y) side fee list → ArePriced y list
+at-yield : (y : ℤ) (side : Side) (fee : ℕ) (list : List Candidate) → MayBeGiven (AtYield y) side fee list → ArePriced y list
 at-yield y side fee list case = record { candidates = case.candidates; basis = case.basis.1; in_range = case.in_range }
 
-right-found : (given : Given) (side : Side) (fee : ℕ) (list : List Candidate) (found other : PriceAndYield) → IsCase given side fee list → AreRightAt given side fee list found → AreRightAt given side fee list other → found ≡ other
+right-found : (given : Given) (side : Side) (fee : ℕ) (list : List Candidate) (found other : PriceAndYield) → MayBeGiven given side fee list → AreRightAt given side fee list found → AreRightAt given side fee list other → found ≡ other
 right-found (AtYield y) side fee list found other case is also =
     let low : is.0 ≡ also.0 = one-right (at_yield y) list is.0 also.0 (at-yield y side fee list case) (decided-price y list found is.0 is.2) (decided-price y list other also.0 also.2) is.1 also.1 in
     same-found found other (is.2 ∙ ap (found_at_yield y list) low ∙ sym also.2)
@@ -63,7 +64,7 @@ right-found (AtPrice price) side fee list found other case is also =
 right-found (AtRate rate) side fee list found other case is also =
     same-ok found other (at_rate-unique rate side fee list (Ok found) (Ok other) case is also)
 
-outcomes-at : (given : Given) (side : Side) (fee : ℕ) (list : List Candidate) → IsCase given side fee list → HaveOutcomesAt given side fee list
+outcomes-at : (given : Given) (side : Side) (fee : ℕ) (list : List Candidate) → MayBeGiven given side fee list → HaveOutcomesAt given side fee list
 outcomes-at (AtYield y) side fee list case =
     let asked : MayBeAsked (at_yield y) list = at-yield y side fee list case in
     record { asked = asked; exact = list-one (at_yield y) list asked }
@@ -73,7 +74,7 @@ outcomes-at (AtPrice price) side fee list case =
 outcomes-at (AtRate rate) side fee list case = tt
 
 -- ---- figures
-case-of : (row : IssueRow) (asked : Asked) (figures : Figures) (right : AreRightFigures row asked figures) → IsCase asked.given asked.side asked.fee right.list
+pub case-of : (row : IssueRow) (asked : Asked) (figures : Figures) (right : AreRightFigures row asked figures) → MayBeGiven asked.given asked.side asked.fee right.list
 case-of row asked figures right = record {
   candidates = right.candidates.ranges;
   basis = on-basis asked.given asked.fee row asked.settle right.list right.on_basis right.candidates.shapes;

@@ -1,5 +1,5 @@
 -- What comes of a step: refusals by their causes, entries by their reasons, and what is kept is answered again.
-use Rattle.std.proofs.Common.{◌≡◌, ◌⊎◌, inl, inr, ℕ, refl, sym, ap, subst, ◌∙◌, Some, Result, Ok, Err}
+use Rattle.std.proofs.Common.{◌≡◌, ◌⊎◌, inl, inr, ℕ, Bool, refl, sym, ap, subst, ◌∙◌, Some, Result, Ok, Err}
 use Rattle.muni_terms.specs.declared.row.IssueRow.{IssueRow}
 use Rattle.muni_msg.specs.declared.asked.Asked.{Asked}
 use Rattle.muni_msg.specs.declared.asked.Terms.{Terms}
@@ -30,21 +30,21 @@ use Rattle.muni_book.proofs.RefusedLemmas.{IsPlanned, refused-for}
 -- ---- a refusal has its cause
 abbrev IsRefusedFor : Pricing → Tables → Command → Reply → Type 0
 IsRefusedFor P t c (Added cusip) = Unit {0}
-IsRefusedFor P t c (Quoted asked figures) = Unit {0}
+IsRefusedFor P t c (Quoted issue asked figures each) = Unit {0}
 IsRefusedFor P t c (Listed lines) = Unit {0}
 IsRefusedFor P t c (Confirmed issue key number version) = Unit {0}
 IsRefusedFor P t c (Refused why) = HasCause t c why ⊎ HasNoFigures P t c why
 
 of-reply : (P : Pricing) (t : Tables) (c : Command) (reply : Reply) → IsAnswerFor t c reply → IsRefusedFor P t c reply
 of-reply P t c (Added cusip) cause = tt
-of-reply P t c (Quoted asked figures) cause = tt
+of-reply P t c (Quoted issue asked figures each) cause = tt
 of-reply P t c (Listed lines) cause = tt
 of-reply P t c (Confirmed issue key number version) cause = tt
 of-reply P t c (Refused why) cause = inl cause
 
-of-quoted : (P : Pricing) (t : Tables) (c : Command) (issue : IssueRow) (asked : Asked) (answer : Result Figures Refusal) → c ≡ command.Quote asked → issue_at t asked.cusip ≡ Some issue → P issue asked answer → IsRefusedFor P t c (quoted asked answer).reply
-of-quoted P t c issue asked (Ok figures) is there prices = tt
-of-quoted P t c issue asked (Err why) is there prices = inr (inl (issue, asked, record { command = is; issue_is = there }, prices))
+of-quoted : (P : Pricing) (t : Tables) (c : Command) (issue : IssueRow) (asked : Asked) (each : Bool) (answer : Result Figures Refusal) → c ≡ command.Quote asked each → issue_at t asked.cusip ≡ Some issue → P issue asked answer → IsRefusedFor P t c (quoted issue asked each answer).reply
+of-quoted P t c issue asked each (Ok figures) is there prices = tt
+of-quoted P t c issue asked each (Err why) is there prices = inr (inl (issue, asked, record { each = each; command = is; issue_is = there }, prices))
 
 of-priced : (P : Pricing) (t : Tables) (c : Command) (issue : IssueRow) (key : Key) (number : ℕ) (act : Act) (terms : Terms) (answer : Result Figures Refusal)
     → (IsNewTrade t c issue key number act terms ⊎ IsCorrection t c issue key number act terms) → P issue terms.asked answer → IsRefusedFor P t c (priced issue key number act terms answer).reply
@@ -56,7 +56,7 @@ ByReply P t c outcome = IsRefusedFor P t c outcome.reply
 
 of-plan : (P : Pricing) (t : Tables) (c : Command) (plan : Plan) (outcome : Outcome) → IsFor t c plan → HasReason t c plan → IsOutcome P plan outcome → ByReply P t c outcome
 of-plan P t c (Answer reply) outcome cause reason is = subst (ByReply P t c) (sym is) (of-reply P t c reply cause)
-of-plan P t c (Quote issue asked) outcome there reason is = subst (ByReply P t c) (sym is.2) (of-quoted P t c issue asked is.0 reason there is.1)
+of-plan P t c (Quote issue asked each) outcome there reason is = subst (ByReply P t c) (sym is.2) (of-quoted P t c issue asked each is.0 reason there is.1)
 of-plan P t c (KeepIssue issue) outcome cause reason is = subst (ByReply P t c) (sym is) tt
 of-plan P t c (KeepVersion issue key number version) outcome cause reason is = subst (ByReply P t c) (sym is) tt
 of-plan P t c (KeepPriced issue key number act terms) outcome cause reason is = subst (ByReply P t c) (sym is.2) (of-priced P t c issue key number act terms is.0 reason is.1)
@@ -71,8 +71,8 @@ carried P t c plan outcome planned step = subst (λ p. IsOutcome P p outcome) pl
 pub causes-refused : (P : Pricing) → PricesOnce P → CausesAreRefused P
 causes-refused P once t c why outcome (inl cause) step = carried P t c _ outcome (refused-for t c why cause) step
 causes-refused P once t c why outcome (inr (inl (issue, what, quote, prices))) step =
-    let is = carried P t c (Quote issue what) outcome (subst (IsPlanned t (Quote issue what)) (sym quote.command) (rw quote.issue_is refl)) step in
-    is.2 ∙ ap (quoted what) (once issue what is.0 (Err why) is.1 prices)
+    let is = carried P t c (Quote issue what quote.each) outcome (subst (IsPlanned t (Quote issue what quote.each)) (sym quote.command) (rw quote.issue_is refl)) step in
+    is.2 ∙ ap (quoted issue what quote.each) (once issue what is.0 (Err why) is.1 prices)
 causes-refused P once t c why outcome (inr (inr (issue, key, number, act, terms, reason, prices))) step =
     let is = carried P t c (KeepPriced issue key number act terms) outcome (priced-planned t c issue key number act terms reason) step in
     is.2 ∙ ap (priced issue key number act terms) (once issue terms.asked is.0 (Err why) is.1 prices)
@@ -80,7 +80,7 @@ causes-refused P once t c why outcome (inr (inr (issue, key, number, act, terms,
 -- ---- a command is accepted or refused
 by-answer : (t : Tables) (c : Command) (reply : Reply) → AsksToKeep c → IsAnswerFor t c reply → IsAccepted reply ⊎ IsRefusal reply
 by-answer t c (Added cusip) asks answer = inl tt
-by-answer t c (Quoted asked figures) asks answer = absurd answer
+by-answer t c (Quoted issue asked figures each) asks answer = absurd answer
 by-answer t c (Listed lines) asks answer = absurd (answer asks)
 by-answer t c (Confirmed issue key number version) asks answer = inl tt
 by-answer t c (Refused why) asks answer = inr tt
@@ -94,7 +94,7 @@ by-priced issue key number act terms (Err why) = inr tt
 
 by-plan : (P : Pricing) (t : Tables) (c : Command) (plan : Plan) (outcome : Outcome) → AsksToKeep c → IsFor t c plan → HasReason t c plan → IsOutcome P plan outcome → ByKind outcome
 by-plan P t c (Answer reply) outcome asks answer reason is = subst ByKind (sym is) (by-answer t c reply asks answer)
-by-plan P t c (Quote issue asked) outcome asks there reason is = absurd (subst AsksToKeep reason asks)
+by-plan P t c (Quote issue asked each) outcome asks there reason is = absurd (subst AsksToKeep reason asks)
 by-plan P t c (KeepIssue issue) outcome asks answer reason is = subst ByKind (sym is) (inl tt)
 by-plan P t c (KeepVersion issue key number version) outcome asks answer reason is = subst ByKind (sym is) (inl tt)
 by-plan P t c (KeepPriced issue key number act terms) outcome asks answer reason is = subst ByKind (sym is.2) (by-priced issue key number act terms is.0)

@@ -38,6 +38,12 @@ IsOnBasis (AtYield y) fee list = (fee ≡ 0) × All IsAtYield list
 IsOnBasis (AtPrice price) fee list = ⊤
 IsOnBasis (AtRate rate) fee list = (fee ≡ 0) × All IsNote list
 
+-- what is given may be given for these candidates
+pub record MayBeGiven (given : Given) (side : Side) (fee : ℕ) (list : List Candidate) : Type 0 where
+  pub candidates : All IsCandidate list
+  pub basis : IsOnBasis given fee list
+  pub in_range : IsInRange given side fee list
+
 -- what is asked of an issue has passed each test, and these are its redemptions to come
 pub record IsAskable (row : IssueRow) (asked : Asked) (list : List Candidate) : Type 0 where
   pub settled : settles row asked.settle ≡ true

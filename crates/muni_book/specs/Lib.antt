@@ -2,8 +2,10 @@ pub mod Trade
 pub mod Answers
 pub mod AnswerLaws
 pub mod GivenFor
+pub mod FilledFor
 pub mod Fault
 pub mod RightFigures
+pub mod Each
 pub mod SoundTables
 pub mod Causes
 pub mod Kept

@@ -1,6 +1,7 @@
 //! Laws of the answers, and of runs over every list of commands.
 
 ghost use Rattle.muni_book.specs.AnswerLaws.{AnswersAreUnique, AnsweredFiguresAreRight, RightFiguresAreOne, AnsweredFiguresAreOne, RightFiguresHaveOutcomes};
+ghost use Rattle.muni_book.specs.Each.{AnsweredEachAreRight, DisclosedIsLeastOfEach, EachAreOne};
 ghost use Rattle.muni_book.specs.RunLaws.{TablesAreSound, ConfirmedFiguresAreRight, AcceptedCommandsActOnce, WhatIsKeptIsAnsweredAgain, NothingKeptIsLost, EachDeskIsIsolated, RepliesAreUnique, EachEntryHasItsReason, EachRefusalHasItsCause, ConfirmationsAreOfLastVersions, ListsArePages, QuotesAreRightAnswers};
 
 /// A law of the definitions: of one issue and one request they allow one answer, and so figures or a
@@ -22,6 +23,19 @@ pub fn right_figures_are_one()
     ensures one { RightFiguresAreOne }
     ensures answered { AnsweredFiguresAreOne }
     ensures outcomes { RightFiguresHaveOutcomes }
+{}
+
+/// A law of the definitions: what is answered of each redemption candidate by itself is right by its exact
+/// figure, whatever encloser computed it. There is one list of it, however many workers compute.
+pub fn answered_each_are_right()
+    ensures right { AnsweredEachAreRight }
+    ensures one { EachAreOne }
+{}
+
+/// A law of the rule: what is disclosed is the least of the redemption candidates by their own figures, and the
+/// earliest among equal ones, if each has a figure (MSRB Rule G-15(a)).
+pub fn the_disclosed_is_the_least_of_each()
+    ensures { DisclosedIsLeastOfEach }
 {}
 
 /// A law of the definitions: the empty tables are sound, and a run leaves sound tables sound. So

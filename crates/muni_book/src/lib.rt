@@ -2,6 +2,7 @@
 #![tactic(auto)]
 
 mod answers;
+mod each;
 mod fault;
 pub mod laws;
 mod outside;
@@ -9,6 +10,7 @@ mod steps;
 mod trade;
 
 pub use answers::figures;
+pub use each::each_redemption;
 pub use fault::BookFault;
 pub use muni_sched::{Calculator, Workers};
 pub use outside::apply;

@@ -55,9 +55,14 @@ fn carry_out<R: Threads + Sync, K: Keeper, E: Encloser + Sync, G: Gate + Sync>(
 {
     match plan {
         Plan::Answer(reply) => Ok(reply),
-        Plan::Quote { issue, asked } => {
+        Plan::Quote { issue, asked, each } => {
             match figures(calculator, &issue, &asked, &mut Schedule::new()) {
-                Ok(figures) => Ok(Reply::Quoted { asked, figures }),
+                Ok(figures) => Ok(Reply::Quoted {
+                    issue,
+                    asked,
+                    figures,
+                    each,
+                }),
                 Err(why) => Ok(Reply::Refused(why)),
             }
         }

@@ -1,5 +1,5 @@
 -- Why an outcome is what it is.
-use Rattle.std.proofs.Common.{◌≡◌, ◌⊎◌, inl, inr, ℕ, refl, sym, ap, subst, Option, None, Result, Ok, Err}
+use Rattle.std.proofs.Common.{◌≡◌, ◌⊎◌, inl, inr, ℕ, Bool, refl, sym, ap, subst, Option, None, Result, Ok, Err}
 use Rattle.muni_terms.specs.declared.row.IssueRow.{IssueRow}
 use Rattle.muni_msg.specs.declared.asked.Asked.{Asked}
 use Rattle.muni_msg.specs.declared.asked.Terms.{Terms}
@@ -21,9 +21,9 @@ use Rattle.muni_book_step.proofs.PlanLemmas.{HasReason, reason-of}
 abbrev HasOutcome : Pricing → Tables → Command → Outcome → Type 0
 HasOutcome P t c outcome = IsReasoned P t c outcome.reply outcome.entry
 
-none-for-quotes : (P : Pricing) (t : Tables) (c : Command) (asked : Asked) (answer : Result Figures Refusal) → (AsksToKeep c → ⊥) → HasOutcome P t c (quoted asked answer)
-none-for-quotes P t c asked (Ok figures) none = λ asks accepted. absurd (none asks)
-none-for-quotes P t c asked (Err why) none = λ asks accepted. absurd (none asks)
+none-for-quotes : (P : Pricing) (t : Tables) (c : Command) (issue : IssueRow) (asked : Asked) (each : Bool) (answer : Result Figures Refusal) → (AsksToKeep c → ⊥) → HasOutcome P t c (quoted issue asked each answer)
+none-for-quotes P t c issue asked each (Ok figures) none = λ asks accepted. absurd (none asks)
+none-for-quotes P t c issue asked each (Err why) none = λ asks accepted. absurd (none asks)
 
 of-priced : (P : Pricing) (t : Tables) (c : Command) (issue : IssueRow) (key : Key) (number : ℕ) (act : Act) (terms : Terms) (answer : Result Figures Refusal)
     → (IsNewTrade t c issue key number act terms ⊎ IsCorrection t c issue key number act terms) → P issue terms.asked answer → HasOutcome P t c (priced issue key number act terms answer)
@@ -32,7 +32,7 @@ of-priced P t c issue key number act terms (Err refused) why prices = λ asks ac
 
 of-plan : (P : Pricing) (t : Tables) (c : Command) (plan : Plan) (outcome : Outcome) → HasReason t c plan → IsOutcome P plan outcome → HasOutcome P t c outcome
 of-plan P t c (Answer reply) outcome why is = subst (HasOutcome P t c) (sym is) why
-of-plan P t c (Quote issue asked) outcome why is = subst (HasOutcome P t c) (sym is.2) (none-for-quotes P t c asked is.0 (λ asks. subst AsksToKeep why asks))
+of-plan P t c (Quote issue asked each) outcome why is = subst (HasOutcome P t c) (sym is.2) (none-for-quotes P t c issue asked each is.0 (λ asks. subst AsksToKeep why asks))
 of-plan P t c (KeepIssue issue) outcome why is = subst (HasOutcome P t c) (sym is) (why, refl)
 of-plan P t c (KeepVersion issue key number version) outcome why is = subst (HasOutcome P t c) (sym is) (issue, number, refl, inl why)
 of-plan P t c (KeepPriced issue key number act terms) outcome why is =
@@ -46,13 +46,13 @@ refused-priced : (issue : IssueRow) (key : Key) (number : ℕ) (act : Act) (term
 refused-priced issue key number act terms (Ok figures) refusal = absurd refusal
 refused-priced issue key number act terms (Err why) refusal = refl
 
-none-quoted : (asked : Asked) (answer : Result Figures Refusal) → (quoted asked answer).entry ≡ None
-none-quoted asked (Ok figures) = refl
-none-quoted asked (Err why) = refl
+none-quoted : (issue : IssueRow) (asked : Asked) (each : Bool) (answer : Result Figures Refusal) → (quoted issue asked each answer).entry ≡ None
+none-quoted issue asked each (Ok figures) = refl
+none-quoted issue asked each (Err why) = refl
 
 pub refused-by : (P : Pricing) (plan : Plan) (outcome : Outcome) → IsOutcome P plan outcome → IsRefusal outcome.reply → outcome.entry ≡ None
 refused-by P (Answer reply) outcome is refusal = ap (λ o. o.entry) is
-refused-by P (Quote issue asked) outcome is refusal = rw is.2 (none-quoted asked is.0)
+refused-by P (Quote issue asked each) outcome is refusal = rw is.2 (none-quoted issue asked each is.0)
 refused-by P (KeepIssue issue) outcome is refusal = absurd (subst (λ o. IsRefusal o.reply) is refusal)
 refused-by P (KeepVersion issue key number version) outcome is refusal = absurd (subst (λ o. IsRefusal o.reply) is refusal)
 refused-by P (KeepPriced issue key number act terms) outcome is refusal =

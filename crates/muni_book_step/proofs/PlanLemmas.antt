@@ -32,7 +32,7 @@ use Rattle.muni_book_step.specs.Step.{desk_of, own_of}
 -- an answer that accepts a command says what is kept for it
 abbrev pub HasReason : Tables → Command → Plan → Type 0
 HasReason t c (Answer reply) = AsksToKeep c → IsAccepted reply → IsKept t c reply
-HasReason t c (Quote issue asked) = c ≡ command.Quote asked
+HasReason t c (Quote issue asked each) = c ≡ command.Quote asked each
 HasReason t c (KeepIssue issue) = IsNewIssue t c issue
 HasReason t c (KeepVersion issue key number version) = IsCancel t c issue key number version
 HasReason t c (KeepPriced issue key number act terms) =
@@ -170,5 +170,5 @@ reason-of t (command.Enter key terms) = of-entry t key terms
 reason-of t (command.Correct key number terms) = of-correction t key number terms
 reason-of t (command.Cancel key number) = of-cancel t key number
 reason-of t (command.Confirm key) = of-confirmation t key
-reason-of t (command.Quote asked) = of-issue t (command.Quote asked) _ (issue_at t asked.cusip) (λ issue there. refl)
+reason-of t (command.Quote asked each) = of-issue t (command.Quote asked each) _ (issue_at t asked.cusip) (λ issue there. refl)
 reason-of t (command.List desk after) = λ asks accepted. absurd asks

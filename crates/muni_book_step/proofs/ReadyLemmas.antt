@@ -36,7 +36,7 @@ new-next t key number one new = one ∙ sym (ap next_number (none-kept _ new))
 
 can-keep : (t : Tables) (c : Command) (plan : Plan) → HasReason t c plan → CanKeep t plan
 can-keep t c (Answer reply) why = tt
-can-keep t c (Quote issue asked) why = tt
+can-keep t c (Quote issue asked each) why = tt
 can-keep t c (KeepIssue issue) why = why.is_new
 can-keep t c (KeepVersion issue key number version) why = live-next t key number why.last why.is_live
 can-keep t c (KeepPriced issue key number act terms) (inl why) = new-next t key number why.number_is why.is_new

@@ -178,8 +178,8 @@ abbrev pub confirmation_plan : Issues → Trades Version → Key → Plan
 confirmation_plan issues own key =
     for_trade (λ last. confirmed issues key last.0 last.1) (last_of own key)
 
-abbrev pub quote_plan : Issues → Asked → Plan
-quote_plan issues asked = for_issue (λ issue. plan.Quote issue asked) (get issues asked.cusip)
+abbrev pub quote_plan : Issues → Asked → Bool → Plan
+quote_plan issues asked each = for_issue (λ issue. plan.Quote issue asked each) (get issues asked.cusip)
 
 abbrev pub list_plan : Trades Version → Option (List ℕ) → Plan
 list_plan own after =
@@ -192,5 +192,5 @@ plan_of issues own (Enter key terms) = entry_plan issues own key terms
 plan_of issues own (Correct key number terms) = correction_plan issues own key number terms
 plan_of issues own (Cancel key number) = cancel_plan issues own key number
 plan_of issues own (Confirm key) = confirmation_plan issues own key
-plan_of issues own (Quote asked) = quote_plan issues asked
+plan_of issues own (Quote asked each) = quote_plan issues asked each
 plan_of issues own (ListTrades desk after) = list_plan own after

@@ -29,7 +29,7 @@ RunsTo Prices old commands replies told =
 -- a reply that refuses the command
 abbrev pub IsRefusal : Reply → Type 0
 IsRefusal (Added cusip) = ⊥
-IsRefusal (Quoted asked figures) = ⊥
+IsRefusal (Quoted issue asked figures each) = ⊥
 IsRefusal (Listed lines) = ⊥
 IsRefusal (Confirmed issue key number version) = ⊥
 IsRefusal (Refused why) = ⊤

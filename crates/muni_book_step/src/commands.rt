@@ -25,7 +25,7 @@ pub fn plan_of<K: Keeper>(keeper: &mut K, command: &Command) -> Result<Plan, Kee
         Command::Correct { key, number, terms } => correct(keeper, key, *number, terms),
         Command::Cancel { key, number } => cancel(keeper, key, *number),
         Command::Confirm { key } => confirm(keeper, key),
-        Command::Quote(asked) => quote(keeper, asked),
+        Command::Quote { asked, each } => quote(keeper, asked, *each),
         Command::List { desk, after } => list(keeper, desk, after),
     }
 }
@@ -325,14 +325,15 @@ fn confirm<K: Keeper>(keeper: &mut K, key: &Key) -> Result<Plan, KeepFault>
     }
 }
 
-fn quote<K: Keeper>(keeper: &mut K, asked: &Asked) -> Result<Plan, KeepFault>
+fn quote<K: Keeper>(keeper: &mut K, asked: &Asked, each: bool) -> Result<Plan, KeepFault>
     ensures plan { Finds K.Keeper keeper.old keeper.new result
-        (λ t. spec.quote_plan t.issues asked.now) }
+        (λ t. spec.quote_plan t.issues asked.now each) }
 {
     match keeper.issue(&asked.cusip)? {
         Some(issue) => Ok(Plan::Quote {
             issue,
             asked: *asked,
+            each,
         }),
         None => Ok(refused(Refusal::UnknownIssue)),
     }

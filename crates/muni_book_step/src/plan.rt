@@ -12,6 +12,7 @@ pub enum Plan {
     Quote {
         issue: Issue,
         asked: Asked,
+        each: bool,
     },
     /// The issue is kept.
     KeepIssue(Issue),

@@ -30,7 +30,7 @@ fn yield_source(given: &Given) -> &'static [u8]
     }
 }
 
-fn label(label: &Label) -> &'static [u8]
+pub(crate) fn label(label: &Label) -> &'static [u8]
     ensures { result.now ≡ label_text label.now }
 {
     match label {

@@ -8,13 +8,17 @@ ghost use Rattle.muni_dec.specs.Decimal.{decimal_text, signed_text};
 ghost use Rattle.muni_dec.specs.Line.{behind_blanks};
 ghost use Rattle.muni_days.specs.Day.{civil, day_text};
 ghost use Rattle.muni_confirm.specs.Confirmation.{day_line, trade_lines, par_line, name_lines, terms_lines};
+ghost use Rattle.muni_confirm.specs.Each.{figure_parts, each_text};
 ghost use Rattle.muni_confirm.specs.Figures.{rate_line, price_lines, redemption_line, days_line, money_lines};
 ghost use Rattle.muni_confirm.specs.Laws.{FiguresFit, ConfirmationFits, RefusalFits};
 ghost use Rattle.muni_confirm.specs.Refusal.{kept_parts, fault_day, fault_parts, boundary_parts, detail, name_text};
 
 use muni_days::Day;
 use muni_dec::{Amount, Fee, Par, Percent};
-use muni_msg::{Act, Asked, Figures, Given, Kept, Key, Refusal, Version, refusal_name};
+use muni_msg::{
+    Act, Asked, EachFigure, EachRedemption, Figures, Given, Kept, Key, Refusal, Version,
+    refusal_name,
+};
 use muni_terms::{Boundary, Issue, IssueRow, TermsFault};
 
 /// A law: the lines of figures have at most 374 bytes.
@@ -47,6 +51,27 @@ pub fn refusal_fits(refusal: &Refusal)
 {
     name_fits(refusal.number());
     detail_fits(refusal);
+}
+
+/// A law: the line of a redemption candidate has at most 101 bytes.
+#[tactic(auto, unfolding(crate::specs::Each::each_text))]
+pub fn each_fits(redemption: &EachRedemption)
+    ensures { length (each_text redemption.now) ≤ 101 }
+{
+    day_fits(&redemption.date);
+    decimal_fits(&redemption.price);
+    figure_fits(&redemption.figure);
+}
+
+fn figure_fits(figure: &EachFigure)
+    ensures { length (behind_blanks (figure_parts figure.now)) ≤ 46 }
+{
+    match figure {
+        EachFigure::Price(price) => decimal_fits(price),
+        EachFigure::Yield(yld) => percent_fits(yld),
+        EachFigure::Undecided(boundary) => boundary_fits(boundary),
+        EachFigure::Below | EachFigure::Above | EachFigure::NoTime => {}
+    }
 }
 
 #[tactic(auto, using(crate::proofs::LengthLemmas::lengths))]

@@ -68,7 +68,7 @@ fn range_text(range: &Range) -> &'static [u8]
     }
 }
 
-fn push_boundary(text: &mut ArrayVec<u8, 128>, boundary: &Boundary)
+pub(crate) fn push_boundary(text: &mut ArrayVec<u8, 128>, boundary: &Boundary)
     requires { array_vec_len text.old + length (behind_blanks (boundary_parts boundary.now)) ≤ 100 }
     ensures { text.new.items ≡ text.old.items ++ behind_blanks (boundary_parts boundary.now) }
 {

@@ -40,8 +40,11 @@ pub enum Command {
     Confirm {
         key: Key,
     },
-    /// For figures, with nothing kept.
-    Quote(Asked),
+    /// For figures, with nothing kept, and for those of each redemption candidate by itself if they are wanted.
+    Quote {
+        asked: Asked,
+        each: bool,
+    },
     /// For the trades of a desk, after a reference if one is given.
     List {
         desk: DeskName,
@@ -65,10 +68,13 @@ pub enum Reply {
     Added {
         cusip: [u8; 9],
     },
-    /// The figures, and what they were asked for.
+    /// The figures, what they were asked for and of which issue, and whether each redemption candidate by itself
+    /// is wanted too.
     Quoted {
+        issue: Issue,
         asked: Asked,
         figures: Figures,
+        each: bool,
     },
     /// The first 50 trades after the reference, or of all if none is given, in the order of their
     /// references.
