@@ -24,8 +24,8 @@ use Rattle.muni_msg.specs.declared.asked.Asked.{Asked}
 use Rattle.muni_msg.specs.declared.asked.Given.{Given}
 use Rattle.muni_msg.specs.declared.asked.Given.TheVariants.{AtYield, AtPrice, AtRate}
 use Rattle.muni_msg.specs.declared.asked.Side.TheVariants.{Buy}
-use Rattle.muni_desk.specs.Words.{◌>>=◌, word, is_option, are_options, value_of, values_of}
-use Rattle.muni_desk.specs.QuoteOptions.{date_of, bond_day_count, note_day_count, day_count_of, coupon_of, calls_reading, calls_of, par_of, one_given, given_of, workers_in, workers_of, row_of, asked_of, quote_of, options, single_options}
+use Rattle.muni_desk.specs.Words.{◌>>=◌, word, is_option, are_options, are_options_beside, has_word, value_of, values_of}
+use Rattle.muni_desk.specs.QuoteOptions.{date_of, bond_day_count, note_day_count, day_count_of, coupon_of, calls_reading, calls_of, par_of, one_given, given_of, workers_in, workers_of, row_of, asked_of, quote_of, each_word, options, single_options}
 use Rattle.muni_desk.specs.QuoteOptions as quote
 use Rattle.muni_desk.specs.DrillOptions as drill
 use Rattle.muni_desk.specs.DrillOptions.{drill_of}
@@ -39,7 +39,7 @@ use Rattle.muni_desk.specs.declared.request.QuoteRequest.{QuoteRequest}
 use Rattle.muni_desk.specs.WordLaws.{IsCall, IsCommandLine, IsDrill, IsQuote, IsQuoteOne, IsSingle, SaysAsked, SaysTerms, Says, Reads, Lacks, ReadsOr, SaysKind, SaysNoteDays, SaysDays, SaysCoupon, SaysCalls, SaysGiven}
 use Rattle.muni_desk.proofs.CallLawLemmas.{read-call, call-read}
 use Rattle.muni_desk.proofs.OptionalLemmas.{bind-some, some-bind, map-some, ok-some, if-some, when-true}
-use Rattle.muni_desk.proofs.WordLawLemmas.{both, option-joined, options-read, are-options, found-says, says-found, none-lacks, lacks-none}
+use Rattle.muni_desk.proofs.WordLawLemmas.{both, option-joined, options-read, are-options, found-says, says-found, none-lacks, lacks-none, options-read-beside, are-options-beside, has-read, read-has}
 
 -- ---- one option, read
 pub read-option : {A : Type 0} (f : List ℕ → Option A) (words : List (List ℕ)) (name : List ℕ) (y : A) → (value_of name words >>= f) ≡ Some y → Reads words name (λ text. f text ≡ Some y)
@@ -359,35 +359,37 @@ asked-read words asked single said =
     (asked-same words asked said)))
 
 -- ---- `quote`
-abbrev quote_from : IssueRow → Asked → ℕ → CommandLine
-quote_from row asked workers = record { command = Quote (record { row = row; asked = asked }); workers = workers }
+abbrev quote_from : IssueRow → Asked → Bool → ℕ → CommandLine
+quote_from row asked each workers = record { command = Quote (record { row = row; asked = asked }) each; workers = workers }
 
 pub read-quote : (words : List (List ℕ)) (name : List ℕ) (line : CommandLine) → name ≡ codes "quote" → quote_of words ≡ Some line → IsCommandLine (name ∷ words) line
 read-quote words name line named is =
-    let options_read = if-some (are_options options single_options words) (quote.command_line words) line is in
-    let stand = options-read options single_options words options_read.0 in
+    let options_read = if-some (are_options_beside each_word options single_options words) (quote.command_line words) line is in
+    let stand = options-read-beside each_word options single_options words options_read.0 in
     let row = bind-some _ (row_of words) line options_read.1 in
     let asked = bind-some _ (asked_of words) line row.2 in
     let workers = bind-some _ (workers_of words) line asked.2 in
-    subst (IsCommandLine (name ∷ words)) (same_Some (quote_from row.0 asked.0 workers.0) line workers.2) (
+    subst (IsCommandLine (name ∷ words)) (same_Some (quote_from row.0 asked.0 (has_word each_word words) workers.0) line workers.2) (
       named,
       record {
         known = stand.0;
-        single = stand.1;
+        once = stand.1;
+        single = stand.2;
+        wanted = has-read each_word words (has_word each_word words) refl;
         terms = read-row words row.0 row.1;
         asked = read-asked words asked.0 asked.1;
         at_once = read-workers words workers.0 (value_of (codes "--workers=") words) refl workers.1;
       },
     )
 
-pub quote-read : (words : List (List ℕ)) (request : QuoteRequest) (workers : ℕ) → IsQuote words request workers → quote_of words ≡ Some (record { command = Quote request; workers = workers })
-quote-read words request workers said =
-    let line : CommandLine = record { command = Quote request; workers = workers } in
-    when-true (are_options options single_options words) (quote.command_line words) line (are-options options single_options words said.known said.single)
+pub quote-read : (words : List (List ℕ)) (request : QuoteRequest) (each : Bool) (workers : ℕ) → IsQuote words request each workers → quote_of words ≡ Some (record { command = Quote request each; workers = workers })
+quote-read words request each workers said =
+    let line : CommandLine = record { command = Quote request each; workers = workers } in
+    when-true (are_options_beside each_word options single_options words) (quote.command_line words) line (are-options-beside each_word options single_options words said.known said.once said.single)
     (some-bind _ (row_of words) request.row line (row-read words request.row said.single said.terms)
     (some-bind _ (asked_of words) request.asked line (asked-read words request.asked said.single said.asked)
     (some-bind _ (workers_of words) workers line (workers-read words workers (said.single 10 [] (omega arith)) said.at_once)
-    refl)))
+    (ap (λ wanted. Some (quote_from request.row request.asked wanted workers)) (read-has each_word words each said.wanted)))))
 
 -- ---- `drill`
 abbrev drill_from : ℕ → ℕ → ℕ → CommandLine

@@ -1,5 +1,5 @@
 -- A command is completed if nothing failed.
-use Rattle.std.proofs.Common.{◌≡◌, ◌<◌, ◌⊎◌, inl, inr, ℕ, List, length, Some, None, Result, Ok, Err, IfSome, refl, sym, subst, arith, ℤ}
+use Rattle.std.proofs.Common.{Bool, ◌≡◌, ◌<◌, ◌⊎◌, inl, inr, ℕ, List, length, Some, None, Result, Ok, Err, IfSome, refl, sym, subst, arith, ℤ}
 use Rattle.muni_rule.specs.Payments.{PaymentSeries}
 use Rattle.muni_rule.specs.WorthEnds.{WorthEnds}
 use Rattle.muni_edge.specs.Faults.{Rose}
@@ -43,10 +43,10 @@ quote_one-answered request status.Done text is = tt
 quote_one-answered request status.Refused text is = tt
 quote_one-answered request end text is = absurd is
 
-quote-answered : (ends : PaymentSeries → ℤ → WorthEnds) (request : QuoteRequest) (end : Status) (text : List ℕ) → IsQuoteText ends request end text → IsAnswered end
-quote-answered ends request status.Done text is = tt
-quote-answered ends request status.Refused text is = tt
-quote-answered ends request end text is = absurd is
+quote-answered : (ends : PaymentSeries → ℤ → WorthEnds) (request : QuoteRequest) (each : Bool) (end : Status) (text : List ℕ) → IsQuoteText ends request each end text → IsAnswered end
+quote-answered ends request each status.Done text is = tt
+quote-answered ends request each status.Refused text is = tt
+quote-answered ends request each end text is = absurd is
 
 drill-answered : (ends : PaymentSeries → ℤ → WorthEnds) (request : DrillRequest) (end : Status) (text : List ℕ) → IsDrillText ends request end text → IsAnswered end
 drill-answered ends request status.Done text is = tt
@@ -58,7 +58,7 @@ help-answered end text is = absurd is
 
 right-answered : (ends : PaymentSeries → ℤ → WorthEnds) (command : DeskCommand) (answer : Answer) → IsAnswer ends command answer → IsAnswered answer.status
 right-answered ends (QuoteOne request) answer is = quote_one-answered request answer.status answer.text.items is
-right-answered ends (Quote request) answer is = quote-answered ends request answer.status answer.text.items is
+right-answered ends (Quote request each) answer is = quote-answered ends request each answer.status answer.text.items is
 right-answered ends (Drill request) answer is = drill-answered ends request answer.status answer.text.items is
 right-answered ends Help answer is = help-answered answer.status answer.text.items is
 right-answered ends (Import store listed) answer is = absurd is
@@ -149,7 +149,7 @@ serve-completed cabinet door Prices told store port most (Err serve.Door) end ol
 
 pub completed : {I O C K D L : Type 0} (source : Source.Ghosts I) (sink : Sink.Ghosts O) (cabinet : Cabinet.Ghosts C K) (door : Door.Ghosts D L) → CommandsAreCompleted source sink cabinet door
 completed source sink cabinet door ends told (QuoteOne request) end old new before after does none few can = says-answered sink ends (QuoteOne request) end old.output new.output does none.writes
-completed source sink cabinet door ends told (Quote request) end old new before after does none few can = says-answered sink ends (Quote request) end old.output new.output does none.writes
+completed source sink cabinet door ends told (Quote request each) end old new before after does none few can = says-answered sink ends (Quote request each) end old.output new.output does none.writes
 completed source sink cabinet door ends told (Drill request) end old new before after does none few can = says-answered sink ends (Drill request) end old.output new.output does none.writes
 completed source sink cabinet door ends told Help end old new before after does none few can = says-answered sink ends Help end old.output new.output does none.writes
 completed source sink cabinet door ends told (Import store None) end old new before after does none few can =

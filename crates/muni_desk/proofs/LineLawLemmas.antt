@@ -41,7 +41,7 @@ read-line (name ∷ words) line is = read-by name words line (bytes_eq name (cod
 said-read : (name : List ℕ) (words : List (List ℕ)) (command : DeskCommand) (workers : ℕ) → IsSaid (name ∷ words) command workers → command_of (name ∷ words) ≡ Some (record { command = command; workers = workers })
 said-read name words (QuoteOne request) workers said =
     ap (λ name. command_of (name ∷ words)) said.0 ∙ quote_one-read words request said.1 ∙ (λ i. Some (record { command = QuoteOne request; workers = sym said.2 i }))
-said-read name words (Quote request) workers said = ap (λ name. command_of (name ∷ words)) said.0 ∙ quote-read words request workers said.1
+said-read name words (Quote request each) workers said = ap (λ name. command_of (name ∷ words)) said.0 ∙ quote-read words request each workers said.1
 said-read name words (Import store listed) workers said = ap (λ name. command_of (name ∷ words)) said.0 ∙ import-read words store listed workers said.1
 said-read name words (Confirm store key) workers said =
     ap (λ name. command_of (name ∷ words)) said.0 ∙ confirm-read words store key said.1 ∙ (λ i. Some (record { command = Confirm store key; workers = sym said.2 i }))

@@ -1,19 +1,22 @@
 -- One answer is right for a command.
-use Rattle.std.proofs.Common.{◌≡◌, ℕ, zero, suc, ◌∷◌, [], ◌++◌, List, refl, sym, ap, ◌∙◌, subst, true, Result, Ok, Err, ℤ}
+use Rattle.std.proofs.Common.{◌≡◌, ℕ, zero, suc, ◌∷◌, [], ◌++◌, List, refl, sym, ap, ◌∙◌, subst, Bool, true, false, Option, Some, None, Result, Ok, Err, ℤ}
 use Rattle.std.specs.Prelude.{MatchResult}
 use Rattle.muni_rule.specs.Payments.{PaymentSeries}
 use Rattle.muni_rule.specs.WorthEnds.{WorthEnds}
 use Rattle.muni_days.specs.Day.{civil}
-use Rattle.muni_terms.specs.Check.{checked}
+use Rattle.muni_terms.specs.Check.{checked, fault_of, unless_fault}
 use Rattle.muni_terms.specs.declared.row.IssueRow.{IssueRow}
 use Rattle.muni_terms.specs.declared.row.TermsFault.{TermsFault}
 use Rattle.muni_msg.specs.declared.asked.Asked.{Asked}
 use Rattle.muni_msg.specs.declared.figures.Figures.{Figures}
 use Rattle.muni_msg.specs.declared.refusal.Refusal.{Refusal}
 use Rattle.muni_msg.specs.declared.refusal.Refusal.TheVariants.{BadTerms}
-use Rattle.muni_confirm.specs.Figures.{figure_text}
+use Rattle.muni_msg.specs.declared.each.EachRedemption.{EachRedemption}
+use Rattle.muni_confirm.specs.Each.{quoted_text}
 use Rattle.muni_confirm.specs.Refusal.{refusal_text}
 use Rattle.muni_book.specs.Answers.{IsRightAnswer}
+use Rattle.muni_book.specs.Each.{AreEach, AreWanted}
+use Rattle.muni_book.proofs.EachLemmas.{each-unique}
 use Rattle.muni_book.proofs.UniqueLemmas.{answers-unique}
 use Rattle.muni_desk.specs.Answers.{price_line, IsQuoteOneText, IsQuoteText, IsDrillText, IsHelpText, IsAnswer}
 use Rattle.muni_desk.specs.Drill.{IsDrilled, IsBook}
@@ -79,18 +82,29 @@ quote_one-same request Done other text also next is so = absurd so
 quote_one-same request Refused other text also next is so = absurd so
 quote_one-same request status other text also next is so = absurd is
 
-quote-same : (ends : PaymentSeries → ℤ → WorthEnds) (request : QuoteRequest) (status other : Status) (text also : List ℕ) → IsQuoteText ends request status text → IsQuoteText ends request other also → IsSame status other text also
-quote-same ends request Done Done text also is so =
-    let figures : is.0 ≡ so.0 = (let same : Ok is.0 ≡ Ok so.0 = answered-unique ends request.row request.asked (Ok is.0) (Ok so.0) is.1 so.1 in cc) in
-    record { ends = refl; writes = is.2 ∙ ap (λ it. figure_text it request.asked.given request.asked.fee) figures ∙ sym so.2 }
-quote-same ends request Done Refused text also is so = figures-either is.0 so.0 (answered-unique ends request.row request.asked (Ok is.0) (Err so.0) is.1 so.1)
-quote-same ends request Refused Done text also is so = figures-either so.0 is.0 (answered-unique ends request.row request.asked (Ok so.0) (Err is.0) so.1 is.1)
-quote-same ends request Refused Refused text also is so =
+-- ---- the redemption candidates beside figures
+of-checked : (ends : PaymentSeries → ℤ → WorthEnds) (row : IssueRow) (asked : Asked) (fault : Option TermsFault) (figures : Figures) → MatchResult (unless_fault row fault) (λ issue. IsRightAnswer ends issue asked (Ok figures)) (λ fault. Ok figures ≡ Err (BadTerms fault)) → IsRightAnswer ends row asked (Ok figures)
+of-checked ends row asked None figures is = is
+of-checked ends row asked (Some fault) figures is = absurd (let never : Ok figures ≡ Err (BadTerms fault) = is in cc)
+
+wanted-same : (ends : PaymentSeries → ℤ → WorthEnds) (request : QuoteRequest) (each : Bool) (figures : Figures) (one other : List EachRedemption) → IsAnswered ends request.row request.asked (Ok figures) → AreWanted each (AreEach ends request.row request.asked figures) one → AreWanted each (AreEach ends request.row request.asked figures) other → one ≡ other
+wanted-same ends request true figures one other answered is also = each-unique ends request.row request.asked figures one other (of-checked ends request.row request.asked (fault_of request.row) figures answered) is also
+wanted-same ends request false figures one other answered is also = is ∙ sym also
+
+quote-same : (ends : PaymentSeries → ℤ → WorthEnds) (request : QuoteRequest) (each : Bool) (status other : Status) (text also : List ℕ) → IsQuoteText ends request each status text → IsQuoteText ends request each other also → IsSame status other text also
+quote-same ends request each Done Done text also is so =
+    let figures : is.figures ≡ so.figures = (let same : Ok is.figures ≡ Ok so.figures = answered-unique ends request.row request.asked (Ok is.figures) (Ok so.figures) is.answered so.answered in cc) in
+    let shown : AreWanted each (AreEach ends request.row request.asked is.figures) so.lines.0 = subst (λ it. AreWanted each (AreEach ends request.row request.asked it) so.lines.0) (sym figures) so.lines.1 in
+    let lines : is.lines.0 ≡ so.lines.0 = wanted-same ends request each is.figures is.lines.0 so.lines.0 is.answered is.lines.1 shown in
+    record { ends = refl; writes = is.lines.2 ∙ (λ i. quoted_text (figures i) request.asked (lines i)) ∙ sym so.lines.2 }
+quote-same ends request each Done Refused text also is so = figures-either is.figures so.0 (answered-unique ends request.row request.asked (Ok is.figures) (Err so.0) is.answered so.1)
+quote-same ends request each Refused Done text also is so = figures-either so.figures is.0 (answered-unique ends request.row request.asked (Ok so.figures) (Err is.0) so.answered is.1)
+quote-same ends request each Refused Refused text also is so =
     let refusal : is.0 ≡ so.0 = (let same : Err is.0 ≡ Err so.0 = answered-unique ends request.row request.asked (Err is.0) (Err so.0) is.1 so.1 in cc) in
     record { ends = refl; writes = is.2 ∙ ap refusal_text refusal ∙ sym so.2 }
-quote-same ends request Done other text also is so = absurd so
-quote-same ends request Refused other text also is so = absurd so
-quote-same ends request status other text also is so = absurd is
+quote-same ends request each Done other text also is so = absurd so
+quote-same ends request each Refused other text also is so = absurd so
+quote-same ends request each status other text also is so = absurd is
 
 drill-same : (ends : PaymentSeries → ℤ → WorthEnds) (request : DrillRequest) (status other : Status) (text also : List ℕ) → IsDrillText ends request status text → IsDrillText ends request other also → IsSame status other text also
 drill-same ends request Done Done text also is so =
@@ -110,7 +124,7 @@ answer-by answer other same = λ i. record { status = same.ends i; text = record
 
 pub answer-unique : (ends : PaymentSeries → ℤ → WorthEnds) (command : DeskCommand) (answer other : Answer) → HasNextDate command → IsAnswer ends command answer → IsAnswer ends command other → answer ≡ other
 answer-unique ends (QuoteOne request) answer other next is also = answer-by answer other (quote_one-same request answer.status other.status answer.text.items other.text.items next is also)
-answer-unique ends (Quote request) answer other fine is also = answer-by answer other (quote-same ends request answer.status other.status answer.text.items other.text.items is also)
+answer-unique ends (Quote request each) answer other fine is also = answer-by answer other (quote-same ends request each answer.status other.status answer.text.items other.text.items is also)
 answer-unique ends (Drill request) answer other few is also = answer-by answer other (drill-same ends request answer.status other.status answer.text.items other.text.items is also)
 answer-unique ends Help answer other fine is also = answer-by answer other (help-same answer.status other.status answer.text.items other.text.items is also)
 answer-unique ends (Import store listed) answer other fine is also = absurd is

@@ -1,17 +1,18 @@
 -- Words of the command line against the rule.
-use Rattle.std.proofs.Common.{◌≡◌, ◌≢◌, ℕ, zero, suc, ◌+◌, ◌<◌, ◌≤◌, Bool, true, false, cond, ◌&&◌, List, [], ◌∷◌, ◌++◌, Option, Some, None, length, take, drop, refl, sym, ap, ◌∙◌, subst, arith}
+use Rattle.std.proofs.Common.{◌≡◌, ◌≢◌, ℕ, zero, suc, ◌+◌, ◌<◌, ◌≤◌, Bool, true, false, cond, ◌&&◌, ◌||◌, List, [], ◌∷◌, ◌++◌, Option, Some, None, length, take, drop, refl, sym, ap, ◌∙◌, subst, arith}
 use Rattle.std.specs.Prelude.{count_by, nat_le, nat_lt, nat_eq, ◌==◌, All, Contains}
 use Rattle.std.specs.Bool.{Decides}
+use Rattle.std.specs.Str.{bytes_eq}
 use Rattle.std.specs.List.{starts_with, list_any, position_or_len}
-use Rattle.std.proofs.lemmas.Bool.Decides.{nat_tests, Decides-eqb, Decides-by_and, Decides-by_or}
+use Rattle.std.proofs.lemmas.Bool.Decides.{nat_tests, Decides-eqb, Decides-or, Decides-by_and, Decides-by_or}
 use Rattle.std.proofs.lemmas.List.{append_cancel_left, length-append, length-drop, get_or_default}
 use Rattle.std.proofs.lemmas.List.Elements.{All-contains, All-from_recursion, Contains-get_or, at_from_Contains}
 use Rattle.std.proofs.lemmas.List.Sums.{sum_by-cons}
 use Rattle.std.proofs.lemmas.Option.{none-some, same_Some}
-use Rattle.std.proofs.lemmas.Slice.Eq.{starts_is}
-use Rattle.muni_desk.specs.Words.{word, is_option, are_known, are_single, are_options, count_of, value_of}
+use Rattle.std.proofs.lemmas.Slice.Eq.{starts_is, bytes_eq-Decides}
+use Rattle.muni_desk.specs.Words.{word, is_option, are_known, are_known_beside, are_single, are_options, are_options_beside, are_once, count_of, has_word, has_word_once, value_of}
 use Rattle.muni_desk.specs.QuoteOptions.{options}
-use Rattle.muni_desk.specs.WordLaws.{IsOption, IsKnown, IsSingle, Says, Lacks}
+use Rattle.muni_desk.specs.WordLaws.{IsOption, IsKnown, IsKnownBeside, IsOnceAtMost, Has, IsSingle, Says, Lacks}
 
 -- ---- tests
 pub both : (a b : Bool) → a && b ≡ true → (a ≡ true) × (b ≡ true)
@@ -129,6 +130,55 @@ options-read names single words are =
 
 pub are-options : (names single words : List (List ℕ)) → All (IsKnown names) words → All (IsSingle words) single → are_options names single words ≡ true
 are-options names single words known once = and-true (are_known names words) (are_single single words) ((knowns-decide names words).1 known) ((singles-decide single words).1 once)
+
+-- ---- a word that has no value
+plain-decides : (plain text : List ℕ) → Decides (bytes_eq text plain) (text ≡ plain)
+plain-decides plain text = bytes_eq-Decides text plain
+
+known-beside-decides : (plain : List ℕ) (names : List (List ℕ)) (text : List ℕ) → Decides (bytes_eq text plain || list_any (λ name. is_option name text) names) (IsKnownBeside plain names text)
+known-beside-decides plain names text = Decides-or (bytes_eq text plain) (list_any (λ name. is_option name text) names) (plain-decides plain text) (known-decides names text)
+
+knowns-beside-decide : (plain : List ℕ) (names words : List (List ℕ)) → Decides (are_known_beside plain names words) (All (IsKnownBeside plain names) words)
+knowns-beside-decide plain names words =
+    Decides-by_and (λ text. bytes_eq text plain || list_any (λ name. is_option name text) names) (IsKnownBeside plain names) (are_known_beside plain names) (known-beside-decides plain names) refl (λ _ _. refl) words
+
+once-decides : (plain : List ℕ) (words : List (List ℕ)) → Decides (has_word_once plain words) (IsOnceAtMost plain words)
+once-decides plain words = (
+  λ test. let few : count_by (λ word. bytes_eq word plain) words ≤ 1 = grind (arith, nat_tests) in
+      λ i j at_i at_j is also. at-most-one (λ word. bytes_eq word plain) words i j few at_i at_j ((plain-decides plain (word words i)).1 is) ((plain-decides plain (word words j)).1 also),
+  λ once. let few : count_by (λ word. bytes_eq word plain) words ≤ 1 = once-counted (λ word. bytes_eq word plain) words (λ i j at_i at_j is also. once i j at_i at_j ((plain-decides plain (word words i)).0 is) ((plain-decides plain (word words j)).0 also)) in
+      grind (arith, nat_tests),
+)
+
+pub options-read-beside : (plain : List ℕ) (names single words : List (List ℕ)) → are_options_beside plain names single words ≡ true → All (IsKnownBeside plain names) words × IsOnceAtMost plain words × All (IsSingle words) single
+options-read-beside plain names single words are =
+    let parts = both (are_known_beside plain names words) (are_once plain single words) are in
+    let others = both (has_word_once plain words) (are_single single words) parts.1 in
+    ((knowns-beside-decide plain names words).0 parts.0, (once-decides plain words).0 others.0, (singles-decide single words).0 others.1)
+
+pub are-options-beside : (plain : List ℕ) (names single words : List (List ℕ)) → All (IsKnownBeside plain names) words → IsOnceAtMost plain words → All (IsSingle words) single → are_options_beside plain names single words ≡ true
+are-options-beside plain names single words known once singles =
+    and-true (are_known_beside plain names words) (are_once plain single words) ((knowns-beside-decide plain names words).1 known)
+    (and-true (has_word_once plain words) (are_single single words) ((once-decides plain words).1 once) ((singles-decide single words).1 singles))
+
+has-decides : (plain : List ℕ) (words : List (List ℕ)) → Decides (has_word plain words) (Contains words plain)
+has-decides plain words =
+    let places = Decides-by_or (λ text. bytes_eq text plain) (λ text. text ≡ plain) (list_any (λ text. bytes_eq text plain)) (plain-decides plain) refl (λ _ _. refl) words in (
+      λ test. let at = places.0 test in subst (Contains words) (at.2 []) (Contains-get_or words at.0 [] at.1),
+      λ contained. let at = at_from_Contains words plain contained in places.1 (at.0, at.1, λ d. at.2 d),
+    )
+
+pub has-read : (plain : List ℕ) (words : List (List ℕ)) (each : Bool) → has_word plain words ≡ each → Has plain words each
+has-read plain words true is = (has-decides plain words).0 is
+has-read plain words false is = λ contained. (let has : has_word plain words ≡ true = (has-decides plain words).1 contained in cc)
+
+has-false : (plain : List ℕ) (words : List (List ℕ)) (each : Bool) → has_word plain words ≡ each → ¬ (Contains words plain) → has_word plain words ≡ false
+has-false plain words true is lacks = absurd (lacks ((has-decides plain words).0 is))
+has-false plain words false is lacks = is
+
+pub read-has : (plain : List ℕ) (words : List (List ℕ)) (each : Bool) → Has plain words each → has_word plain words ≡ each
+read-has plain words true has = (has-decides plain words).1 has
+read-has plain words false lacks = has-false plain words (has_word plain words) refl lacks
 
 -- ---- the value of an option
 value-here : (name text : List ℕ) (words : List (List ℕ)) → is_option name text ≡ true → value_of name (text ∷ words) ≡ Some (drop (length name) text)

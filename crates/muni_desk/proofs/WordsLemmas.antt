@@ -1,13 +1,14 @@
 -- Options among the words of the program, which are seen as their bytes.
 use Rattle.std.proofs.Common.{◌≡◌, ℕ, ◌<◌, Bool, true, false, ◌||◌, List, [], ◌∷◌, length, drop, map, Some, refl, ap, ◌∙◌, Bor, String, Global}
 use Rattle.std.specs.Prelude.{find, option_map, Option, if◌then◌else◌, string_bytes, nat_eq, nat_le, slice_index_or}
+use Rattle.std.specs.Str.{bytes_eq}
 use Rattle.std.specs.List.{starts_with, list_all, list_any}
 use Rattle.std.proofs.Math.ListN.{get_or-append}
 use Rattle.std.proofs.lemmas.Bool.{eq-eqb}
 use Rattle.std.proofs.lemmas.Bool.Decides.{Decides-eqb}
 use Rattle.std.proofs.lemmas.List.Folds.{list_all-map}
 use Rattle.std.proofs.lemmas.Slice.Eq.{starts_is}
-use Rattle.muni_desk.specs.Words.{is_option, are_known, are_single, count_of}
+use Rattle.muni_desk.specs.Words.{is_option, are_known, are_known_beside, are_single, count_of, has_word}
 
 found-map : {X Y : Type 0} (f : X → Y) (x : X) (test : Bool) (rest : Option X) (mapped : Option Y) → mapped ≡ option_map f rest → (if test then Some (f x) else mapped) ≡ option_map f (if test then Some x else rest)
 found-map f x true rest mapped same = refl
@@ -29,6 +30,12 @@ known-strings names words = simp (list_all-map, list_any-map)
 
 pub single-strings : (names : List (Bor (List ℕ))) (words : List (String Global)) → are_single (map (λ name. name.now) names) (map string_bytes words) ≡ list_all (λ name. nat_le (count_of name.now (map string_bytes words)) 1) names
 single-strings names words = simp list_all-map
+
+pub word_strings : (plain : List ℕ) (words : List (String Global)) → has_word plain (map string_bytes words) ≡ list_any (λ word. bytes_eq (string_bytes word) plain) words
+word_strings plain words = list_any-map (λ word. bytes_eq word plain) string_bytes words
+
+pub known_beside_strings : (plain : List ℕ) (names : List (Bor (List ℕ))) (words : List (String Global)) → are_known_beside plain (map (λ name. name.now) names) (map string_bytes words) ≡ list_all (λ word. bytes_eq (string_bytes word) plain || list_any (λ name. is_option name.now (string_bytes word)) names) words
+known_beside_strings plain names words = simp (list_all-map, list_any-map)
 
 -- a word that starts with a name has its letters
 pub same_letter : (word name : List ℕ) (place : ℕ) → place < length name → starts_with nat_eq word name ≡ true → nat_eq (slice_index_or word place 0) (slice_index_or name place 0) ≡ true

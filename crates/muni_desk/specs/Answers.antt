@@ -1,13 +1,17 @@
 -- What the desk says to a command, by the price, the figures or the sums that are right for it.
 -- `ends` are those that the encloser gives to payments and a yield. What is said is no fact of the workers.
-use Rattle.std.specs.Prelude.{◌≡◌, ◌++◌, ◌∷◌, [], List, ℕ, Ok, Err, ℤ}
+use Rattle.std.specs.Prelude.{◌≡◌, ◌++◌, ◌∷◌, [], Bool, List, ℕ, Ok, Err, ℤ}
 use Rattle.muni_rule.specs.Payments.{PaymentSeries}
 use Rattle.muni_rule.specs.WorthEnds.{WorthEnds}
 use Rattle.muni_dec.specs.Decimal.{decimal_text}
+use Rattle.muni_terms.specs.declared.row.IssueRow.{IssueRow}
+use Rattle.muni_msg.specs.declared.asked.Asked.{Asked}
+use Rattle.muni_msg.specs.declared.each.EachRedemption.{EachRedemption}
 use Rattle.muni_msg.specs.declared.figures.Figures.{Figures}
 use Rattle.muni_msg.specs.declared.refusal.Refusal.{Refusal}
-use Rattle.muni_confirm.specs.Figures.{figure_text}
+use Rattle.muni_confirm.specs.Each.{quoted_text}
 use Rattle.muni_confirm.specs.Refusal.{refusal_text}
+use Rattle.muni_book.specs.Each.{AreEach, AreWanted}
 use Rattle.muni_desk.specs.Drill.{IsSummary}
 use Rattle.muni_desk.specs.Help.{help_text}
 use Rattle.muni_desk.specs.QuoteOne.{IsPriced}
@@ -32,14 +36,24 @@ IsQuoteOneText request Refused text =
     (refusal : Refusal) × IsPriced request (Err refusal) × (text ≡ refusal_text refusal)
 IsQuoteOneText request status text = ⊥
 
+-- the lines of figures, with the redemption candidates if they are wanted
+abbrev pub IsTextOf : (ends : PaymentSeries → ℤ → WorthEnds) → IssueRow → Asked → Figures → Bool → List ℕ → Type 0
+IsTextOf ends row asked figures wanted text =
+    (each : List EachRedemption) × AreWanted wanted (AreEach ends row asked figures) each
+    × (text ≡ quoted_text figures asked each)
+
+-- and those are right
+pub record IsQuoted (ends : PaymentSeries → ℤ → WorthEnds) (request : QuoteRequest) (wanted : Bool) (text : List ℕ) : Type 0 where
+  pub figures : Figures
+  pub answered : IsAnswered ends request.row request.asked (Ok figures)
+  pub lines : IsTextOf ends request.row request.asked figures wanted text
+
 -- `quote`: the lines show the figures, or the line says the refusal that applies
-abbrev pub IsQuoteText : (ends : PaymentSeries → ℤ → WorthEnds) → QuoteRequest → Status → List ℕ → Type 0
-IsQuoteText ends request Done text =
-    (figures : Figures) × IsAnswered ends request.row request.asked (Ok figures)
-    × (text ≡ figure_text figures request.asked.given request.asked.fee)
-IsQuoteText ends request Refused text =
+abbrev pub IsQuoteText : (ends : PaymentSeries → ℤ → WorthEnds) → QuoteRequest → Bool → Status → List ℕ → Type 0
+IsQuoteText ends request wanted Done text = IsQuoted ends request wanted text
+IsQuoteText ends request wanted Refused text =
     (refusal : Refusal) × IsAnswered ends request.row request.asked (Err refusal) × (text ≡ refusal_text refusal)
-IsQuoteText ends request status text = ⊥
+IsQuoteText ends request wanted status text = ⊥
 
 -- `drill`: the lines are the summary
 abbrev pub IsDrillText : (ends : PaymentSeries → ℤ → WorthEnds) → DrillRequest → Status → List ℕ → Type 0
@@ -54,7 +68,7 @@ IsHelpText status text = ⊥
 -- the answer is right; a command over a store is answered from it, and by no text of its own
 abbrev pub IsAnswer : (ends : PaymentSeries → ℤ → WorthEnds) → DeskCommand → Answer → Type 0
 IsAnswer ends (QuoteOne request) answer = IsQuoteOneText request answer.status answer.text.items
-IsAnswer ends (Quote request) answer = IsQuoteText ends request answer.status answer.text.items
+IsAnswer ends (Quote request wanted) answer = IsQuoteText ends request wanted answer.status answer.text.items
 IsAnswer ends (Import store listed) answer = ⊥
 IsAnswer ends (Confirm store key) answer = ⊥
 IsAnswer ends (Serve store port connections) answer = ⊥

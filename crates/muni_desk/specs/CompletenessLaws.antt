@@ -53,7 +53,7 @@ IsAnsweredOverStore status = IsAnswered status
 
 abbrev pub IsCompleted : DeskCommand → Status → Type 0
 IsCompleted (QuoteOne request) status = IsAnswered status
-IsCompleted (Quote request) status = IsAnswered status
+IsCompleted (Quote request each) status = IsAnswered status
 IsCompleted (Import store listed) status = IsAnsweredOverStore status
 IsCompleted (Confirm store key) status = IsAnsweredOverStore status
 IsCompleted (Serve store port connections) status = IsAnsweredOverStore status

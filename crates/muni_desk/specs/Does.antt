@@ -28,7 +28,7 @@ pub record Says {O : Type 0} (sink : Sink.Ghosts O) (IsRight : Answer → Type 0
 -- what the command does, if `told` is what each link of the door exposes
 abbrev pub Does : {I O C K D L : Type 0} → Source.Ghosts I → Sink.Ghosts O → Cabinet.Ghosts C K → Door.Ghosts D L → (ends : PaymentSeries → ℤ → WorthEnds) → (told : L → Traffic) → DeskCommand → Status → (old new : Lent I O C) → (before after : D) → Type 0
 Does source sink cabinet door ends told (QuoteOne request) status old new before after = Says sink (IsAnswer ends (QuoteOne request)) status old.output new.output
-Does source sink cabinet door ends told (Quote request) status old new before after = Says sink (IsAnswer ends (Quote request)) status old.output new.output
+Does source sink cabinet door ends told (Quote request each) status old new before after = Says sink (IsAnswer ends (Quote request each)) status old.output new.output
 Does source sink cabinet door ends told (Import store None) status old new before after = Imports source sink cabinet (IsRightAnswer ends) store.items status old new
 Does source sink cabinet door ends told (Import store (Some desk)) status old new before after = ImportsWith source sink cabinet (IsRightAnswer ends) store.items desk status old new
 Does source sink cabinet door ends told (Confirm store key) status old new before after = Confirms sink cabinet store.items key status old new
@@ -44,7 +44,7 @@ Does source sink cabinet door ends told Help status old new before after = Says 
 -- and the output if nothing is confirmed, listed or marked for a fault of the store.
 abbrev pub Spares : DeskCommand → Status → (input output cabinet door : Type 0) → Type 0
 Spares (QuoteOne request) status input output cabinet door = input × cabinet × door
-Spares (Quote request) status input output cabinet door = input × cabinet × door
+Spares (Quote request each) status input output cabinet door = input × cabinet × door
 Spares (Import store listed) ReadFault input output cabinet door = output × cabinet × door
 Spares (Import store listed) TooLarge input output cabinet door = output × cabinet × door
 Spares (Import store listed) status input output cabinet door = door

@@ -12,7 +12,7 @@ help_of (word ∷ words) = None
 abbrev pub help_text : List ℕ
 help_text =
     codes "quote-one COUPON NEXT SETTLE REDEMPTION YIELD\n"
-    ++ (codes "quote --kind --dated --maturity --settle --yield|--price|--rate --first --coupon --call --par --workers --days\n"
+    ++ (codes "quote --kind --dated --maturity --settle --yield|--price|--rate --first --coupon --call --par --workers --days --each\n"
     ++ (codes "import --store --workers --positions\n"
     ++ (codes "confirm --store --desk --ref\n"
     ++ (codes "serve --store --port --connections --workers\n"

@@ -15,7 +15,7 @@ use Rattle.muni_msg.specs.Fields.{day_in, kind_reading, basis_reading, call_read
 use Rattle.muni_msg.specs.declared.asked.Asked.{Asked}
 use Rattle.muni_msg.specs.declared.asked.Given.{Given}
 use Rattle.muni_msg.specs.declared.asked.Side.TheVariants.{Buy}
-use Rattle.muni_desk.specs.Words.{◌>>=◌, are_options, value_of, values_of}
+use Rattle.muni_desk.specs.Words.{◌>>=◌, are_options_beside, has_word, value_of, values_of}
 use Rattle.muni_desk.specs.declared.command.DeskCommand.TheVariants.{Quote}
 use Rattle.muni_desk.specs.declared.command.CommandLine.{CommandLine}
 
@@ -29,6 +29,10 @@ single_options =
 -- all options
 abbrev pub options : List (List ℕ)
 options = codes "--call=" ∷ single_options
+
+-- the word by which the figure of each redemption candidate is wanted
+abbrev pub each_word : List ℕ
+each_word = codes "--each"
 
 -- a date that an option gives
 abbrev pub date_of : List ℕ → List (List ℕ) → Option Day
@@ -115,14 +119,15 @@ asked_of words = do
   given ← given_of words
   Some (record { cusip = codes "000000000"; par = par; settle = settle; given = given; side = Buy; fee = 0 })
 
--- a request, and how many workers may compute
+-- a request, whether the redemption candidates are wanted, and how many workers may compute
 abbrev pub command_line : List (List ℕ) → Option CommandLine
 command_line words = do
   row ← row_of words
   asked ← asked_of words
   workers ← workers_of words
-  Some (record { command = Quote (record { row = row; asked = asked }); workers = workers })
+  Some (record { command = Quote (record { row = row; asked = asked }) (has_word each_word words); workers = workers })
 
--- what words ask for that are options of the command
+-- what words ask for that are options of the command, and perhaps the word by which each redemption is wanted
 abbrev pub quote_of : List (List ℕ) → Option CommandLine
-quote_of words = if are_options options single_options words then command_line words else None
+quote_of words =
+    if are_options_beside each_word options single_options words then command_line words else None

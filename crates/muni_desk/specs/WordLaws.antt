@@ -1,5 +1,5 @@
 -- What the words of a command line say, in the rule's own words.
-use Rattle.std.specs.Prelude.{◌≡◌, ◌≢◌, ◌<◌, ◌≤◌, ◌↔◌, ◌⊎◌, ℕ, List, [], ◌∷◌, ◌++◌, length, map, filter, All, Contains, codes, Option, Some, None, Ok}
+use Rattle.std.specs.Prelude.{◌≡◌, ◌≢◌, ◌<◌, ◌≤◌, ◌↔◌, ◌⊎◌, ℕ, Bool, true, false, List, [], ◌∷◌, ◌++◌, length, map, filter, All, Contains, codes, Option, Some, None, Ok}
 use Rattle.std.specs.Char.{is_ascii_alphanumeric}
 use Rattle.std.specs.List.{AllZip}
 use Rattle.arrayvec.specs.ArrayVec.{ArrayVec}
@@ -45,6 +45,20 @@ pub record IsKnown (names : List (List ℕ)) (text : List ℕ) : Type 0 where
   pub name : List ℕ
   pub listed : Contains names name
   pub is_its : IsOption name text
+
+-- the option of one of these names, or this word, which has no value
+abbrev pub IsKnownBeside : List ℕ → List (List ℕ) → List ℕ → Type 0
+IsKnownBeside plain names text = (text ≡ plain) ⊎ IsKnown names text
+
+-- a word is at one place at most
+abbrev pub IsOnceAtMost : List ℕ → List (List ℕ) → Type 0
+IsOnceAtMost plain words =
+    (i j : ℕ) → i < length words → j < length words → word words i ≡ plain → word words j ≡ plain → i ≡ j
+
+-- it is among words, or is not
+abbrev pub Has : List ℕ → List (List ℕ) → Bool → Type 0
+Has plain words true = Contains words plain
+Has plain words false = ¬ (Contains words plain)
 
 -- the option of a name is at one place at most
 abbrev pub IsSingle : List (List ℕ) → List ℕ → Type 0
@@ -162,10 +176,13 @@ pub record SaysAsked (words : List (List ℕ)) (asked : Asked) : Type 0 where
   pub side : asked.side ≡ Buy
   pub fee : asked.fee ≡ 0
 
--- words after `quote`: from 1 to 16 workers, and one if no number is given
-pub record IsQuote (words : List (List ℕ)) (request : QuoteRequest) (workers : ℕ) : Type 0 where
-  pub known : All (IsKnown options) words
+-- words after `quote`: from 1 to 16 workers, and one if no number is given; the redemption candidates are
+-- wanted if `--each` is among them
+pub record IsQuote (words : List (List ℕ)) (request : QuoteRequest) (each : Bool) (workers : ℕ) : Type 0 where
+  pub known : All (IsKnownBeside (codes "--each") options) words
+  pub once : IsOnceAtMost (codes "--each") words
   pub single : All (IsSingle words) single_options
+  pub wanted : Has (codes "--each") words each
   pub terms : SaysTerms words request.row
   pub asked : SaysAsked words request.asked
   pub at_once :
@@ -268,8 +285,8 @@ abbrev pub IsSaid : List (List ℕ) → DeskCommand → ℕ → Type 0
 IsSaid [] command workers = ⊥
 IsSaid (name ∷ words) (QuoteOne request) workers =
     (name ≡ codes "quote-one") × IsQuoteOne words request × (workers ≡ 1)
-IsSaid (name ∷ words) (Quote request) workers =
-    (name ≡ codes "quote") × IsQuote words request workers
+IsSaid (name ∷ words) (Quote request each) workers =
+    (name ≡ codes "quote") × IsQuote words request each workers
 IsSaid (name ∷ words) (Import store listed) workers =
     (name ≡ codes "import") × IsImport words store listed workers
 IsSaid (name ∷ words) (Confirm store key) workers =

@@ -1,6 +1,7 @@
 -- Words of the command line, and the options among them. The name of an option is given with its dashes
 -- and its equals sign.
-use Rattle.std.specs.Prelude.{ℕ, ◌&&◌, Bool, nat_eq, nat_lt, nat_le, if◌then◌else◌, List, [], length, drop, slice_index_or, find, count_by, Option, Some, None, option_and_then}
+use Rattle.std.specs.Prelude.{ℕ, ◌&&◌, ◌||◌, Bool, nat_eq, nat_lt, nat_le, if◌then◌else◌, List, [], length, drop, slice_index_or, find, count_by, Option, Some, None, option_and_then}
+use Rattle.std.specs.Str.{bytes_eq}
 use Rattle.std.specs.List.{starts_with, list_all, list_any, filter_map}
 
 infixl 10 ◌>>=◌
@@ -33,6 +34,26 @@ are_single names words = list_all (λ name. nat_le (count_of name words) 1) name
 
 abbrev pub are_options : (names single : List (List ℕ)) → List (List ℕ) → Bool
 are_options names single words = are_known names words && are_single single words
+
+-- a word that has no value is among words, and once at most
+abbrev pub has_word : List ℕ → List (List ℕ) → Bool
+has_word plain words = list_any (λ word. bytes_eq word plain) words
+
+abbrev pub has_word_once : List ℕ → List (List ℕ) → Bool
+has_word_once plain words = nat_le (count_by (λ word. bytes_eq word plain) words) 1
+
+-- each word is this one, or the option of one of these names
+abbrev pub are_known_beside : List ℕ → List (List ℕ) → List (List ℕ) → Bool
+are_known_beside plain names words =
+    list_all (λ word. bytes_eq word plain || list_any (λ name. is_option name word) names) words
+
+-- the word and the options are there once at most
+abbrev pub are_once : List ℕ → List (List ℕ) → List (List ℕ) → Bool
+are_once plain single words = has_word_once plain words && are_single single words
+
+abbrev pub are_options_beside : List ℕ → (names single : List (List ℕ)) → List (List ℕ) → Bool
+are_options_beside plain names single words =
+    are_known_beside plain names words && are_once plain single words
 
 -- the value of the first option of a name
 abbrev pub value_of : List ℕ → List (List ℕ) → Option (List ℕ)

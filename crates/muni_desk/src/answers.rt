@@ -1,24 +1,24 @@
 //! What the desk says to a command that is answered by a text.
 
-ghost use Rattle.std.specs.Prelude.{◌≡◌, ◌++◌, ◌∷◌, []};
-ghost use Rattle.muni_confirm.specs.Figures.{figure_text};
+ghost use Rattle.std.specs.Prelude.{◌≡◌, ◌++◌, ◌∷◌, [], length, ◌≤◌, Ok};
 ghost use Rattle.muni_confirm.specs.Refusal.{refusal_text};
+ghost use Rattle.muni_book.specs.Answers.{IsRightAnswer};
 ghost use Rattle.muni_desk.specs.Answers as spec;
 
 use crate::drill::{DrillRequest, summary_of};
 use crate::help::help_text;
 use crate::quote_one::last_period_price;
-use crate::request::answer_of;
 use crate::{Answer, QuoteOneRequest, QuoteRequest, Status};
 use arrayvec::ArrayVec;
-use muni_book::Calculator;
-use muni_confirm::{figure_lines, refusal_line};
+use muni_book::{Calculator, each_redemption, figures};
+use muni_confirm::{figure_lines, push_each, refusal_line};
 use muni_dec::Price3;
 use muni_dec::text::push;
 use muni_edge::Gate;
 use muni_msg::{Asked, Figures, Refusal};
 use muni_multi::Encloser;
 use muni_sched::Schedule;
+use muni_terms::{Issue, check};
 use std::thread::Threads;
 
 /// The price, or the refusal that applies first.
@@ -35,14 +35,41 @@ pub fn quote_one_answer(request: &QuoteOneRequest) -> Answer
 pub fn quote_answer<R: Threads + Sync, E: Encloser + Sync, G: Gate + Sync>(
     calculator: &Calculator<'_, R, E, G>,
     request: QuoteRequest,
+    each: bool,
 ) -> Answer
-    ensures { spec.IsQuoteText (E.ends calculator.now.encloser.now) request result.status result.text.items }
+    ensures { spec.IsQuoteText (E.ends calculator.now.encloser.now) request each result.status
+        result.text.items }
 {
     let QuoteRequest { row, asked } = request;
-    match answer_of(calculator, row, &asked, &mut Schedule::new()) {
-        Ok(figures) => done(figures_text(&figures, &asked)),
+    let issue = match check(row) {
+        Ok(issue) => issue,
+        Err(fault) => return refused(&Refusal::BadTerms(fault)),
+    };
+    match figures(calculator, &issue, &asked, &mut Schedule::new()) {
+        Ok(found) => done(quoted(calculator, &issue, &asked, &found, each)),
         Err(refusal) => refused(&refusal),
     }
+}
+
+// The text of figures, with the redemption candidates if they are wanted.
+fn quoted<R: Threads + Sync, E: Encloser + Sync, G: Gate + Sync>(
+    calculator: &Calculator<'_, R, E, G>,
+    issue: &Issue,
+    asked: &Asked,
+    found: &Figures,
+    each: bool,
+) -> ArrayVec<u8, 10624>
+    requires { IsRightAnswer (E.ends calculator.now.encloser.now) issue.now asked.now (Ok found.now) }
+    ensures { spec.IsTextOf (E.ends calculator.now.encloser.now) issue.now asked.now found.now each
+        result.items }
+{
+    let mut lines = ArrayVec::new();
+    figure_lines(found, &asked.given, asked.fee, &mut lines);
+    let mut text = said(&lines);
+    if each {
+        push_each(&mut text, &each_redemption(calculator, issue, asked, found));
+    }
+    text
 }
 
 /// The sums over a generated book.
@@ -53,25 +80,26 @@ pub fn drill_answer<R: Threads + Sync, E: Encloser + Sync, G: Gate + Sync>(
 ) -> Answer
     ensures { spec.IsDrillText (E.ends calculator.now.encloser.now) request result.status result.text.items }
 {
-    done(summary_of(calculator, request))
+    done(said(&summary_of(calculator, request)))
 }
 
 /// What the program can be asked for.
 pub fn help_answer() -> Answer
     ensures { spec.IsHelpText result.status result.text.items }
 {
-    done(help_text())
+    done(said(&help_text()))
 }
 
-fn figures_text(figures: &Figures, asked: &Asked) -> ArrayVec<u8, 512>
-    ensures { result.items ≡ figure_text figures.now asked.now.given asked.now.fee }
+fn said(lines: &[u8]) -> ArrayVec<u8, 10624>
+    requires { length lines.now ≤ 512 }
+    ensures { result.items ≡ lines.now }
 {
     let mut text = ArrayVec::new();
-    figure_lines(figures, &asked.given, asked.fee, &mut text);
+    push(&mut text, lines);
     text
 }
 
-fn done(text: ArrayVec<u8, 512>) -> Answer
+fn done(text: ArrayVec<u8, 10624>) -> Answer
     ensures status { result.status ≡ Status.Done }
     ensures text { result.text ≡ text }
 {
@@ -95,7 +123,7 @@ fn refused(refusal: &Refusal) -> Answer
     }
 }
 
-fn price_line(price: Price3) -> ArrayVec<u8, 512>
+fn price_line(price: Price3) -> ArrayVec<u8, 10624>
     ensures { result.items ≡ spec.price_line price }
 {
     let mut number = ArrayVec::new();

@@ -18,8 +18,11 @@ use muni_msg::{DeskName, Key};
 pub enum DeskCommand {
     /// The price of a security in its last interest period.
     QuoteOne(QuoteOneRequest),
-    /// The figures of a security.
-    Quote(QuoteRequest),
+    /// The figures of a security, and those of each redemption candidate by itself if they are wanted.
+    Quote {
+        request: QuoteRequest,
+        each: bool,
+    },
     /// To apply the rows of the input to the tables of a store, and to list the positions of a desk
     /// after them if one is named. A name of a store has 1 to 200 printing bytes, and no blank.
     Import {

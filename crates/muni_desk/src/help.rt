@@ -9,7 +9,7 @@ use muni_book::Workers;
 use muni_dec::text::push;
 
 const TEXT: &[u8] = b"quote-one COUPON NEXT SETTLE REDEMPTION YIELD\n\
-quote --kind --dated --maturity --settle --yield|--price|--rate --first --coupon --call --par --workers --days\n\
+quote --kind --dated --maturity --settle --yield|--price|--rate --first --coupon --call --par --workers --days --each\n\
 import --store --workers --positions\n\
 confirm --store --desk --ref\n\
 serve --store --port --connections --workers\n\

@@ -113,7 +113,9 @@ fn carry_out<
 {
     match command {
         DeskCommand::QuoteOne(request) => say(&quote_one_answer(&request), output),
-        DeskCommand::Quote(request) => { say(&quote_answer(calculator, request), output) }
+        DeskCommand::Quote { request, each } => {
+            say(&quote_answer(calculator, request, each), output)
+        }
         DeskCommand::Import { store, listed } => match listed {
             Some(desk) => Status::of_done(import_with_positions(
                 calculator, alloc, &store, &desk, input, output, cabinet,

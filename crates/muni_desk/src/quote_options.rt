@@ -6,7 +6,7 @@ ghost use Rattle.muni_desk.specs.QuoteOptions as spec;
 
 use crate::command::{CommandLine, DeskCommand};
 use crate::request::{NO_CUSIP, QuoteRequest, issue_name};
-use crate::words::{WORKERS, are_options, value_in, value_of};
+use crate::words::{WORKERS, are_options_beside, has_word, value_in, value_of};
 use arrayvec::ArrayVec;
 use muni_book::Workers;
 use muni_days::{Basis, Day};
@@ -39,23 +39,29 @@ const RATE: &[u8] = b"--rate=";
 
 const DAYS: &[u8] = b"--days=";
 
+const EACH: &[u8] = b"--each";
+
 // Each but the first is given once at most.
 const NAMES: [&[u8]; 13] = [
     CALL, KIND, DATED, FIRST, MATURITY, COUPON, SETTLE, PAR, YIELD, PRICE, RATE, WORKERS, DAYS,
 ];
 
-/// What words ask for, if they are options of `quote`, in any order.
+/// What words ask for, if they are options of `quote` and perhaps `--each`, in any order.
+#[tactic(auto, using(crate::proofs::WordsLemmas::word_strings))]
 pub fn read_quote(words: &[String]) -> Option<CommandLine>
     ensures { result ≡ spec.quote_of (map string_bytes words.now) }
 {
-    if !are_options(words, &NAMES, &NAMES[1..]) {
+    if !are_options_beside(words, EACH, &NAMES, &NAMES[1..]) {
         return None;
     }
     let row = read_row(words)?;
     let asked = read_asked(words)?;
     let workers = read_workers(words)?;
     Some(CommandLine {
-        command: DeskCommand::Quote(QuoteRequest { row, asked }),
+        command: DeskCommand::Quote {
+            request: QuoteRequest { row, asked },
+            each: has_word(words, EACH),
+        },
         workers,
     })
 }

@@ -99,5 +99,5 @@ impl Status {
 #[derive(Drop)]
 pub struct Answer {
     pub status: Status,
-    pub text: ArrayVec<u8, 512>,
+    pub text: ArrayVec<u8, 10624>,
 }

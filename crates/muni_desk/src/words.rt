@@ -1,7 +1,8 @@
 //! Words of the command line, and the options among them.
 
-ghost use Rattle.std.specs.Prelude.{◌≡◌, ◌<◌, length, map, find, nat_le, string_bytes};
+ghost use Rattle.std.specs.Prelude.{◌≡◌, ◌<◌, ◌||◌, length, map, find, nat_le, string_bytes};
 ghost use Rattle.std.specs.List.{list_all, list_any};
+ghost use Rattle.std.specs.Str.{bytes_eq};
 ghost use Rattle.std.specs.Option.{option_map};
 ghost use Rattle.muni_desk.specs.Words as spec;
 
@@ -76,6 +77,57 @@ pub fn are_options(words: &[String], names: &[&[u8]], single: &[&[u8]]) -> bool
         (map (λ name. name.now) single.now) (map string_bytes words.now) }
 {
     are_known(words, names) && are_single(words, single)
+}
+
+fn is_word(word: &[u8], plain: &[u8]) -> bool
+    ensures { result ≡ bytes_eq word.now plain.now }
+{
+    word == plain
+}
+
+fn is_known_beside(word: &[u8], plain: &[u8], names: &[&[u8]]) -> bool
+    ensures { result ≡ (bytes_eq word.now plain.now
+        || list_any (λ name. spec.is_option name.now word.now) names.now) }
+{
+    is_word(word, plain) || is_any_option(word, names)
+}
+
+/// Whether a word that has no value is among others.
+pub fn has_word(words: &[String], plain: &[u8]) -> bool
+    ensures { result ≡ list_any (λ word. bytes_eq (string_bytes word) plain.now) words.now }
+{
+    words.iter().any(|word| is_word(word.as_bytes(), plain))
+}
+
+fn has_word_once(words: &[String], plain: &[u8]) -> bool
+    ensures { result ≡ spec.has_word_once plain.now (map string_bytes words.now) }
+{
+    words.iter().filter(|word| word.as_bytes() == plain).count() <= 1
+}
+
+fn are_known_beside(words: &[String], plain: &[u8], names: &[&[u8]]) -> bool
+    ensures { result ≡ list_all (λ word. bytes_eq (string_bytes word) plain.now
+        || list_any (λ name. spec.is_option name.now (string_bytes word)) names.now) words.now }
+{
+    words
+        .iter()
+        .all(|word| is_known_beside(word.as_bytes(), plain, names))
+}
+
+// Whether the word and each option stand once at most.
+fn are_once(words: &[String], plain: &[u8], single: &[&[u8]]) -> bool
+    ensures { result ≡ spec.are_once plain.now (map (λ name. name.now) single.now)
+        (map string_bytes words.now) }
+{
+    has_word_once(words, plain) && are_single(words, single)
+}
+
+/// The same as `are_options`, if one word that has no value may be among them once.
+pub fn are_options_beside(words: &[String], plain: &[u8], names: &[&[u8]], single: &[&[u8]]) -> bool
+    ensures { result ≡ spec.are_options_beside plain.now (map (λ name. name.now) names.now)
+        (map (λ name. name.now) single.now) (map string_bytes words.now) }
+{
+    are_known_beside(words, plain, names) && are_once(words, plain, single)
 }
 
 fn find_option<'a>(words: &'a [String], name: &[u8]) -> Option<&'a String>

@@ -30,7 +30,7 @@ due-answered : (Prices : Pricing) (old new : Option Tables) (before now : ℕ) (
     → IsAnswerToSome Prices old link (served.Answered status) new after
 unfolding IsAnswerToSome
 due-answered Prices old new before now link after answer status faults none rose is written (inl due) =
-    (Whole due.command, due.asks, (due.reply, due.step, written-whole answer (reply_answer due.reply) link after status due.is is written))
+    (Whole due.command, due.asks, (due.reply, due.each, due.step, due.beside, written-whole answer (reply_answer due.reply due.each) link after status due.is is written))
 due-answered Prices old new before now link after answer status faults none rose is written (inr (inl due)) =
     (Faulty due.kind, due.asks, (written-whole answer (bad_answer due.kind) link after status due.is is written, due.tables))
 due-answered Prices old new before now link after answer status faults none rose is written (inr (inr due)) =

@@ -13,7 +13,7 @@ use Rattle.muni_wire.specs.declared.fault.Bad.{Bad}
 use Rattle.muni_wire.proofs.UniqueLemmas.{heads-once}
 use Rattle.muni_desk_serve.specs.Answer.{Answer, reply_answer}
 use Rattle.muni_desk_serve.specs.Connections.{Exchange, AreServed}
-use Rattle.muni_desk_serve.specs.Follow.{HasAnswer, WasAnswered, HasCome, IsReplied, RepliesAgain}
+use Rattle.muni_desk_serve.specs.Follow.{HasAnswerOf, WasAnswered, HasCome, IsReplied, RepliesAgain}
 use Rattle.muni_desk_serve.specs.Serves.{Traffic, Asks, IsDue, Serves}
 use Rattle.muni_desk_serve.specs.declared.served.Served.{Served}
 use Rattle.muni_desk_serve.specs.declared.served.Served.TheVariants as served
@@ -65,7 +65,7 @@ come-same exchange command other come asks = cc (heads-once come.bytes (Whole co
 record GotReply (Prices : Pricing) (old : Tables) (exchange : Exchange) (command : Command) (new : Option Tables) : Type 0 where
   reply : Reply
   step : StepsTo Prices old command reply new
-  has : HasAnswer exchange (reply_answer reply)
+  has : HasAnswerOf exchange reply
 
 due-got : (Prices : Pricing) (old : Tables) (link then : Traffic) (answer : Answer) (command : Command) (new : Option Tables) (status faults : ℕ)
     → IsDue Prices (Some old) link answer new faults → HasCome (record { before = link; after = then; came = served.Answered status }) command → status ≢ 503
@@ -75,7 +75,7 @@ due-got Prices old link then answer command new status faults (inl due) come oth
     record {
       reply = due.reply;
       step = subst (λ c. StepsTo Prices old c due.reply new) (come-same (record { before = link; after = then; came = served.Answered status }) command due.command come due.asks) due.step;
-      has = written-whole answer (reply_answer due.reply) link then status due.is is written;
+      has = (due.each, due.beside, written-whole answer (reply_answer due.reply due.each) link then status due.is is written);
     }
 due-got Prices old link then answer command new status faults (inr (inl due)) come other is written =
     absurd (come-bad (record { before = link; after = then; came = served.Answered status }) command due.kind come due.asks)
@@ -130,14 +130,14 @@ again-replied Prices old between again command first entry commands replies new 
       (λ reply repeated. (step-again Prices old between command first reply entry commands replies new keeps accepted step run repeated).1),
   λ status answered other.
       let got = got-reply Prices between again.before again.after again.came command new status faults serves come answered other in
-      subst (λ reply. HasAnswer again (reply_answer reply)) (step-again Prices old between command first got.reply entry commands replies new keeps accepted step run got.step).0 got.has,
+      subst (λ reply. HasAnswerOf again reply) (step-again Prices old between command first got.reply entry commands replies new keeps accepted step run got.step).0 got.has,
 )
 
 -- from the first of the two on
 act-once-from : (Prices : Pricing) (old : Tables) (first : Exchange) (between : List Exchange) (again : Exchange) (later : List Exchange) (new : Option Tables) (faults : ℕ) (command : Command) (status : ℕ)
     → AreServed Prices (Some old) (first ∷ (between ++ again ∷ later)) new faults → AsksToKeep command → HasCome first command → HasCome again command
     → WasAnswered first status → status ≢ 503
-    → (reply : Reply) × HasAnswer first (reply_answer reply) × (IsAccepted reply → RepliesAgain Prices (Some old) (first ∷ between) again later new reply)
+    → (reply : Reply) × HasAnswerOf first reply × (IsAccepted reply → RepliesAgain Prices (Some old) (first ∷ between) again later new reply)
 unfolding AreServed
 act-once-from Prices old first between again later new faults command status (kept, one, more, is, serves, rest) keeps come again_come answered other =
     let got = got-reply Prices old first.before first.after first.came command kept status one serves come answered other in
@@ -167,7 +167,7 @@ act-once-from Prices old first between again later new faults command status (ke
 pub connections-act-once : (Prices : Pricing) (old : Tables) (earlier : List Exchange) (first : Exchange) (between : List Exchange) (again : Exchange) (later : List Exchange) (new : Option Tables) (faults : ℕ) (command : Command) (status : ℕ)
     → AreServed Prices (Some old) (earlier ++ (first ∷ (between ++ again ∷ later))) new faults → AsksToKeep command → HasCome first command → HasCome again command
     → WasAnswered first status → status ≢ 503
-    → (reply : Reply) × HasAnswer first (reply_answer reply) × (IsAccepted reply → RepliesAgain Prices (Some old) (earlier ++ first ∷ between) again later new reply)
+    → (reply : Reply) × HasAnswerOf first reply × (IsAccepted reply → RepliesAgain Prices (Some old) (earlier ++ first ∷ between) again later new reply)
 connections-act-once Prices old earlier first between again later new faults command status served keeps come again_come answered other =
     let parts = served-parts Prices (Some old) earlier (first ∷ (between ++ again ∷ later)) new faults served in
     let run = connections-run Prices old earlier parts.mid parts.faults parts.before in

@@ -5,24 +5,26 @@ use Rattle.std.proofs.lemmas.List.Elements.{All-nil, All-cons, All-head, All-tai
 use Rattle.muni_msg.specs.declared.command.Command.{Command}
 use Rattle.muni_msg.specs.declared.command.Reply.{Reply}
 use Rattle.muni_msg.specs.declared.command.Reply.TheVariants.{Added, Quoted, Listed, Confirmed, Refused}
+use Rattle.muni_msg.specs.declared.each.EachRedemption.{EachRedemption}
 use Rattle.muni_keep.specs.Tables.{Tables}
 use Rattle.muni_wire.specs.Answer.{reply_text}
 use Rattle.muni_book.specs.Answers.{IsRightAnswer}
 use Rattle.muni_book.specs.RightFigures.{AreRightFigures}
 use Rattle.muni_book.specs.RightReplies.{IsRightReply}
 use Rattle.muni_book.specs.RunLaws.{ConfirmedFiguresAreRight}
+use Rattle.muni_desk_serve.specs.Answer.{AreBeside}
 use Rattle.muni_desk_serve.specs.Connections.{Exchange}
 use Rattle.muni_desk_serve.specs.Follow.{Follow, nothing, unreplied, replied}
 use Rattle.muni_desk_serve.specs.Laws.{AnswersAreRight}
 use Rattle.muni_desk_serve.specs.RightAnswers.{IsRightText, IsAnsweredRight}
 use Rattle.muni_desk_serve.proofs.RunLemmas.{connections-run}
 
-right-text : (t : Tables) (reply : Reply) → IsRightReply AreRightFigures t reply → IsRightText t reply (reply_text reply)
-right-text t (Added cusip) right = refl
-right-text t (Quoted asked figures) right = (right.0, right.1, right.2, refl)
-right-text t (Listed lines) right = refl
-right-text t (Confirmed issue key number version) right = (right, refl)
-right-text t (Refused why) right = refl
+right-text : (t : Tables) (reply : Reply) (each : List EachRedemption) → IsRightReply AreRightFigures t reply → AreBeside reply each → IsRightText t reply (reply_text reply each)
+right-text t (Added cusip) each right beside = refl
+right-text t (Quoted issue asked figures wanted) each right beside = (right.0, right.1, each, beside, refl)
+right-text t (Listed lines) each right beside = refl
+right-text t (Confirmed issue key number version) each right beside = (right, refl)
+right-text t (Refused why) each right beside = refl
 
 answered-right : (t : Tables) {exchanges : List Exchange} {commands : List Command} {replies : List Reply} → Follow exchanges commands replies → All (IsRightReply AreRightFigures t) replies → All (IsAnsweredRight t) exchanges
 answered-right t nothing all = All-nil (IsAnsweredRight t)
@@ -33,10 +35,10 @@ answered-right t (replied first command reply others commands replies has follow
     (inr (record {
       command = command;
       reply = reply;
-      body = reply_text reply;
       asks = has.asks;
-      right = right-text t reply (All-head (IsRightReply AreRightFigures t) reply replies all);
-      answered = has.answer;
+      answered = λ status was.
+          let of = has.answer status was in
+          (reply_text reply of.0, right-text t reply of.0 (All-head (IsRightReply AreRightFigures t) reply replies all) of.1, of.2);
     }))
     (answered-right t follow (All-tail (IsRightReply AreRightFigures t) reply replies all))
 

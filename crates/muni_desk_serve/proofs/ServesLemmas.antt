@@ -1,13 +1,24 @@
 -- One connection.
-use Rattle.std.proofs.Common.{List, Result, Ok, Err, ap, ◌≡◌, ◌≤◌, ℕ, Option, IfSome, inl, inr, refl, arith}
+use Rattle.std.proofs.Common.{List, Result, Ok, Err, ap, sym, subst, ◌∙◌, ◌≡◌, ◌≤◌, ℕ, ℤ, Bool, true, Option, Some, None, IfSome, inl, inr, refl, arith}
+use Rattle.muni_rule.specs.Payments.{PaymentSeries}
+use Rattle.muni_rule.specs.WorthEnds.{WorthEnds}
 use Rattle.muni_edge.specs.Faults.{Rose}
 use Rattle.muni_edge.specs.Sink.{HasWritten, HasWrittenPart}
 use Rattle.muni_edge.specs.declared.fault.Failed.{Failed}
 use Rattle.muni_edge.specs.declared.sink.Sink as sink
 use Rattle.muni_edge.specs.declared.source.Source as source
 use Rattle.muni_keep.specs.Tables.{Tables}
+use Rattle.muni_terms.specs.declared.row.IssueRow.{IssueRow}
+use Rattle.muni_msg.specs.declared.asked.Asked.{Asked}
 use Rattle.muni_msg.specs.declared.command.Command.{Command}
 use Rattle.muni_msg.specs.declared.command.Reply.{Reply}
+use Rattle.muni_msg.specs.declared.command.Reply.TheVariants.{Added, Quoted, Listed, Confirmed, Refused}
+use Rattle.muni_msg.specs.declared.each.EachRedemption.{EachRedemption}
+use Rattle.muni_msg.specs.declared.figures.Figures.{Figures}
+use Rattle.muni_book.specs.Answers.{IsRightAnswer}
+use Rattle.muni_book.specs.Each.{AreEach}
+use Rattle.muni_book.proofs.EachLemmas.{each-right}
+use Rattle.muni_book.proofs.RightReplyLemmas.{step-quoted}
 use Rattle.muni_book_step.specs.Runs.{StepsTo}
 use Rattle.muni_book_step.specs.Step.{Pricing}
 use Rattle.muni_wire.specs.Answers.{Answers}
@@ -15,7 +26,7 @@ use Rattle.muni_wire.specs.HttpStatus.{code}
 use Rattle.muni_wire.specs.Reading.{Whole, Faulty, Short}
 use Rattle.muni_wire.specs.declared.fault.Bad.{Bad}
 use Rattle.muni_wire.specs.declared.status.HttpStatus.{HttpStatus}
-use Rattle.muni_desk_serve.specs.Answer.{Answer, reply_answer, bad_answer, unavailable_answer, came_of}
+use Rattle.muni_desk_serve.specs.Answer.{Answer, IsPricedReply, AreBeside, reply_answer, bad_answer, unavailable_answer, came_of}
 use Rattle.muni_desk_serve.specs.Serves.{Traffic, Asks, IsDue, Serves, WasServed}
 use Rattle.muni_desk_serve.specs.declared.served.Served.{Served}
 use Rattle.muni_desk_serve.specs.declared.served.Served.TheVariants as served
@@ -46,15 +57,34 @@ due-written Prices old new link mid after answer served.LinkFault faults written
     inr (rw (← puts) written.0, answer, due, rw (← same) written.1)
 due-written Prices old new link mid after answer served.NoMemory faults written same puts due = absurd written
 
-pub replied : (Prices : Pricing) (old new : Option Tables) (before now : ℕ) (link mid after : Traffic) (command : Command) (reply : Reply) (came : Served)
-    → before ≤ now → Asks link (Whole command) → IfSome old (λ t. StepsTo Prices t command reply new)
-    → IsWritten (reply_answer reply) came mid.written after.written mid.put_faults after.put_faults → mid.written ≡ link.written → mid.put_faults ≡ link.put_faults
+-- what is answered of each redemption candidate stands beside a quote for which they are wanted
+pub each-beside : (ends : PaymentSeries → ℤ → WorthEnds) (reply : Reply) (issue : IssueRow) (asked : Asked) (figures : Figures) (wanted : Bool) (each : List EachRedemption) → reply ≡ Quoted issue asked figures wanted → wanted ≡ true
+    → (IsRightAnswer ends issue asked (Ok figures) → AreEach ends issue asked figures each) → IsPricedReply (IsRightAnswer ends) reply → AreBeside reply each
+each-beside ends reply issue asked figures wanted each is true_is shown priced =
+    let same : reply ≡ Quoted issue asked figures true = is ∙ ap (Quoted issue asked figures) true_is in
+    subst (λ r. AreBeside r each) (sym same) (each-right ends issue asked figures each (shown (subst (IsPricedReply (IsRightAnswer ends)) same priced)))
+
+-- a step of the book answers a quote by figures that may be answered
+reply-priced : (Prices : Pricing) (t : Tables) (command : Command) (reply : Reply) (new : Option Tables) → StepsTo Prices t command reply new → IsPricedReply Prices reply
+reply-priced Prices t command (Added cusip) new step = tt
+reply-priced Prices t command (Quoted issue asked figures each) new step = step-quoted Prices t command issue asked figures each step.0 step.1
+reply-priced Prices t command (Listed lines) new step = tt
+reply-priced Prices t command (Confirmed issue key number version) new step = tt
+reply-priced Prices t command (Refused why) new step = tt
+
+pub beside-step : (Prices : Pricing) (old : Option Tables) (command : Command) (reply : Reply) (each : List EachRedemption) (new : Option Tables) → IfSome old (λ t. StepsTo Prices t command reply new) → (IsPricedReply Prices reply → AreBeside reply each) → IfSome old (λ t. AreBeside reply each)
+beside-step Prices (Some t) command reply each new step shown = shown (reply-priced Prices t command reply new step)
+beside-step Prices None command reply each new step shown = tt
+
+pub replied : (Prices : Pricing) (old new : Option Tables) (before now : ℕ) (link mid after : Traffic) (command : Command) (reply : Reply) (each : List EachRedemption) (came : Served)
+    → before ≤ now → Asks link (Whole command) → IfSome old (λ t. StepsTo Prices t command reply new) → IfSome old (λ t. AreBeside reply each)
+    → IsWritten (reply_answer reply each) came mid.written after.written mid.put_faults after.put_faults → mid.written ≡ link.written → mid.put_faults ≡ link.put_faults
     → WasServed Prices old before link came new now after
-replied Prices old new before now link mid after command reply came later asks step written same puts =
-    let due : IsDue Prices old link (reply_answer reply) new 0 = inl (record { command = command; reply = reply; asks = asks; step = step; is = refl; none = refl }) in
+replied Prices old new before now link mid after command reply each came later asks step beside written same puts =
+    let due : IsDue Prices old link (reply_answer reply each) new 0 = inl (record { command = command; reply = reply; asks = asks; step = step; each = each; beside = beside; is = refl; none = refl }) in
     record {
       faults = 0;
-      serves = due-written Prices old new link mid after (reply_answer reply) came 0 written same puts due;
+      serves = due-written Prices old new link mid after (reply_answer reply each) came 0 written same puts due;
       rose = omega (arith, later);
     }
 

@@ -4,10 +4,11 @@ use Rattle.muni_edge.specs.Sink.{HasWritten}
 use Rattle.muni_keep.specs.Tables.{Tables}
 use Rattle.muni_msg.specs.declared.command.Command.{Command}
 use Rattle.muni_msg.specs.declared.command.Reply.{Reply}
+use Rattle.muni_msg.specs.declared.each.EachRedemption.{EachRedemption}
 use Rattle.muni_book_step.specs.Step.{Pricing}
 use Rattle.muni_wire.specs.Reading.{Whole, Faulty, HeadAsks}
 use Rattle.muni_wire.specs.declared.fault.Bad.{Bad}
-use Rattle.muni_desk_serve.specs.Answer.{Answer, reply_answer, bad_answer, unavailable_answer}
+use Rattle.muni_desk_serve.specs.Answer.{Answer, AreBeside, reply_answer, bad_answer, unavailable_answer}
 use Rattle.muni_desk_serve.specs.Connections.{Exchange, AreServed}
 use Rattle.muni_desk_serve.specs.Serves.{Traffic, Asks, Serves}
 use Rattle.muni_desk_serve.specs.declared.served.Served.{Served}
@@ -22,6 +23,14 @@ pub record IsAnswered (answer : Answer) (link : Traffic) (came : Served) (after 
 abbrev pub HasAnswer : Exchange → Answer → Type 0
 HasAnswer exchange answer = IsAnswered answer exchange.before exchange.came exchange.after
 
+-- it is that of this reply, with the redemption candidates that are shown beside it
+abbrev pub IsAnsweredBy : Reply → Traffic → Served → Traffic → Type 0
+IsAnsweredBy reply link came after =
+    (each : List EachRedemption) × AreBeside reply each × IsAnswered (reply_answer reply each) link came after
+
+abbrev pub HasAnswerOf : Exchange → Reply → Type 0
+HasAnswerOf exchange reply = IsAnsweredBy reply exchange.before exchange.came exchange.after
+
 -- it has some answer
 abbrev pub WasAnswered : Exchange → ℕ → Type 0
 WasAnswered exchange status = exchange.came ≡ served.Answered status
@@ -29,7 +38,7 @@ WasAnswered exchange status = exchange.came ≡ served.Answered status
 -- It asked for this command, and if it has an answer, it is that of this reply.
 pub record HasReply (exchange : Exchange) (command : Command) (reply : Reply) : Type 0 where
   pub asks : Asks exchange.before (Whole command)
-  pub answer : (status : ℕ) → WasAnswered exchange status → HasAnswer exchange (reply_answer reply)
+  pub answer : (status : ℕ) → WasAnswered exchange status → HasAnswerOf exchange reply
 
 -- the answer to a bad request
 pub record HasBadAnswer (exchange : Exchange) : Type 0 where
@@ -62,7 +71,7 @@ pub record HasCome (exchange : Exchange) (command : Command) : Type 0 where
 -- the answer to it has this reply, unless it says that the store failed
 abbrev pub IsReplied : Exchange → Reply → Type 0
 IsReplied exchange reply =
-    (status : ℕ) → WasAnswered exchange status → status ≢ 503 → HasAnswer exchange (reply_answer reply)
+    (status : ℕ) → WasAnswered exchange status → status ≢ 503 → HasAnswerOf exchange reply
 
 -- A connection between others has this reply, and leaves the tables as those before it left them.
 pub record RepliesAgain (Prices : Pricing) (old : Option Tables) (earlier : List Exchange) (again : Exchange) (later : List Exchange) (new : Option Tables) (reply : Reply) : Type 0 where

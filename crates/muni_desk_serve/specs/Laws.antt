@@ -6,15 +6,16 @@ use Rattle.muni_edge.specs.Faults.{Rose}
 use Rattle.muni_keep.specs.Tables.{Tables}
 use Rattle.muni_msg.specs.declared.command.Command.{Command}
 use Rattle.muni_msg.specs.declared.command.Reply.{Reply}
+use Rattle.muni_msg.specs.declared.each.EachRedemption.{EachRedemption}
 use Rattle.muni_rule.specs.Payments.{PaymentSeries}
 use Rattle.muni_rule.specs.WorthEnds.{WorthEnds}
 use Rattle.muni_book_step.specs.Accepted.{AsksToKeep, IsAccepted}
 use Rattle.muni_book_step.specs.Runs.{StepsTo, RunsTo}
 use Rattle.muni_book_step.specs.Step.{Pricing}
 use Rattle.muni_wire.specs.Reading.{Reading, Whole, Faulty, Short, HeadAsks, Reads}
-use Rattle.muni_desk_serve.specs.Answer.{reply_answer, bad_answer}
+use Rattle.muni_desk_serve.specs.Answer.{AreBeside, reply_answer, bad_answer}
 use Rattle.muni_desk_serve.specs.Connections.{Exchange, AreServed}
-use Rattle.muni_desk_serve.specs.Follow.{Follow, IsAnswered, HasAnswer, WasAnswered, HasCome, RepliesAgain}
+use Rattle.muni_desk_serve.specs.Follow.{Follow, IsAnswered, HasAnswerOf, WasAnswered, HasCome, RepliesAgain}
 use Rattle.muni_desk_serve.specs.RightAnswers.{IsAnsweredRight}
 use Rattle.muni_desk_serve.specs.Serves.{Traffic, WasServed}
 use Rattle.muni_desk_serve.specs.declared.served.Served.{Served}
@@ -29,8 +30,8 @@ pub record NoneRose (before : ℕ) (link : Traffic) (now : ℕ) (after : Traffic
 -- what is answered to a reading of the bytes, and the tables after it
 abbrev pub IsAnswerTo : Pricing → Reading → Option Tables → Traffic → Served → Option Tables → Traffic → Type 0
 IsAnswerTo Prices (Whole command) old link came new after =
-    (reply : Reply) × IfSome old (λ t. StepsTo Prices t command reply new)
-    × IsAnswered (reply_answer reply) link came after
+    (reply : Reply) × (each : List EachRedemption) × IfSome old (λ t. StepsTo Prices t command reply new)
+    × IfSome old (λ t. AreBeside reply each) × IsAnswered (reply_answer reply each) link came after
 IsAnswerTo Prices (Faulty kind) old link came new after =
     IsAnswered (bad_answer kind) link came after × (new ≡ old)
 IsAnswerTo Prices Short old link came new after =
@@ -73,7 +74,7 @@ ConnectionsActOnce Prices =
     → AreServed Prices (Some old) (earlier ++ (first ∷ (between ++ again ∷ later))) new faults
     → AsksToKeep command → HasCome first command → HasCome again command
     → WasAnswered first status → status ≢ 503
-    → (reply : Reply) × HasAnswer first (reply_answer reply)
+    → (reply : Reply) × HasAnswerOf first reply
     × (IsAccepted reply
     → RepliesAgain Prices (Some old) (earlier ++ first ∷ between) again later new reply)
 

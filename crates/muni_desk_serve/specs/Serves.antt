@@ -9,12 +9,13 @@ use Rattle.muni_keep.specs.Tables.{Tables}
 use Rattle.muni_keep.specs.declared.keeper.Keeper as keeper
 use Rattle.muni_msg.specs.declared.command.Command.{Command}
 use Rattle.muni_msg.specs.declared.command.Reply.{Reply}
+use Rattle.muni_msg.specs.declared.each.EachRedemption.{EachRedemption}
 use Rattle.muni_book_step.specs.Runs.{StepsTo}
 use Rattle.muni_book_step.specs.Step.{Pricing}
 use Rattle.muni_wire.specs.Extent.{AwaitsMore, TakesOnlyWhile}
 use Rattle.muni_wire.specs.Reading.{Reading, Whole, Faulty, Short, Reads}
 use Rattle.muni_wire.specs.declared.fault.Bad.{Bad}
-use Rattle.muni_desk_serve.specs.Answer.{Answer, reply_answer, bad_answer, unavailable_answer}
+use Rattle.muni_desk_serve.specs.Answer.{Answer, AreBeside, reply_answer, bad_answer, unavailable_answer}
 use Rattle.muni_desk_serve.specs.declared.served.Served.{Served}
 use Rattle.muni_desk_serve.specs.declared.served.Served.TheVariants as served
 
@@ -46,7 +47,9 @@ pub record IsReply (Prices : Pricing) (old : Option Tables) (link : Traffic) (an
   pub reply : Reply
   pub asks : Asks link (Whole command)
   pub step : IfSome old (λ t. StepsTo Prices t command reply new)
-  pub is : answer ≡ reply_answer reply
+  pub each : List EachRedemption
+  pub beside : IfSome old (λ t. AreBeside reply each)
+  pub is : answer ≡ reply_answer reply each
   pub none : faults ≡ 0
 
 -- they are no command, and the tables stay as they are

@@ -6,9 +6,11 @@ ghost use Rattle.muni_desk_serve.specs.Answer as spec;
 ghost use Rattle.muni_desk_serve.specs.Serves.{LeavesCounted, TakesRequest, WasServed, traffic};
 
 use crate::served::Served;
-use muni_book::{BookFault, Calculator, step};
+use arrayvec::ArrayVec;
+use muni_book::{BookFault, Calculator, each_redemption, step};
 use muni_edge::{Failed, Gate, Link};
 use muni_keep::Keeper;
+use muni_msg::{EachRedemption, Reply};
 use muni_multi::Encloser;
 use muni_wire::{HttpStatus, WireFault, read_request, write_bad, write_reply, write_unavailable};
 use std::alloc::Global;
@@ -43,9 +45,36 @@ pub fn answer_one<R: Threads + Sync, L: Link, K: Keeper, E: Encloser + Sync, G: 
         Err(WireFault::NoMemory) => return Served::NoMemory,
     };
     match step(calculator, keeper, &command) {
-        Ok(reply) => came_of(write_reply(link, &reply)),
+        Ok(reply) => came_of(write_reply(link, &reply, &wanted(calculator, &reply))),
         Err(BookFault::Failed) => came_of(write_unavailable(link)),
         Err(BookFault::NoMemory) => Served::NoMemory,
+    }
+}
+
+// The redemption candidates, if the reply is a quote for which they are wanted.
+fn wanted<R: Threads + Sync, E: Encloser + Sync, G: Gate + Sync>(
+    calculator: &Calculator<'_, R, E, G>,
+    reply: &Reply,
+) -> ArrayVec<EachRedemption, 100>
+    ensures { spec.IsPricedReply (IsRightAnswer (E.ends calculator.now.encloser.now)) reply.now
+        → spec.AreBeside reply.now result.items }
+{
+    match reply {
+        Reply::Quoted {
+            issue,
+            asked,
+            figures,
+            each,
+        } => {
+            if *each {
+                each_redemption(calculator, issue, asked, figures)
+            } else {
+                ArrayVec::new()
+            }
+        }
+        Reply::Added { .. } | Reply::Listed(_) | Reply::Confirmed { .. } | Reply::Refused(_) => {
+            ArrayVec::new()
+        }
     }
 }
 

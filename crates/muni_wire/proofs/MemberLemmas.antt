@@ -5,7 +5,7 @@ use Rattle.serde_json.specs.Data.{Data}
 use Rattle.serde_json.specs.Find.{get}
 use Rattle.muni_msg.specs.Fields.{◌>>=◌}
 use Rattle.muni_msg.specs.declared.asked.Side.TheVariants.{Buy}
-use Rattle.muni_wire.specs.Body.{data_of, command_of, command_in, key_in, asked_in, fee_in, terms_in, calendar_in, basis_in, issue_with, issue_in}
+use Rattle.muni_wire.specs.Body.{data_of, command_of, command_in, key_in, asked_in, wanted_in, each_in, fee_in, terms_in, calendar_in, basis_in, issue_with, issue_in}
 use Rattle.muni_wire.specs.OtherMembers.{member_names}
 use Rattle.muni_wire.specs.declared.routes.Form.{Form}
 use Rattle.muni_wire.specs.declared.routes.Form.TheVariants as form
@@ -17,6 +17,10 @@ same-quote : (a b : Data) → get (codes "cusip") a ≡ get (codes "cusip") b �
     → get (codes "basis") a ≡ get (codes "basis") b → get (codes "value") a ≡ get (codes "value") b → asked_in Buy 0 a ≡ asked_in Buy 0 b
 unfolding asked_in
 same-quote a b cusip par settle basis value = rw (cusip, par, settle, basis, value) refl
+
+same-each : (a b : Data) → get (codes "each") a ≡ get (codes "each") b → each_in a ≡ each_in b
+unfolding each_in
+same-each a b each = ap wanted_in each
 
 same-terms : (a b : Data) → get (codes "cusip") a ≡ get (codes "cusip") b → get (codes "par") a ≡ get (codes "par") b → get (codes "settle") a ≡ get (codes "settle") b
     → get (codes "basis") a ≡ get (codes "basis") b → get (codes "value") a ≡ get (codes "value") b → get (codes "side") a ≡ get (codes "side") b → get (codes "fee") a ≡ get (codes "fee") b
@@ -56,7 +60,11 @@ same-command form.Correction a b same =
 same-command form.Cancellation a b same =
     let number : get (codes "number") a ≡ get (codes "number") b = same 2 [] (omega arith) in
     rw (same-key a b (same 0 [] (omega arith)) (same 1 [] (omega arith)), number) refl
-same-command form.Quote a b same = rw (same-quote a b (same 0 [] (omega arith)) (same 1 [] (omega arith)) (same 2 [] (omega arith)) (same 3 [] (omega arith)) (same 4 [] (omega arith))) refl
+same-command form.Quote a b same =
+    rw (
+      same-quote a b (same 0 [] (omega arith)) (same 1 [] (omega arith)) (same 2 [] (omega arith)) (same 3 [] (omega arith)) (same 4 [] (omega arith)),
+      same-each a b (same 5 [] (omega arith)),
+    ) refl
 
 pub other-members-are-ignored : (posted : Form) (one other : List ℕ) (a b : Data) → data_of one ≡ Some a → data_of other ≡ Some b
     → All (λ name. get name a ≡ get name b) (member_names posted) → command_of posted one ≡ command_of posted other

@@ -1,11 +1,11 @@
 -- What a body asks for: the members of a JSON object (RFC 8259).
-use Rattle.std.specs.Prelude.{ℕ, List, codes, Option, Some, None, if◌then◌else◌}
+use Rattle.std.specs.Prelude.{ℕ, Bool, false, List, codes, Option, Some, None, if◌then◌else◌}
 use Rattle.std.specs.Char.{is_ascii_alphanumeric}
 use Rattle.std.specs.Result.{result_ok}
 use Rattle.std.specs.Str.{is_utf8}
 use Rattle.serde_json.specs.Data.{Data}
 use Rattle.serde_json.specs.Read.{read as read_json}
-use Rattle.serde_json.specs.Find.{get, as_str}
+use Rattle.serde_json.specs.Find.{get, as_bool, as_str}
 use Rattle.arrayvec.specs.ArrayVec.{ArrayVec}
 use Rattle.muni_dec.specs.Values.{par_reading}
 use Rattle.muni_rule.specs.declared.basis.Basis.{Basis}
@@ -80,6 +80,14 @@ asked_in side fee value = do
   settle ← date_in (codes "settle") value
   given ← given_in value
   Some (record { cusip = cusip; par = par; settle = settle; given = given; side = side; fee = fee })
+
+-- whether the redemption candidates are wanted: a Boolean, which may be left out
+abbrev pub wanted_in : Option Data → Option Bool
+wanted_in None = Some false
+wanted_in (Some found) = as_bool found
+
+unfoldable pub each_in : Data → Option Bool
+each_in value = wanted_in (get (codes "each") value)
 
 -- a commission, which may be left out
 unfoldable pub fee_in : Data → Option ℕ
@@ -157,7 +165,8 @@ command_in form.Cancellation value = do
   Some (command.Cancel key number)
 command_in form.Quote value = do
   asked ← asked_in Buy 0 value
-  Some (command.Quote asked)
+  each ← each_in value
+  Some (command.Quote asked each)
 
 -- what a body of a form asks for
 abbrev pub command_of : Form → List ℕ → Option Command

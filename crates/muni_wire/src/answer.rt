@@ -3,7 +3,7 @@
 ghost use Rattle.std.specs.Prelude.{◌≡◌, ◌≤◌, ◌+◌, ◌++◌, [], decimal, length};
 ghost use Rattle.arrayvec.specs.ArrayVec.{array_vec_len};
 ghost use Rattle.muni_confirm.specs.Confirmation.{confirmation_text};
-ghost use Rattle.muni_confirm.specs.Figures.{figure_text};
+ghost use Rattle.muni_confirm.specs.Each.{quoted_text};
 ghost use Rattle.muni_confirm.specs.Refusal.{refusal_text};
 ghost use Rattle.muni_wire.specs.Answer as spec;
 ghost use Rattle.muni_wire.specs.Answers.{Answers};
@@ -15,23 +15,28 @@ use crate::list::push_list;
 use crate::status::HttpStatus;
 use arrayvec::ArrayVec;
 use itoa::Buffer;
-use muni_confirm::{confirmation, figure_lines, refusal_line};
+use muni_confirm::{confirmation, figure_lines, push_each, refusal_line};
 use muni_dec::text::{push, push_line};
 use muni_edge::{Failed, Link};
-use muni_msg::{Asked, Figures, Key, Line, Refusal, Reply, Version};
+use muni_msg::{Asked, EachRedemption, Figures, Key, Line, Refusal, Reply, Version};
 use muni_terms::Issue;
 
 /// Answers a reply: its status and its text. A confirmation, the lines of figures, the lines of a
 /// list, each a trade of the desk, or the line of a refusal. Returns the status.
 ///
 /// After a failure the connection may hold a part of the answer.
-pub fn write_reply<L: Link>(link: &mut L, reply: &Reply) -> Result<HttpStatus, Failed>
-    ensures { Answers L.Source L.Sink (status_of_reply reply.now) (spec.answer_to_reply reply.now) result
-        link.old link.new }
+pub fn write_reply<L: Link>(
+    link: &mut L,
+    reply: &Reply,
+    each: &[EachRedemption],
+) -> Result<HttpStatus, Failed>
+    requires { length each.now ≤ 100 }
+    ensures { Answers L.Source L.Sink (status_of_reply reply.now)
+        (spec.answer_to_reply reply.now each.now) result link.old link.new }
 {
     match reply {
         Reply::Added { cusip } => write_added(link, cusip),
-        Reply::Quoted { asked, figures } => write_figures(link, asked, figures),
+        Reply::Quoted { asked, figures, .. } => write_figures(link, asked, figures, each),
         Reply::Listed(lines) => write_list(link, lines),
         Reply::Confirmed {
             issue,
@@ -75,13 +80,18 @@ fn write_figures<L: Link>(
     link: &mut L,
     asked: &Asked,
     figures: &Figures,
+    each: &[EachRedemption],
 ) -> Result<HttpStatus, Failed>
+    requires { length each.now ≤ 100 }
     ensures { Answers L.Source L.Sink HttpStatus.Success
-        (spec.success (figure_text figures.now asked.now.given asked.now.fee)) result link.old link.new }
+        (spec.success (quoted_text figures.now asked.now each.now)) result link.old link.new }
 {
     let mut lines = ArrayVec::new();
     figure_lines(figures, &asked.given, asked.fee, &mut lines);
-    write(link, HttpStatus::Success, b"", &lines)
+    let mut text = ArrayVec::<u8, 10624>::new();
+    push(&mut text, &lines);
+    push_each(&mut text, each);
+    write(link, HttpStatus::Success, b"", &text)
 }
 
 fn write_list<L: Link>(link: &mut L, trades: &[Line]) -> Result<HttpStatus, Failed>
@@ -149,7 +159,7 @@ fn write_status<L: Link>(
 }
 
 // Writes an answer with a header line more, or none, and a text. A head has room for 256 bytes, and a text
-// for 8,192.
+// for 10,624.
 fn write<L: Link>(
     link: &mut L,
     status: HttpStatus,
@@ -157,7 +167,7 @@ fn write<L: Link>(
     text: &[u8],
 ) -> Result<HttpStatus, Failed>
     requires allow { length allow.now ≤ 13 }
-    requires text { length text.now ≤ 8192 }
+    requires text { length text.now ≤ 10_624 }
 
     ensures { Answers L.Source L.Sink status (spec.answer status allow.now text.now) result link.old link.new }
 {
@@ -169,7 +179,7 @@ fn write<L: Link>(
 }
 
 // The head of an answer, with the length of its text.
-fn push_head(answer: &mut ArrayVec<u8, 8448>, status: HttpStatus, allow: &[u8], size: usize)
+fn push_head(answer: &mut ArrayVec<u8, 10880>, status: HttpStatus, allow: &[u8], size: usize)
     requires empty { array_vec_len answer.old ≡ 0 }
     requires allow { length allow.now ≤ 13 }
 
@@ -183,8 +193,8 @@ fn push_head(answer: &mut ArrayVec<u8, 8448>, status: HttpStatus, allow: &[u8], 
 }
 
 #[tactic(auto, unfolding(crate::specs::Answer::status_line))]
-fn push_status_line(answer: &mut ArrayVec<u8, 8448>, status: HttpStatus)
-    requires room { array_vec_len answer.old + 63 ≤ 8448 }
+fn push_status_line(answer: &mut ArrayVec<u8, 10880>, status: HttpStatus)
+    requires room { array_vec_len answer.old + 63 ≤ 10880 }
 
     ensures items { answer.new.items ≡ answer.old.items ++ spec.status_line status }
     ensures len { array_vec_len answer.new ≤ array_vec_len answer.old + 63 }
@@ -195,8 +205,8 @@ fn push_status_line(answer: &mut ArrayVec<u8, 8448>, status: HttpStatus)
 }
 
 #[tactic(auto, unfolding(crate::specs::Answer::text_lines))]
-fn push_text_lines(answer: &mut ArrayVec<u8, 8448>, size: usize)
-    requires room { array_vec_len answer.old + 64 ≤ 8448 }
+fn push_text_lines(answer: &mut ArrayVec<u8, 10880>, size: usize)
+    requires room { array_vec_len answer.old + 64 ≤ 10880 }
 
     ensures items { answer.new.items ≡ answer.old.items ++ spec.text_lines size }
     ensures len { array_vec_len answer.new ≤ array_vec_len answer.old + 64 }

@@ -72,7 +72,21 @@ fn read_command(form: Form, value: &Value) -> Option<Command>
             key: key(value)?,
             number: number(value)?,
         }),
-        Form::Quote => Some(Command::Quote(asked(value, Side::Buy, Fee::new(0))?)),
+        Form::Quote => Some(Command::Quote {
+            asked: asked(value, Side::Buy, Fee::new(0))?,
+            each: each(value)?,
+        }),
+    }
+}
+
+// Whether the redemption candidates are wanted: they are not if the member is left out.
+#[tactic(auto, unfolding(crate::specs::Body::each_in))]
+fn each(value: &Value) -> Option<bool>
+    ensures { result ≡ spec.each_in (view value.now) }
+{
+    match value.get("each") {
+        Some(found) => found.as_bool(),
+        None => Some(false),
     }
 }
 

@@ -1,11 +1,11 @@
-use Rattle.std.proofs.Common.{rules}
+use Rattle.std.proofs.Common.{rules, subst, sym}
 use Rattle.muni_book.specs.Answers.{IsRightAnswer}
 use Rattle.muni_desk_serve.specs.Serves.{traffic}
 use Rattle.muni_wire.specs.Answer.{answer_to_reply, answer_to_bad, unavailable as unavailable_bytes}
 use Rattle.muni_wire.specs.HttpStatus.{status_of_reply, status_of_bad}
 use Rattle.muni_wire.specs.declared.status.HttpStatus.TheVariants.{Unavailable}
-use Rattle.muni_desk_serve.specs.Answer.{came_of}
-use Rattle.muni_desk_serve.proofs.ServesLemmas.{replied, unavailable, bad, wrote}
+use Rattle.muni_desk_serve.specs.Answer.{IsPricedReply, AreBeside, came_of}
+use Rattle.muni_desk_serve.proofs.ServesLemmas.{beside-step, replied, unavailable, bad, wrote}
 use Rattle.muni_desk_serve.proofs.answers.answer_one.Goals as goal
 
 pub returns-in-Ok-step-clause-served : goal.returns-in-Ok-step-clause-served
@@ -13,11 +13,15 @@ returns-in-Ok-step-clause-served g c =
     let told = traffic g.L.Source.left g.L.Sink.bytes g.L.Source.faults g.L.Sink.faults in
     let read = rw c.in-Ok.is at c.read_request.ensures in
     let did = c.in-Ok-step.ensures in
+    let P = IsRightAnswer (g.E.Encloser.ends c.args.calculator.now.encloser.now) in
+    let each = c.deref.result.now in
+    let shown : IsPricedReply P c.in-Ok-step.reply → AreBeside c.in-Ok-step.reply each = λ priced. subst (AreBeside c.in-Ok-step.reply) (sym c.deref.ensures.0) (c.wanted.ensures priced) in
+    let beside = beside-step P (g.K.Keeper.tables c.args.keeper.now) c.in-Ok.command c.in-Ok-step.reply each (g.K.Keeper.tables c.step.new.keeper) did.step shown in
     rw c.came_of-in-Ok-step.ensures
     (replied (IsRightAnswer (g.E.Encloser.ends c.args.calculator.now.encloser.now)) (g.K.Keeper.tables c.args.keeper.now) (g.K.Keeper.tables c.step.new.keeper)
     (g.K.Keeper.faults c.args.keeper.now) (g.K.Keeper.faults c.step.new.keeper)
     (told c.args.link.now) (told c.read_request.new.link) (told c.write_reply.new.link)
-    c.in-Ok.command c.in-Ok-step.reply (came_of c.write_reply.result) did.same.later read.allowed did.step (wrote g.L.Source g.L.Sink (status_of_reply c.in-Ok-step.reply) (answer_to_reply c.in-Ok-step.reply) c.write_reply.result c.read_request.new.link c.write_reply.new.link c.write_reply.ensures) read.takes.only.keeps_bytes read.takes.only.keeps_puts)
+    c.in-Ok.command c.in-Ok-step.reply each (came_of c.write_reply.result) did.same.later read.allowed did.step beside (wrote g.L.Source g.L.Sink (status_of_reply c.in-Ok-step.reply) (answer_to_reply c.in-Ok-step.reply each) c.write_reply.result c.read_request.new.link c.write_reply.new.link c.write_reply.ensures) read.takes.only.keeps_bytes read.takes.only.keeps_puts)
 
 pub returns-in-Err-Failed-clause-served : goal.returns-in-Err-Failed-clause-served
 returns-in-Err-Failed-clause-served g c =
