@@ -170,7 +170,7 @@ function legend() {
     row.append(name, element("td", `${fixed(x0)} to ${fixed(x1)}`, "figure"),
       element("td", `${fixed(y1)} to ${fixed(y0)}`, "figure"));
   });
-  const notes = ["A call that decides at none of these yields is not seen: the desk does not tell an issue's calls."];
+  const notes = ["A redemption that decides at none of these yields has no line here. The figures above have each."];
   if (shown.refused.length) {
     const names = [...new Set(shown.refused.map(point => point.refused))].join(", ");
     notes.unshift(`At ${shown.refused.length} of ${STEPS + 1} yields there is no price: ${names}.`);

@@ -38,6 +38,14 @@ export function readList(text) {
   });
 }
 
+const EACH = /^EACH (\S+) ([\d.]+) (MATURITY|PAR OPTION|CALLED|CALL) (?:(?:PRICE|YIELD) (-?[\d.]+)|(.+))$/;
+
+// The redemptions that may come, if the lines have them: each with its figure, or the reason why it has none.
+export function readEach(text) {
+  return text.split("\n").map(line => line.match(EACH)).filter(Boolean)
+    .map(([, day, price, label, figure = "", reason = ""]) => ({ day, price, label, figure, reason }));
+}
+
 // `104.250 GIVEN` in two.
 export function split(value) {
   const at = value.indexOf(" ");

@@ -3,9 +3,10 @@ import { ask } from "./ask.js";
 import { clearCurve, showCurve, startCurve, traceCurve } from "./curve.js";
 import { $, element } from "./dom.js";
 import { dress, read, unmark } from "./fields.js";
+import { showEach } from "./each.js";
 import { figureRows, openTrade, showSheet } from "./sheet.js";
 import { sure } from "./sure.js";
-import { grouped, netPrice, readConfirmation, readLines, scaled, split } from "./texts.js";
+import { grouped, netPrice, readConfirmation, readEach, readLines, scaled, split } from "./texts.js";
 import { hush, hushGood, refuse, say, tellSent, waitingIn } from "./tell.js";
 
 const form = $("ticket");
@@ -30,6 +31,7 @@ function stale() {
   asked += 1;
   $("figures").classList.remove("has");
   $("figures-lines").replaceChildren();
+  $("figures-each").replaceChildren();
   clearCurve();
   hushGood(told);
 }
@@ -79,7 +81,7 @@ async function quote() {
   const mine = asked;
   const { side, fee, ...body } = typed;
   hush(told);
-  const answer = await ask("/quotes", body, waitingIn(told));
+  const answer = await ask("/quotes", { ...body, each: true }, waitingIn(told));
   if (mine !== asked) return dropped();
   if (answer.kind !== "done") {
     refuse(told, answer, ...buttons(answer));
@@ -89,6 +91,7 @@ async function quote() {
   const notes = await commissionNotes(typed);
   if (mine !== asked) return dropped();
   showFigures(typed, lines, notes);
+  showEach(readEach(answer.text), lines);
   say(told, "good", ["Quoted", ...tellSent(answer), "Nothing is kept."]);
   return { body, lines, isCurrent: () => mine === asked };
 }

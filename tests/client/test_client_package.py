@@ -21,7 +21,7 @@ from support.server import Server
 FOLDER = ROOT / "clients/python"
 VERSION = (ROOT / "VERSION").read_text().strip()
 TYPED = ("clients/python/src/muni", "clients/python/compare.py", "tests/client/test_client_desk.py",
-         "tests/client/test_client_cuts.py")
+         "tests/client/test_client_cuts.py", "tests/client/test_client_each.py")
 BONDS = 100
 
 
@@ -58,7 +58,7 @@ def test_an_example_of_the_code_gives_what_it_shows(case: doctest.DocTest) -> No
 
 
 def test_no_example_of_the_code_is_left_out() -> None:
-    assert len(EXAMPLES) == 12
+    assert len(EXAMPLES) == 13
 
 
 def test_the_program_of_the_readme_prints_the_same_twice(served: Server) -> None:

@@ -90,7 +90,7 @@ def test_the_legend_has_each_redemption_and_each_yield_has_one(curve):
     ends = sorted([float(each) for each in row[1].split(" to ")] for row in legend)
     gaps = [high[0] - low[1] for low, high in zip(ends, ends[1:])]
     assert gaps and all(0 < gap < 0.0015 for gap in gaps)
-    assert "the desk does not tell an issue's calls" in curve.text("curve-legend")
+    assert "A redemption that decides at none of these yields has no line here." in curve.text("curve-legend")
 
 
 def test_the_axes_of_a_curve_have_names_and_numbers(curve):

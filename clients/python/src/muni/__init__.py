@@ -27,7 +27,7 @@ import ssl
 import time
 import urllib.parse
 from collections.abc import Iterator
-from dataclasses import dataclass
+from dataclasses import dataclass, replace
 from datetime import date
 from decimal import Decimal
 from typing import Any, ClassVar, Union
@@ -35,14 +35,14 @@ from typing import Any, ClassVar, Union
 from ._refusals import WORDS
 
 __all__ = [
-    "Act", "BadTerms", "Basis", "Call", "CallKind", "Canceled", "Client", "Confirmation", "Conflict", "DayCount",
-    "DeskFull", "Error", "Figures", "GivenOutOfRange", "Issue", "Kind", "Label", "Listed", "NoTime", "PAGE", "REFUSALS",
-    "Redemption", "Refused", "SettleOutside", "Side", "Status", "Trade", "Unanswered", "Undecided", "UnknownIssue",
-    "UnknownTrade", "VersionsFull", "WrongBasis", "WrongNumber", "YieldAbove", "YieldBelow", "read_confirmation",
-    "read_figures", "read_list",
+    "Act", "BadTerms", "Basis", "Call", "CallKind", "Canceled", "Candidate", "Client", "Confirmation", "Conflict",
+    "DayCount", "DeskFull", "Error", "Figures", "GivenOutOfRange", "Issue", "Kind", "Label", "Listed", "NoTime", "PAGE",
+    "REFUSALS", "Redemption", "Refused", "SettleOutside", "Side", "Status", "Trade", "Unanswered", "Undecided",
+    "UnknownIssue", "UnknownTrade", "VersionsFull", "WrongBasis", "WrongNumber", "YieldAbove", "YieldBelow",
+    "read_confirmation", "read_figures", "read_list",
 ]
 
-__version__ = "1.3.0"
+__version__ = "1.4.0"
 
 Amount = Union[Decimal, int]
 
@@ -158,11 +158,21 @@ class Redemption:
 
 
 @dataclass(frozen=True)
+class Candidate(Redemption):
+    """A redemption that may come, priced on its own. `figure` is its price if a yield was given, and else its yield. If
+    it has none, that is None and `reason` says why in the desk's words, as BELOW or UNDECIDED yield 4.0005."""
+
+    figure: Decimal | None
+    reason: str = ""
+
+
+@dataclass(frozen=True)
 class Figures:
     """What the desk computes. `given` is what it was asked by, and the other figures are computed from that.
 
     A given price is printed with three decimals, truncated, and a given yield with three, rounded: neither is
-    told in full. `rate` is there only if it was given, and `commission` is 0 if there is none.
+    told in full. `rate` is there only if it was given, and `commission` is 0 if there is none. `candidates` has every
+    redemption that may come, in order of day, if a quote has asked for each.
     """
 
     given: Basis
@@ -175,6 +185,7 @@ class Figures:
     accrued: Decimal
     commission: Decimal
     total: Decimal
+    candidates: tuple[Candidate, ...] = ()
 
 
 @dataclass(frozen=True)
@@ -363,6 +374,9 @@ REFUSALS: dict[int, type[Refused]] = {each.number: each for each in (
 
 _REFUSAL = re.compile(r"REFUSED (\d+) (\w+) ?(.*)")
 
+_EACH = re.compile(r"EACH (\S+) ([\d.]+) (MATURITY|PAR OPTION|CALLED|CALL) "
+                   r"(?:(?:PRICE|YIELD) (-?[\d.]+)|(UNDECIDED (?:price|yield) -?[\d.]+|BELOW|ABOVE|NO TIME))")
+
 # The names of lines. The longer of two that begin alike comes first.
 _NAMES = (
     "CORRECTED CONFIRMATION", "CANCELED CONFIRMATION", "CONFIRMATION", "DESK", "REFERENCE", "BOUGHT", "SOLD", "CUSIP",
@@ -412,8 +426,24 @@ def _figures(lines: dict[str, str]) -> Figures:
         total=Decimal(lines["TOTAL"]))
 
 
+def _candidate(line: str) -> Candidate:
+    """Reads the line of a redemption that may come.
+
+    >>> _candidate("EACH 2034-01-01 100.000000 PAR OPTION YIELD 3.000").figure
+    Decimal('3.000')
+    >>> _candidate("EACH 2031-07-01 100.000000 PAR OPTION UNDECIDED yield 4.0005").reason
+    'UNDECIDED yield 4.0005'
+    """
+    found = _EACH.fullmatch(line)
+    if not found:
+        raise ValueError(f"no redemption: {line!r}")
+    day, price, label, figure, reason = found.groups()
+    return Candidate(date.fromisoformat(day), Decimal(price), Label(label), Decimal(figure) if figure else None,
+                     reason or "")
+
+
 def read_figures(text: str) -> Figures:
-    """Reads the lines of figures.
+    """Reads the lines of figures, and those of each redemption if they are there.
 
     >>> figures = read_figures('''PRICE 104.370 COMPUTED
     ... YIELD 3.650 GIVEN
@@ -428,7 +458,8 @@ def read_figures(text: str) -> Figures:
     >>> figures.redemption
     Redemption(day=datetime.date(2035, 8, 1), price=Decimal('100.000000'), label=<Label.PAR_OPTION: 'PAR OPTION'>)
     """
-    return _figures(_lines(text))
+    candidates = tuple(_candidate(line) for line in text.splitlines() if line.startswith("EACH "))
+    return replace(_figures(_lines(text)), candidates=candidates)
 
 
 def read_confirmation(text: str) -> Confirmation:
@@ -657,9 +688,11 @@ class Client:
             raise Status(200, text)
         return text[6:].rstrip("\n")
 
-    def quote(self, cusip: str, par: int, settle: date, basis: Basis, value: Amount) -> Figures:
-        """Figures of an issue that is kept; nothing is kept by it. A quote knows no commission."""
-        return self._figures(self._ask("POST", "/quotes", _given(cusip, par, settle, basis, value)))
+    def quote(self, cusip: str, par: int, settle: date, basis: Basis, value: Amount, each: bool = False) -> Figures:
+        """Figures of an issue that is kept; nothing is kept by it. A quote knows no commission. With `each` the figures
+        have every redemption that may come as one of their `candidates`."""
+        body = _given(cusip, par, settle, basis, value)
+        return self._figures(self._ask("POST", "/quotes", {**body, "each": True} if each else body))
 
     def enter(self, trade: Trade) -> Confirmation:
         """Enters a trade. One that was entered before, with equal contents, is answered as the first time."""
