@@ -4,10 +4,11 @@
 
 # Made of the launcher's tables by tests/documents/made_pages.py.
 _muni_commands='quote-one quote import confirm serve drill positions mark help'
+_muni_flags=' --each '
 
 _muni_options() {
     case $1 in
-    quote) echo --kind --dated --first --maturity --settle --coupon --yield --price --rate --call --days --par --workers ;;
+    quote) echo --kind --dated --first --maturity --settle --coupon --yield --price --rate --call --days --par --each --workers ;;
     import) echo --store --workers --positions ;;
     confirm) echo --store --desk --ref ;;
     serve) echo --store --port --connections --workers ;;
@@ -67,7 +68,10 @@ _muni() {
                     continue 2
                 fi
             done
-            choices+=" $option="
+            case $_muni_flags in
+            *" $option "*) choices+=" $option" ;;
+            *) choices+=" $option=" ;;
+            esac
         done
         choices+=' --help'
         compopt -o nospace 2>/dev/null

@@ -16,7 +16,7 @@ IMPORTED_MAX = 4_194_304
 MARKED_MAX = 1_048_576
 HELP = """\
 quote-one COUPON NEXT SETTLE REDEMPTION YIELD
-quote --kind --dated --maturity --settle --yield|--price|--rate --first --coupon --call --par --workers --days
+quote --kind --dated --maturity --settle --yield|--price|--rate --first --coupon --call --par --workers --days --each
 import --store --workers --positions
 confirm --store --desk --ref
 serve --store --port --connections --workers

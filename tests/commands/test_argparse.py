@@ -12,6 +12,8 @@ LINES = (
     "--kind=discount --dated=2024-01-01 --maturity=2024-12-21 --settle=2024-04-01 --rate=5 --days=actual/365",
     "--kind=periodic --dated=2022-01-01 --first=2022-07-01 --maturity=2044-01-01 --coupon=4 --settle=2024-01-01 "
     "--call=2034-01-01:100 --call=2036-01-01:100 --price=108.584",
+    "--each --kind=periodic --dated=2022-01-01 --first=2022-07-01 --maturity=2044-01-01 --coupon=4 --settle=2024-01-01 "
+    "--call=2034-01-01:100+ --yield=3",
 )
 
 
@@ -20,6 +22,7 @@ def reader() -> argparse.ArgumentParser:
     for name in OPTIONS:
         options.add_argument("--" + name)
     options.add_argument("--call", action="append", default=[])
+    options.add_argument("--each", action="store_true")
     return options
 
 
@@ -28,7 +31,8 @@ def test_argparse_reads_the_same_options(muni, line):
     words = line.split()
     read = vars(reader().parse_args(words))
     calls = ["--call=" + call for call in read.pop("call")]
-    again = [f"--{name}={value}" for name, value in read.items() if value is not None] + calls
+    flags = ["--each"] if read.pop("each") else []
+    again = [f"--{name}={value}" for name, value in read.items() if value is not None] + calls + flags
     assert sorted(again) == sorted(words)
     random.Random(1).shuffle(again)
     # Calls keep their order among themselves.

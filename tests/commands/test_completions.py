@@ -18,6 +18,8 @@ ASK = '. docs/muni.bash; COMP_WORDS=("$@"); COMP_CWORD=$(($# - 1)); _muni; print
     ("./muni import --store=S < exa", "examples"),
     ("./muni import --store=S > READ", "README.md"),
     ("./muni confirm --store=S --h", "--help"),
+    ("./muni quote --kind = zero --ea", "--each"),
+    ("./muni quote --kind = zero --pa", "--par="),
     ("./muni install exa", "examples"),
 ])
 def test_a_word_is_completed(line, completed):

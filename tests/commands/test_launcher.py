@@ -57,7 +57,7 @@ PRINCIPAL 25334.25
 ACCRUED 217.71
 TOTAL 25551.96"""),
     "the commands": (("help",), """quote-one COUPON NEXT SETTLE REDEMPTION YIELD
-quote --kind --dated --maturity --settle --yield|--price|--rate --first --coupon --call --par --workers --days
+quote --kind --dated --maturity --settle --yield|--price|--rate --first --coupon --call --par --workers --days --each
 import --store --workers --positions
 confirm --store --desk --ref
 serve --store --port --connections --workers

@@ -33,7 +33,7 @@ def said(option):
     if kinds:
         named = " or ".join("`--kind=%s`" % kind for kind in kinds.split())
         text += "; %s %s" % ("exactly with" if use == "needed" else "only with", named)
-    elif use == "may" and "left out" not in option.means:
+    elif use in ("may", "flag") and "left out" not in option.means:
         text += "; it may be left out"
     return text
 
@@ -52,7 +52,8 @@ def manual(commands, options):
         lines += textwrap.wrap(roff(command.what), 115, break_on_hyphens=False)
         for option in options[command.name]:
             name = option.name.replace("-", r"\-")
-            lines += [".TP", ".BI %s= %s" % (name, option.value) if option.value else ".I " + name]
+            lines += [".TP", ".BI %s= %s" % (name, option.value) if option.value else
+                      (".B " if option.use == "flag" else ".I ") + name]
             lines += textwrap.wrap(roff(said(option)), 115, break_on_hyphens=False)
     return "".join(line + "\n" for line in lines)
 
@@ -61,10 +62,12 @@ def completions(commands, options):
     """The functions of docs/muni.bash that have the commands, their options and the values of those with a few."""
     cases = "".join("    %s) echo %s ;;\n" % (command.name, " ".join(option.name for option in options[command.name]))
                     for command in commands if any(option.value for option in options[command.name]))
+    flags = [option.name for each in options.values() for option in each if option.use == "flag"]
     values = {option.name: option.form.partition(" ")[2] for each in options.values() for option in each
               if option.form.startswith("words ")}
     return "".join([
-        "_muni_commands='%s'\n\n" % " ".join(command.name for command in commands),
+        "_muni_commands='%s'\n" % " ".join(command.name for command in commands),
+        "_muni_flags=' %s '\n\n" % " ".join(flags),
         "_muni_options() {\n    case $1 in\n", cases, "    esac\n}\n\n",
         "_muni_values() {\n    case $1 in\n",
         "".join("    %s) echo %s ;;\n" % value for value in values.items()), "    esac\n}\n"])
@@ -74,13 +77,13 @@ def table(options):
     """A table of options for docs/FORMATS.md. Options of several commands that are said alike share a row."""
     of = collections.defaultdict(list)
     for option in options:
-        of[option.name, option.value, said(option)].append(option.command)
+        of[option.name + ("=" + option.value if option.value else ""), said(option)].append(option.command)
     if len({option.command for option in options}) == 1:
         return "| option | value |\n|---|---|\n" + "".join(
-            "| `%s=%s` | %s |\n" % key for key in of)
+            "| `%s` | %s |\n" % key for key in of)
     return "| option | of | value |\n|---|---|---|\n" + "".join(
-        "| `%s=%s` | %s | %s |\n" % (name, value, ", ".join("`%s`" % command for command in names), text)
-        for (name, value, text), names in of.items())
+        "| `%s` | %s | %s |\n" % (word, ", ".join("`%s`" % command for command in names), text)
+        for (word, text), names in of.items())
 
 
 def todo_of(refusal):

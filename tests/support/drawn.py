@@ -262,7 +262,8 @@ def right_request(draw: Draw) -> bytes:
     if what == 5:
         return post("/cancels", {**key_of_trade(draw), "number": str(draw(whole(1, 4)))})
     if what == 6:
-        return post("/quotes", asked_members(draw))
+        each = {"each": draw(any_of(True, True, False))} if draw(st.booleans()) else {}
+        return post("/quotes", {**asked_members(draw), **each})
     path = draw(any_of("/trades/{desk}/{reference}", "/lists/{desk}", "/lists/{desk}/{reference}"))
     return head("GET", path.format(**key_of_trade(draw)) + draw(any_of("", "?", "?x=y")), [("Host", "localhost")],
                 draw(any_of("HTTP/1.1", "HTTP/1.0")))
@@ -271,7 +272,7 @@ def right_request(draw: Draw) -> bytes:
 @st.composite
 def odd_members(draw: Draw) -> bytes:
     """A body of which members are of another kind, or missing."""
-    members = {**ISSUE, **key_of_trade(draw), **asked_members(draw), "side": "buy", "number": "1"}
+    members = {**ISSUE, **key_of_trade(draw), **asked_members(draw), "side": "buy", "number": "1", "each": False}
     for _ in range(draw(whole(1, 3))):
         text = draw(hostile_fields).decode("utf-8", "replace")
         values = [text, text, text, 4, 4.5, None, True, [], {}, [text], {"date": text}, "x" * 60_000]

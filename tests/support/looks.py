@@ -62,8 +62,9 @@ for (const each of shown) {
     if (box(each).left < 0 || box(each).right > width + 0.5) found.push(`${name(each)} sticks out`);
 }
 if (total > width) found.push(`the page is ${total} wide`);
-const list = document.querySelector(".wide");
-if (list.scrollWidth > list.clientWidth) found.push("the list sticks out");
+for (const list of document.querySelectorAll(".wide")) {
+    if (list.scrollWidth > list.clientWidth) found.push(`${list.firstElementChild.id || "a table"} sticks out`);
+}
 return found;
 """
 

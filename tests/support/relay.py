@@ -122,8 +122,8 @@ def whole_request(client: ssl.SSLSocket) -> bytes:
     return head + b"\r\n\r\n" + body
 
 
-def plain(status: int, phrase: str) -> str:
+def plain(status: int, phrase: str, text: str = "") -> str:
     """An answer that is not the site's."""
-    text = f"{status} {phrase}\n"
+    text = text or f"{status} {phrase}\n"
     return (f"HTTP/1.1 {status} {phrase}\r\nContent-Type: text/plain\r\nContent-Length: {len(text)}\r\n"
             f"Connection: close\r\n\r\n{text}")
