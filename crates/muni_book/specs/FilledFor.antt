@@ -7,7 +7,10 @@ use Rattle.muni_sched.specs.Candidates.{AreCandidates}
 use Rattle.muni_sched.specs.declared.candidate.Candidate.{Candidate}
 use Rattle.muni_msg.specs.declared.asked.Asked.{Asked}
 use Rattle.muni_msg.specs.declared.refusal.Refusal.{Refusal}
+use Rattle.muni_msg.specs.declared.refusal.Refusal.TheVariants as refusal
 use Rattle.muni_book.specs.Answers.{IsRightAnswer}
+use Rattle.muni_book.specs.declared.answers.Early.{Early}
+use Rattle.muni_book.specs.declared.answers.Early.TheVariants as early
 use Rattle.muni_book.specs.GivenFor.{IsAskable}
 use Rattle.muni_book.specs.Trade.{is_wrong_basis, side_left}
 
@@ -18,8 +21,14 @@ pub record AreFilledFor (row : IssueRow) (asked : Asked) (list : List Candidate)
   pub in_range : side_left asked.given asked.side asked.fee list ≡ None
   pub askable : IsAskable row asked list
 
+-- an early refusal as it is answered
+abbrev pub refusal_of : Early → Refusal
+refusal_of early.WrongBasis = refusal.WrongBasis
+refusal_of early.SettleOutside = refusal.SettleOutside
+refusal_of (early.OutOfRange side) = refusal.GivenOutOfRange side
+
 -- so it is, or what is asked is refused, whatever computes the figures
-abbrev pub IsFilledFor : IssueRow → Asked → List Candidate → Result ⊤ Refusal → Type 0
+abbrev pub IsFilledFor : IssueRow → Asked → List Candidate → Result ⊤ Early → Type 0
 IsFilledFor row asked list (Ok done) = AreFilledFor row asked list
 IsFilledFor row asked list (Err why) =
-    (ends : PaymentSeries → ℤ → WorthEnds) → IsRightAnswer ends row asked (Err why)
+    (ends : PaymentSeries → ℤ → WorthEnds) → IsRightAnswer ends row asked (Err (refusal_of why))

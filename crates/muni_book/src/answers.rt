@@ -6,7 +6,7 @@ ghost use Rattle.std.specs.List.{slice_get};
 ghost use Rattle.muni_terms.specs.Issue as issues;
 ghost use Rattle.muni_sched.specs.Candidates.{IsCandidate};
 ghost use Rattle.muni_book.specs.GivenFor.{IsAskable, IsNote};
-ghost use Rattle.muni_book.specs.FilledFor.{IsFilledFor};
+ghost use Rattle.muni_book.specs.FilledFor.{IsFilledFor, refusal_of};
 ghost use Rattle.muni_book.specs.Answers as spec;
 ghost use Rattle.muni_book.specs.Answers.{IsRightAnswer, ShowsFound, IsFoundAtYield, IsFoundAtPrice, IsFoundAtRate, IsPayable};
 ghost use Rattle.muni_book.specs.Trade as trades;
@@ -53,28 +53,53 @@ pub fn figures<R: Threads + Sync, E: Encloser + Sync, G: Gate + Sync>(
         → figures.commission ≤ figures.principal) }
     ensures accrued { IfOk result (λ figures. figures.accrued ≤ 60_000_000_000) }
 {
-    fill_for(issue, asked, schedule)?;
-    match asked.given {
-        Given::AtYield(y) => at_yield(issue, asked, schedule.candidates(), y, calculator.encloser),
-        Given::AtPrice(price) => at_price(calculator, issue, asked, schedule, price),
-        Given::AtRate(rate) => at_rate(issue, asked, schedule.candidates(), rate),
+    match fill_for(issue, asked, schedule) {
+        Ok(()) => match asked.given {
+            Given::AtYield(y) => {
+                at_yield(issue, asked, schedule.candidates(), y, calculator.encloser)
+            }
+            Given::AtPrice(price) => at_price(calculator, issue, asked, schedule, price),
+            Given::AtRate(rate) => at_rate(issue, asked, schedule.candidates(), rate),
+        },
+        Err(early) => Err(early.refusal()),
+    }
+}
+
+/// A refusal that comes before the candidates are priced. It is far smaller than a `Refusal`, which has room for an
+/// issue.
+#[derive(Clone, Copy, Debug)]
+pub(crate) enum Early {
+    WrongBasis,
+    SettleOutside,
+    OutOfRange(Range),
+}
+
+impl Early {
+    fn refusal(self) -> Refusal
+        ensures { result ≡ refusal_of self }
+    {
+        match self {
+            Early::WrongBasis => Refusal::WrongBasis,
+            Early::SettleOutside => Refusal::SettleOutside,
+            Early::OutOfRange(side) => Refusal::GivenOutOfRange(side),
+        }
     }
 }
 
 /// Puts the redemption candidates of an issue for what is asked into a schedule, or answers the refusal of the
 /// basis, the settlement, or what is given.
-pub(crate) fn fill_for(issue: &Issue, asked: &Asked, schedule: &mut Schedule) -> Result<(), Refusal>
+pub(crate) fn fill_for(issue: &Issue, asked: &Asked, schedule: &mut Schedule) -> Result<(), Early>
     ensures { IsFilledFor issue.now asked.now schedule.new.candidates result }
 {
     if is_wrong_basis(issue.row().kind, asked.given, asked.fee) {
-        return Err(Refusal::WrongBasis);
+        return Err(Early::WrongBasis);
     }
     if !issue.settles(asked.settle) {
-        return Err(Refusal::SettleOutside);
+        return Err(Early::SettleOutside);
     }
     schedule.fill(issue, asked.settle);
     match side_left(asked, schedule.candidates()) {
-        Some(side) => Err(Refusal::GivenOutOfRange(side)),
+        Some(side) => Err(Early::OutOfRange(side)),
         None => Ok(()),
     }
 }

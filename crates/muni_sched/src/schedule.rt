@@ -21,8 +21,7 @@ use std::marker::Model;
 use std::thread::Threads;
 
 /// The redemption candidates of an issue at a settlement (MSRB Rule G-15(a)), in order of date, and
-/// room for the searches for their yields. A schedule can be filled anew: to make its room takes a
-/// tenth of the time of a quote.
+/// room for the searches for their yields. It can be filled anew, so that its room is made once.
 #[derive(Drop)]
 pub struct Schedule {
     slots: [Candidate; 100],

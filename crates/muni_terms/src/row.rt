@@ -18,8 +18,8 @@ use thiserror::Error;
 #[derive(Clone, Copy, Debug)]
 pub struct Call {
     pub date: Day,
-    pub price: Price,
     pub term: CallTerm,
+    pub price: Price,
 }
 
 impl Call {

@@ -2,6 +2,7 @@ use Rattle.std.proofs.Common.{◌≡◌, Ok, Err, Result, subst, sym}
 use Rattle.muni_sched.specs.Candidates.{AreCandidates}
 use Rattle.muni_msg.specs.declared.figures.Figures.{Figures}
 use Rattle.muni_msg.specs.declared.refusal.Refusal.{Refusal}
+use Rattle.muni_book.specs.FilledFor.{refusal_of}
 use Rattle.muni_book.proofs.UniqueLemmas.{answers-unique}
 use Rattle.muni_book.proofs.each.each_redemption.Goals as goal
 
@@ -19,4 +20,4 @@ refused figures why is = cc
 pub returns-in-Err : goal.returns-in-Err
 returns-in-Err g c = λ right.
     let ends = g.E.Encloser.ends c.args.calculator.now.encloser.now in
-    absurd (refused c.args.figures.now c.in-Err.field-0 (answers-unique ends c.args.issue.now c.args.asked.now (Ok c.args.figures.now) (Err c.in-Err.field-0) right (c.in-Err.ensures ends)))
+    absurd (refused c.args.figures.now (refusal_of c.in-Err.field-0) (answers-unique ends c.args.issue.now c.args.asked.now (Ok c.args.figures.now) (Err (refusal_of c.in-Err.field-0)) right (c.in-Err.ensures ends)))
