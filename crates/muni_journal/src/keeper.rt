@@ -4,7 +4,7 @@ ghost use Rattle.std.specs.Prelude.{◌≡◌, ◌≤◌, ◌+◌, ◌^◌, Some
 ghost use Rattle.std.specs.Option.{ForSome, ForNone};
 ghost use Rattle.std.specs.Result.{result_map_both};
 ghost use Rattle.muni_keep.specs.History.{next_number};
-ghost use Rattle.muni_keep.specs.Tables.{issue_at, trade_at, version_at, last_at, trade_count, page_at};
+ghost use Rattle.muni_keep.specs.Tables.{issue_at, trade_at, version_at, last_at, trade_count, page_at, issue_past, desk_past};
 ghost use Rattle.muni_journal_disk.specs.Calls.{SameDisk};
 ghost use Rattle.muni_journal_disk.specs.Disk.{StopsLeave};
 ghost use Rattle.muni_journal_slots.specs.Slots.{AllImages};
@@ -198,5 +198,19 @@ impl<D: Disk> Keeper for JournalKeeper<D> {
         ensures same { self.new ≡ self.old }
     {
         Ok(self.kept.page(desk, after))
+    }
+
+    fn issue_past(&mut self, after: &Option<[u8; 9]>) -> Result<Option<([u8; 9], Issue)>, KeepFault>
+        ensures found { result ≡ Ok (issue_past self.old.kept after.now) }
+        ensures same { self.new ≡ self.old }
+    {
+        Ok(self.kept.issue_past(after))
+    }
+
+    fn desk_past(&mut self, after: &Option<DeskName>) -> Result<Option<DeskName>, KeepFault>
+        ensures found { result ≡ Ok (desk_past self.old.kept after.now) }
+        ensures same { self.new ≡ self.old }
+    {
+        Ok(self.kept.desk_past(after))
     }
 }

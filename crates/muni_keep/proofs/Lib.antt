@@ -1,4 +1,5 @@
 mod EitherLemmas
+pub mod EntriesLemmas
 mod HistoryLemmas
 mod KeeperLemmas
 mod MapLemmas

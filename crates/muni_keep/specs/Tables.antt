@@ -1,5 +1,5 @@
 -- The tables of the desk: two finite maps, of its issues and of its trades.
-use Rattle.std.specs.Prelude.{ℕ, ◌-◌, ◌^◌, min, List, map, take, Option, refl}
+use Rattle.std.specs.Prelude.{ℕ, ◌-◌, ◌^◌, min, List, map, take, slice_get, Option, refl}
 use Rattle.std.specs.Option.{option_map, option_and_then}
 use Rattle.std.specs.Coded.{Coded, code_by, coded×, coded_ℕ, coded_list}
 use Rattle.std.specs.FinMap.{FinMap, empty, get, insert, len, code as map_code}
@@ -10,7 +10,7 @@ use Rattle.muni_msg.specs.declared.command.Line.{Line}
 use Rattle.muni_msg.specs.declared.version.Version.{Version}
 use Rattle.muni_msg.specs.contracts.version.Version.{the_row as version_row}
 use Rattle.muni_keep.specs.History.{History, count, version_in}
-use Rattle.muni_keep.specs.Trades.{by_bytes, Desks, desks_code, own, trades_past, put}
+use Rattle.muni_keep.specs.Trades.{by_bytes, Desks, desks_code, own, past, trades_past, put}
 
 -- the issues by CUSIP
 abbrev pub Issues : Type 0
@@ -61,6 +61,14 @@ line trade = record { reference = trade.0; number = count trade.1; version = tra
 -- the first 50 trades of a desk after a reference, if one is given
 abbrev pub page_at : Tables → List ℕ → Option (List ℕ) → List Line
 page_at tables desk after = map line (take 50 (trades_past after (own desk tables.desks)))
+
+-- the first issue after a CUSIP, if one is given, with its CUSIP
+abbrev pub issue_past : Tables → Option (List ℕ) → Option (List ℕ × IssueRow)
+issue_past tables after = slice_get (past after tables.issues) 0
+
+-- the first desk after another, if one is given
+abbrev pub desk_past : Tables → Option (List ℕ) → Option (List ℕ)
+desk_past tables after = option_map (λ entry. entry.0) (slice_get (past after tables.desks) 0)
 
 -- with one issue more
 abbrev pub with_issue : IssueRow → Tables → Tables

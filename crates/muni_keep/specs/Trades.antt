@@ -34,17 +34,21 @@ desks_code code = map_code (coded_list coded_ℕ) (trades_code code)
 abbrev pub own : {V : Type 0} → List ℕ → Desks V → Trades V
 own desk desks = unwrap_or (get desks desk) empty
 
--- a reference stands after another, if one is given
+-- a key stands after another, if one is given
 abbrev pub is_past : Option (List ℕ) → List ℕ → Bool
-is_past None reference = true
-is_past (Some other) reference = is_lt (by_bytes other reference)
+is_past None key = true
+is_past (Some other) key = is_lt (by_bytes other key)
+
+-- the entries of a map after a key, if one is given, in the order of their keys
+abbrev pub past : {V : Type 0} → Option (List ℕ) → FinMap by_bytes V → List (List ℕ × V)
+past after map = filter (λ entry. is_past after entry.0) (entries map)
 
 -- the trades after a reference, if one is given, in the order of their references
 abbrev pub trades_past : {V : Type 0} → Option (List ℕ) → Trades V → List (List ℕ × History V)
-trades_past after trades = filter (λ trade. is_past after trade.0) (entries trades)
+trades_past after trades = past after trades
 
--- where those after a reference begin
-abbrev pub bound_past : Option (List ℕ) → Bound (List ℕ)
+-- where those after a key begin
+abbrev pub bound_past : {Key : Type 0} → Option Key → Bound Key
 bound_past None = Unbounded
 bound_past (Some after) = Excluded after
 

@@ -1,17 +1,19 @@
 //! The trades of all desks.
 
-ghost use Rattle.std.specs.Prelude.{◌≡◌, ◌<◌, ◌^◌, OnOk, OnErr};
+ghost use Rattle.std.specs.Prelude.{◌≡◌, ◌<◌, ◌^◌, OnOk, OnErr, slice_get};
 ghost use Rattle.std.specs.Option.{option_map};
 ghost use Rattle.std.specs.FinMap as map;
 ghost use Rattle.muni_keep.specs.History.{next_number};
 ghost use Rattle.muni_keep.specs.Trades as spec;
 
+use crate::past::bound_past;
 use crate::trade::Trade;
 use crate::trades::Trades;
 use muni_msg::{DeskName, Reference};
 use std::alloc::{AllocError, Global};
 use std::collections::BTreeMap;
 use std::marker::Model;
+use std::ops::Bound;
 
 /// The trades of all desks, by the names of the desks.
 #[derive(Drop)]
@@ -66,6 +68,18 @@ impl<V: Copy + Drop> Desks<V> {
     {
         match self.own(desk) {
             Some(trades) => trades.get(reference),
+            None => None,
+        }
+    }
+
+    /// The first desk after another, or the first of all if none is given.
+    pub(crate) fn past(&self, after: &Option<DeskName>) -> Option<&DeskName>
+        ensures { option_map (λ desk. desk.now) result
+            ≡ option_map (λ entry. entry.0) (slice_get (spec.past after.now self.now) 0) }
+    {
+        let mut desks = self.desks.range((bound_past(after), Bound::Unbounded));
+        match desks.next() {
+            Some((desk, _)) => Some(desk),
             None => None,
         }
     }

@@ -75,4 +75,21 @@ impl<K: Keeper, L: Keeper> Keeper for EitherKeeper<K, L> {
             EitherKeeper::Second(keeper) => keeper.page(desk, after),
         }
     }
+
+    fn issue_past(
+        &mut self,
+        after: &Option<[u8; 9]>,
+    ) -> Result<Option<([u8; 9], Issue)>, KeepFault> {
+        match self {
+            EitherKeeper::First(keeper) => keeper.issue_past(after),
+            EitherKeeper::Second(keeper) => keeper.issue_past(after),
+        }
+    }
+
+    fn desk_past(&mut self, after: &Option<DeskName>) -> Result<Option<DeskName>, KeepFault> {
+        match self {
+            EitherKeeper::First(keeper) => keeper.desk_past(after),
+            EitherKeeper::Second(keeper) => keeper.desk_past(after),
+        }
+    }
 }

@@ -1,13 +1,16 @@
 //! The issues that a keeper in memory has.
 
-ghost use Rattle.std.specs.Prelude.{◌≡◌, OnOk, OnErr};
+ghost use Rattle.std.specs.Prelude.{◌≡◌, OnOk, OnErr, slice_get};
 ghost use Rattle.std.specs.Option.{option_map};
 ghost use Rattle.std.specs.FinMap as map;
+ghost use Rattle.muni_keep.specs.Trades.{past};
 
+use crate::past::bound_past;
 use muni_terms::Issue;
 use std::alloc::{AllocError, Global};
 use std::collections::BTreeMap;
 use std::marker::Model;
+use std::ops::Bound;
 
 /// Issues by CUSIP.
 #[derive(Drop)]
@@ -41,6 +44,17 @@ impl Issues {
         ensures { option_map (λ issue. issue.now) result ≡ map.get self.now cusip.now }
     {
         self.issues.get(cusip)
+    }
+
+    /// The first issue after a CUSIP, or the first of all if none is given, with its CUSIP.
+    pub(crate) fn past(&self, after: &Option<[u8; 9]>) -> Option<([u8; 9], Issue)>
+        ensures { result ≡ slice_get (past after.now self.now) 0 }
+    {
+        let mut issues = self.issues.range((bound_past(after), Bound::Unbounded));
+        match issues.next() {
+            Some((cusip, issue)) => Some((*cusip, issue.copy())),
+            None => None,
+        }
     }
 
     /// Keeps an issue under its CUSIP.

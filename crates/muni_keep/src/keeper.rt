@@ -3,7 +3,7 @@
 ghost use Rattle.std.specs.Prelude.{◌≡◌, ℕ, Option, None, IfOk, IfSome};
 ghost use Rattle.muni_keep.specs.Frames.{Found, Reads, Edits};
 ghost use Rattle.muni_keep.specs.History.{next_number};
-ghost use Rattle.muni_keep.specs.Tables.{Tables, issue_at, trade_at, version_at, last_at, trade_count, page_at, with_issue, with_version};
+ghost use Rattle.muni_keep.specs.Tables.{Tables, issue_at, trade_at, version_at, last_at, trade_count, page_at, issue_past, desk_past, with_issue, with_version};
 
 use crate::fault::KeepFault;
 use arrayvec::ArrayVec;
@@ -62,5 +62,17 @@ pub trait Keeper {
     ) -> Result<ArrayVec<Line, 50>, KeepFault>
         ensures found { IfOk result
             (λ lines. IfSome (tables self.old) (λ t. lines.items ≡ page_at t desk.now after.now)) }
+        ensures reads { Reads tables faults lent_as result self.old self.new };
+
+    /// The first issue after a CUSIP, or the first of all if none is given, in the order of their CUSIPs,
+    /// with its CUSIP.
+    fn issue_past(&mut self, after: &Option<[u8; 9]>) -> Result<Option<([u8; 9], Issue)>, KeepFault>
+        ensures found { Found (tables self.old) result (λ t. issue_past t after.now) }
+        ensures reads { Reads tables faults lent_as result self.old self.new };
+
+    /// The first desk with trades after a desk, or the first of all if none is given, in the order of
+    /// their names.
+    fn desk_past(&mut self, after: &Option<DeskName>) -> Result<Option<DeskName>, KeepFault>
+        ensures found { Found (tables self.old) result (λ t. desk_past t after.now) }
         ensures reads { Reads tables faults lent_as result self.old self.new };
 }

@@ -12,6 +12,7 @@ mod mem_cabinet;
 mod mem_keeper;
 mod mem_tables;
 mod page;
+mod past;
 mod store_name;
 mod trade;
 mod trades;

@@ -3,7 +3,7 @@
 ghost use Rattle.std.specs.Prelude.{◌≡◌, Some, None, IfOk};
 ghost use Rattle.std.specs.Result.{result_map_both};
 ghost use Rattle.muni_keep.specs.History.{next_number};
-ghost use Rattle.muni_keep.specs.Tables.{issue_at, trade_at, version_at, last_at, trade_count, page_at, with_issue, with_version};
+ghost use Rattle.muni_keep.specs.Tables.{issue_at, trade_at, version_at, last_at, trade_count, page_at, issue_past, desk_past, with_issue, with_version};
 ghost use Rattle.muni_keep.specs.MemKeeper.{new_keeper, LooksUp, Puts};
 
 use crate::fault::KeepFault;
@@ -134,5 +134,19 @@ impl Keeper for MemKeeper {
     {
         self.calls.make()?;
         Ok(self.tables.page(desk, after))
+    }
+
+    fn issue_past(&mut self, after: &Option<[u8; 9]>) -> Result<Option<([u8; 9], Issue)>, KeepFault>
+        ensures { LooksUp result (issue_past self.old.tables after.now) self.old self.new }
+    {
+        self.calls.make()?;
+        Ok(self.tables.issue_past(after))
+    }
+
+    fn desk_past(&mut self, after: &Option<DeskName>) -> Result<Option<DeskName>, KeepFault>
+        ensures { LooksUp result (desk_past self.old.tables after.now) self.old self.new }
+    {
+        self.calls.make()?;
+        Ok(self.tables.desk_past(after))
     }
 }

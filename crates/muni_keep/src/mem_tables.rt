@@ -2,7 +2,7 @@
 
 ghost use Rattle.std.specs.Prelude.{◌≡◌, OnOk, OnErr};
 ghost use Rattle.muni_keep.specs.History.{next_number};
-ghost use Rattle.muni_keep.specs.Tables.{no_tables, issue_at, trade_at, version_at, last_at, trade_count, page_at, with_issue, with_version};
+ghost use Rattle.muni_keep.specs.Tables.{no_tables, issue_at, trade_at, version_at, last_at, trade_count, page_at, issue_past, desk_past, with_issue, with_version};
 
 use crate::desks::Desks;
 use crate::issues::Issues;
@@ -107,5 +107,22 @@ impl MemTables {
         ensures { result.items ≡ page_at self.now desk.now after.now }
     {
         page(&self.desks, desk, after)
+    }
+
+    /// The first issue after a CUSIP, or the first of all if none is given, with its CUSIP.
+    pub fn issue_past(&self, after: &Option<[u8; 9]>) -> Option<([u8; 9], Issue)>
+        ensures { result ≡ issue_past self.now after.now }
+    {
+        self.issues.past(after)
+    }
+
+    /// The first desk with trades after a desk, or the first of all if none is given.
+    pub fn desk_past(&self, after: &Option<DeskName>) -> Option<DeskName>
+        ensures { result ≡ desk_past self.now after.now }
+    {
+        match self.desks.past(after) {
+            Some(desk) => Some(desk.copy()),
+            None => None,
+        }
     }
 }

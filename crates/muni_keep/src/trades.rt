@@ -2,11 +2,11 @@
 
 ghost use Rattle.std.specs.Prelude.{◌≡◌, ◌+◌, ◌<◌, ◌^◌, OnOk, OnErr};
 ghost use Rattle.std.specs.Option.{option_map};
-ghost use Rattle.std.specs.Range.Bound.{bound_map};
 ghost use Rattle.std.specs.FinMap as map;
 ghost use Rattle.muni_keep.specs.History.{next_number};
 ghost use Rattle.muni_keep.specs.Trades as spec;
 
+use crate::past::bound_past;
 use crate::trade::Trade;
 use muni_msg::Reference;
 use std::alloc::{AllocError, Global};
@@ -31,15 +31,6 @@ impl<V> Model for Trades<V> {
     ghost coded = { spec.trades_code V.code };
 
     ghost view = { λ trades. map.from_entries trades.trades.entries };
-}
-
-fn bound_past(after: &Option<Reference>) -> Bound<&Reference>
-    ensures { bound_map (λ r. r.now) result ≡ spec.bound_past after.now }
-{
-    match after {
-        Some(after) => Bound::Excluded(after),
-        None => Bound::Unbounded,
-    }
 }
 
 impl<V: Copy + Drop> Trades<V> {

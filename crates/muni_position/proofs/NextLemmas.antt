@@ -33,7 +33,7 @@ use Rattle.muni_position.specs.Laws.{AreThoseHeld, if_live}
 use Rattle.muni_position.specs.declared.holding.Holding.{Holding}
 use Rattle.muni_position.specs.declared.position.Position.{Position}
 use Rattle.muni_position.proofs.HoldingLemmas.{position_is}
-use Rattle.muni_position.proofs.PageLemmas.{all_pass}
+use Rattle.muni_keep.proofs.EntriesLemmas.{all_pass}
 use Rattle.muni_position.proofs.PutLemmas.{keys_rise, find_lookup}
 
 -- the positions of those entries that have a live trade

@@ -1,56 +1,21 @@
 -- Trades that were read page after page, and their holdings.
-use Rattle.std.proofs.Common.{◌≡◌, ◌≤◌, ◌<◌, ℕ, suc, ◌+◌, ◌-◌, Bool, true, false, cond, List, [], ◌∷◌, ◌++◌, length, map, take, drop, Option, Some, None, refl, sym, ap, subst, ◌∙◌, arith, append_assoc}
+use Rattle.std.proofs.Common.{◌≡◌, ◌≤◌, ◌<◌, ℕ, suc, ◌+◌, ◌-◌, List, [], ◌∷◌, ◌++◌, length, map, take, drop, Option, Some, None, refl, sym, ap, subst, ◌∙◌, arith, append_assoc}
 use Rattle.std.specs.Prelude.{T, slice_get, IfSome}
 use Rattle.muni_position.specs.Holdings.{HasTooMany, HasFew}
 use Rattle.std.specs.List.{filter, AllByRecursion}
-use Rattle.std.specs.declared.cmp.Ordering.TheVariants.{Greater}
-use Rattle.std.specs.Ordering.{is_lt, ordering_reverse}
-use Rattle.std.specs.Cmp.{tied_itself}
-use Rattle.std.specs.Cmp.Lexicographic.{nat_list_cmp_total}
 use Rattle.std.specs.FinMap.{entries, is_sorted, entries_sorted}
-use Rattle.std.specs.FinMap.Entries.{below_all}
 use Rattle.std.proofs.lemmas.List.{take-append-drop, length-append, map-append}
 use Rattle.muni_msg.specs.declared.command.Line.{Line}
 use Rattle.muni_msg.specs.declared.version.Version.{Version}
 use Rattle.muni_keep.specs.History.{History}
 use Rattle.muni_keep.specs.Tables.{Tables, line, page_at}
 use Rattle.muni_keep.specs.Trades.{by_bytes, own, is_past, trades_past}
+use Rattle.muni_keep.proofs.EntriesLemmas.{all_pass, past_one}
 use Rattle.muni_position.specs.Positions.{last_versions}
 use Rattle.muni_position.specs.Holding.{nothing, plus, holding_of, IsBounded}
 use Rattle.muni_position.specs.Holdings.{Holdings, kept, AreOf}
 use Rattle.muni_position.proofs.BoundLemmas.{bounded-append}
 use Rattle.muni_position.proofs.HoldingLemmas.{holding_of-nil, holding_of-append}
-use Rattle.muni_position.proofs.PutLemmas.{first, second, less}
-
-pub all_pass : {A : Type 0} (xs : List A) → filter (λ _. true) xs ≡ xs
-all_pass [] = refl
-all_pass (x ∷ xs) = ap (λ l. x ∷ l) (all_pass xs)
-
-true_is : (b : Bool) → T b → b ≡ true
-true_is true t = refl
-true_is false t = absurd t
-
-past_first : {X : Type 0} (key : List ℕ) (es : List (List ℕ × X)) → T (below_all by_bytes key es) → filter (λ e. is_past (Some key) e.0) es ≡ es
-past_first key [] t = refl
-past_first key (e ∷ es) t =
-    ap (λ b. cond b (e ∷ filter (λ e. is_past (Some key) e.0) es) (filter (λ e. is_past (Some key) e.0) es)) (true_is _ (first _ _ t))
-    ∙ ap (λ l. e ∷ l) (past_first key es (second _ _ t))
-
-below_one : {X : Type 0} (key : List ℕ) (front : List (List ℕ × X)) (e : List ℕ × X) (back : List (List ℕ × X)) → T (below_all by_bytes key (front ++ e ∷ back)) → T (is_lt (by_bytes key e.0))
-below_one key [] e back t = first _ _ t
-below_one key (x ∷ front) e back t = below_one key front e back (second _ _ t)
-
--- of entries in order, those after one are those past its key
-pub past_one : {X : Type 0} (front : List (List ℕ × X)) (e : List ℕ × X) (back : List (List ℕ × X)) → T (is_sorted by_bytes (front ++ e ∷ back))
-    → filter (λ other. is_past (Some e.0) other.0) (front ++ e ∷ back) ≡ back
-past_one [] e back t =
-    ap (λ o. cond (is_lt o) (e ∷ filter (λ other. is_past (Some e.0) other.0) back) (filter (λ other. is_past (Some e.0) other.0) back)) (tied_itself nat_list_cmp_total e.0)
-    ∙ past_first e.0 back (first _ _ t)
-past_one (x ∷ front) e back t =
-    let rest = filter (λ other. is_past (Some e.0) other.0) (front ++ e ∷ back) in
-    let below = less _ (below_one x.0 front e back (first _ _ t)) in
-    let over : by_bytes e.0 x.0 ≡ Greater = nat_list_cmp_total.antisymm e.0 x.0 ∙ ap ordering_reverse below in
-    ap (λ o. cond (is_lt o) (x ∷ rest) rest) over ∙ past_one front e back (second _ _ t)
 
 last_split : {A B : Type 0} (f : A → B) (xs : List A) (y : B) → slice_get (map f xs) (length (map f xs) - 1) ≡ Some y → (front : List A) × (e : A) × (xs ≡ front ++ e ∷ []) × (f e ≡ y)
 last_split f [] y is = absurd (cc is)

@@ -5,7 +5,7 @@ ghost use Rattle.std.proofs.Props.{props};
 ghost use Rattle.std.specs.Option.{option_map};
 ghost use Rattle.muni_keep.specs.History.{next_number};
 ghost use Rattle.muni_keep.specs.Keeper.{OnlyReads, EditsTables, SameKeeper};
-ghost use Rattle.muni_keep.specs.Tables.{issue_at, trade_at, version_at, last_at, trade_count, page_at, with_issue, with_version};
+ghost use Rattle.muni_keep.specs.Tables.{issue_at, trade_at, version_at, last_at, trade_count, page_at, issue_past, desk_past, with_issue, with_version};
 ghost use Rattle.muni_position.specs.Change.{HasNoRoomFor};
 ghost use Rattle.muni_position.specs.Holdings.{AreInRange, AreRight, HasFew, kept};
 ghost use Rattle.muni_position.specs.Holdings as spec;
@@ -235,6 +235,18 @@ impl<K: Keeper> Keeper for Positioned<K> {
         ensures looks { LooksInside K.Keeper result self.old self.new }
     {
         self.inner.page(desk, after)
+    }
+
+    fn issue_past(&mut self, after: &Option<[u8; 9]>) -> Result<Option<([u8; 9], Issue)>, KeepFault>
+        ensures { FindsInside K.Keeper result (λ t. issue_past t after.now) self.old self.new }
+    {
+        self.inner.issue_past(after)
+    }
+
+    fn desk_past(&mut self, after: &Option<DeskName>) -> Result<Option<DeskName>, KeepFault>
+        ensures { FindsInside K.Keeper result (λ t. desk_past t after.now) self.old self.new }
+    {
+        self.inner.desk_past(after)
     }
 }
 

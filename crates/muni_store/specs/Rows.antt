@@ -10,6 +10,7 @@ use Rattle.muni_terms.specs.declared.row.IssueRow.{IssueRow}
 use Rattle.muni_msg.specs.declared.command.Key.{Key}
 use Rattle.muni_msg.specs.declared.version.Version.{Version}
 use Rattle.muni_msg.specs.NameReading.{name_reading}
+use Rattle.muni_msg.specs.Names.{is_desk_letter}
 use Rattle.muni_store_rows.specs.Codes.{count}
 use Rattle.muni_store_rows.specs.Issue as issues
 use Rattle.muni_store_rows.specs.Version as versions
@@ -34,6 +35,10 @@ number_in row at = number_of (column row at)
 abbrev pub reference_in : List Value → Option (List ℕ)
 reference_in row = result_ok (name_reading is_ascii_alphanumeric 20 (text_in row 0))
 
+-- the name of a desk in a row, if it is one
+abbrev pub desk_in : List Value → Option (List ℕ)
+desk_in row = result_ok (name_reading is_desk_letter 16 (text_in row 0))
+
 -- the issue in a row, if it is one
 abbrev pub issue_in : List Value → Option IssueRow
 issue_in row = issues.issue_of (record {
@@ -47,6 +52,10 @@ issue_in row = issues.issue_of (record {
   calls = text_in row 7;
   basis = number_in row 8;
 })
+
+-- the same with its CUSIP
+abbrev pub issue_entry_in : List Value → Option (List ℕ × IssueRow)
+issue_entry_in row = option_map (λ issue. (issue.cusip, issue)) (issue_in row)
 
 -- the columns of a version in a row, with a fee and a commission
 abbrev pub asked_columns : List Value → ℤ → versions.AskedColumns

@@ -1,5 +1,5 @@
 -- The statements on the tables, and the values in their places.
-use Rattle.std.specs.Prelude.{ℕ, pos, List, [], ◌∷◌, codes, Option, unwrap_or}
+use Rattle.std.specs.Prelude.{ℕ, pos, List, [], ◌∷◌, ◌++◌, codes, Option, Some, None, unwrap_or}
 use Rattle.sqlite.specs.declared.types.Value.{Value}
 use Rattle.sqlite.specs.declared.types.Value.TheVariants.{Int, Text}
 use Rattle.muni_msg.specs.declared.command.Key.{Key}
@@ -13,6 +13,14 @@ select_issue = codes "SELECT cusip, name, kind, dated, first, maturity, coupon, 
 -- the CUSIP, in its place
 abbrev pub cusip_values : List ℕ → List Value
 cusip_values cusip = Text cusip ∷ []
+
+-- finds the first issue after a CUSIP
+abbrev pub select_issue_past : List ℕ
+select_issue_past = codes "SELECT cusip, name, kind, dated, first, maturity, coupon, calls, basis FROM issues_2 WHERE cusip > ?1 ORDER BY cusip LIMIT 1"
+
+-- the CUSIP, or nothing if the first one is asked for
+abbrev pub past_values : Option (List ℕ) → List Value
+past_values after = Text (unwrap_or after []) ∷ []
 
 -- keeps an issue
 abbrev pub insert_issue : List ℕ
@@ -54,6 +62,18 @@ count_trades = codes "SELECT COUNT(*) FROM versions_2 WHERE desk = ?1 AND number
 -- the desk, in its place
 abbrev pub desk_values : List ℕ → List Value
 desk_values desk = Text desk ∷ []
+
+-- finds the first desk from a name on
+abbrev pub select_desk_past : List ℕ
+select_desk_past = codes "SELECT desk FROM versions_2 WHERE desk >= ?1 ORDER BY desk LIMIT 1"
+
+-- the least text after a name, or nothing if the first desk is asked for
+abbrev pub least_past : Option (List ℕ) → List ℕ
+least_past None = []
+least_past (Some desk) = desk ++ 0 ∷ []
+
+abbrev pub desk_past_values : Option (List ℕ) → List Value
+desk_past_values after = Text (least_past after) ∷ []
 
 -- finds the references of the first 50 trades of a desk after one, in their order
 abbrev pub select_references : List ℕ

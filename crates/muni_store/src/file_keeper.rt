@@ -217,4 +217,24 @@ impl<S: Alter + Drop, F: OpensAnew<S> + Drop> Keeper for FileKeeper<S, F> {
         let lines = keeper.page(desk, after);
         self.put_back(keeper, lines)
     }
+
+    fn issue_past(&mut self, after: &Option<[u8; 9]>) -> Result<Option<([u8; 9], Issue)>, KeepFault>
+        ensures looks { WhileOpen self.old.state self.new.state (Looks (state S.Store) rows.issue_entry_in
+            spec.select_issue_past (spec.past_values after.now) result) }
+        ensures ends { Ends result self.old self.new }
+    {
+        let mut keeper = self.take()?;
+        let found = keeper.issue_past(after);
+        self.put_back(keeper, found)
+    }
+
+    fn desk_past(&mut self, after: &Option<DeskName>) -> Result<Option<DeskName>, KeepFault>
+        ensures looks { WhileOpen self.old.state self.new.state (Looks (state S.Store) rows.desk_in
+            spec.select_desk_past (spec.desk_past_values after.now) result) }
+        ensures ends { Ends result self.old self.new }
+    {
+        let mut keeper = self.take()?;
+        let found = keeper.desk_past(after);
+        self.put_back(keeper, found)
+    }
 }

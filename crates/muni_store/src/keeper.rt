@@ -14,7 +14,8 @@ ghost use Rattle.muni_store.specs.Statements as spec;
 use crate::faults::{counted, is_shut};
 use crate::page::read_page;
 use crate::statements::{
-    count_trades, find_issue, find_last, find_version, insert_issue, insert_version,
+    count_trades, find_desk_past, find_issue, find_issue_past, find_last, find_version,
+    insert_issue, insert_version,
 };
 use crate::trade_counts::TradeCounts;
 use arrayvec::ArrayVec;
@@ -165,5 +166,25 @@ impl<S: Alter + Drop> Keeper for SqlKeeper<S> {
         let lines = read_page(&mut self.database, desk, after);
         self.is_shut = is_shut(&lines);
         counted(&mut self.faults, lines)
+    }
+
+    fn issue_past(&mut self, after: &Option<[u8; 9]>) -> Result<Option<([u8; 9], Issue)>, KeepFault>
+        ensures looks { Looks (state S.Store) rows.issue_entry_in spec.select_issue_past (spec.past_values after.now)
+            result self.old self.new }
+        ensures counted { CountsFailure result self.old.faults self.new.faults }
+    {
+        let found = find_issue_past(&mut self.database, after);
+        self.is_shut = is_shut(&found);
+        counted(&mut self.faults, found)
+    }
+
+    fn desk_past(&mut self, after: &Option<DeskName>) -> Result<Option<DeskName>, KeepFault>
+        ensures looks { Looks (state S.Store) rows.desk_in spec.select_desk_past (spec.desk_past_values after.now)
+            result self.old self.new }
+        ensures counted { CountsFailure result self.old.faults self.new.faults }
+    {
+        let found = find_desk_past(&mut self.database, after);
+        self.is_shut = is_shut(&found);
+        counted(&mut self.faults, found)
     }
 }

@@ -5,7 +5,7 @@ ghost use Rattle.muni_store.specs.Rows as rows;
 
 use crate::fault::StoreFault;
 use crate::schema::text;
-use muni_msg::{Key, Reference, Version};
+use muni_msg::{DeskName, Key, Reference, Version};
 use muni_store_rows::{AskedRow, FigureRow, TradeRow, issue_2};
 use muni_terms::Issue;
 use sqlite::Row;
@@ -49,6 +49,14 @@ pub(crate) fn read_issue(row: &Row) -> Result<Issue, StoreFault>
     issue.ok_or(StoreFault::Failed)
 }
 
+/// The issue in a row, with its CUSIP.
+pub(crate) fn read_issue_entry(row: &Row) -> Result<([u8; 9], Issue), StoreFault>
+    ensures { IfOk result (λ entry. rows.issue_entry_in row.now ≡ Some entry) }
+{
+    let issue = read_issue(row)?;
+    Ok((issue.row().cusip, issue))
+}
+
 #[tactic(auto, unfolding(muni_store_rows::specs::Codes::count))]
 pub(crate) fn read_count(row: &Row) -> Result<u32, StoreFault>
     ensures { IfOk result (λ count. rows.count_in row.now ≡ Some count) }
@@ -62,6 +70,16 @@ pub(crate) fn read_reference(row: &Row) -> Result<Reference, StoreFault>
 {
     match Reference::read(text_at(row, 0)?.as_bytes()) {
         Ok(reference) => Ok(reference),
+        Err(_) => Err(StoreFault::Failed),
+    }
+}
+
+/// The name of the desk in the first column of a row.
+pub(crate) fn read_desk(row: &Row) -> Result<DeskName, StoreFault>
+    ensures { IfOk result (λ desk. rows.desk_in row.now ≡ Some desk) }
+{
+    match DeskName::read(text_at(row, 0)?.as_bytes()) {
+        Ok(desk) => Ok(desk),
         Err(_) => Err(StoreFault::Failed),
     }
 }

@@ -1,6 +1,6 @@
 //! The statements on the tables.
 
-ghost use Rattle.std.specs.Prelude.{◌≡◌, Some, IfOk, OnOk, OnErr};
+ghost use Rattle.std.specs.Prelude.{◌≡◌, Some, [], IfOk, OnOk, OnErr, unwrap_or};
 ghost use Rattle.sqlite.specs.Held.{state};
 ghost use Rattle.sqlite.specs.State.{HasCleanDisk, Shown};
 ghost use Rattle.sqlite.specs.Values.{bound};
@@ -11,8 +11,10 @@ ghost use Rattle.muni_store.specs.Rows as rows;
 ghost use Rattle.muni_store.specs.Statements as spec;
 
 use crate::fault::StoreFault;
-use crate::rows::{read_count, read_issue, read_trade};
+use crate::rows::{read_count, read_desk, read_issue, read_issue_entry, read_trade};
 use crate::schema::{answered, first_row, write};
+use arrayvec::ArrayVec;
+use muni_dec::text::push;
 use muni_msg::{DeskName, Key, Reference, Version};
 use muni_store_rows::{IssueColumns, TradeRow, WrittenVersion, issue_columns};
 use muni_terms::Issue;
@@ -240,4 +242,70 @@ pub(crate) fn references_after<S: Alter>(
          ORDER BY reference LIMIT 50",
         &[ValueRef::Text(desk.bytes()), ValueRef::Text(after)],
     ))
+}
+
+/// The first issue after a CUSIP, or the first of all if none is given, with its CUSIP.
+pub(crate) fn find_issue_past<S: Alter>(
+    database: &mut Connection<S>,
+    after: &Option<[u8; 9]>,
+) -> Result<Option<([u8; 9], Issue)>, StoreFault>
+    ensures found { IfOk result (rows.Reads rows.issue_entry_in (state S.Store database.old)
+        (state S.Store database.new) spec.select_issue_past (spec.past_values after.now)) }
+    ensures asked { Asked (state S.Store database.old) (state S.Store database.new) spec.select_issue_past
+        (spec.past_values after.now) }
+{
+    let row = first_row(
+        database,
+        "SELECT cusip, name, kind, dated, first, maturity, coupon, calls, basis \
+         FROM issues_2 WHERE cusip > ?1 ORDER BY cusip LIMIT 1",
+        &[ValueRef::Text(cusip_or_none(after))],
+    )?;
+    match row {
+        Some(row) => Ok(Some(read_issue_entry(&row)?)),
+        None => Ok(None),
+    }
+}
+
+// No CUSIP is empty.
+fn cusip_or_none(after: &Option<[u8; 9]>) -> &[u8]
+    ensures { result.now ≡ unwrap_or after.now [] }
+{
+    match after {
+        Some(cusip) => cusip,
+        None => b"",
+    }
+}
+
+/// The first desk with trades after a desk, or the first of all if none is given.
+pub(crate) fn find_desk_past<S: Alter>(
+    database: &mut Connection<S>,
+    after: &Option<DeskName>,
+) -> Result<Option<DeskName>, StoreFault>
+    ensures found { IfOk result (rows.Reads rows.desk_in (state S.Store database.old)
+        (state S.Store database.new) spec.select_desk_past (spec.desk_past_values after.now)) }
+    ensures asked { Asked (state S.Store database.old) (state S.Store database.new) spec.select_desk_past
+        (spec.desk_past_values after.now) }
+{
+    let least = least_past(after);
+    let row = first_row(
+        database,
+        "SELECT desk FROM versions_2 WHERE desk >= ?1 ORDER BY desk LIMIT 1",
+        &[ValueRef::Text(least.as_slice())],
+    )?;
+    match row {
+        Some(row) => Ok(Some(read_desk(&row)?)),
+        None => Ok(None),
+    }
+}
+
+// The least text after a name. An index that is entered there passes over no row of that desk.
+fn least_past(after: &Option<DeskName>) -> ArrayVec<u8, 17>
+    ensures { result.items ≡ spec.least_past after.now }
+{
+    let mut least = ArrayVec::new();
+    if let Some(desk) = after {
+        push(&mut least, desk.bytes());
+        least.push(0);
+    }
+    least
 }

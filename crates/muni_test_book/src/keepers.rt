@@ -5,7 +5,7 @@ ghost use Rattle.std.specs.Prelude.{◌≡◌, None, IfOk};
 use crate::desks::put;
 use muni_keep::{Cabinet, KeepFault, Keeper, MemCabinet, MemKeeper};
 use muni_msg::{Act, Key, Version};
-use muni_terms::Issue;
+use muni_terms::{Issue, check};
 use muni_test_samples::{key, worked_issue};
 use std::alloc::Global;
 use std::test::Fail;
@@ -29,13 +29,15 @@ fn add_version<K: Keeper>(keeper: &mut K, key: &Key) -> Result<(), KeepFault>
     put(keeper, key, &version)
 }
 
-/// The seven calls, one after the other, up to the first that fails.
+/// The nine calls, one after the other, up to the first that fails.
 fn make_calls<K: Keeper>(keeper: &mut K, issue: &Issue, key: &Key) -> Result<(), KeepFault> {
     add_issue(keeper, issue)?;
     add_version(keeper, key)?;
     let _ = keeper.version(key, 1)?;
     let _ = keeper.trades(&key.desk)?;
     let _ = keeper.page(&key.desk, &None)?;
+    let _ = keeper.issue_past(&None)?;
+    let _ = keeper.desk_past(&None)?;
     Ok(())
 }
 
@@ -51,14 +53,14 @@ fn twice(alloc: Global, call: u64) -> Result<(Result<(), KeepFault>, Result<(), 
 
 #[test]
 fn each_call_of_a_keeper_fails_where_it_is_listed(rt: HostRuntime) -> Result<(), Fail> {
-    for call in 0..7_u64 {
+    for call in 0..9_u64 {
         assert_eq!(rt;
             twice(rt.alloc(), call)?,
             (Err(KeepFault::Failed), Ok(())),
             "call {call}"
         );
     }
-    assert_eq!(rt; twice(rt.alloc(), 7)?, (Ok(()), Err(KeepFault::Failed)));
+    assert_eq!(rt; twice(rt.alloc(), 9)?, (Ok(()), Err(KeepFault::Failed)));
     Ok(())
 }
 
@@ -84,6 +86,64 @@ fn a_page_has_each_trade_by_its_last_version_in_the_order_of_references(
 ) -> Result<(), Fail> {
     let mut keeper = MemKeeper::new(rt.alloc(), &[])?;
     assert!(rt; has_its_page(&mut keeper)?);
+    Ok(())
+}
+
+/// The worked issue under another CUSIP.
+fn issue_of(cusip: [u8; 9]) -> Option<Issue> {
+    let mut row = worked_issue()?.row().copy();
+    row.cusip = cusip;
+    check(row).ok()
+}
+
+/// Whether the issues come in the order of their CUSIPs, each once.
+fn walks_issues<K: Keeper>(keeper: &mut K, cusips: &[[u8; 9]]) -> Result<bool, Fail> {
+    let mut after = None;
+    for cusip in cusips {
+        let Some((found, issue)) = keeper.issue_past(&after)? else {
+            return Ok(false);
+        };
+        if found != *cusip || issue.row().cusip != found {
+            return Ok(false);
+        }
+        after = Some(found);
+    }
+    Ok(keeper.issue_past(&after)?.is_none())
+}
+
+/// Whether the desks come in the order of their names, each once.
+fn walks_desks<K: Keeper>(keeper: &mut K, names: &[&[u8]]) -> Result<bool, Fail> {
+    let mut after = None;
+    for name in names {
+        let Some(desk) = keeper.desk_past(&after)? else {
+            return Ok(false);
+        };
+        if desk.bytes() != *name {
+            return Ok(false);
+        }
+        after = Some(desk);
+    }
+    Ok(keeper.desk_past(&after)?.is_none())
+}
+
+#[test]
+fn the_issues_and_the_desks_are_walked_in_their_order(rt: HostRuntime) -> Result<(), Fail> {
+    let mut keeper = MemKeeper::new(rt.alloc(), &[])?;
+    assert!(rt; walks_issues(&mut keeper, &[])? && walks_desks(&mut keeper, &[])?);
+    for cusip in [*b"123456AB1", *b"123456AA3"] {
+        let issue = issue_of(cusip).ok_or("an issue")?;
+        add_issue(&mut keeper, &issue)?;
+    }
+    for (desk, reference) in [
+        ("BETA", "T1"),
+        ("ALPHAB", "T1"),
+        ("ALPHA", "T2"),
+        ("ALPHA", "T1"),
+    ] {
+        add_version(&mut keeper, &key(desk, reference).ok_or("a key")?)?;
+    }
+    assert!(rt; walks_issues(&mut keeper, &[*b"123456AA3", *b"123456AB1"])?);
+    assert!(rt; walks_desks(&mut keeper, &[b"ALPHA", b"ALPHAB", b"BETA"])?);
     Ok(())
 }
 
