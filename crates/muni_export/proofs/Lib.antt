@@ -1,0 +1,4 @@
+pub mod IssueLemmas
+pub mod RowLemmas
+pub mod VersionLemmas
+pub mod WriterLemmas

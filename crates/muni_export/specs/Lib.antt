@@ -1,0 +1,5 @@
+pub mod Laws
+pub mod List
+pub mod Rows
+pub mod Words
+pub mod Writer
