@@ -12,6 +12,8 @@ use Rattle.muni_msg.specs.declared.command.Key.{Key}
 use Rattle.muni_desk_io.specs.Lent.{Lent}
 use Rattle.muni_desk_io.specs.declared.fault.Fault.{Fault}
 use Rattle.muni_desk_io.specs.declared.fault.Fault.TheVariants.{Read, Write, Store, TooLarge, NoMemory}
+use Rattle.muni_desk_export.specs.Kept.{WritesKept}
+use Rattle.muni_desk_export.specs.declared.wanted.Wanted.{Wanted}
 use Rattle.muni_desk_import.specs.Confirmed.{Confirmed}
 use Rattle.muni_desk_import.specs.Imported.{Imported}
 use Rattle.muni_desk_import.specs.declared.confirmations.Answered.{Answered}
@@ -25,11 +27,11 @@ use Rattle.muni_desk_serve.specs.Serves.{Traffic}
 use Rattle.muni_desk_serve.specs.Serving.{ServedStore}
 use Rattle.muni_desk_serve.specs.declared.fault.ServeFault.TheVariants as serve
 use Rattle.muni_desk.specs.Answers.{IsQuoteOneText, IsQuoteText, IsDrillText, IsHelpText, IsAnswer}
-use Rattle.muni_desk.specs.CompletenessLaws.{HasAtMost, IsAnswered, IsAnsweredOverStore, CommandsAreCompleted}
+use Rattle.muni_desk.specs.CompletenessLaws.{HasAtMost, EndsWell, EndsWellOverStore, CommandsAreCompleted}
 use Rattle.muni_desk.specs.Does.{Says}
 use Rattle.muni_desk.specs.Status.{of_answered, of_done, of_served}
 use Rattle.muni_desk.specs.declared.command.DeskCommand.{DeskCommand}
-use Rattle.muni_desk.specs.declared.command.DeskCommand.TheVariants.{QuoteOne, Quote, Import, Confirm, Serve, Positions, Mark, Drill, Help}
+use Rattle.muni_desk.specs.declared.command.DeskCommand.TheVariants.{QuoteOne, Quote, Import, Confirm, Serve, Positions, Mark, Export, Drill, Help}
 use Rattle.muni_desk.specs.declared.drill.options.DrillRequest.{DrillRequest}
 use Rattle.muni_desk.specs.declared.quote_one.QuoteOneRequest.{QuoteOneRequest}
 use Rattle.muni_desk.specs.declared.request.QuoteRequest.{QuoteRequest}
@@ -38,25 +40,25 @@ use Rattle.muni_desk.specs.declared.status.Status.{Status}
 use Rattle.muni_desk.specs.declared.status.Status.TheVariants as status
 
 -- ---- what is answered without a store
-quote_one-answered : (request : QuoteOneRequest) (end : Status) (text : List ℕ) → IsQuoteOneText request end text → IsAnswered end
+quote_one-answered : (request : QuoteOneRequest) (end : Status) (text : List ℕ) → IsQuoteOneText request end text → EndsWell end
 quote_one-answered request status.Done text is = tt
 quote_one-answered request status.Refused text is = tt
 quote_one-answered request end text is = absurd is
 
-quote-answered : (ends : PaymentSeries → ℤ → WorthEnds) (request : QuoteRequest) (each : Bool) (end : Status) (text : List ℕ) → IsQuoteText ends request each end text → IsAnswered end
+quote-answered : (ends : PaymentSeries → ℤ → WorthEnds) (request : QuoteRequest) (each : Bool) (end : Status) (text : List ℕ) → IsQuoteText ends request each end text → EndsWell end
 quote-answered ends request each status.Done text is = tt
 quote-answered ends request each status.Refused text is = tt
 quote-answered ends request each end text is = absurd is
 
-drill-answered : (ends : PaymentSeries → ℤ → WorthEnds) (request : DrillRequest) (end : Status) (text : List ℕ) → IsDrillText ends request end text → IsAnswered end
+drill-answered : (ends : PaymentSeries → ℤ → WorthEnds) (request : DrillRequest) (end : Status) (text : List ℕ) → IsDrillText ends request end text → EndsWell end
 drill-answered ends request status.Done text is = tt
 drill-answered ends request end text is = absurd is
 
-help-answered : (end : Status) (text : List ℕ) → IsHelpText end text → IsAnswered end
+help-answered : (end : Status) (text : List ℕ) → IsHelpText end text → EndsWell end
 help-answered status.Done text is = tt
 help-answered end text is = absurd is
 
-right-answered : (ends : PaymentSeries → ℤ → WorthEnds) (command : DeskCommand) (answer : Answer) → IsAnswer ends command answer → IsAnswered answer.status
+right-answered : (ends : PaymentSeries → ℤ → WorthEnds) (command : DeskCommand) (answer : Answer) → IsAnswer ends command answer → EndsWell answer.status
 right-answered ends (QuoteOne request) answer is = quote_one-answered request answer.status answer.text.items is
 right-answered ends (Quote request each) answer is = quote-answered ends request each answer.status answer.text.items is
 right-answered ends (Drill request) answer is = drill-answered ends request answer.status answer.text.items is
@@ -66,12 +68,13 @@ right-answered ends (Confirm store key) answer is = absurd is
 right-answered ends (Serve store port connections) answer is = absurd is
 right-answered ends (Positions store desk) answer is = absurd is
 right-answered ends (Mark store) answer is = absurd is
+right-answered ends (Export store wanted) answer is = absurd is
 
-written-or-not : {A B : Type 0} (end right : Status) → IsAnswered right → ((end ≡ right) × A) ⊎ ((end ≡ status.WriteFault) × B) → ¬ (end ≡ status.WriteFault) → IsAnswered end
-written-or-not end right answered (inl written) sound = subst IsAnswered (sym written.0) answered
+written-or-not : {A B : Type 0} (end right : Status) → EndsWell right → ((end ≡ right) × A) ⊎ ((end ≡ status.WriteFault) × B) → ¬ (end ≡ status.WriteFault) → EndsWell end
+written-or-not end right answered (inl written) sound = subst EndsWell (sym written.0) answered
 written-or-not end right answered (inr part) sound = absurd (sound part.0)
 
-says-answered : {O : Type 0} (sink : Sink.Ghosts O) (ends : PaymentSeries → ℤ → WorthEnds) (command : DeskCommand) (end : Status) (old new : O) → Says sink (IsAnswer ends command) end old new → ¬ (Rose (sink.faults old) (sink.faults new)) → IsAnswered end
+says-answered : {O : Type 0} (sink : Sink.Ghosts O) (ends : PaymentSeries → ℤ → WorthEnds) (command : DeskCommand) (end : Status) (old new : O) → Says sink (IsAnswer ends command) end old new → ¬ (Rose (sink.faults old) (sink.faults new)) → EndsWell end
 says-answered sink ends command end old new says none =
     let said = says.answered in
     written-or-not end said.answer.status (right-answered ends command said.answer said.right) said.written (λ is. none (says.faults.failed is))
@@ -83,16 +86,16 @@ not-large source most input (text, is, few) large =
     let many = subst (λ left. IfSome left (λ text. most < length text)) is large in
     absurd (omega (arith, few, many))
 
--- a fault of a store while positions are listed
-summed : {A : Type 0} (counted may_not : Type 0) → counted ⊎ may_not → ¬ counted → ¬ may_not → A
-summed counted may_not (inl rose) none can = absurd (none rose)
-summed counted may_not (inr not) none can = absurd (can not)
+-- a store that has not failed, over tables that can be read
+neither : {A : Type 0} (counted may_not : Type 0) → counted ⊎ may_not → ¬ counted → ¬ may_not → A
+neither counted may_not (inl rose) none can = absurd (none rose)
+neither counted may_not (inr not) none can = absurd (can not)
 
 import-completed : {I O C K : Type 0} (source : Source.Ghosts I) (sink : Sink.Ghosts O) (cabinet : Cabinet.Ghosts C K) (Prices : Pricing) (store : List ℕ) (result : Result (Unit {0}) Fault) (end : Status) (old new : Lent I O C)
     → end ≡ of_done result → Imported source sink cabinet Prices store result old new → HasAtMost source 4_194_304 old.input
-    → ¬ (Rose (source.faults old.input) (source.faults new.input)) → ¬ (Rose (sink.faults old.output) (sink.faults new.output)) → ¬ (Rose (cabinet.faults old.cabinet) (cabinet.faults new.cabinet)) → IsAnsweredOverStore end
-import-completed source sink cabinet Prices store (Ok done) end old new is did few input output stored = subst IsAnsweredOverStore (sym is) tt
-import-completed source sink cabinet Prices store (Err NoMemory) end old new is did few input output stored = subst IsAnsweredOverStore (sym is) tt
+    → ¬ (Rose (source.faults old.input) (source.faults new.input)) → ¬ (Rose (sink.faults old.output) (sink.faults new.output)) → ¬ (Rose (cabinet.faults old.cabinet) (cabinet.faults new.cabinet)) → EndsWellOverStore end
+import-completed source sink cabinet Prices store (Ok done) end old new is did few input output stored = subst EndsWellOverStore (sym is) tt
+import-completed source sink cabinet Prices store (Err NoMemory) end old new is did few input output stored = subst EndsWellOverStore (sym is) tt
 import-completed source sink cabinet Prices store (Err Store) end old new is did few input output stored = absurd (stored did.2)
 import-completed source sink cabinet Prices store (Err Write) end old new is did few input output stored = absurd (output did.2)
 import-completed source sink cabinet Prices store (Err Read) end old new is did few input output stored = absurd (input did.1)
@@ -100,50 +103,59 @@ import-completed source sink cabinet Prices store (Err TooLarge) end old new is 
 
 listing-completed : {I O C K : Type 0} (source : Source.Ghosts I) (sink : Sink.Ghosts O) (cabinet : Cabinet.Ghosts C K) (Prices : Pricing) (store desk : List ℕ) (result : Result (Unit {0}) Fault) (end : Status) (old new : Lent I O C)
     → end ≡ of_done result → ImportedWith source sink cabinet Prices store desk result old new → HasAtMost source 4_194_304 old.input → ¬ (MayNotSum desk (cabinet.told old.cabinet store))
-    → ¬ (Rose (source.faults old.input) (source.faults new.input)) → ¬ (Rose (sink.faults old.output) (sink.faults new.output)) → ¬ (Rose (cabinet.faults old.cabinet) (cabinet.faults new.cabinet)) → IsAnsweredOverStore end
-listing-completed source sink cabinet Prices store desk (Ok done) end old new is did few can input output stored = subst IsAnsweredOverStore (sym is) tt
-listing-completed source sink cabinet Prices store desk (Err NoMemory) end old new is did few can input output stored = subst IsAnsweredOverStore (sym is) tt
+    → ¬ (Rose (source.faults old.input) (source.faults new.input)) → ¬ (Rose (sink.faults old.output) (sink.faults new.output)) → ¬ (Rose (cabinet.faults old.cabinet) (cabinet.faults new.cabinet)) → EndsWellOverStore end
+listing-completed source sink cabinet Prices store desk (Ok done) end old new is did few can input output stored = subst EndsWellOverStore (sym is) tt
+listing-completed source sink cabinet Prices store desk (Err NoMemory) end old new is did few can input output stored = subst EndsWellOverStore (sym is) tt
 listing-completed source sink cabinet Prices store desk (Err Store) end old new is did few can input output stored =
-    summed (Rose (cabinet.faults old.cabinet) (cabinet.faults new.cabinet)) (MayNotSum desk (cabinet.told old.cabinet store)) did.2 stored can
+    neither (Rose (cabinet.faults old.cabinet) (cabinet.faults new.cabinet)) (MayNotSum desk (cabinet.told old.cabinet store)) did.2 stored can
 listing-completed source sink cabinet Prices store desk (Err Write) end old new is did few can input output stored = absurd (output did.2)
 listing-completed source sink cabinet Prices store desk (Err Read) end old new is did few can input output stored = absurd (input did.1)
 listing-completed source sink cabinet Prices store desk (Err TooLarge) end old new is did few can input output stored = absurd (not-large source 4_194_304 old.input few did.1)
 
 confirm-completed : {O C K : Type 0} (sink : Sink.Ghosts O) (cabinet : Cabinet.Ghosts C K) (store : List ℕ) (key : Key) (result : Result Answered Fault) (end : Status) (before after : O) (old new : C)
     → end ≡ of_answered result → Confirmed sink cabinet store key result before after old new
-    → ¬ (Rose (sink.faults before) (sink.faults after)) → ¬ (Rose (cabinet.faults old) (cabinet.faults new)) → IsAnsweredOverStore end
-confirm-completed sink cabinet store key (Ok answered.Confirmed) end before after old new is did output stored = subst IsAnsweredOverStore (sym is) tt
-confirm-completed sink cabinet store key (Ok answered.Refused) end before after old new is did output stored = subst IsAnsweredOverStore (sym is) tt
-confirm-completed sink cabinet store key (Err NoMemory) end before after old new is did output stored = subst IsAnsweredOverStore (sym is) tt
+    → ¬ (Rose (sink.faults before) (sink.faults after)) → ¬ (Rose (cabinet.faults old) (cabinet.faults new)) → EndsWellOverStore end
+confirm-completed sink cabinet store key (Ok answered.Confirmed) end before after old new is did output stored = subst EndsWellOverStore (sym is) tt
+confirm-completed sink cabinet store key (Ok answered.Refused) end before after old new is did output stored = subst EndsWellOverStore (sym is) tt
+confirm-completed sink cabinet store key (Err NoMemory) end before after old new is did output stored = subst EndsWellOverStore (sym is) tt
 confirm-completed sink cabinet store key (Err Store) end before after old new is did output stored = absurd (stored did.1)
 confirm-completed sink cabinet store key (Err Write) end before after old new is did output stored = absurd (output did.1)
 confirm-completed sink cabinet store key (Err Read) end before after old new is did output stored = absurd did
 confirm-completed sink cabinet store key (Err TooLarge) end before after old new is did output stored = absurd did
 
 list-completed : {O : Type 0} (sink : Sink.Ghosts O) (desk : List ℕ) (told : _) (counted : Type 0) (result : Result (Unit {0}) Fault) (end : Status) (before after : O)
-    → end ≡ of_done result → Listed sink desk told counted result before after → ¬ (MayNotSum desk told) → ¬ (Rose (sink.faults before) (sink.faults after)) → ¬ counted → IsAnsweredOverStore end
-list-completed sink desk told counted (Ok done) end before after is did can output stored = subst IsAnsweredOverStore (sym is) tt
-list-completed sink desk told counted (Err NoMemory) end before after is did can output stored = subst IsAnsweredOverStore (sym is) tt
-list-completed sink desk told counted (Err Store) end before after is did can output stored = summed counted (MayNotSum desk told) did.1 stored can
+    → end ≡ of_done result → Listed sink desk told counted result before after → ¬ (MayNotSum desk told) → ¬ (Rose (sink.faults before) (sink.faults after)) → ¬ counted → EndsWellOverStore end
+list-completed sink desk told counted (Ok done) end before after is did can output stored = subst EndsWellOverStore (sym is) tt
+list-completed sink desk told counted (Err NoMemory) end before after is did can output stored = subst EndsWellOverStore (sym is) tt
+list-completed sink desk told counted (Err Store) end before after is did can output stored = neither counted (MayNotSum desk told) did.1 stored can
 list-completed sink desk told counted (Err Write) end before after is did can output stored = absurd (output did.1)
 list-completed sink desk told counted (Err Read) end before after is did can output stored = absurd did
 list-completed sink desk told counted (Err TooLarge) end before after is did can output stored = absurd did
 
 mark-completed : {I O C K : Type 0} (source : Source.Ghosts I) (sink : Sink.Ghosts O) (cabinet : Cabinet.Ghosts C K) (Prices : _) (store : List ℕ) (result : Result (Unit {0}) Fault) (end : Status) (old new : Lent I O C)
     → end ≡ of_done result → Marked source sink cabinet Prices store result old new → HasAtMost source 1_048_576 old.input
-    → ¬ (Rose (source.faults old.input) (source.faults new.input)) → ¬ (Rose (sink.faults old.output) (sink.faults new.output)) → ¬ (Rose (cabinet.faults old.cabinet) (cabinet.faults new.cabinet)) → IsAnsweredOverStore end
-mark-completed source sink cabinet Prices store (Ok done) end old new is did few input output stored = subst IsAnsweredOverStore (sym is) tt
-mark-completed source sink cabinet Prices store (Err NoMemory) end old new is did few input output stored = subst IsAnsweredOverStore (sym is) tt
+    → ¬ (Rose (source.faults old.input) (source.faults new.input)) → ¬ (Rose (sink.faults old.output) (sink.faults new.output)) → ¬ (Rose (cabinet.faults old.cabinet) (cabinet.faults new.cabinet)) → EndsWellOverStore end
+mark-completed source sink cabinet Prices store (Ok done) end old new is did few input output stored = subst EndsWellOverStore (sym is) tt
+mark-completed source sink cabinet Prices store (Err NoMemory) end old new is did few input output stored = subst EndsWellOverStore (sym is) tt
 mark-completed source sink cabinet Prices store (Err Store) end old new is did few input output stored = absurd (stored did.2)
 mark-completed source sink cabinet Prices store (Err Write) end old new is did few input output stored = absurd (output did.2)
 mark-completed source sink cabinet Prices store (Err Read) end old new is did few input output stored = absurd (input did.1)
 mark-completed source sink cabinet Prices store (Err TooLarge) end old new is did few input output stored = absurd (not-large source 1_048_576 old.input few did.1)
 
+export-completed : {O : Type 0} (sink : Sink.Ghosts O) (wanted : Wanted) (told : _) (counted : Type 0) (result : Result (Unit {0}) Fault) (end : Status) (before after : O)
+    → end ≡ of_done result → WritesKept sink wanted told counted result before after → ¬ (told ≡ None) → ¬ (Rose (sink.faults before) (sink.faults after)) → ¬ counted → EndsWellOverStore end
+export-completed sink wanted told counted (Ok done) end before after is did can output stored = subst EndsWellOverStore (sym is) tt
+export-completed sink wanted told counted (Err NoMemory) end before after is did can output stored = subst EndsWellOverStore (sym is) tt
+export-completed sink wanted told counted (Err Store) end before after is did can output stored = neither counted (told ≡ None) did.1 stored can
+export-completed sink wanted told counted (Err Write) end before after is did can output stored = absurd (output did.1)
+export-completed sink wanted told counted (Err Read) end before after is did can output stored = absurd did
+export-completed sink wanted told counted (Err TooLarge) end before after is did can output stored = absurd did
+
 serve-completed : {C K D L : Type 0} (cabinet : Cabinet.Ghosts C K) (door : Door.Ghosts D L) (Prices : Pricing) (told : L → Traffic) (store : List ℕ) (port most : ℕ) (outcome : Outcome) (end : Status) (old new : C) (before after : D)
     → end ≡ of_served outcome → ServedStore cabinet door Prices told store port most outcome old new before after
-    → ¬ (Rose (cabinet.faults old) (cabinet.faults new)) → ¬ (Rose (door.faults before) (door.faults after)) → IsAnsweredOverStore end
-serve-completed cabinet door Prices told store port most (Ok done) end old new before after is did stored served = subst IsAnsweredOverStore (sym is) tt
-serve-completed cabinet door Prices told store port most (Err serve.NoMemory) end old new before after is did stored served = subst IsAnsweredOverStore (sym is) tt
+    → ¬ (Rose (cabinet.faults old) (cabinet.faults new)) → ¬ (Rose (door.faults before) (door.faults after)) → EndsWellOverStore end
+serve-completed cabinet door Prices told store port most (Ok done) end old new before after is did stored served = subst EndsWellOverStore (sym is) tt
+serve-completed cabinet door Prices told store port most (Err serve.NoMemory) end old new before after is did stored served = subst EndsWellOverStore (sym is) tt
 serve-completed cabinet door Prices told store port most (Err serve.Store) end old new before after is did stored served = absurd (stored (did.store_fault refl))
 serve-completed cabinet door Prices told store port most (Err serve.Door) end old new before after is did stored served = absurd (served (did.door_fault refl))
 
@@ -164,3 +176,5 @@ completed source sink cabinet door ends told (Positions store desk) end old new 
     list-completed sink desk _ _ does.0.0 end old.output new.output does.0.1 does.0.2.0 can none.writes none.stores
 completed source sink cabinet door ends told (Mark store) end old new before after does none few can =
     mark-completed source sink cabinet _ store.items does.0.0 end old new does.0.1 does.0.2.0 few none.reads none.writes none.stores
+completed source sink cabinet door ends told (Export store wanted) end old new before after does none few can =
+    export-completed sink wanted _ _ does.0.0 end old.output new.output does.0.1 does.0.2.0 can none.writes none.stores

@@ -13,7 +13,7 @@ use Rattle.muni_msg.specs.declared.figures.Figures.{Figures}
 use Rattle.muni_msg.specs.declared.refusal.Refusal.{Refusal}
 use Rattle.muni_desk.specs.Drill.{IsDrilled, IsBook, IsFollowed, IsPart, IsShare, is_dealt, IsSummed, IsSummary}
 use Rattle.muni_desk.specs.Generator.{IsGenerated, state_after}
-use Rattle.muni_desk.specs.Request.{IsAnswered}
+use Rattle.muni_desk.specs.Request.{IsAnswerOf}
 use Rattle.muni_desk.specs.Sums.{Answered, AreSums, AreSmall, AreTogether, HaveAnswer, is_printed, is_undecided, is_outside, is_called_early, yield_of, accrued_of, summary_lines}
 use Rattle.muni_desk.specs.declared.drill.options.DrillRequest.{DrillRequest}
 use Rattle.muni_desk.specs.declared.drill.sums.Sums.{Sums}
@@ -51,7 +51,7 @@ part-passed ends chosen seed place part not_here is =
 pub share-none : (ends : PaymentSeries → ℤ → WorthEnds) (chosen : ℕ → Bool) (seed : ℕ) (sums : Sums) → AreSums [] sums → AreSmall sums → IsShare ends chosen seed 0 sums
 share-none ends chosen seed sums none small = record { part = []; is_part = refl; summed = none; small = small }
 
-pub share-more : (ends : PaymentSeries → ℤ → WorthEnds) (chosen : ℕ → Bool) (seed place : ℕ) (request : QuoteRequest) (answer : Result Figures Refusal) (before after : Sums) → chosen place ≡ true → IsShare ends chosen seed place before → IsGenerated (state_after seed (7 * place)) request → IsAnswered ends request.row request.asked answer → HaveAnswer before (civil request.row.maturity) answer after → AreSmall after → IsShare ends chosen seed (place + 1) after
+pub share-more : (ends : PaymentSeries → ℤ → WorthEnds) (chosen : ℕ → Bool) (seed place : ℕ) (request : QuoteRequest) (answer : Result Figures Refusal) (before after : Sums) → chosen place ≡ true → IsShare ends chosen seed place before → IsGenerated (state_after seed (7 * place)) request → IsAnswerOf ends request.row request.asked answer → HaveAnswer before (civil request.row.maturity) answer after → AreSmall after → IsShare ends chosen seed (place + 1) after
 share-more ends chosen seed place request answer before after here so_far generated answered more small =
     let it : Answered = record { request = request; answer = answer } in
     let earlier = so_far.part in

@@ -3,26 +3,34 @@ use Rattle.std.proofs.Common.{◌≡◌, ℕ, Bool, true, false, List, [], ◌�
 use Rattle.std.specs.Prelude.{codes, if◌then◌else◌}
 use Rattle.std.specs.Str.{bytes_eq}
 use Rattle.std.proofs.lemmas.Option.{none-some}
+use Rattle.arrayvec.specs.ArrayVec.{ArrayVec}
+use Rattle.muni_desk_export.specs.declared.wanted.Wanted.{Wanted}
+use Rattle.muni_desk_export.specs.declared.wanted.Wanted.TheVariants as want
 use Rattle.muni_desk.specs.Command.{command_of, over_store_of}
 use Rattle.muni_desk.specs.DrillOptions.{drill_of}
 use Rattle.muni_desk.specs.Help.{help_of}
 use Rattle.muni_desk.specs.QuoteOne.{quote_one_of}
 use Rattle.muni_desk.specs.QuoteOptions.{quote_of}
-use Rattle.muni_desk.specs.StoreOptions.{import_of, confirm_of, serve_of, positions_of, mark_of}
-use Rattle.muni_desk.specs.WordLaws.{IsCommandLine, IsSaid}
+use Rattle.muni_desk.specs.StoreOptions.{import_of, confirm_of, serve_of, positions_of, mark_of, export_of, list_of}
+use Rattle.muni_desk.specs.WordLaws.{AsksFor, IsCommandLine, IsSaid}
 use Rattle.muni_desk.specs.declared.command.CommandLine.{CommandLine}
 use Rattle.muni_desk.specs.declared.command.DeskCommand.{DeskCommand}
-use Rattle.muni_desk.specs.declared.command.DeskCommand.TheVariants.{QuoteOne, Quote, Import, Confirm, Serve, Positions, Mark, Drill, Help}
+use Rattle.muni_desk.specs.declared.command.DeskCommand.TheVariants.{QuoteOne, Quote, Import, Confirm, Serve, Positions, Mark, Export, Drill, Help}
 use Rattle.muni_desk.proofs.CommandLawLemmas.{same-text, read-quote, quote-read, read-drill, drill-read, read-quote_one, quote_one-read}
-use Rattle.muni_desk.proofs.StoreLawLemmas.{read-import, import-read, read-confirm, confirm-read, read-serve, serve-read, read-positions, positions-read, read-mark, mark-read, read-help, help-read}
+use Rattle.muni_desk.proofs.StoreLawLemmas.{read-import, import-read, read-confirm, confirm-read, confirm_all-read, read-serve, serve-read, read-positions, positions-read, read-mark, mark-read, read-export, export-read, read-list, list-read, read-help, help-read}
 
-read-store-by : (name : List ℕ) (words : List (List ℕ)) (line : CommandLine) (imported confirmed served listed marked : Bool) → bytes_eq name (codes "import") ≡ imported → bytes_eq name (codes "confirm") ≡ confirmed → bytes_eq name (codes "serve") ≡ served → bytes_eq name (codes "positions") ≡ listed → bytes_eq name (codes "mark") ≡ marked → (if imported then import_of words else (if confirmed then confirm_of words else (if served then serve_of words else (if listed then positions_of words else (if marked then mark_of words else None))))) ≡ Some line → IsCommandLine (name ∷ words) line
+read-kept-by : (name : List ℕ) (words : List (List ℕ)) (line : CommandLine) (exported listed : Bool) → bytes_eq name (codes "export") ≡ exported → bytes_eq name (codes "list") ≡ listed → (if exported then export_of words else (if listed then list_of words else None)) ≡ Some line → IsCommandLine (name ∷ words) line
+read-kept-by name words line true listed is_export is_list is = read-export words name line (same-text name (codes "export") is_export) is
+read-kept-by name words line false true is_export is_list is = read-list words name line (same-text name (codes "list") is_list) is
+read-kept-by name words line false false is_export is_list is = absurd (none-some line is)
+
+read-store-by : (name : List ℕ) (words : List (List ℕ)) (line : CommandLine) (imported confirmed served listed marked : Bool) → bytes_eq name (codes "import") ≡ imported → bytes_eq name (codes "confirm") ≡ confirmed → bytes_eq name (codes "serve") ≡ served → bytes_eq name (codes "positions") ≡ listed → bytes_eq name (codes "mark") ≡ marked → (if imported then import_of words else (if confirmed then confirm_of words else (if served then serve_of words else (if listed then positions_of words else (if marked then mark_of words else (if bytes_eq name (codes "export") then export_of words else (if bytes_eq name (codes "list") then list_of words else None))))))) ≡ Some line → IsCommandLine (name ∷ words) line
 read-store-by name words line true confirmed served listed marked is_import is_confirm is_serve is_positions is_mark is = read-import words name line (same-text name (codes "import") is_import) is
 read-store-by name words line false true served listed marked is_import is_confirm is_serve is_positions is_mark is = read-confirm words name line (same-text name (codes "confirm") is_confirm) is
 read-store-by name words line false false true listed marked is_import is_confirm is_serve is_positions is_mark is = read-serve words name line (same-text name (codes "serve") is_serve) is
 read-store-by name words line false false false true marked is_import is_confirm is_serve is_positions is_mark is = read-positions words name line (same-text name (codes "positions") is_positions) is
 read-store-by name words line false false false false true is_import is_confirm is_serve is_positions is_mark is = read-mark words name line (same-text name (codes "mark") is_mark) is
-read-store-by name words line false false false false false is_import is_confirm is_serve is_positions is_mark is = absurd (none-some line is)
+read-store-by name words line false false false false false is_import is_confirm is_serve is_positions is_mark is = read-kept-by name words line (bytes_eq name (codes "export")) (bytes_eq name (codes "list")) refl refl is
 
 read-over-store : (name : List ℕ) (words : List (List ℕ)) (line : CommandLine) → over_store_of name words ≡ Some line → IsCommandLine (name ∷ words) line
 read-over-store name words line is = read-store-by name words line (bytes_eq name (codes "import")) (bytes_eq name (codes "confirm")) (bytes_eq name (codes "serve")) (bytes_eq name (codes "positions")) (bytes_eq name (codes "mark")) refl refl refl refl refl is
@@ -38,6 +46,13 @@ pub read-line : (words : List (List ℕ)) (line : CommandLine) → command_of wo
 read-line [] line is = absurd (none-some line is)
 read-line (name ∷ words) line is = read-by name words line (bytes_eq name (codes "quote-one")) (bytes_eq name (codes "quote")) (bytes_eq name (codes "drill")) (bytes_eq name (codes "help")) refl refl refl refl is
 
+asked-read : (name : List ℕ) (words : List (List ℕ)) (store : ArrayVec ℕ) (wanted : Wanted) → AsksFor name words store wanted → command_of (name ∷ words) ≡ Some (record { command = Export store wanted; workers = 1 })
+asked-read name words store (want.List desk) said = ap (λ name. command_of (name ∷ words)) said.0 ∙ list-read words store desk said.1
+asked-read name words store (want.Confirmations desk) said = ap (λ name. command_of (name ∷ words)) said.0 ∙ confirm_all-read words store desk said.1
+asked-read name words store want.Everything said = ap (λ name. command_of (name ∷ words)) said.0 ∙ export-read words store want.Everything said.1
+asked-read name words store want.Issues said = ap (λ name. command_of (name ∷ words)) said.0 ∙ export-read words store want.Issues said.1
+asked-read name words store (want.Desk desk) said = ap (λ name. command_of (name ∷ words)) said.0 ∙ export-read words store (want.Desk desk) said.1
+
 said-read : (name : List ℕ) (words : List (List ℕ)) (command : DeskCommand) (workers : ℕ) → IsSaid (name ∷ words) command workers → command_of (name ∷ words) ≡ Some (record { command = command; workers = workers })
 said-read name words (QuoteOne request) workers said =
     ap (λ name. command_of (name ∷ words)) said.0 ∙ quote_one-read words request said.1 ∙ (λ i. Some (record { command = QuoteOne request; workers = sym said.2 i }))
@@ -50,6 +65,8 @@ said-read name words (Positions store desk) workers said =
     ap (λ name. command_of (name ∷ words)) said.0 ∙ positions-read words store desk said.1 ∙ (λ i. Some (record { command = Positions store desk; workers = sym said.2 i }))
 said-read name words (Mark store) workers said =
     ap (λ name. command_of (name ∷ words)) said.0 ∙ mark-read words store said.1 ∙ (λ i. Some (record { command = Mark store; workers = sym said.2 i }))
+said-read name words (Export store wanted) workers said =
+    asked-read name words store wanted said.0 ∙ (λ i. Some (record { command = Export store wanted; workers = sym said.1 i }))
 said-read name words (Drill request) workers said = ap (λ name. command_of (name ∷ words)) said.0 ∙ drill-read words request workers said.1
 said-read name words Help workers said =
     ap (λ name. command_of (name ∷ words)) said.0 ∙ help-read words said.1 ∙ (λ i. Some (record { command = Help; workers = sym said.2 i }))

@@ -1,6 +1,6 @@
 -- What the words after the names of the commands over a store and `help` are read as, against the rule of the command line.
-use Rattle.std.proofs.Common.{◌≡◌, ℕ, ◌≤◌, true, List, [], ◌∷◌, Option, Some, None, length, refl, ap, ◌∙◌, subst, arith}
-use Rattle.std.specs.Prelude.{All, codes, nat_le, option_map}
+use Rattle.std.proofs.Common.{◌≡◌, ℕ, ◌≤◌, Bool, true, false, List, [], ◌∷◌, Option, Some, None, length, refl, ap, ◌∙◌, subst, arith}
+use Rattle.std.specs.Prelude.{All, codes, if◌then◌else◌, nat_le, option_map}
 use Rattle.std.specs.Bool.{Decides}
 use Rattle.std.specs.Char.{is_ascii_graphic, is_ascii_alphanumeric}
 use Rattle.std.specs.List.{list_all}
@@ -12,16 +12,18 @@ use Rattle.muni_dec.specs.Digits.{number_reading}
 use Rattle.muni_msg.specs.NameReading.{name_reading}
 use Rattle.muni_msg.specs.Names.{is_desk_letter}
 use Rattle.muni_msg.specs.declared.command.Key.{Key}
-use Rattle.muni_desk.specs.Words.{◌>>=◌, are_options, value_of}
+use Rattle.muni_desk_export.specs.declared.wanted.Wanted.{Wanted}
+use Rattle.muni_desk_export.specs.declared.wanted.Wanted.TheVariants as want
+use Rattle.muni_desk.specs.Words.{◌>>=◌, are_options, are_options_beside, has_word, value_of}
 use Rattle.muni_desk.specs.QuoteOptions.{workers_of}
-use Rattle.muni_desk.specs.StoreOptions.{import_options, confirm_options, serve_options, positions_options, mark_options, is_store_name, store_reading, store_of, listed_in, listed_of, import_line, import_of, confirm_line, confirm_of, serve_line, serve_of, positions_line, positions_of, mark_line, mark_of}
+use Rattle.muni_desk.specs.StoreOptions.{import_options, confirm_options, serve_options, desk_options, mark_options, all_word, issues_word, is_store_name, store_reading, store_of, listed_in, listed_of, import_line, import_of, confirm_line, confirm_one_of, confirm_all_line, confirm_all_of, confirm_of, serve_line, serve_of, positions_line, positions_of, mark_line, mark_of, wanted_in, wanted_of, export_line, export_of, list_line, list_of}
 use Rattle.muni_desk.specs.Help.{help_of}
-use Rattle.muni_desk.specs.WordLaws.{IsCommandLine, IsImport, IsConfirm, IsServe, IsPositions, IsMark, IsSingle, SaysPositions, SaysStore}
+use Rattle.muni_desk.specs.WordLaws.{AsksFor, Has, IsCommandLine, IsImport, IsConfirm, IsConfirmAll, IsServe, IsPositions, IsMark, IsExport, IsList, IsSingle, SaysPositions, SaysStore, SaysWanted}
 use Rattle.muni_desk.specs.declared.command.CommandLine.{CommandLine}
-use Rattle.muni_desk.specs.declared.command.DeskCommand.TheVariants.{Import, Confirm, Serve, Positions, Mark, Help}
+use Rattle.muni_desk.specs.declared.command.DeskCommand.TheVariants.{Import, Confirm, Serve, Positions, Mark, Export, Help}
 use Rattle.muni_desk.proofs.CommandLawLemmas.{read-ok, ok-read, read-option, option-read, read-workers, workers-read}
 use Rattle.muni_desk.proofs.OptionalLemmas.{bind-some, some-bind, map-some, ok-some, if-some, when-true}
-use Rattle.muni_desk.proofs.WordLawLemmas.{both, options-read, are-options, found-says, says-found, none-lacks, lacks-none}
+use Rattle.muni_desk.proofs.WordLawLemmas.{both, options-read, are-options, options-read-beside, are-options-beside, has-read, read-has, has-unknown, found-says, says-found, none-lacks, lacks-none}
 
 -- ---- the name of a store
 byte-decides : (b : ℕ) → Decides (is_ascii_graphic b) ((33 ≤ b) × (b ≤ 126))
@@ -101,8 +103,8 @@ desk_of words = value_of (codes "--desk=") words >>= λ text. result_ok (name_re
 abbrev reference_of : List (List ℕ) → Option (List ℕ)
 reference_of words = value_of (codes "--ref=") words >>= λ text. result_ok (name_reading is_ascii_alphanumeric 20 text)
 
-pub read-confirm : (words : List (List ℕ)) (name : List ℕ) (line : CommandLine) → name ≡ codes "confirm" → confirm_of words ≡ Some line → IsCommandLine (name ∷ words) line
-read-confirm words name line named is =
+read-confirm_one : (words : List (List ℕ)) (name : List ℕ) (line : CommandLine) → name ≡ codes "confirm" → confirm_one_of words ≡ Some line → IsCommandLine (name ∷ words) line
+read-confirm_one words name line named is =
     let options_read = if-some (are_options confirm_options confirm_options words) (confirm_line words) line is in
     let stand = options-read confirm_options confirm_options words options_read.0 in
     let store = bind-some _ (store_of words) line options_read.1 in
@@ -123,11 +125,49 @@ read-confirm words name line named is =
 pub confirm-read : (words : List (List ℕ)) (store : ArrayVec ℕ) (key : Key) → IsConfirm words store key → confirm_of words ≡ Some (record { command = Confirm store key; workers = 1 })
 confirm-read words store key said =
     let line : CommandLine = record { command = Confirm store key; workers = 1 } in
-    when-true (are_options confirm_options confirm_options words) (confirm_line words) line (are-options confirm_options confirm_options words said.known said.single)
+    ap (λ all. if all then confirm_all_of words else confirm_one_of words) (has-unknown all_word confirm_options words refl said.known)
+    ∙ when-true (are_options confirm_options confirm_options words) (confirm_line words) line (are-options confirm_options confirm_options words said.known said.single)
     (some-bind _ (store_of words) store line (store-read words store (said.single 0 [] (omega arith)) said.named)
     (some-bind _ (desk_of words) key.desk line (ok-read (name_reading is_desk_letter 16) words (codes "--desk=") key.desk (said.single 1 [] (omega arith)) said.desk)
     (some-bind _ (reference_of words) key.reference line (ok-read (name_reading is_ascii_alphanumeric 20) words (codes "--ref=") key.reference (said.single 2 [] (omega arith)) said.reference)
     refl)))
+
+-- ---- `confirm` for all trades
+abbrev confirm_all_from : ArrayVec ℕ → List ℕ → CommandLine
+confirm_all_from store desk = record { command = Export store (want.Confirmations desk); workers = 1 }
+
+read-confirm_all : (words : List (List ℕ)) (name : List ℕ) (line : CommandLine) → name ≡ codes "confirm" → has_word all_word words ≡ true → confirm_all_of words ≡ Some line → IsCommandLine (name ∷ words) line
+read-confirm_all words name line named has is =
+    let options_read = if-some (are_options_beside all_word desk_options desk_options words) (confirm_all_line words) line is in
+    let stand = options-read-beside all_word desk_options desk_options words options_read.0 in
+    let store = bind-some _ (store_of words) line options_read.1 in
+    let desk = bind-some _ (desk_of words) line store.2 in
+    let said : IsConfirmAll words store.0 desk.0 =
+    record {
+      known = stand.0;
+      once = stand.1;
+      single = stand.2;
+      has_all = has-read all_word words true has;
+      named = read-store words store.0 store.1;
+      desk_named = read-ok (name_reading is_desk_letter 16) words (codes "--desk=") desk.0 desk.1;
+    } in
+    subst (IsCommandLine (name ∷ words)) (same_Some (confirm_all_from store.0 desk.0) line desk.2) ((named, said), refl)
+
+read-confirm-by : (words : List (List ℕ)) (name : List ℕ) (line : CommandLine) (all : Bool) → name ≡ codes "confirm" → has_word all_word words ≡ all → (if all then confirm_all_of words else confirm_one_of words) ≡ Some line → IsCommandLine (name ∷ words) line
+read-confirm-by words name line true named has is = read-confirm_all words name line named has is
+read-confirm-by words name line false named has is = read-confirm_one words name line named is
+
+pub read-confirm : (words : List (List ℕ)) (name : List ℕ) (line : CommandLine) → name ≡ codes "confirm" → confirm_of words ≡ Some line → IsCommandLine (name ∷ words) line
+read-confirm words name line named is = read-confirm-by words name line (has_word all_word words) named refl is
+
+pub confirm_all-read : (words : List (List ℕ)) (store : ArrayVec ℕ) (desk : List ℕ) → IsConfirmAll words store desk → confirm_of words ≡ Some (record { command = Export store (want.Confirmations desk); workers = 1 })
+confirm_all-read words store desk said =
+    let line = confirm_all_from store desk in
+    ap (λ all. if all then confirm_all_of words else confirm_one_of words) (read-has all_word words true said.has_all)
+    ∙ when-true (are_options_beside all_word desk_options desk_options words) (confirm_all_line words) line (are-options-beside all_word desk_options desk_options words said.known said.once said.single)
+    (some-bind _ (store_of words) store line (store-read words store (said.single 0 [] (omega arith)) said.named)
+    (some-bind _ (desk_of words) desk line (ok-read (name_reading is_desk_letter 16) words (codes "--desk=") desk (said.single 1 [] (omega arith)) said.desk_named)
+    refl))
 
 -- ---- `serve`
 abbrev serve_from : ArrayVec ℕ → ℕ → ℕ → ℕ → CommandLine
@@ -175,8 +215,8 @@ positions_from store desk = record { command = Positions store desk; workers = 1
 
 pub read-positions : (words : List (List ℕ)) (name : List ℕ) (line : CommandLine) → name ≡ codes "positions" → positions_of words ≡ Some line → IsCommandLine (name ∷ words) line
 read-positions words name line named is =
-    let options_read = if-some (are_options positions_options positions_options words) (positions_line words) line is in
-    let stand = options-read positions_options positions_options words options_read.0 in
+    let options_read = if-some (are_options desk_options desk_options words) (positions_line words) line is in
+    let stand = options-read desk_options desk_options words options_read.0 in
     let store = bind-some _ (store_of words) line options_read.1 in
     let desk = bind-some _ (desk_of words) line store.2 in
     subst (IsCommandLine (name ∷ words)) (same_Some (positions_from store.0 desk.0) line desk.2) (
@@ -193,7 +233,7 @@ read-positions words name line named is =
 pub positions-read : (words : List (List ℕ)) (store : ArrayVec ℕ) (desk : List ℕ) → IsPositions words store desk → positions_of words ≡ Some (record { command = Positions store desk; workers = 1 })
 positions-read words store desk said =
     let line = positions_from store desk in
-    when-true (are_options positions_options positions_options words) (positions_line words) line (are-options positions_options positions_options words said.known said.single)
+    when-true (are_options desk_options desk_options words) (positions_line words) line (are-options desk_options desk_options words said.known said.single)
     (some-bind _ (store_of words) store line (store-read words store (said.single 0 [] (omega arith)) said.named)
     (some-bind _ (desk_of words) desk line (ok-read (name_reading is_desk_letter 16) words (codes "--desk=") desk (said.single 1 [] (omega arith)) said.desk_named)
     refl))
@@ -216,6 +256,92 @@ mark-read words store said =
     when-true (are_options mark_options mark_options words) (mark_line words) line (are-options mark_options mark_options words said.known said.single)
     (some-bind _ (store_of words) store line (store-read words store (said.single 0 [] (omega arith)) said.named)
     refl)
+
+-- ---- `export`
+abbrev export_from : ArrayVec ℕ → Wanted → CommandLine
+export_from store wanted = record { command = Export store wanted; workers = 1 }
+
+read-wanted : (words : List (List ℕ)) (wanted : Wanted) (issues : Bool) (desk : Option (List ℕ)) → has_word issues_word words ≡ issues → value_of (codes "--desk=") words ≡ desk → wanted_in issues desk ≡ Some wanted → SaysWanted words wanted
+read-wanted words wanted true None has is read = subst (SaysWanted words) (same_Some want.Issues wanted read) (has-read issues_word words true has, none-lacks (codes "--desk=") words is)
+read-wanted words wanted true (Some text) has is read = absurd (none-some wanted read)
+read-wanted words wanted false None has is read = subst (SaysWanted words) (same_Some want.Everything wanted read) (has-read issues_word words false has, none-lacks (codes "--desk=") words is)
+read-wanted words wanted false (Some text) has is read =
+    let desk = map-some want.Desk (result_ok (name_reading is_desk_letter 16 text)) wanted read in
+    subst (SaysWanted words) desk.2 (
+      has-read issues_word words false has,
+      record { text = text; stands = found-says (codes "--desk=") text words is; is_read = ok-some (name_reading is_desk_letter 16 text) desk.0 desk.1 },
+    )
+
+wanted-found : (words : List (List ℕ)) (issues : Bool) (desk : Option (List ℕ)) → Has issues_word words issues → value_of (codes "--desk=") words ≡ desk → wanted_of words ≡ wanted_in issues desk
+wanted-found words issues desk has is = ap (λ b. wanted_in b (value_of (codes "--desk=") words)) (read-has issues_word words issues has) ∙ ap (wanted_in issues) is
+
+wanted-read : (words : List (List ℕ)) (wanted : Wanted) → IsSingle words (codes "--desk=") → SaysWanted words wanted → wanted_of words ≡ Some wanted
+wanted-read words want.Everything single said = wanted-found words false None said.0 (lacks-none (codes "--desk=") words said.1)
+wanted-read words want.Issues single said = wanted-found words true None said.0 (lacks-none (codes "--desk=") words said.1)
+wanted-read words (want.Desk desk) single said =
+    let read = said.1 in
+    wanted-found words false (Some read.text) said.0 (says-found (codes "--desk=") read.text words single read.stands)
+    ∙ ap (λ r. option_map want.Desk (result_ok r)) read.is_read
+wanted-read words (want.List desk) single said = absurd said
+wanted-read words (want.Confirmations desk) single said = absurd said
+
+asks-export : (name : List ℕ) (words : List (List ℕ)) (store : ArrayVec ℕ) (wanted : Wanted) → name ≡ codes "export" → IsExport words store wanted → AsksFor name words store wanted
+asks-export name words store want.Everything named said = (named, said)
+asks-export name words store want.Issues named said = (named, said)
+asks-export name words store (want.Desk desk) named said = (named, said)
+asks-export name words store (want.List desk) named said = absurd said.says
+asks-export name words store (want.Confirmations desk) named said = absurd said.says
+
+pub read-export : (words : List (List ℕ)) (name : List ℕ) (line : CommandLine) → name ≡ codes "export" → export_of words ≡ Some line → IsCommandLine (name ∷ words) line
+read-export words name line named is =
+    let options_read = if-some (are_options_beside issues_word desk_options desk_options words) (export_line words) line is in
+    let stand = options-read-beside issues_word desk_options desk_options words options_read.0 in
+    let store = bind-some _ (store_of words) line options_read.1 in
+    let wanted = bind-some _ (wanted_of words) line store.2 in
+    let said : IsExport words store.0 wanted.0 =
+    record {
+      known = stand.0;
+      once = stand.1;
+      single = stand.2;
+      named = read-store words store.0 store.1;
+      says = read-wanted words wanted.0 (has_word issues_word words) (value_of (codes "--desk=") words) refl refl wanted.1;
+    } in
+    subst (IsCommandLine (name ∷ words)) (same_Some (export_from store.0 wanted.0) line wanted.2) (asks-export name words store.0 wanted.0 named said, refl)
+
+pub export-read : (words : List (List ℕ)) (store : ArrayVec ℕ) (wanted : Wanted) → IsExport words store wanted → export_of words ≡ Some (record { command = Export store wanted; workers = 1 })
+export-read words store wanted said =
+    let line = export_from store wanted in
+    when-true (are_options_beside issues_word desk_options desk_options words) (export_line words) line (are-options-beside issues_word desk_options desk_options words said.known said.once said.single)
+    (some-bind _ (store_of words) store line (store-read words store (said.single 0 [] (omega arith)) said.named)
+    (some-bind _ (wanted_of words) wanted line (wanted-read words wanted (said.single 1 [] (omega arith)) said.says)
+    refl))
+
+-- ---- `list`
+abbrev list_from : ArrayVec ℕ → List ℕ → CommandLine
+list_from store desk = record { command = Export store (want.List desk); workers = 1 }
+
+pub read-list : (words : List (List ℕ)) (name : List ℕ) (line : CommandLine) → name ≡ codes "list" → list_of words ≡ Some line → IsCommandLine (name ∷ words) line
+read-list words name line named is =
+    let options_read = if-some (are_options desk_options desk_options words) (list_line words) line is in
+    let stand = options-read desk_options desk_options words options_read.0 in
+    let store = bind-some _ (store_of words) line options_read.1 in
+    let desk = bind-some _ (desk_of words) line store.2 in
+    let said : IsList words store.0 desk.0 =
+    record {
+      known = stand.0;
+      single = stand.1;
+      named = read-store words store.0 store.1;
+      desk_named = read-ok (name_reading is_desk_letter 16) words (codes "--desk=") desk.0 desk.1;
+    } in
+    subst (IsCommandLine (name ∷ words)) (same_Some (list_from store.0 desk.0) line desk.2) ((named, said), refl)
+
+pub list-read : (words : List (List ℕ)) (store : ArrayVec ℕ) (desk : List ℕ) → IsList words store desk → list_of words ≡ Some (record { command = Export store (want.List desk); workers = 1 })
+list-read words store desk said =
+    let line = list_from store desk in
+    when-true (are_options desk_options desk_options words) (list_line words) line (are-options desk_options desk_options words said.known said.single)
+    (some-bind _ (store_of words) store line (store-read words store (said.single 0 [] (omega arith)) said.named)
+    (some-bind _ (desk_of words) desk line (ok-read (name_reading is_desk_letter 16) words (codes "--desk=") desk (said.single 1 [] (omega arith)) said.desk_named)
+    refl))
 
 -- ---- `help`
 pub read-help : (words : List (List ℕ)) (name : List ℕ) (line : CommandLine) → name ≡ codes "help" → help_of words ≡ Some line → IsCommandLine (name ∷ words) line

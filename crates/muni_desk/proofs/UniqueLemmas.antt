@@ -21,10 +21,10 @@ use Rattle.muni_book.proofs.UniqueLemmas.{answers-unique}
 use Rattle.muni_desk.specs.Answers.{price_line, IsQuoteOneText, IsQuoteText, IsDrillText, IsHelpText, IsAnswer}
 use Rattle.muni_desk.specs.Drill.{IsDrilled, IsBook}
 use Rattle.muni_desk.specs.NextInterestDate.{is_next}
-use Rattle.muni_desk.specs.Request.{IsAnswered}
+use Rattle.muni_desk.specs.Request.{IsAnswerOf}
 use Rattle.muni_desk.specs.Sums.{Answered, summary_text}
 use Rattle.muni_desk.specs.declared.command.DeskCommand.{DeskCommand}
-use Rattle.muni_desk.specs.declared.command.DeskCommand.TheVariants.{QuoteOne, Quote, Import, Confirm, Serve, Positions, Mark, Drill, Help}
+use Rattle.muni_desk.specs.declared.command.DeskCommand.TheVariants.{QuoteOne, Quote, Import, Confirm, Serve, Positions, Mark, Export, Drill, Help}
 use Rattle.muni_desk.specs.declared.drill.options.DrillRequest.{DrillRequest}
 use Rattle.muni_desk.specs.declared.quote_one.QuoteOneRequest.{QuoteOneRequest}
 use Rattle.muni_desk.specs.declared.request.QuoteRequest.{QuoteRequest}
@@ -40,14 +40,14 @@ answered-by : (ends : PaymentSeries → ℤ → WorthEnds) (asked : Asked) (read
 answered-by ends asked (Ok issue) answer other is also = answers-unique ends issue asked answer other is also
 answered-by ends asked (Err fault) answer other is also = is ∙ sym also
 
-answered-unique : (ends : PaymentSeries → ℤ → WorthEnds) (row : IssueRow) (asked : Asked) (answer other : Result Figures Refusal) → IsAnswered ends row asked answer → IsAnswered ends row asked other → answer ≡ other
+answered-unique : (ends : PaymentSeries → ℤ → WorthEnds) (row : IssueRow) (asked : Asked) (answer other : Result Figures Refusal) → IsAnswerOf ends row asked answer → IsAnswerOf ends row asked other → answer ≡ other
 answered-unique ends row asked answer other is also = answered-by ends asked (checked row) answer other is also
 
 -- ---- a generated book
 drilled-unique : (ends : PaymentSeries → ℤ → WorthEnds) (seed place : ℕ) (it other : Answered) → IsDrilled ends seed place it → IsDrilled ends seed place other → it ≡ other
 drilled-unique ends seed place it other is also =
     let request : it.request ≡ other.request = generated-unique _ it.request other.request is.generated also.generated in
-    let moved : IsAnswered ends other.request.row other.request.asked it.answer = subst (λ r. IsAnswered ends r.row r.asked it.answer) request is.answered in
+    let moved : IsAnswerOf ends other.request.row other.request.asked it.answer = subst (λ r. IsAnswerOf ends r.row r.asked it.answer) request is.answered in
     let answer : it.answer ≡ other.answer = answered-unique ends other.request.row other.request.asked it.answer other.answer moved also.answered in
     λ i. record { request = request i; answer = answer i }
 
@@ -87,7 +87,7 @@ of-checked : (ends : PaymentSeries → ℤ → WorthEnds) (row : IssueRow) (aske
 of-checked ends row asked None figures is = is
 of-checked ends row asked (Some fault) figures is = absurd (let never : Ok figures ≡ Err (BadTerms fault) = is in cc)
 
-wanted-same : (ends : PaymentSeries → ℤ → WorthEnds) (request : QuoteRequest) (each : Bool) (figures : Figures) (one other : List EachRedemption) → IsAnswered ends request.row request.asked (Ok figures) → AreWanted each (AreEach ends request.row request.asked figures) one → AreWanted each (AreEach ends request.row request.asked figures) other → one ≡ other
+wanted-same : (ends : PaymentSeries → ℤ → WorthEnds) (request : QuoteRequest) (each : Bool) (figures : Figures) (one other : List EachRedemption) → IsAnswerOf ends request.row request.asked (Ok figures) → AreWanted each (AreEach ends request.row request.asked figures) one → AreWanted each (AreEach ends request.row request.asked figures) other → one ≡ other
 wanted-same ends request true figures one other answered is also = each-unique ends request.row request.asked figures one other (of-checked ends request.row request.asked (fault_of request.row) figures answered) is also
 wanted-same ends request false figures one other answered is also = is ∙ sym also
 
@@ -132,3 +132,4 @@ answer-unique ends (Confirm store key) answer other fine is also = absurd is
 answer-unique ends (Serve store port connections) answer other fine is also = absurd is
 answer-unique ends (Positions store desk) answer other fine is also = absurd is
 answer-unique ends (Mark store) answer other fine is also = absurd is
+answer-unique ends (Export store wanted) answer other fine is also = absurd is

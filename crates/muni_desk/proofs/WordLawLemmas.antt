@@ -180,6 +180,11 @@ pub read-has : (plain : List ℕ) (words : List (List ℕ)) (each : Bool) → Ha
 read-has plain words true has = (has-decides plain words).1 has
 read-has plain words false lacks = has-false plain words (has_word plain words) refl lacks
 
+-- a word that is none of the known options is not among them
+pub has-unknown : (plain : List ℕ) (names words : List (List ℕ)) → list_any (λ name. is_option name plain) names ≡ false → All (IsKnown names) words → has_word plain words ≡ false
+has-unknown plain names words unknown known =
+    read-has plain words false (λ contained. (let is : list_any (λ name. is_option name plain) names ≡ true = (known-decides names plain).1 (All-contains (IsKnown names) words plain known contained) in cc))
+
 -- ---- the value of an option
 value-here : (name text : List ℕ) (words : List (List ℕ)) → is_option name text ≡ true → value_of name (text ∷ words) ≡ Some (drop (length name) text)
 value-here name text words is = rw (is, is) refl

@@ -15,9 +15,9 @@ use Rattle.muni_book.specs.Each.{AreEach, AreWanted}
 use Rattle.muni_desk.specs.Drill.{IsSummary}
 use Rattle.muni_desk.specs.Help.{help_text}
 use Rattle.muni_desk.specs.QuoteOne.{IsPriced}
-use Rattle.muni_desk.specs.Request.{IsAnswered}
+use Rattle.muni_desk.specs.Request.{IsAnswerOf}
 use Rattle.muni_desk.specs.declared.command.DeskCommand.{DeskCommand}
-use Rattle.muni_desk.specs.declared.command.DeskCommand.TheVariants.{QuoteOne, Quote, Import, Confirm, Serve, Positions, Mark, Drill, Help}
+use Rattle.muni_desk.specs.declared.command.DeskCommand.TheVariants.{QuoteOne, Quote, Import, Confirm, Serve, Positions, Mark, Export, Drill, Help}
 use Rattle.muni_desk.specs.declared.drill.options.DrillRequest.{DrillRequest}
 use Rattle.muni_desk.specs.declared.quote_one.QuoteOneRequest.{QuoteOneRequest}
 use Rattle.muni_desk.specs.declared.request.QuoteRequest.{QuoteRequest}
@@ -45,14 +45,14 @@ IsTextOf ends row asked figures wanted text =
 -- and those are right
 pub record IsQuoted (ends : PaymentSeries → ℤ → WorthEnds) (request : QuoteRequest) (wanted : Bool) (text : List ℕ) : Type 0 where
   pub figures : Figures
-  pub answered : IsAnswered ends request.row request.asked (Ok figures)
+  pub answered : IsAnswerOf ends request.row request.asked (Ok figures)
   pub lines : IsTextOf ends request.row request.asked figures wanted text
 
 -- `quote`: the lines show the figures, or the line says the refusal that applies
 abbrev pub IsQuoteText : (ends : PaymentSeries → ℤ → WorthEnds) → QuoteRequest → Bool → Status → List ℕ → Type 0
 IsQuoteText ends request wanted Done text = IsQuoted ends request wanted text
 IsQuoteText ends request wanted Refused text =
-    (refusal : Refusal) × IsAnswered ends request.row request.asked (Err refusal) × (text ≡ refusal_text refusal)
+    (refusal : Refusal) × IsAnswerOf ends request.row request.asked (Err refusal) × (text ≡ refusal_text refusal)
 IsQuoteText ends request wanted status text = ⊥
 
 -- `drill`: the lines are the summary
@@ -74,5 +74,6 @@ IsAnswer ends (Confirm store key) answer = ⊥
 IsAnswer ends (Serve store port connections) answer = ⊥
 IsAnswer ends (Positions store desk) answer = ⊥
 IsAnswer ends (Mark store) answer = ⊥
+IsAnswer ends (Export store wanted) answer = ⊥
 IsAnswer ends (Drill request) answer = IsDrillText ends request answer.status answer.text.items
 IsAnswer ends Help answer = IsHelpText answer.status answer.text.items

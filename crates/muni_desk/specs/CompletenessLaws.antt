@@ -1,5 +1,5 @@
 -- A law of completeness: which commands are answered.
-use Rattle.std.specs.Prelude.{◌≡◌, ◌≤◌, ⊤, ℕ, List, length, Some, ℤ}
+use Rattle.std.specs.Prelude.{◌≡◌, ◌≤◌, ⊤, ℕ, List, length, Some, None, ℤ}
 use Rattle.muni_rule.specs.Payments.{PaymentSeries}
 use Rattle.muni_rule.specs.WorthEnds.{WorthEnds}
 use Rattle.muni_edge.specs.Faults.{Rose}
@@ -12,7 +12,7 @@ use Rattle.muni_desk_positions.specs.Listing.{MayNotSum}
 use Rattle.muni_desk_serve.specs.Serves.{Traffic}
 use Rattle.muni_desk.specs.Does.{Does}
 use Rattle.muni_desk.specs.declared.command.DeskCommand.{DeskCommand}
-use Rattle.muni_desk.specs.declared.command.DeskCommand.TheVariants.{QuoteOne, Quote, Import, Confirm, Serve, Positions, Mark, Drill, Help}
+use Rattle.muni_desk.specs.declared.command.DeskCommand.TheVariants.{QuoteOne, Quote, Import, Confirm, Serve, Positions, Mark, Export, Drill, Help}
 use Rattle.muni_desk.specs.declared.status.Status.{Status}
 use Rattle.muni_desk.specs.declared.status.Status.TheVariants.{Done, Refused, NoMemory}
 
@@ -33,41 +33,43 @@ IsWithinLimit source (Import store listed) input = HasAtMost source 4_194_304 in
 IsWithinLimit source (Mark store) input = HasAtMost source 1_048_576 input
 IsWithinLimit source command input = ⊤
 
--- the positions that it lists can be summed: the tables of the store are exposed, and the desk has at most
--- 100,000 trades
-abbrev pub CanBeSummed : {C K : Type 0} → Cabinet.Ghosts C K → DeskCommand → C → Type 0
-CanBeSummed cabinet (Import store (Some desk)) old = ¬ (MayNotSum desk (cabinet.told old store.items))
-CanBeSummed cabinet (Positions store desk) old = ¬ (MayNotSum desk (cabinet.told old store.items))
-CanBeSummed cabinet command old = ⊤
+-- what it lists or exports can be read: the tables of the store are exposed, and a desk whose positions it lists
+-- has at most 100,000 trades
+abbrev pub CanBeRead : {C K : Type 0} → Cabinet.Ghosts C K → DeskCommand → C → Type 0
+CanBeRead cabinet (Import store (Some desk)) old = ¬ (MayNotSum desk (cabinet.told old store.items))
+CanBeRead cabinet (Positions store desk) old = ¬ (MayNotSum desk (cabinet.told old store.items))
+CanBeRead cabinet (Export store wanted) old = ¬ (cabinet.told old store.items ≡ None)
+CanBeRead cabinet command old = ⊤
 
 -- done, or refused by the rule
-abbrev pub IsAnswered : Status → Type 0
-IsAnswered Done = ⊤
-IsAnswered Refused = ⊤
-IsAnswered status = ⊥
+abbrev pub EndsWell : Status → Type 0
+EndsWell Done = ⊤
+EndsWell Refused = ⊤
+EndsWell status = ⊥
 
 -- the same over a store, or out of memory
-abbrev pub IsAnsweredOverStore : Status → Type 0
-IsAnsweredOverStore NoMemory = ⊤
-IsAnsweredOverStore status = IsAnswered status
+abbrev pub EndsWellOverStore : Status → Type 0
+EndsWellOverStore NoMemory = ⊤
+EndsWellOverStore status = EndsWell status
 
 abbrev pub IsCompleted : DeskCommand → Status → Type 0
-IsCompleted (QuoteOne request) status = IsAnswered status
-IsCompleted (Quote request each) status = IsAnswered status
-IsCompleted (Import store listed) status = IsAnsweredOverStore status
-IsCompleted (Confirm store key) status = IsAnsweredOverStore status
-IsCompleted (Serve store port connections) status = IsAnsweredOverStore status
-IsCompleted (Positions store desk) status = IsAnsweredOverStore status
-IsCompleted (Mark store) status = IsAnsweredOverStore status
-IsCompleted (Drill request) status = IsAnswered status
-IsCompleted Help status = IsAnswered status
+IsCompleted (QuoteOne request) status = EndsWell status
+IsCompleted (Quote request each) status = EndsWell status
+IsCompleted (Import store listed) status = EndsWellOverStore status
+IsCompleted (Confirm store key) status = EndsWellOverStore status
+IsCompleted (Serve store port connections) status = EndsWellOverStore status
+IsCompleted (Positions store desk) status = EndsWellOverStore status
+IsCompleted (Mark store) status = EndsWellOverStore status
+IsCompleted (Export store wanted) status = EndsWellOverStore status
+IsCompleted (Drill request) status = EndsWell status
+IsCompleted Help status = EndsWell status
 
--- A command whose input is within its limit, and whose positions can be summed, is completed if nothing failed.
+-- A command whose input is within its limit, and whose tables can be read, is completed if nothing failed.
 abbrev pub CommandsAreCompleted : {I O C K D L : Type 0} → Source.Ghosts I → Sink.Ghosts O → Cabinet.Ghosts C K → Door.Ghosts D L → Type 0
 CommandsAreCompleted {I} {O} {C} {K} {D} {L} source sink cabinet door =
     (ends : PaymentSeries → ℤ → WorthEnds) (told : L → Traffic) (command : DeskCommand) (status : Status) (old new : Lent I O C) (before after : D)
     → Does source sink cabinet door ends told command status old new before after
     → NoneFailed source sink cabinet door old new before after
     → IsWithinLimit source command old.input
-    → CanBeSummed cabinet command old.cabinet
+    → CanBeRead cabinet command old.cabinet
     → IsCompleted command status

@@ -11,10 +11,10 @@ use Rattle.muni_book.specs.Answers.{IsRightAnswer}
 use Rattle.muni_desk_io.specs.Lent.{Lent}
 use Rattle.muni_desk.specs.Answers.{IsAnswer}
 use Rattle.muni_desk_serve.specs.Serves.{Traffic}
-use Rattle.muni_desk.specs.Store.{Imports, ImportsWith, Confirms, Serves, Lists, Marks}
+use Rattle.muni_desk.specs.Store.{ImportsInto, ImportsWith, Confirms, Serves, Lists, Marks, Exports}
 use Rattle.muni_desk.specs.Written.{WritesAnswer, TellsFaults}
 use Rattle.muni_desk.specs.declared.command.DeskCommand.{DeskCommand}
-use Rattle.muni_desk.specs.declared.command.DeskCommand.TheVariants.{QuoteOne, Quote, Import, Confirm, Serve, Positions, Mark, Drill, Help}
+use Rattle.muni_desk.specs.declared.command.DeskCommand.TheVariants.{QuoteOne, Quote, Import, Confirm, Serve, Positions, Mark, Export, Drill, Help}
 use Rattle.muni_desk.specs.declared.status.Answer.{Answer}
 use Rattle.muni_desk.specs.declared.status.Status.{Status}
 use Rattle.muni_desk.specs.declared.status.Status.TheVariants.{ReadFault, StoreFault, NoMemory, TooLarge}
@@ -29,13 +29,14 @@ pub record Says {O : Type 0} (sink : Sink.Ghosts O) (IsRight : Answer → Type 0
 abbrev pub Does : {I O C K D L : Type 0} → Source.Ghosts I → Sink.Ghosts O → Cabinet.Ghosts C K → Door.Ghosts D L → (ends : PaymentSeries → ℤ → WorthEnds) → (told : L → Traffic) → DeskCommand → Status → (old new : Lent I O C) → (before after : D) → Type 0
 Does source sink cabinet door ends told (QuoteOne request) status old new before after = Says sink (IsAnswer ends (QuoteOne request)) status old.output new.output
 Does source sink cabinet door ends told (Quote request each) status old new before after = Says sink (IsAnswer ends (Quote request each)) status old.output new.output
-Does source sink cabinet door ends told (Import store None) status old new before after = Imports source sink cabinet (IsRightAnswer ends) store.items status old new
+Does source sink cabinet door ends told (Import store None) status old new before after = ImportsInto source sink cabinet (IsRightAnswer ends) store.items status old new
 Does source sink cabinet door ends told (Import store (Some desk)) status old new before after = ImportsWith source sink cabinet (IsRightAnswer ends) store.items desk status old new
 Does source sink cabinet door ends told (Confirm store key) status old new before after = Confirms sink cabinet store.items key status old new
 Does source sink cabinet door ends told (Serve store port connections) status old new before after =
     Serves cabinet door (IsRightAnswer ends) told store.items port connections status old.cabinet new.cabinet before after
 Does source sink cabinet door ends told (Positions store desk) status old new before after = Lists sink cabinet store.items desk status old new
 Does source sink cabinet door ends told (Mark store) status old new before after = Marks source sink cabinet (IsRightAnswer ends) store.items status old new
+Does source sink cabinet door ends told (Export store wanted) status old new before after = Exports sink cabinet store.items wanted status old new
 Does source sink cabinet door ends told (Drill request) status old new before after = Says sink (IsAnswer ends (Drill request)) status old.output new.output
 Does source sink cabinet door ends told Help status old new before after = Says sink (IsAnswer ends Help) status old.output new.output
 
@@ -61,5 +62,6 @@ Spares (Mark store) TooLarge input output cabinet door = output × cabinet × do
 Spares (Mark store) StoreFault input output cabinet door = output × door
 Spares (Mark store) NoMemory input output cabinet door = output × door
 Spares (Mark store) status input output cabinet door = door
+Spares (Export store wanted) status input output cabinet door = input × door
 Spares (Drill request) status input output cabinet door = input × cabinet × door
 Spares Help status input output cabinet door = input × cabinet × door

@@ -4,7 +4,7 @@ use Rattle.std.specs.Prelude.{◌≡◌, ℕ, zero, suc, ◌*◌, ◌%◌, ◌<�
 use Rattle.muni_rule.specs.Payments.{PaymentSeries}
 use Rattle.muni_rule.specs.WorthEnds.{WorthEnds}
 use Rattle.muni_desk.specs.Generator.{IsGenerated, state_after}
-use Rattle.muni_desk.specs.Request.{IsAnswered}
+use Rattle.muni_desk.specs.Request.{IsAnswerOf}
 use Rattle.muni_desk.specs.Sums.{Answered, AreSums, AreSmall, summary_text}
 use Rattle.muni_desk.specs.declared.drill.options.DrillRequest.{DrillRequest}
 use Rattle.muni_desk.specs.declared.drill.sums.Sums.{Sums}
@@ -13,7 +13,7 @@ use Rattle.muni_desk.specs.declared.drill.sums.Sums.{Sums}
 -- seven draws from the seed on.
 pub record IsDrilled (ends : PaymentSeries → ℤ → WorthEnds) (seed place : ℕ) (it : Answered) : Type 0 where
   pub generated : IsGenerated (state_after seed (7 * place)) it.request
-  pub answered : IsAnswered ends it.request.row it.request.asked it.answer
+  pub answered : IsAnswerOf ends it.request.row it.request.asked it.answer
 
 -- the book has the first so many trades from a seed, each with the right answer to it
 abbrev pub IsBook : (ends : PaymentSeries → ℤ → WorthEnds) → (seed count : ℕ) → List Answered → Type 0

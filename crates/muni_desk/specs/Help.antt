@@ -14,9 +14,11 @@ help_text =
     codes "quote-one COUPON NEXT SETTLE REDEMPTION YIELD\n"
     ++ (codes "quote --kind --dated --maturity --settle --yield|--price|--rate --first --coupon --call --par --workers --days --each\n"
     ++ (codes "import --store --workers --positions\n"
-    ++ (codes "confirm --store --desk --ref\n"
+    ++ (codes "confirm --store --desk --ref|--all\n"
     ++ (codes "serve --store --port --connections --workers\n"
     ++ (codes "drill --count --seed --workers\n"
     ++ (codes "positions --store --desk\n"
     ++ (codes "mark --store\n"
-    ++ codes "help\n")))))))
+    ++ (codes "export --store --desk --issues\n"
+    ++ (codes "list --store --desk\n"
+    ++ codes "help\n")))))))))

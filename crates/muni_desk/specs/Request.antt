@@ -12,8 +12,8 @@ use Rattle.muni_msg.specs.declared.refusal.Refusal.TheVariants.{BadTerms}
 use Rattle.muni_book.specs.Answers.{IsRightAnswer}
 
 -- the answer is right: it is the first fault of the terms, or it is right for the issue
-abbrev pub IsAnswered : (ends : PaymentSeries → ℤ → WorthEnds) → IssueRow → Asked
+abbrev pub IsAnswerOf : (ends : PaymentSeries → ℤ → WorthEnds) → IssueRow → Asked
     → Result Figures Refusal → Type 0
-IsAnswered ends row asked answer =
+IsAnswerOf ends row asked answer =
     MatchResult (checked row) (λ issue. IsRightAnswer ends issue asked answer)
     (λ fault. answer ≡ Err (BadTerms fault))

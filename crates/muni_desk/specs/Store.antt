@@ -11,6 +11,8 @@ use Rattle.muni_msg.specs.declared.command.Key.{Key}
 use Rattle.muni_desk_io.specs.Input.{TakesUpTo}
 use Rattle.muni_desk_io.specs.Lent.{Lent}
 use Rattle.muni_desk_io.specs.Reports.{ReportsReads, ReportsWrites}
+use Rattle.muni_desk_export.specs.Kept.{WritesKept}
+use Rattle.muni_desk_export.specs.declared.wanted.Wanted.{Wanted}
 use Rattle.muni_desk_import.specs.Confirmed.{Confirmed}
 use Rattle.muni_desk_import.specs.Imported.{Imported}
 use Rattle.muni_desk_import.specs.Reported.{Reported}
@@ -27,8 +29,8 @@ abbrev pub EndsAs : {R : Type 0} → (R → Status) → Status → (R → Type 0
 EndsAs {R} status_of status Holds = (result : R) × (status ≡ status_of result) × Holds result
 
 -- an import into a store, which leaves the other stores alone
-abbrev pub Imports : {I O C K : Type 0} → Source.Ghosts I → Sink.Ghosts O → Cabinet.Ghosts C K → Pricing → List ℕ → Status → (old new : Lent I O C) → Type 0
-Imports source sink cabinet Prices store status old new =
+abbrev pub ImportsInto : {I O C K : Type 0} → Source.Ghosts I → Sink.Ghosts O → Cabinet.Ghosts C K → Pricing → List ℕ → Status → (old new : Lent I O C) → Type 0
+ImportsInto source sink cabinet Prices store status old new =
     EndsAs of_done status (λ result. Imported source sink cabinet Prices store result old new
     × IfSome (source.left old.input) (λ text. Reported text result (sink.bytes old.output) (sink.bytes new.output))
     × ReportsReads source result old.input new.input × ReportsWrites sink result old.output new.output)
@@ -69,3 +71,10 @@ Marks source sink cabinet Prices store status old new =
     × IfSome (source.left old.input) (λ text. MarksReported text result (sink.bytes old.output) (sink.bytes new.output))
     × ReportsReads source result old.input new.input × ReportsWrites sink result old.output new.output)
     × TakesUpTo source 1_048_577 old.input new.input × LeavesAll cabinet old.cabinet new.cabinet
+
+-- what the store keeps, as it is wanted
+abbrev pub Exports : {I O C K : Type 0} → Sink.Ghosts O → Cabinet.Ghosts C K → List ℕ → Wanted → Status → (old new : Lent I O C) → Type 0
+Exports sink cabinet store wanted status old new =
+    EndsAs of_done status (λ result. WritesKept sink wanted (cabinet.told old.cabinet store) (Rose (cabinet.faults old.cabinet) (cabinet.faults new.cabinet)) result old.output new.output
+    × ReportsWrites sink result old.output new.output)
+    × LeavesAll cabinet old.cabinet new.cabinet

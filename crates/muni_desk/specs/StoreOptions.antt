@@ -1,5 +1,5 @@
 -- The options of the commands over a store.
-use Rattle.std.specs.Prelude.{ℕ, Bool, ◌&&◌, nat_le, if◌then◌else◌, List, length, [], ◌∷◌, codes, Option, Some, None, option_map}
+use Rattle.std.specs.Prelude.{ℕ, Bool, true, false, ◌&&◌, nat_le, if◌then◌else◌, List, length, [], ◌∷◌, codes, Option, Some, None, option_map}
 use Rattle.std.specs.Char.{is_ascii_graphic, is_ascii_alphanumeric}
 use Rattle.std.specs.List.{list_all}
 use Rattle.std.specs.Result.{result_ok}
@@ -7,9 +7,11 @@ use Rattle.arrayvec.specs.ArrayVec.{ArrayVec}
 use Rattle.muni_dec.specs.Digits.{number_reading}
 use Rattle.muni_msg.specs.NameReading.{name_reading}
 use Rattle.muni_msg.specs.Names.{is_desk_letter}
+use Rattle.muni_desk_export.specs.declared.wanted.Wanted.{Wanted}
+use Rattle.muni_desk_export.specs.declared.wanted.Wanted.TheVariants as want
 use Rattle.muni_desk.specs.QuoteOptions.{workers_of}
-use Rattle.muni_desk.specs.Words.{◌>>=◌, are_options, value_of}
-use Rattle.muni_desk.specs.declared.command.DeskCommand.TheVariants.{Import, Confirm, Serve, Positions, Mark}
+use Rattle.muni_desk.specs.Words.{◌>>=◌, are_options, are_options_beside, has_word, value_of}
+use Rattle.muni_desk.specs.declared.command.DeskCommand.TheVariants.{Import, Confirm, Serve, Positions, Mark, Export}
 use Rattle.muni_desk.specs.declared.command.CommandLine.{CommandLine}
 
 -- all options, each at most once
@@ -22,11 +24,19 @@ confirm_options = codes "--store=" ∷ codes "--desk=" ∷ codes "--ref=" ∷ []
 abbrev pub serve_options : List (List ℕ)
 serve_options = codes "--store=" ∷ codes "--port=" ∷ codes "--connections=" ∷ codes "--workers=" ∷ []
 
-abbrev pub positions_options : List (List ℕ)
-positions_options = codes "--store=" ∷ codes "--desk=" ∷ []
+-- a store and a desk
+abbrev pub desk_options : List (List ℕ)
+desk_options = codes "--store=" ∷ codes "--desk=" ∷ []
 
 abbrev pub mark_options : List (List ℕ)
 mark_options = codes "--store=" ∷ []
+
+-- the words that have no value: the confirmations of all trades are wanted, or the issues alone
+abbrev pub all_word : List ℕ
+all_word = codes "--all"
+
+abbrev pub issues_word : List ℕ
+issues_word = codes "--issues"
 
 -- a text names a store: at most 200 bytes, which print and are no blank
 abbrev pub is_store_name : List ℕ → Bool
@@ -82,9 +92,23 @@ confirm_line words = do
   reference ← reference_of words
   Some (record { command = Confirm store (record { desk = desk; reference = reference }); workers = 1 })
 
-abbrev pub confirm_of : List (List ℕ) → Option CommandLine
-confirm_of words =
+abbrev pub confirm_one_of : List (List ℕ) → Option CommandLine
+confirm_one_of words =
     if are_options confirm_options confirm_options words then confirm_line words else None
+
+-- all trades of a desk
+abbrev pub confirm_all_line : List (List ℕ) → Option CommandLine
+confirm_all_line words = do
+  store ← store_of words
+  desk ← desk_of words
+  Some (record { command = Export store (want.Confirmations desk); workers = 1 })
+
+abbrev pub confirm_all_of : List (List ℕ) → Option CommandLine
+confirm_all_of words =
+    if are_options_beside all_word desk_options desk_options words then confirm_all_line words else None
+
+abbrev pub confirm_of : List (List ℕ) → Option CommandLine
+confirm_of words = if has_word all_word words then confirm_all_of words else confirm_one_of words
 
 -- connections over a store that come in by a port
 abbrev pub serve_line : List (List ℕ) → Option CommandLine
@@ -108,7 +132,7 @@ positions_line words = do
 
 abbrev pub positions_of : List (List ℕ) → Option CommandLine
 positions_of words =
-    if are_options positions_options positions_options words then positions_line words else None
+    if are_options desk_options desk_options words then positions_line words else None
 
 -- the marks of a portfolio over a store
 abbrev pub mark_line : List (List ℕ) → Option CommandLine
@@ -119,3 +143,35 @@ mark_line words = do
 abbrev pub mark_of : List (List ℕ) → Option CommandLine
 mark_of words =
     if are_options mark_options mark_options words then mark_line words else None
+
+-- what is wanted: a desk, or the issues alone, or everything if neither is given
+abbrev pub wanted_in : Bool → Option (List ℕ) → Option Wanted
+wanted_in true (Some text) = None
+wanted_in true None = Some want.Issues
+wanted_in false (Some text) = option_map want.Desk (result_ok (name_reading is_desk_letter 16 text))
+wanted_in false None = Some want.Everything
+
+abbrev pub wanted_of : List (List ℕ) → Option Wanted
+wanted_of words = wanted_in (has_word issues_word words) (value_of (codes "--desk=") words)
+
+-- an export of a store
+abbrev pub export_line : List (List ℕ) → Option CommandLine
+export_line words = do
+  store ← store_of words
+  wanted ← wanted_of words
+  Some (record { command = Export store wanted; workers = 1 })
+
+abbrev pub export_of : List (List ℕ) → Option CommandLine
+export_of words =
+    if are_options_beside issues_word desk_options desk_options words then export_line words else None
+
+-- the list of a desk's trades
+abbrev pub list_line : List (List ℕ) → Option CommandLine
+list_line words = do
+  store ← store_of words
+  desk ← desk_of words
+  Some (record { command = Export store (want.List desk); workers = 1 })
+
+abbrev pub list_of : List (List ℕ) → Option CommandLine
+list_of words =
+    if are_options desk_options desk_options words then list_line words else None

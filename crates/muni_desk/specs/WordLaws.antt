@@ -21,13 +21,15 @@ use Rattle.muni_msg.specs.declared.asked.Side.TheVariants.{Buy}
 use Rattle.muni_msg.specs.NameReading.{name_reading}
 use Rattle.muni_msg.specs.Names.{is_desk_letter}
 use Rattle.muni_msg.specs.declared.command.Key.{Key}
+use Rattle.muni_desk_export.specs.declared.wanted.Wanted.{Wanted}
+use Rattle.muni_desk_export.specs.declared.wanted.Wanted.TheVariants as want
 use Rattle.muni_desk.specs.Words.{word, is_option}
 use Rattle.muni_desk.specs.QuoteOptions.{options, single_options}
 use Rattle.muni_desk.specs.DrillOptions as drill
-use Rattle.muni_desk.specs.StoreOptions.{import_options, confirm_options, serve_options, positions_options, mark_options}
+use Rattle.muni_desk.specs.StoreOptions.{import_options, confirm_options, serve_options, desk_options, mark_options}
 use Rattle.muni_desk.specs.Command.{command_of}
 use Rattle.muni_desk.specs.declared.command.DeskCommand.{DeskCommand}
-use Rattle.muni_desk.specs.declared.command.DeskCommand.TheVariants.{QuoteOne, Quote, Import, Confirm, Serve, Positions, Mark, Drill, Help}
+use Rattle.muni_desk.specs.declared.command.DeskCommand.TheVariants.{QuoteOne, Quote, Import, Confirm, Serve, Positions, Mark, Export, Drill, Help}
 use Rattle.muni_desk.specs.declared.command.CommandLine.{CommandLine}
 use Rattle.muni_desk.specs.declared.drill.options.DrillRequest.{DrillRequest}
 use Rattle.muni_desk.specs.declared.quote_one.QuoteOneRequest.{QuoteOneRequest}
@@ -213,7 +215,7 @@ pub record IsImport (words : List (List ℕ)) (store : ArrayVec ℕ) (listed : O
       ReadsOr words (codes "--workers=") (λ text. number_reading 20 1 16 text ≡ Some workers)
       (workers ≡ 1)
 
--- words after `confirm`: a store, a desk and the reference of a trade
+-- words after `confirm` for one trade: a store, a desk and the reference of the trade
 pub record IsConfirm (words : List (List ℕ)) (store : ArrayVec ℕ) (key : Key) : Type 0 where
   pub known : All (IsKnown confirm_options) words
   pub single : All (IsSingle words) confirm_options
@@ -223,6 +225,16 @@ pub record IsConfirm (words : List (List ℕ)) (store : ArrayVec ℕ) (key : Key
   pub reference :
       Reads words (codes "--ref=")
       (λ text. name_reading is_ascii_alphanumeric 20 text ≡ Ok key.reference)
+
+-- words after `confirm` for all trades of a desk: a store, the desk and the word `--all`
+pub record IsConfirmAll (words : List (List ℕ)) (store : ArrayVec ℕ) (desk : List ℕ) : Type 0 where
+  pub known : All (IsKnownBeside (codes "--all") desk_options) words
+  pub once : IsOnceAtMost (codes "--all") words
+  pub single : All (IsSingle words) desk_options
+  pub has_all : Has (codes "--all") words true
+  pub named : SaysStore words store
+  pub desk_named :
+      Reads words (codes "--desk=") (λ text. name_reading is_desk_letter 16 text ≡ Ok desk)
 
 -- words after `serve`: a store, a port from 1 to 65,535, from 1 to 1,000,000 connections, and from 1 to
 -- 16 workers, and one if no number is given
@@ -241,8 +253,8 @@ pub record IsServe (words : List (List ℕ)) (store : ArrayVec ℕ) (port connec
 
 -- words after `positions`: a store and a desk
 pub record IsPositions (words : List (List ℕ)) (store : ArrayVec ℕ) (desk : List ℕ) : Type 0 where
-  pub known : All (IsKnown positions_options) words
-  pub single : All (IsSingle words) positions_options
+  pub known : All (IsKnown desk_options) words
+  pub single : All (IsSingle words) desk_options
   pub named : SaysStore words store
   pub desk_named :
       Reads words (codes "--desk=") (λ text. name_reading is_desk_letter 16 text ≡ Ok desk)
@@ -252,6 +264,31 @@ pub record IsMark (words : List (List ℕ)) (store : ArrayVec ℕ) : Type 0 wher
   pub known : All (IsKnown mark_options) words
   pub single : All (IsSingle words) mark_options
   pub named : SaysStore words store
+
+-- what is wanted of an export: a desk, or the issues alone by the word `--issues`, or everything by neither
+abbrev pub SaysWanted : List (List ℕ) → Wanted → Type 0
+SaysWanted words want.Everything = Has (codes "--issues") words false × Lacks words (codes "--desk=")
+SaysWanted words want.Issues = Has (codes "--issues") words true × Lacks words (codes "--desk=")
+SaysWanted words (want.Desk desk) =
+    Has (codes "--issues") words false
+    × Reads words (codes "--desk=") (λ text. name_reading is_desk_letter 16 text ≡ Ok desk)
+SaysWanted words other = ⊥
+
+-- words after `export`: a store, and what is wanted of it
+pub record IsExport (words : List (List ℕ)) (store : ArrayVec ℕ) (wanted : Wanted) : Type 0 where
+  pub known : All (IsKnownBeside (codes "--issues") desk_options) words
+  pub once : IsOnceAtMost (codes "--issues") words
+  pub single : All (IsSingle words) desk_options
+  pub named : SaysStore words store
+  pub says : SaysWanted words wanted
+
+-- words after `list`: a store and a desk
+pub record IsList (words : List (List ℕ)) (store : ArrayVec ℕ) (desk : List ℕ) : Type 0 where
+  pub known : All (IsKnown desk_options) words
+  pub single : All (IsSingle words) desk_options
+  pub named : SaysStore words store
+  pub desk_named :
+      Reads words (codes "--desk=") (λ text. name_reading is_desk_letter 16 text ≡ Ok desk)
 
 -- ---- the options of `drill`
 -- words after `drill`: up to 1,000 trades, a seed below 2^64, and from 1 to 16 workers
@@ -280,6 +317,14 @@ pub record IsQuoteOne (words : List (List ℕ)) (request : QuoteOneRequest) : Ty
   pub year_at_least : 1902 ≤ request.next.year
 
 -- ---- the command line
+-- a name and the words after it ask for what a store keeps: the list of a desk's trades, their confirmations, or
+-- an export
+abbrev pub AsksFor : List ℕ → List (List ℕ) → ArrayVec ℕ → Wanted → Type 0
+AsksFor name words store (want.List desk) = (name ≡ codes "list") × IsList words store desk
+AsksFor name words store (want.Confirmations desk) =
+    (name ≡ codes "confirm") × IsConfirmAll words store desk
+AsksFor name words store other = (name ≡ codes "export") × IsExport words store other
+
 -- the first word names the command, and those after it say what is asked of it
 abbrev pub IsSaid : List (List ℕ) → DeskCommand → ℕ → Type 0
 IsSaid [] command workers = ⊥
@@ -297,6 +342,8 @@ IsSaid (name ∷ words) (Positions store desk) workers =
     (name ≡ codes "positions") × IsPositions words store desk × (workers ≡ 1)
 IsSaid (name ∷ words) (Mark store) workers =
     (name ≡ codes "mark") × IsMark words store × (workers ≡ 1)
+IsSaid (name ∷ words) (Export store wanted) workers =
+    AsksFor name words store wanted × (workers ≡ 1)
 IsSaid (name ∷ words) (Drill request) workers =
     (name ≡ codes "drill") × IsDrill words request workers
 IsSaid (name ∷ words) Help workers =

@@ -8,9 +8,12 @@ use crate::help::read_help;
 use crate::quote_one::{QuoteOneRequest, read_quote_one};
 use crate::quote_options::read_quote;
 use crate::request::QuoteRequest;
-use crate::store_options::{read_confirm, read_import, read_mark, read_positions, read_serve};
+use crate::store_options::{
+    read_confirm, read_export, read_import, read_list, read_mark, read_positions, read_serve,
+};
 use arrayvec::ArrayVec;
 use muni_book::Workers;
+use muni_desk_export::Wanted;
 use muni_msg::{DeskName, Key};
 
 /// What the desk can be asked for.
@@ -42,6 +45,11 @@ pub enum DeskCommand {
     /// What the rows of the input are worth, by the issues that a store keeps.
     Mark {
         store: ArrayVec<u8, 200>,
+    },
+    /// What a store keeps, as it is wanted.
+    Export {
+        store: ArrayVec<u8, 200>,
+        wanted: Wanted,
     },
     /// To serve a number of connections that come in by a port, over the tables of a store.
     Serve {
@@ -85,6 +93,8 @@ fn read_over_store(name: &str, options: &[String]) -> Option<CommandLine>
         "serve" => read_serve(options),
         "positions" => read_positions(options),
         "mark" => read_mark(options),
+        "export" => read_export(options),
+        "list" => read_list(options),
         _ => None,
     }
 }

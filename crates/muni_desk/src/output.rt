@@ -12,6 +12,7 @@ use crate::answers::{drill_answer, help_answer, quote_answer, quote_one_answer};
 use crate::command::read;
 use crate::{Answer, CommandLine, DeskCommand, Status};
 use muni_book::Calculator;
+use muni_desk_export::write_kept;
 use muni_desk_import::{confirm, import};
 use muni_desk_positions::{import_with_positions, positions};
 use muni_desk_serve::serve;
@@ -29,9 +30,11 @@ use std::thread::Threads;
 /// than six months left comes from the encloser. `drill` and options in any order price a generated book
 /// of trades, and give the sums. `import` applies the rows of the input to the tables of a store, and
 /// writes a line on each, and then the positions of a desk if one is named. `confirm` writes the
-/// confirmation of a trade that a store keeps. `serve` answers the requests of connections that come in
-/// by a door. `positions` writes what a desk holds of each security, and `mark` what the rows of a
-/// portfolio are worth. `help` names the commands. Only the commands over a store allocate memory.
+/// confirmation of a trade that a store keeps, or with `--all` those of all trades of a desk. `serve`
+/// answers the requests of connections that come in by a door. `positions` writes what a desk holds of
+/// each security, and `mark` what the rows of a portfolio are worth. `export` writes rows of what a store
+/// keeps, which an import reads, and `list` a line on each trade of a desk. `help` names the commands.
+/// Only the commands over a store allocate memory.
 // As many threads look for yields as the words name workers, and the gate is called when they begin
 // (tested).
 pub fn desk<
@@ -136,6 +139,9 @@ fn carry_out<
         DeskCommand::Mark { store } => {
             let &Calculator { rt, encloser, .. } = calculator;
             Status::of_done(mark(rt, alloc, &store, input, output, cabinet, encloser))
+        }
+        DeskCommand::Export { store, wanted } => {
+            Status::of_done(write_kept(alloc, &store, &wanted, output, cabinet))
         }
         DeskCommand::Drill(request) => { say(&drill_answer(calculator, request), output) }
         DeskCommand::Help => say(&help_answer(), output),

@@ -1,7 +1,7 @@
 //! A request for the figures of a security that is given by its terms, and the answer to it.
 
 ghost use Rattle.std.specs.Prelude.{◌≡◌, ◌≤◌, length, IfOk};
-ghost use Rattle.muni_desk.specs.Request.{IsAnswered};
+ghost use Rattle.muni_desk.specs.Request.{IsAnswerOf};
 
 use arrayvec::ArrayVec;
 use muni_book::{Calculator, figures};
@@ -40,7 +40,7 @@ pub fn answer_of<R: Threads + Sync, E: Encloser + Sync, G: Gate + Sync>(
     asked: &Asked,
     schedule: &mut Schedule,
 ) -> Result<Figures, Refusal>
-    ensures right { IsAnswered (E.ends calculator.now.encloser.now) row asked.now result }
+    ensures right { IsAnswerOf (E.ends calculator.now.encloser.now) row asked.now result }
     ensures accrued { IfOk result (λ figures. figures.accrued ≤ 60_000_000_000) }
 {
     match check(row) {

@@ -7,10 +7,11 @@ ghost use Rattle.muni_desk.specs.StoreOptions as spec;
 
 use crate::command::{CommandLine, DeskCommand};
 use crate::quote_options::read_workers;
-use crate::words::{WORKERS, are_options, value_of};
+use crate::words::{WORKERS, are_options, are_options_beside, has_word, value_of};
 use arrayvec::ArrayVec;
 use muni_book::Workers;
 use muni_dec::digits::read_number;
+use muni_desk_export::Wanted;
 use muni_msg::{DeskName, Key, Reference};
 
 const STORE: &[u8] = b"--store=";
@@ -29,9 +30,13 @@ const IMPORT: [&[u8]; 3] = [STORE, WORKERS, POSITIONS_OF];
 
 const CONFIRM: [&[u8]; 3] = [STORE, DESK, REF];
 
-const POSITIONS: [&[u8]; 2] = [STORE, DESK];
+const OF_DESK: [&[u8]; 2] = [STORE, DESK];
 
 const MARK: [&[u8]; 1] = [STORE];
+
+const ALL: &[u8] = b"--all";
+
+const ISSUES: &[u8] = b"--issues";
 
 const SERVE: [&[u8]; 4] = [STORE, PORT, CONNECTIONS, WORKERS];
 
@@ -61,9 +66,21 @@ fn read_listed(words: &[String]) -> Option<Option<DeskName>>
     }
 }
 
-/// What words ask for, where they are options of `confirm`, in any order.
+/// What words ask for, where they are options of `confirm`, for one trade or by `--all` for those of a desk, in
+/// any order.
+#[tactic(auto, using(crate::proofs::WordsLemmas::word_strings))]
 pub fn read_confirm(words: &[String]) -> Option<CommandLine>
     ensures { result ≡ spec.confirm_of (map string_bytes words.now) }
+{
+    if has_word(words, ALL) {
+        read_confirm_all(words)
+    } else {
+        read_confirm_one(words)
+    }
+}
+
+fn read_confirm_one(words: &[String]) -> Option<CommandLine>
+    ensures { result ≡ spec.confirm_one_of (map string_bytes words.now) }
 {
     if !are_options(words, &CONFIRM, &CONFIRM) {
         return None;
@@ -78,6 +95,17 @@ pub fn read_confirm(words: &[String]) -> Option<CommandLine>
         },
         workers: Workers::ONE,
     })
+}
+
+fn read_confirm_all(words: &[String]) -> Option<CommandLine>
+    ensures { result ≡ spec.confirm_all_of (map string_bytes words.now) }
+{
+    if !are_options_beside(words, ALL, &OF_DESK, &OF_DESK) {
+        return None;
+    }
+    let store = read_store(words)?;
+    let desk = read_desk(words)?;
+    Some(wanted_line(store, Wanted::Confirmations(desk)))
 }
 
 /// What words ask for, where they are options of `serve`, in any order.
@@ -105,7 +133,7 @@ pub fn read_serve(words: &[String]) -> Option<CommandLine>
 pub fn read_positions(words: &[String]) -> Option<CommandLine>
     ensures { result ≡ spec.positions_of (map string_bytes words.now) }
 {
-    if !are_options(words, &POSITIONS, &POSITIONS) {
+    if !are_options(words, &OF_DESK, &OF_DESK) {
         return None;
     }
     let store = read_store(words)?;
@@ -128,6 +156,54 @@ pub fn read_mark(words: &[String]) -> Option<CommandLine>
         command: DeskCommand::Mark { store },
         workers: Workers::ONE,
     })
+}
+
+/// What words ask for, where they are options of `export` and perhaps `--issues`, in any order.
+pub fn read_export(words: &[String]) -> Option<CommandLine>
+    ensures { result ≡ spec.export_of (map string_bytes words.now) }
+{
+    if !are_options_beside(words, ISSUES, &OF_DESK, &OF_DESK) {
+        return None;
+    }
+    let store = read_store(words)?;
+    let wanted = read_wanted(words)?;
+    Some(wanted_line(store, wanted))
+}
+
+// A desk, or the issues alone, or everything if neither is given.
+#[tactic(auto, using(crate::proofs::WordsLemmas::word_strings))]
+fn read_wanted(words: &[String]) -> Option<Wanted>
+    ensures { result ≡ spec.wanted_of (map string_bytes words.now) }
+{
+    match (has_word(words, ISSUES), value_of(words, DESK)) {
+        (true, Some(_)) => None,
+        (true, None) => Some(Wanted::Issues),
+        (false, Some(text)) => Some(Wanted::Desk(DeskName::read(text).ok()?)),
+        (false, None) => Some(Wanted::Everything),
+    }
+}
+
+/// What words ask for, where they are options of `list`, in any order.
+pub fn read_list(words: &[String]) -> Option<CommandLine>
+    ensures { result ≡ spec.list_of (map string_bytes words.now) }
+{
+    if !are_options(words, &OF_DESK, &OF_DESK) {
+        return None;
+    }
+    let store = read_store(words)?;
+    let desk = read_desk(words)?;
+    Some(wanted_line(store, Wanted::List(desk)))
+}
+
+// The line of a command that writes what a store keeps.
+fn wanted_line(store: ArrayVec<u8, 200>, wanted: Wanted) -> CommandLine
+    ensures command { result.command ≡ DeskCommand.Export store wanted }
+    ensures workers { result.workers ≡ 1 }
+{
+    CommandLine {
+        command: DeskCommand::Export { store, wanted },
+        workers: Workers::ONE,
+    }
 }
 
 fn read_store(words: &[String]) -> Option<ArrayVec<u8, 200>>

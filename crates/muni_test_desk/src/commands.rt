@@ -1,12 +1,13 @@
 mod faults;
 mod gates;
+mod kept;
 mod watch;
 
 ghost use Rattle.std.specs.Prelude.{◌≡◌, None};
 
 use muni_desk::{Status, desk};
 use muni_edge::{MemDoor, MemLink, MemSink, MemSource};
-use muni_keep::{Cabinet, MemCabinet};
+use muni_keep::{Cabinet, MemCabinet, MemKeeper};
 use std::alloc::Global;
 use std::test::Fail;
 use std::thread::Threads;
@@ -118,6 +119,35 @@ fn ask<R: Threads + Sync, C: Cabinet>(
         output,
         door,
     })
+}
+
+// How two commands over a new cabinet end, one after the other, with what fails at each. The calls of the
+// cabinet and of its keeper are counted over both, and fail if the first says so.
+fn ask_both<'a, R: Threads + Sync>(
+    rt: &R,
+    alloc: Global,
+    failing: [Failing<'a>; 2],
+    first: (&'a str, &'a [u8]),
+    second: (&'a str, &'a [u8]),
+) -> Result<(Outcome, Outcome), Fail> {
+    let [before, after] = failing;
+    let mut keepers = Vec::new(alloc);
+    keepers.push((b"S".to_vec(alloc)?, MemKeeper::new(alloc, before.calls)?))?;
+    let mut cabinet = MemCabinet::new(alloc, keepers, before.fetches)?;
+    let idle = Watch::idle();
+    let asked = Asked {
+        words: &[first.0],
+        input: first.1,
+        failing: before,
+    };
+    let before = ask(rt, alloc, &asked, &mut cabinet, &idle)?;
+    let asked = Asked {
+        words: &[second.0],
+        input: second.1,
+        failing: after,
+    };
+    let after = ask(rt, alloc, &asked, &mut cabinet, &idle)?;
+    Ok((before, after))
 }
 
 // How a command ends that needs no input, no store and no door: any call of them fails.

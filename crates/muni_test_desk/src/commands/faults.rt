@@ -1,9 +1,7 @@
 //! Commands over a store while an object fails, and connections.
 
-use super::{Asked, Failing, NONE, NONE_FAILS, Outcome, ask};
-use crate::commands::watch::Watch;
+use super::{Failing, NONE, NONE_FAILS, ask_both};
 use muni_desk::Status;
-use muni_keep::{MemCabinet, MemKeeper};
 use std::alloc::Global;
 use std::test::Fail;
 use std::thread::Threads;
@@ -19,6 +17,12 @@ const SECOND: &str = "confirm --store=S --desk=ALPHA --ref=T0002";
 const POSITIONS: &str = "positions --store=S --desk=ALPHA";
 
 const MARK: &str = "mark --store=S";
+
+const EXPORT: &str = "export --store=S";
+
+const LISTING: &str = "list --store=S --desk=ALPHA";
+
+const CONFIRMATIONS: &str = "confirm --store=S --desk=ALPHA --all";
 
 const SERVE: &str = "serve --store=S --port=8080 --connections=2";
 
@@ -53,35 +57,6 @@ const SECOND_CALL: &[u64] = &[1];
 
 // How often an import of the rows asks the keeper.
 const CALLS: u64 = 10;
-
-// How two commands over a new cabinet end, one after the other, with what fails at each. The calls of the
-// cabinet and of its keeper are counted over both, and fail if the first says so.
-fn ask_both<'a, R: Threads + Sync>(
-    rt: &R,
-    alloc: Global,
-    failing: [Failing<'a>; 2],
-    first: (&'a str, &'a [u8]),
-    second: (&'a str, &'a [u8]),
-) -> Result<(Outcome, Outcome), Fail> {
-    let [before, after] = failing;
-    let mut keepers = Vec::new(alloc);
-    keepers.push((b"S".to_vec(alloc)?, MemKeeper::new(alloc, before.calls)?))?;
-    let mut cabinet = MemCabinet::new(alloc, keepers, before.fetches)?;
-    let idle = Watch::idle();
-    let asked = Asked {
-        words: &[first.0],
-        input: first.1,
-        failing: before,
-    };
-    let before = ask(rt, alloc, &asked, &mut cabinet, &idle)?;
-    let asked = Asked {
-        words: &[second.0],
-        input: second.1,
-        failing: after,
-    };
-    let after = ask(rt, alloc, &asked, &mut cabinet, &idle)?;
-    Ok((before, after))
-}
 
 // How an import of the rows ends, how many whole lines of its report it writes, if it writes nothing else, and
 // whether a trade is then confirmed.
@@ -157,7 +132,7 @@ fn a_keeper_that_fails_ends_an_import_before_its_row(rt: HostRuntime) -> Result<
 
 // The first command over an empty store, with the calls of its input, its output, the cabinet and the keeper
 // that fail. The last status shows whether it has fetched the store.
-const ENDS: [(&str, [&[u64]; 4], Status, Status); 15] = [
+const ENDS: [(&str, [&[u64]; 4], Status, Status); 19] = [
     (
         IMPORT,
         [FIRST_CALL, NONE, NONE, NONE],
@@ -238,6 +213,30 @@ const ENDS: [(&str, [&[u64]; 4], Status, Status); 15] = [
     ),
     (
         MARK,
+        [NONE, FIRST_CALL, NONE, NONE],
+        Status::WriteFault,
+        Status::Refused,
+    ),
+    (
+        EXPORT,
+        [FIRST_CALL, NONE, FIRST_CALL, NONE],
+        Status::StoreFault,
+        Status::Refused,
+    ),
+    (
+        EXPORT,
+        [NONE, NONE, NONE, FIRST_CALL],
+        Status::StoreFault,
+        Status::Refused,
+    ),
+    (
+        CONFIRMATIONS,
+        [NONE, NONE, NONE, FIRST_CALL],
+        Status::StoreFault,
+        Status::Refused,
+    ),
+    (
+        LISTING,
         [NONE, FIRST_CALL, NONE, NONE],
         Status::WriteFault,
         Status::Refused,

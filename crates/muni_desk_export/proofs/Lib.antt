@@ -1,0 +1,11 @@
+mod ConfirmLemmas
+mod DeskLemmas
+mod IssueLemmas
+mod LooksLemmas
+mod NamedLemmas
+mod PageLemmas
+mod PartLemmas
+mod TextLemmas
+mod ToldLemmas
+mod VersionLemmas
+mod WalkLemmas

@@ -1,0 +1,9 @@
+pub mod Issues
+pub mod Kept
+pub mod Looks
+pub mod Named
+pub mod Pieces
+pub mod Trades
+pub mod Walk
+pub mod Walked
+pub mod Wanted

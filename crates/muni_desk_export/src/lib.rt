@@ -1,0 +1,14 @@
+//! What a store keeps, written out: the rows of an export, the list of a desk's trades, and their
+//! confirmations.
+#![tactic(auto)]
+
+mod issues;
+mod kept;
+mod named;
+mod trades;
+mod versions;
+mod walk;
+mod wanted;
+
+pub use kept::write_kept;
+pub use wanted::Wanted;
