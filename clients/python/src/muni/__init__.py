@@ -42,7 +42,7 @@ __all__ = [
     "read_confirmation", "read_figures", "read_list",
 ]
 
-__version__ = "1.4.0"
+__version__ = "1.5.0"
 
 Amount = Union[Decimal, int]
 
