@@ -3,18 +3,20 @@
 # their place; from a clone `. docs/muni.bash` loads them.
 
 # Made of the launcher's tables by tests/documents/made_pages.py.
-_muni_commands='quote-one quote import confirm serve drill positions mark help'
-_muni_flags=' --each '
+_muni_commands='quote-one quote import confirm serve drill positions mark export list help'
+_muni_flags=' --each --all --issues '
 
 _muni_options() {
     case $1 in
     quote) echo --kind --dated --first --maturity --settle --coupon --yield --price --rate --call --days --par --each --workers ;;
     import) echo --store --workers --positions ;;
-    confirm) echo --store --desk --ref ;;
+    confirm) echo --store --desk --ref --all ;;
     serve) echo --store --port --connections --workers ;;
     drill) echo --count --seed --workers ;;
     positions) echo --store --desk ;;
     mark) echo --store ;;
+    export) echo --store --desk --issues ;;
+    list) echo --store --desk ;;
     esac
 }
 

@@ -5,7 +5,7 @@ import enum
 from collections.abc import Callable, Sequence
 from typing import NamedTuple
 
-from calculator import drill, rows
+from calculator import drill, exported, rows
 from calculator.book import Book, Confirm, refused_terms
 from calculator.figures import Choice, Refusal, answers, each_of, likely, quote_one
 from calculator.numerals import shown_figure
@@ -18,11 +18,13 @@ HELP = """\
 quote-one COUPON NEXT SETTLE REDEMPTION YIELD
 quote --kind --dated --maturity --settle --yield|--price|--rate --first --coupon --call --par --workers --days --each
 import --store --workers --positions
-confirm --store --desk --ref
+confirm --store --desk --ref|--all
 serve --store --port --connections --workers
 drill --count --seed --workers
 positions --store --desk
 mark --store
+export --store --desk --issues
+list --store --desk
 help
 """
 
@@ -81,11 +83,17 @@ def quoted(asked: QuoteTerms, choose: Choice) -> Said:
 
 def over_store(asked: OverStore, book: Book, data: bytes | Callable[[], bytes], choose: Choice) -> Said:
     match asked.name:
+        case "confirm" if asked.is_all:
+            return said(confirmations(book, asked.desk))
         case "confirm":
             found = book.apply(Confirm(asked.desk, asked.reference))
             return refused(found) if isinstance(found, Refusal) else said(confirmation(found))
         case "positions":
             return said(positions(book, asked.desk))
+        case "export":
+            return said(exported.export(book, asked.desk, asked.is_issues))
+        case "list":
+            return said(exported.listing(book, asked.desk))
         case "import":
             text = data if isinstance(data, bytes) else data()
             if len(text) > IMPORTED_MAX:
@@ -94,6 +102,14 @@ def over_store(asked: OverStore, book: Book, data: bytes | Callable[[], bytes], 
         case _:
             text = data if isinstance(data, bytes) else data()
             return Said(Status.TOO_LARGE) if len(text) > MARKED_MAX else said(rows.marks(book, text, choose))
+
+
+def confirmations(book: Book, desk: str) -> list[str]:
+    """The confirmations of all trades of a desk, with an empty line between two."""
+    lines: list[str] = []
+    for reference in sorted(book.desks.get(desk, {})):
+        lines += [*([""] if lines else []), *confirmation(book.apply(Confirm(desk, reference)))]
+    return lines
 
 
 def positions(book: Book, desk: str) -> list[str]:

@@ -18,7 +18,7 @@ QUOTED = ("000000000", "QUOTE")
 QUOTED_PAR = 100
 SEEDS = 2**64
 # The options without a value.
-PLAIN = ("--each",)
+PLAIN = ("--each", "--all", "--issues")
 
 
 class Usage(Exception):
@@ -49,12 +49,14 @@ class Drill:
 
 @dataclasses.dataclass(frozen=True)
 class OverStore:
-    """A command over a store, with the words that it may have beside."""
+    """A command over a store, with the words that it may have beside: all trades of a desk, or the issues alone."""
 
     name: str
     store: str
     desk: str = ""
     reference: str = ""
+    is_all: bool = False
+    is_issues: bool = False
 
 
 @dataclasses.dataclass(frozen=True)
@@ -182,9 +184,17 @@ def over_store(name: str, options: Options) -> OverStore:
             options.maybe("workers", number(1, 16), 1)
             return OverStore(name, store, options.maybe("positions", numerals.desk, ""))
         case "confirm":
-            return OverStore(name, store, options.one("desk", numerals.desk), options.one("ref", numerals.reference))
-        case "positions":
+            desk = options.one("desk", numerals.desk)
+            if options.plain("all"):
+                return OverStore(name, store, desk, is_all=True)
+            return OverStore(name, store, desk, options.one("ref", numerals.reference))
+        case "positions" | "list":
             return OverStore(name, store, options.one("desk", numerals.desk))
+        case "export":
+            desk, is_issues = options.maybe("desk", numerals.desk, ""), options.plain("issues")
+            if desk and is_issues:
+                raise Usage
+            return OverStore(name, store, desk, is_issues=is_issues)
         case "mark":
             return OverStore(name, store)
     raise Usage

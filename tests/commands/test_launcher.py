@@ -59,11 +59,13 @@ TOTAL 25551.96"""),
     "the commands": (("help",), """quote-one COUPON NEXT SETTLE REDEMPTION YIELD
 quote --kind --dated --maturity --settle --yield|--price|--rate --first --coupon --call --par --workers --days --each
 import --store --workers --positions
-confirm --store --desk --ref
+confirm --store --desk --ref|--all
 serve --store --port --connections --workers
 drill --count --seed --workers
 positions --store --desk
 mark --store
+export --store --desk --issues
+list --store --desk
 help"""),
 }
 CONFIRMATION = """CONFIRMATION 1
@@ -97,11 +99,15 @@ FAULTS = [
     ("'--workers=two' does not read", ("quote", "--workers=two", *BOND, "--yield=4")),
     ("'--price=1,5' does not read", ("quote", "--price=1,5", *BOND)),
     ("--settle is missing", ("quote", "--kind=zero", "--dated=2020-01-01", "--maturity=2026-07-01", "--yield=4")),
-    ("--ref is missing", ("confirm", "--store=S", "--desk=ALPHA")),
+    ("exactly one of --ref and --all is given", ("confirm", "--store=S", "--desk=ALPHA")),
     ("--connections is missing", ("serve", "--store=S", "--port=8080")),
     ("--seed is missing", ("drill", "--count=1", "--workers=1")),
     ("--desk is missing", ("positions", "--store=S")),
     ("--store is missing", ("mark",)),
+    ("--store is missing", ("export", "--issues")),
+    ("--desk is missing", ("list", "--store=S")),
+    ("--desk is given twice", ("export", "--store=S", "--desk=A", "--desk=A")),
+    ("at most one of --desk and --issues is given", ("export", "--store=S", "--desk=A", "--issues")),
     ("'--[x' is no option of quote", ("quote", "--[x=1")),
     ("'--*' is no option of quote", ("quote", "--*=1")),
     ("--call is given more than 40 times", ("quote", *BOND, *CALLS, "--call=2046-03-15:100")),

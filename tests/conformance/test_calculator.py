@@ -52,6 +52,15 @@ def test_a_table_of_command_lines_is_answered(table):
         assert commands.run(words) == (int(status), bytes_of(shown)), f"{table}, line {case.line}"
 
 
+def test_a_table_of_exports_is_answered():
+    for case in cases("exports"):
+        words, sent, status, shown = case.parts
+        books: dict[str, Book] = {}
+        commands.run(["import", "--store=S"], books, bytes_of(case.base))
+        said = commands.run(words.split(" "), books, bytes_of(sent))
+        assert said == (int(status), bytes_of(shown)), f"exports, line {case.line}"
+
+
 # Days, terms and payments, as docs/RULES.md works them out.
 
 @pytest.mark.parametrize(("basis", "start", "end", "days"), [

@@ -33,9 +33,14 @@ def said(option):
     if kinds:
         named = " or ".join("`--kind=%s`" % kind for kind in kinds.split())
         text += "; %s %s" % ("exactly with" if use == "needed" else "only with", named)
-    elif use in ("may", "flag") and "left out" not in option.means:
+    elif use in ("may", "either") and "left out" not in option.means:
         text += "; it may be left out"
     return text
+
+
+def is_flag(option):
+    """Whether an option has no value."""
+    return option.name.startswith("--") and not option.value
 
 
 def roff(text):
@@ -53,7 +58,7 @@ def manual(commands, options):
         for option in options[command.name]:
             name = option.name.replace("-", r"\-")
             lines += [".TP", ".BI %s= %s" % (name, option.value) if option.value else
-                      (".B " if option.use == "flag" else ".I ") + name]
+                      (".B " if is_flag(option) else ".I ") + name]
             lines += textwrap.wrap(roff(said(option)), 115, break_on_hyphens=False)
     return "".join(line + "\n" for line in lines)
 
@@ -62,7 +67,7 @@ def completions(commands, options):
     """The functions of docs/muni.bash that have the commands, their options and the values of those with a few."""
     cases = "".join("    %s) echo %s ;;\n" % (command.name, " ".join(option.name for option in options[command.name]))
                     for command in commands if any(option.value for option in options[command.name]))
-    flags = [option.name for each in options.values() for option in each if option.use == "flag"]
+    flags = [option.name for each in options.values() for option in each if is_flag(option)]
     values = {option.name: option.form.partition(" ")[2] for each in options.values() for option in each
               if option.form.startswith("words ")}
     return "".join([
@@ -166,7 +171,8 @@ def pages():
         options[option.command].append(option)
     formats = read("docs/FORMATS.md")
     for title, names in {"### quote\n": ["quote"], "### drill\n": ["drill"],
-                         "### Commands over a store\n": ["import", "confirm", "serve", "positions", "mark"]}.items():
+                         "### Commands over a store\n": ["import", "confirm", "serve", "positions", "mark", "export",
+                                                         "list"]}.items():
         before, found, after = formats.partition(title)
         head = re.search(r"\| option \|.*\n", after)
         end = re.search(r"\n\n", after[head.end():])

@@ -3,7 +3,6 @@ store of sqlite and a journal answer the same, and an exact calculator does too.
 from __future__ import annotations
 
 import pathlib
-import tempfile
 from typing import NamedTuple
 
 import pytest
@@ -14,7 +13,7 @@ from support.books import Book
 from support.drawn import CUSIPS, Draw, any_of, day, fields_of_row, one_in, spoil_row, whole
 from support.program import Program, Said
 from support.reference import Reference
-from support.stores import KINDS, Store
+from support.stores import KINDS, Store, empty_folder
 
 DESKS = ["ALPHA", "BETA", "GAMMA"]
 # Some books take as long as a hundred texts.
@@ -87,12 +86,6 @@ looks = st.one_of(
     st.builds(lambda rows: Step("mark", [], rows), st.lists(marked_row(), max_size=30)))
 books = st.builds(lambda first, rest: [first, *rest], imports,
                   st.lists(st.one_of(imports, looks, looks, looks), max_size=8))
-
-
-def empty_folder() -> tempfile.TemporaryDirectory[str]:
-    """A folder in memory if there is one, where a sync takes no time, so that what fails is soon shrunk."""
-    memory = pathlib.Path("/dev/shm")
-    return tempfile.TemporaryDirectory(prefix="muni-books-", dir=memory if memory.is_dir() else None)
 
 
 def begun(muni: Program, kind: str, folder: str) -> Book:

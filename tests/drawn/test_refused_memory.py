@@ -76,6 +76,10 @@ def commands() -> list[Command]:
             Command(f"{kind}import with positions", (*importing, "--positions=ALPHA"), LATER, None, KEPT, True),
             Command(f"{kind}confirm", ("confirm", store, "--desk=ALPHA", "--ref=T0001"), before=KEPT),
             Command(f"{kind}positions", ("positions", store, "--desk=ALPHA"), before=KEPT),
+            Command(f"{kind}export", ("export", store), before=KEPT, is_in_pieces=True),
+            Command(f"{kind}export of a desk", ("export", store, "--desk=ALPHA"), before=KEPT, is_in_pieces=True),
+            Command(f"{kind}list", ("list", store, "--desk=ALPHA"), before=KEPT, is_in_pieces=True),
+            Command(f"{kind}confirm all", ("confirm", store, "--desk=ALPHA", "--all"), before=KEPT, is_in_pieces=True),
             Command(f"{kind}mark", ("mark", store), PORTFOLIO, before=KEPT),
         ]
         serving = ("serve", store, "--port=0", "--connections=1", "--workers=1")

@@ -1,6 +1,8 @@
 """Standard streams that are closed, whose descriptors a file of a store could get."""
 import subprocess
 
+import pytest
+
 from support.books import Book
 from support.program import PATIENCE, Said
 from support.stores import REPORT, ROWS
@@ -29,6 +31,16 @@ def test_a_closed_input_is_an_input_that_fails(book):
     before = book.store.state()
     assert closed(book, "<&-", "import") == Said(4, b"")
     assert book.store.state() == before
+    assert book.has("T0001")
+
+
+@pytest.mark.parametrize("words", [("export",), ("list", "--desk=ALPHA"), ("confirm", "--desk=ALPHA", "--all")],
+                         ids=lambda words: words[0])
+def test_rows_for_a_closed_output_get_into_no_file(book, words):
+    book.report(ROWS)
+    before = book.store.file.read_bytes()
+    assert closed(book, ">&-", *words).status == 5
+    assert book.store.file.read_bytes() == before
     assert book.has("T0001")
 
 

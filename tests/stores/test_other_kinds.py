@@ -32,6 +32,8 @@ def is_refused(book: Book) -> None:
     assert book.confirmed("T0001") == REFUSED
     assert book.said("positions", "--desk=ALPHA") == REFUSED
     assert book.said("mark") == REFUSED
+    assert book.said("export") == book.said("export", "--issues") == book.said("export", "--desk=ALPHA") == REFUSED
+    assert book.said("list", "--desk=ALPHA") == book.said("confirm", "--desk=ALPHA", "--all") == REFUSED
     assert book.said("serve", "--port=1", "--connections=1") == REFUSED
     assert book.store.state() == before
 

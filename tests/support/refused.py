@@ -19,7 +19,7 @@ Ended = tuple[int, bytes]
 
 class Command(NamedTuple):
     """A command: its words, its input or the request of its one connection, the rows that are kept before it, and
-    whether it may be answered by a part of its lines."""
+    whether it may be answered by a part of its lines, as an import, or of its bytes, as what is written in pieces."""
 
     name: str
     words: tuple[str, ...]
@@ -27,6 +27,7 @@ class Command(NamedTuple):
     request: bytes | None = None
     before: bytes | None = None
     is_import: bool = False
+    is_in_pieces: bool = False
 
     @property
     def store(self) -> str | None:
@@ -141,8 +142,8 @@ class Trial:
             self.ends["right"] += 1
             return
         assert status == 8, f"{where}status {status}, {output[:200]!r}"
-        assert self.right[1].startswith(output) and (self.command.is_import or not output), f"{where}wrote {output!r}"
-        assert not output or output.endswith(b"\n"), f"{where}wrote {output!r}"
+        assert self.right[1].startswith(output) and (self.may_stop or not output), f"{where}wrote {output!r}"
+        assert not output or self.command.is_in_pieces or output.endswith(b"\n"), f"{where}wrote {output!r}"
         left = self.machine.files()
         if not output and left == self.start:
             self.ends["nothing touched"] += 1
@@ -152,6 +153,11 @@ class Trial:
         if state not in self.tried:
             self.tried[state] = self.after(output, where)
         self.ends[self.tried[state]] += 1
+
+    @property
+    def may_stop(self) -> bool:
+        """Whether a part of the answer may have been written."""
+        return self.command.is_import or self.command.is_in_pieces
 
     def after(self, output: bytes, where: str) -> str:
         """Looks at what is kept after these lines, and at the same command again."""

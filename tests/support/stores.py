@@ -2,6 +2,7 @@
 from __future__ import annotations
 
 import pathlib
+import tempfile
 from typing import NamedTuple
 
 KINDS = ("sqlite", "journal")
@@ -15,6 +16,12 @@ REPORT = b"""1,added,123456AA3
 2,confirmed,T0001,1,100.725,4.000,2025-01-01,25493.75
 3,confirmed,T0002,1,100.725,4.001,2025-01-01,10197.50
 """
+
+
+def empty_folder() -> tempfile.TemporaryDirectory[str]:
+    """A folder in memory if there is one, where a sync takes no time."""
+    memory = pathlib.Path("/dev/shm")
+    return tempfile.TemporaryDirectory(prefix="muni-stores-", dir=memory if memory.is_dir() else None)
 
 
 class Store(NamedTuple):

@@ -1,0 +1,78 @@
+"""The rows of an export, which an import reads, and the lines of a list (docs/FORMATS.md)."""
+from __future__ import annotations
+
+from collections.abc import Iterator, Sequence
+
+from calculator.book import Act, Book, Version
+from calculator.days import DayBasis
+from calculator.figures import Asked, Given
+from calculator.numerals import shown, shown_figure, shown_money, shown_price
+from calculator.terms import Issue
+
+COLUMNS = ("reference", "version", "state", "cusip", "side", "par", "settlement", "basis", "value", "fee", "price",
+           "yield", "redemption", "redemption_price", "redemption_label", "days", "principal", "accrued", "commission",
+           "total")
+# A field with one of these stands in quotes.
+SPECIAL = ',"\r\n'
+
+
+def row(fields: Sequence[object]) -> str:
+    """A row of CSV without its end."""
+    return ",".join(map(field, fields))
+
+
+def field(value: object) -> str:
+    text = str(value)
+    return '"' + text.replace('"', '""') + '"' if any(each in text for each in SPECIAL) else text
+
+
+def export(book: Book, desk: str = "", is_issues: bool = False) -> list[str]:
+    """The rows of all that is kept, of one desk with the issues that it names, or of the issues alone."""
+    cusips = named(book, desk) if desk else set(book.issues)
+    desks = [] if is_issues else [desk] if desk else sorted(book.desks)
+    return [row(issue(book.issues[cusip])) for cusip in sorted(cusips)] + [
+        row(fields) for each in desks for fields in trades(book, each)]
+
+
+def named(book: Book, desk: str) -> set[str]:
+    """The CUSIPs that the trades of a desk name, in any version."""
+    return {version.asked.cusip for versions in book.desks.get(desk, {}).values() for version in versions}
+
+
+def issue(kept: Issue) -> list[object]:
+    calls = " ".join(f"{call.day}:{shown_price(call.price)}{call.mark}" for call in kept.calls)
+    days = "actual/365" if kept.basis == DayBasis.ACTUAL_365 else "30/360"
+    return ["issue", kept.cusip, kept.name, kept.kind, kept.dated, kept.first or "", kept.maturity,
+            shown(kept.coupon, 7), calls, days]
+
+
+def trades(book: Book, desk: str) -> Iterator[list[object]]:
+    """The fields of each version of each trade of a desk."""
+    for reference, versions in sorted(book.desks.get(desk, {}).items()):
+        for number, (act, kept, _) in enumerate(versions, 1):
+            if act == Act.ENTERED:
+                yield ["trade", desk, reference, *asked(kept)]
+            elif act == Act.CORRECTED:
+                yield ["correct", desk, reference, number, *asked(kept)]
+            else:
+                yield ["cancel", desk, reference, number]
+
+
+def asked(kept: Asked) -> list[object]:
+    value = shown_price(kept.value) if kept.given == Given.PRICE else shown(kept.value, 4)
+    return [kept.cusip, kept.side, kept.par, kept.settlement, kept.given, value, shown(kept.fee, 3)]
+
+
+def listing(book: Book, desk: str) -> list[str]:
+    """The names of the columns, and a line for each trade of a desk with its last version."""
+    return [row(COLUMNS)] + [row(line(reference, len(versions), versions[-1]))
+                             for reference, versions in sorted(book.desks.get(desk, {}).items())]
+
+
+def line(reference: str, number: int, version: Version) -> list[object]:
+    state = "CANCELED" if version.act == Act.CANCELED else "LIVE"
+    figures = version.figures
+    money = (figures.principal, figures.accrued, figures.commission, figures.total)
+    return [reference, number, state, *asked(version.asked), shown_figure(figures.price), shown_figure(figures.yield_),
+            figures.redemption, shown_price(figures.redemption_price), figures.label, figures.accrued_days,
+            *map(shown_money, money)]
