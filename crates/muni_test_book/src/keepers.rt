@@ -100,9 +100,10 @@ fn issue_of(cusip: [u8; 9]) -> Option<Issue> {
 fn walks_issues<K: Keeper>(keeper: &mut K, cusips: &[[u8; 9]]) -> Result<bool, Fail> {
     let mut after = None;
     for cusip in cusips {
-        let Some((found, issue)) = keeper.issue_past(&after)? else {
+        let Some(entry) = keeper.issue_past(&after)? else {
             return Ok(false);
         };
+        let (found, issue) = entry;
         if found != *cusip || issue.row().cusip != found {
             return Ok(false);
         }
