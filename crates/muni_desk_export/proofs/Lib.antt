@@ -5,6 +5,7 @@ mod LooksLemmas
 mod NamedLemmas
 mod PageLemmas
 mod PartLemmas
+pub mod RowLemmas
 mod TextLemmas
 mod ToldLemmas
 mod VersionLemmas

@@ -1,0 +1,11 @@
+mod ExportLemmas
+mod MapLemmas
+mod PartLemmas
+mod PartTextLemmas
+mod RunLemmas
+mod StepLemmas
+mod TableLemmas
+mod TextLemmas
+mod TradeLemmas
+mod VersionLemmas
+mod WantedLemmas

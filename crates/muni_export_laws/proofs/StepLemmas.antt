@@ -1,0 +1,227 @@
+-- One command of an export, over tables that keep only what the exported tables keep: it is accepted, and brings what
+-- it is of.
+use Rattle.std.proofs.Common.{◌≡◌, inl, inr, ◌≤◌, ◌<◌, ◌+◌, ℕ, zero, suc, true, false, cond, All, List, [], ◌∷◌, Some, None, Ok, refl, sym, ap, subst, ◌∙◌, arith}
+use Rattle.std.specs.Prelude.{nat_le, slice_get}
+use Rattle.std.specs.Option.{option_and_then}
+use Rattle.std.specs.Ordering.{eq_by_cmp}
+use Rattle.std.specs.Cmp.Lexicographic.{nat_list_cmp_total}
+use Rattle.std.specs.FinMap.{len, get-insert}
+use Rattle.std.proofs.lemmas.Bool.Decides.{nat_tests}
+use Rattle.std.proofs.lemmas.List.Elements.{All-head, All-tail}
+use Rattle.std.proofs.lemmas.Option.{none-some, same_Some}
+use Rattle.muni_terms.specs.Check.{unless_fault}
+use Rattle.muni_terms.specs.declared.row.IssueRow.{IssueRow}
+use Rattle.muni_msg.specs.declared.command.Command.{Command}
+use Rattle.muni_msg.specs.declared.command.Command.TheVariants.{AddIssue, Enter, Correct, Cancel}
+use Rattle.muni_msg.specs.declared.command.Key.{Key}
+use Rattle.muni_msg.specs.declared.command.Reply.TheVariants.{Added, Confirmed}
+use Rattle.muni_msg.specs.declared.version.Act.TheVariants.{Entered, Corrected}
+use Rattle.muni_msg.specs.declared.version.Version.{Version}
+use Rattle.muni_keep.specs.History.{next_number, version_in, versions}
+use Rattle.muni_keep.specs.Tables.{Tables, issue_at, trade_at, version_at, with_issue, with_version}
+use Rattle.muni_keep.specs.Trades.{by_bytes, own}
+use Rattle.muni_book_step.specs.Accepted.{IsConfirmed, IsKept}
+use Rattle.muni_book_step.specs.Plan.{cancel_of, is_canceled, is_full}
+use Rattle.muni_book_step.specs.Reasons.{IsReasonFor}
+use Rattle.muni_book_step.specs.Sound.{Rightness, IsRightVersion, IsSound, IsSoundIssue}
+use Rattle.muni_book_step.specs.Step.{Pricing, NewIssue, NewVersion, Outcome, answered, kept, IsOutcome, IsStepOver}
+use Rattle.muni_book_step.proofs.ReadyLemmas.{live-next, new-next, none-kept}
+use Rattle.muni_book.specs.Once.{Keeps}
+use Rattle.muni_book.proofs.KeepLemmas.{issue-put}
+use Rattle.muni_book.proofs.OnceLemmas.{answered-again}
+use Rattle.muni_book.proofs.PutLemmas.{same-name, trade-put, version-put}
+use Rattle.muni_book.proofs.ReasonedLemmas.{cancel-planned, issue-planned, priced-planned}
+use Rattle.muni_export_laws.proofs.MapLemmas.{fewer}
+use Rattle.muni_export_laws.proofs.RunLemmas.{IsRun, run-one}
+use Rattle.muni_export_laws.proofs.VersionLemmas.{few-corrected, first-version, grown-has, kept-trade, last-of, place-of}
+
+-- ---- with what the exported tables keep added, tables still keep only that
+issue-within : (t all : Tables) (issue : IssueRow) → Keeps t all → issue_at all issue.cusip ≡ Some issue → Keeps (with_issue issue t) all
+issue-within t all issue within there = record {
+  issues = λ q found is.
+      elim (eq_by_cmp by_bytes q issue.cusip) as (λ b. eq_by_cmp by_bytes q issue.cusip ≡ b → cond b (Some issue) (issue_at t q) ≡ Some found → issue_at all q ≡ Some found) [
+        | true ↦ λ same here. ap (issue_at all) (same-name q issue.cusip same) ∙ there ∙ here
+        | false ↦ λ other here. within.issues q found here
+      ] refl (sym (get-insert nat_list_cmp_total t.issues issue.cusip issue q) ∙ is);
+  versions = λ key number version is. within.versions key number version is;
+}
+
+version-within : (t all : Tables) (key : Key) (version : Version) → Keeps t all → version_at all key (next_number (trade_at t key)) ≡ Some version → Keeps (with_version key version t) all
+version-within t all key version within there = record {
+  issues = λ cusip issue is. within.issues cusip issue is;
+  versions = λ other number found is.
+      elim (trade-put t key version other) as (λ _. version_at all other number ≡ Some found) [
+        | inl here ↦
+            let same = ap (λ k. version_at all k number) here.0 in
+            elim (grown-has (trade_at t key) version number found (sym (ap (option_and_then (λ history. version_in history number)) here.1) ∙ is)) as (λ _. version_at all other number ≡ Some found) [
+              | inl before ↦ same ∙ within.versions key number found before
+              | inr last ↦ same ∙ ap (version_at all key) last.0 ∙ there ∙ ap (λ v. Some v) last.1
+            ]
+        | inr elsewhere ↦
+            within.versions other number found (sym (ap (option_and_then (λ history. version_in history number)) elsewhere.1) ∙ is)
+      ];
+}
+
+-- ---- issues
+-- an issue is added or confirmed
+pub issue-run : (P : Pricing) (all t : Tables) (issue : IssueRow) → IsSoundIssue issue.cusip issue → issue_at all issue.cusip ≡ Some issue → Keeps t all
+    → IsRun P all t (AddIssue issue ∷ []) (λ new. issue_at new issue.cusip ≡ Some issue)
+issue-run P all t issue sound there within =
+    let c = AddIssue issue in
+    let passed = ap (unless_fault issue) sound.passed in
+    elim (issue_at t issue.cusip) as (λ o. issue_at t issue.cusip ≡ o → IsRun P all t (c ∷ []) (λ new. issue_at new issue.cusip ≡ Some issue)) [
+      | None ↦ λ none.
+          let outcome : Outcome = record { reply = Added issue.cusip; entry = Some (NewIssue issue) } in
+          let planned = issue-planned t c issue (record { row = issue; command = refl; passed = passed; is_new = none }) in
+          run-one P all t c (Added issue.cusip) (Some (NewIssue issue)) (λ new. issue_at new issue.cusip ≡ Some issue)
+          (subst (λ plan. IsOutcome P plan outcome) (sym planned) refl) tt
+          (issue-within t all issue within there) (issue-put t.issues issue)
+      | Some other ↦ λ is.
+          let same : other ≡ issue = same_Some other issue (sym (within.issues issue.cusip other is) ∙ there) in
+          let here = is ∙ ap (λ x. Some x) same in
+          run-one P all t c (Added issue.cusip) None (λ new. issue_at new issue.cusip ≡ Some issue)
+          (subst (λ plan. IsOutcome P plan (answered (Added issue.cusip))) (sym (answered-again t c (Added issue.cusip) (issue, passed, here, refl))) refl) tt
+          within here
+    ] refl
+
+-- ---- versions
+kept-step : (P : Pricing) (t : Tables) (c : Command) (issue : IssueRow) (key : Key) (number : ℕ) (version : Version) → IsReasonFor P t c issue key number version → IsStepOver P t c (kept issue key number version)
+kept-step P t c issue key number version (inl cancel) =
+    subst (λ plan. IsOutcome P plan (kept issue key number version)) (sym (cancel-planned t c issue key number version cancel)) refl
+kept-step P t c issue key number version (inr (reason, prices)) =
+    subst (λ plan. IsOutcome P plan (kept issue key number version)) (sym (priced-planned t c issue key number version.act version.terms reason)) (Ok version.figures, prices, refl)
+
+next-of : (P : Pricing) (t : Tables) (c : Command) (issue : IssueRow) (key : Key) (number : ℕ) (version : Version) → IsReasonFor P t c issue key number version → number ≡ next_number (trade_at t key)
+next-of P t c issue key number version (inl cancel) = live-next t key number cancel.last cancel.is_live
+next-of P t c issue key number version (inr (inl entered, prices)) = new-next t key number entered.number_is entered.is_new
+next-of P t c issue key number version (inr (inr corrected, prices)) = live-next t key number corrected.last corrected.is_live
+
+-- a command that has its reason if its version is missing, and is kept if it is there, is accepted
+version-run : (P : Pricing) (all t : Tables) (c : Command) (issue : IssueRow) (key : Key) (number : ℕ) (version : Version) → Keeps t all → version_at all key number ≡ Some version
+    → (version_at t key number ≡ Some version → IsKept t c (Confirmed issue key number version))
+    → (version_at t key number ≡ None → IsReasonFor P t c issue key number version)
+    → IsRun P all t (c ∷ []) (λ new. version_at new key number ≡ Some version)
+version-run P all t c issue key number version within there again reason =
+    let reply = Confirmed issue key number version in
+    elim (version_at t key number) as (λ o. version_at t key number ≡ o → IsRun P all t (c ∷ []) (λ new. version_at new key number ≡ Some version)) [
+      | None ↦ λ none.
+          let next = next-of P t c issue key number version (reason none) in
+          run-one P all t c reply (Some (NewVersion key version)) (λ new. version_at new key number ≡ Some version)
+          (kept-step P t c issue key number version (reason none)) tt
+          (version-within t all key version within (ap (version_at all key) (sym next) ∙ there)) (version-put t key number version next)
+      | Some other ↦ λ is.
+          let same : other ≡ version = same_Some other version (sym (within.versions key number other is) ∙ there) in
+          let here = is ∙ ap (λ v. Some v) same in
+          run-one P all t c reply None (λ new. version_at new key number ≡ Some version)
+          (subst (λ plan. IsOutcome P plan (answered reply)) (sym (answered-again t c reply (again here))) refl) tt
+          within here
+    ] refl
+
+abbrev confirmed-kept : (t : Tables) (issue : IssueRow) (key : Key) (number : ℕ) (version : Version) → version_at t key number ≡ Some version → issue_at t version.terms.asked.cusip ≡ Some issue
+    → IsConfirmed t key number (Confirmed issue key number version)
+confirmed-kept t issue key number version here there = record {
+  issue = issue;
+  version = version;
+  version_kept = here;
+  issue_kept = there;
+  confirmed = refl;
+}
+
+-- ---- versions that the exported tables keep
+-- the figures of a version are those that may be answered
+abbrev pub ArePriced : Pricing → Rightness
+ArePriced P issue asked figures = P issue asked (Ok figures)
+
+all-at : {A : Type 0} (Q : A → Type 0) (xs : List A) (i : ℕ) (x : A) → All Q xs → slice_get xs i ≡ Some x → Q x
+all-at Q [] i x all is = absurd (none-some x is)
+all-at Q (y ∷ xs) zero x all is = subst Q (same_Some y x is) (All-head Q y xs all)
+all-at Q (y ∷ xs) (suc i) x all is = all-at Q xs i x (All-tail Q y xs all) is
+
+right-version : (R : Rightness) (t : Tables) (key : Key) (number : ℕ) (version : Version) → IsSound R t → version_at t key number ≡ Some version → IsRightVersion R t.issues version
+right-version R t key number version sound is =
+    let trade = kept-trade (trade_at t key) number version is in
+    let at = place-of trade.0 number version (sym (ap (option_and_then (λ history. version_in history number)) trade.1) ∙ is) in
+    all-at (IsRightVersion R t.issues) (versions trade.0) at.0 version (sound.trades key trade.0 trade.1).right at.2
+
+not-full : (n : ℕ) → n < 100_000 → nat_le 100_000 n ≡ false
+not-full n few = grind (arith, nat_tests)
+
+-- a desk that is to have a trade more has room
+has-room : (R : Rightness) (t all : Tables) (key : Key) (version : Version) → IsSound R all → Keeps t all → version_at t key 1 ≡ None → version_at all key 1 ≡ Some version → is_full (own key.desk t.desks) ≡ false
+has-room R t all key version sound within none there =
+    let trade = kept-trade (trade_at all key) 1 version there in
+    let less = fewer (own key.desk t.desks) (own key.desk all.desks) key.reference trade.0 (λ q history is.
+    let other : Key = record { desk = key.desk; reference = q } in
+    let first = first-version history in
+    kept-trade (trade_at all other) 1 first.0 (within.versions other 1 first.0 (ap (option_and_then (λ history. version_in history 1)) is ∙ first.1)))
+    (none-kept (trade_at t key) none) trade.1 in
+    let most = sound.few key.desk in
+    not-full (len (own key.desk t.desks)) (omega arith)
+
+-- tables keep the issues that the exported tables keep
+abbrev pub HasIssues : Tables → Tables → Type 0
+HasIssues all t = (cusip : List ℕ) (issue : IssueRow) → issue_at all cusip ≡ Some issue → issue_at t cusip ≡ Some issue
+
+-- ---- the commands of versions
+pub enter-run : (P : Pricing) (all t : Tables) (key : Key) (version : Version) → IsSound (ArePriced P) all → HasIssues all t → Keeps t all → version_at all key 1 ≡ Some version → version.act ≡ Entered
+    → IsRun P all t (Enter key version.terms ∷ []) (λ new. version_at new key 1 ≡ Some version)
+enter-run P all t key version sound issues within there entered =
+    let right = right-version (ArePriced P) all key 1 version sound there in
+    let issue = issues version.terms.asked.cusip right.issue right.kept in
+    version-run P all t (Enter key version.terms) right.issue key 1 version within there
+    (λ here. (confirmed-kept t right.issue key 1 version here issue, refl))
+    (λ none. inr (
+      inl (record {
+        command = refl;
+        number_is = refl;
+        act_is = entered;
+        issue_is = issue;
+        is_new = none;
+        room = has-room (ArePriced P) t all key version sound within none there;
+      }),
+      right.right,
+    ))
+
+few-before : (n : ℕ) → n + 1 ≤ 99 → nat_le 99 n ≡ false
+few-before n few = grind (arith, nat_tests)
+
+few-enough : (P : Pricing) (all : Tables) (key : Key) (number : ℕ) (version : Version) → IsSound (ArePriced P) all → version_at all key (number + 1) ≡ Some version → version.act ≡ Corrected → nat_le 99 number ≡ false
+few-enough P all key number version sound there corrected =
+    let trade = kept-trade (trade_at all key) (number + 1) version there in
+    few-before number (few-corrected trade.0 (number + 1) version (sound.trades key trade.0 trade.1).few (sym (ap (option_and_then (λ history. version_in history (number + 1))) trade.1) ∙ there) corrected)
+
+pub correct-run : (P : Pricing) (all t : Tables) (key : Key) (number : ℕ) (before version : Version) → IsSound (ArePriced P) all → HasIssues all t → Keeps t all → version_at t key number ≡ Some before
+    → version_at all key (number + 1) ≡ Some version → is_canceled before.act ≡ false → version.act ≡ Corrected
+    → IsRun P all t (Correct key (number + 1) version.terms ∷ []) (λ new. version_at new key (number + 1) ≡ Some version)
+correct-run P all t key number before version sound issues within last there live corrected =
+    let right = right-version (ArePriced P) all key (number + 1) version sound there in
+    let issue = issues version.terms.asked.cusip right.issue right.kept in
+    version-run P all t (Correct key (number + 1) version.terms) right.issue key (number + 1) version within there
+    (λ here. (confirmed-kept t right.issue key (number + 1) version here issue, refl, corrected))
+    (λ none. inr (
+      inr (record {
+        command = refl;
+        act_is = corrected;
+        issue_is = issue;
+        last = (number, before);
+        is_live = record { last_is = last-of (trade_at t key) number before last none; live = live; number_is = refl };
+        room = few-enough P all key number version sound there corrected;
+      }),
+      right.right,
+    ))
+
+pub cancel-run : (P : Pricing) (all t : Tables) (key : Key) (number : ℕ) (before version : Version) → IsSound (ArePriced P) all → HasIssues all t → Keeps t all → version_at t key number ≡ Some before
+    → version_at all key (number + 1) ≡ Some version → is_canceled before.act ≡ false → version ≡ cancel_of before
+    → IsRun P all t (Cancel key (number + 1) ∷ []) (λ new. version_at new key (number + 1) ≡ Some version)
+cancel-run P all t key number before version sound issues within last there live canceled =
+    let right = right-version (ArePriced P) all key (number + 1) version sound there in
+    let issue = issues version.terms.asked.cusip right.issue right.kept in
+    version-run P all t (Cancel key (number + 1)) right.issue key (number + 1) version within there
+    (λ here. (confirmed-kept t right.issue key (number + 1) version here issue, ap (λ (v : Version). v.act) canceled))
+    (λ none. inl (record {
+      command = refl;
+      last = (number, before);
+      is_live = record { last_is = last-of (trade_at t key) number before last none; live = live; number_is = refl };
+      issue_is = ap (λ (v : Version). issue_at t v.terms.asked.cusip) (sym canceled) ∙ issue;
+      version_is = canceled;
+    }))

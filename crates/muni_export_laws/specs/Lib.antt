@@ -1,0 +1,4 @@
+pub mod Export
+pub mod Laws
+pub mod Part
+pub mod Wanted

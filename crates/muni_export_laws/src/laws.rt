@@ -1,0 +1,38 @@
+//! Laws of exports, over all tables to which commands lead from empty ones.
+
+ghost use Rattle.muni_export_laws.specs.Laws.{DesksAreImportedAgain, ExportsAreImportedAgain, ExportsAreReadAgain};
+ghost use Rattle.muni_export_laws.specs.Wanted.{DesksAreOfCommands, ExportsAreOfCommands};
+
+use muni_export::laws::rows_are_read_again;
+
+/// A law of the definitions: imported into empty tables, an export of everything gives equal tables,
+/// and each of its rows is added or confirmed. So it is with all tables to which commands lead from
+/// empty ones.
+pub fn exports_are_imported_again()
+    ensures { ExportsAreImportedAgain }
+{}
+
+/// A law of the definitions: imported into empty tables, an export of a desk gives tables with that desk
+/// as it was and the issues that its trades name, and nothing else, and each of its rows is added or
+/// confirmed.
+pub fn desks_are_imported_again()
+    ensures { DesksAreImportedAgain }
+{}
+
+/// A law of the definitions: the text of an export is read as its commands, if each of its rows is.
+pub fn exports_are_read_again()
+    ensures { ExportsAreReadAgain }
+{
+    rows_are_read_again();
+}
+
+/// A law of the definitions: what an export of everything writes is the text of its commands.
+pub fn exports_are_of_commands()
+    ensures { ExportsAreOfCommands }
+{}
+
+/// A law of the definitions: what an export of a desk writes is the text of the commands of that part
+/// of the tables.
+pub fn desks_are_of_commands()
+    ensures { DesksAreOfCommands }
+{}

@@ -1,0 +1,4 @@
+//! The law of exports: imported into empty tables, one gives the same tables.
+#![tactic(auto)]
+
+pub mod laws;
