@@ -167,6 +167,12 @@ class Book:
         found = sorted(reference for reference in trades if reference > after)[:LISTED]
         return Listed([(reference, len(trades[reference]), trades[reference][-1]) for reference in found])
 
+    def latest(self, desk: str) -> Listed:
+        """The last trades of a desk, as many as a list has."""
+        trades = self.desks.get(desk, {})
+        found = sorted(trades)[-LISTED:]
+        return Listed([(reference, len(trades[reference]), trades[reference][-1]) for reference in found])
+
     def confirmed(self, desk: str, reference: str, number: int) -> Confirmed:
         version = self.versions(desk, reference)[number - 1]
         return Confirmed(self.issues[version.asked.cusip], desk, reference, number, version)

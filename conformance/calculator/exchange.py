@@ -6,7 +6,7 @@ import re
 from collections.abc import Iterator
 from typing import NamedTuple
 
-from calculator import fields, json_text, numerals
+from calculator import exported, fields, json_text, numerals
 from calculator.book import (AddIssue, Added, Book, Cancel, Command, Confirm, Confirmed, Correct, Enter, Listed,
                              ListTrades, Quote, Quoted, Reply)
 from calculator.figures import Asked, Choice, Refusal, Refused, Side, likely
@@ -14,7 +14,8 @@ from calculator.heads import Head, Incomplete, Malformed, head
 from calculator.json_text import BadJson
 from calculator.numerals import Unreadable
 from calculator.terms import Call, Issue, Kind
-from calculator.texts import confirmation, each_lines, figure_lines, list_line, refusal_line, text_of
+from calculator.texts import (confirmation, each_lines, figure_lines, list_line, position_line, refusal_line,
+                              text_of)
 
 HEAD_MAX = 16_384
 FIELDS_MAX = 64
@@ -38,7 +39,27 @@ class Short(enum.Enum):
     SHORT = "short"
 
 
-Reading = Command | Bad | Short
+class LookAtIssue(NamedTuple):
+    cusip: str
+
+
+class LookAtVersion(NamedTuple):
+    desk: str
+    reference: str
+    number: int
+
+
+class LookAtPositions(NamedTuple):
+    desk: str
+
+
+class LookAtLatest(NamedTuple):
+    desk: str
+
+
+# A look at the tables, which keeps nothing.
+Look = LookAtIssue | LookAtVersion | LookAtPositions | LookAtLatest
+Reading = Command | Look | Bad | Short
 
 
 class Refusing(Exception):
@@ -69,14 +90,14 @@ def readings(data: bytes) -> list[Reading]:
         return [refusing.reading]
 
 
-def request(found: Head, rest: bytes) -> Command:
-    """The command of a request that has a whole head."""
+def request(found: Head, rest: bytes) -> Command | Look:
+    """What a request asks for that has a whole head."""
     path = found.target.partition(b"?")[0].decode("latin-1")
     if path not in POSTED:
-        command = got(path)
+        asked_for = got(path)
         if found.method != b"GET":
             raise Refusing(Bad(405, "GET"))
-        return command
+        return asked_for
     if found.method != b"POST":
         raise Refusing(Bad(405, "POST"))
     length = length_of(found)
@@ -90,8 +111,8 @@ def request(found: Head, rest: bytes) -> Command:
         raise Refusing(Bad(400)) from error
 
 
-def got(path: str) -> Command:
-    """The command of a path that is asked by GET."""
+def got(path: str) -> Command | Look:
+    """What is asked under a path by GET."""
     try:
         match path.split("/"):
             case ["", "trades", desk, reference]:
@@ -100,6 +121,14 @@ def got(path: str) -> Command:
                 return ListTrades(numerals.desk(desk))
             case ["", "lists", desk, after]:
                 return ListTrades(numerals.desk(desk), numerals.reference(after))
+            case ["", "issues", cusip]:
+                return LookAtIssue(fields.cusip(cusip))
+            case ["", "trades", desk, reference, number]:
+                return LookAtVersion(numerals.desk(desk), numerals.reference(reference), fields.number(number))
+            case ["", "positions", desk]:
+                return LookAtPositions(numerals.desk(desk))
+            case ["", "latest", desk]:
+                return LookAtLatest(numerals.desk(desk))
     except Unreadable:
         pass
     raise Refusing(Bad(404))
@@ -191,7 +220,25 @@ def answer_of(book: Book, reading: Reading, choose: Choice) -> bytes:
         return b""
     if isinstance(reading, Bad):
         return answer(reading.status, f"{reading.status} {PHRASES[reading.status]}\n", reading.allow)
+    if isinstance(reading, Look):
+        return answer_of_look(book, reading)
     return answer_of_reply(book.apply(reading, choose))
+
+
+def answer_of_look(book: Book, look: Look) -> bytes:
+    match look:
+        case LookAtIssue(cusip):
+            if cusip not in book.issues:
+                return answer_of_reply(Refusal(Refused.UNKNOWN_ISSUE))
+            return answer(200, text_of([exported.row(exported.issue(book.issues[cusip]))]))
+        case LookAtVersion(desk, reference, number):
+            if not 1 <= number <= len(book.versions(desk, reference)):
+                return answer_of_reply(Refusal(Refused.UNKNOWN_TRADE))
+            return answer_of_reply(book.confirmed(desk, reference, number))
+        case LookAtPositions(desk):
+            return answer(200, text_of(position_line(*held) for held in book.positions(desk).items()))
+        case LookAtLatest(desk):
+            return answer_of_reply(book.latest(desk))
 
 
 def answer_of_reply(reply: Reply) -> bytes:

@@ -156,6 +156,21 @@ def test_each_status_is_said_on_standard_error(tmp_path):
         check(MUNI.run(*QUOTE, stdout=full), 5, "", "muni: status 5: *")
 
 
+def test_the_rows_of_a_report_in_a_file_are_counted(tmp_path):
+    report, store = tmp_path / "report", f"--store={tmp_path}/S"
+    report.write_text("1,confirmed,that,was,there,before\n")
+    counts = []
+    for command, rows in [("import", ROWS), ("import", b"x\n" + ROWS + b"cancel,ALPHA,T9,2\n"), ("import", b""),
+                          ("mark", b"123456AA3,25000,2024-04-01,4\n123456AA3,25000,2024-04-01,4,x\n"),
+                          ("positions", b"")]:
+        desk = ["--desk=ALPHA"] if command == "positions" else []
+        with report.open("ab") as output:
+            counts.append(MUNI.run(command, store, *desk, rows=rows, stdout=output).error.decode())
+    kept = len(ROWS.splitlines())
+    assert counts == [f"muni: rows: {kept} kept, 0 refused, 0 bad\n", f"muni: rows: {kept} kept, 1 refused, 1 bad\n", "",
+                      "muni: rows: 1 marked, 0 refused, 1 bad\n", ""]
+
+
 def test_it_starts_from_another_folder_and_by_a_link(tmp_path):
     folder = tmp_path / "other folder"
     folder.mkdir()

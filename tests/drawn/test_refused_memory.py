@@ -57,6 +57,10 @@ REQUESTS = {
     "a confirmation": get("/trades/ALPHA/T0001"),
     "a list": get("/lists/ALPHA"),
     "a list after a trade": get("/lists/ALPHA/T0001"),
+    "an issue's row": get("/issues/123456AA3"),
+    "a version": get("/trades/ALPHA/T0001/1"),
+    "positions": get("/positions/ALPHA"),
+    "the last trades": get("/latest/ALPHA"),
     "no route": get("/nothing"),
     "no body": post("/trades", {"desk": "ALPHA"}),
 }

@@ -264,9 +264,11 @@ def right_request(draw: Draw) -> bytes:
     if what == 6:
         each = {"each": draw(any_of(True, True, False))} if draw(st.booleans()) else {}
         return post("/quotes", {**asked_members(draw), **each})
-    path = draw(any_of("/trades/{desk}/{reference}", "/lists/{desk}", "/lists/{desk}/{reference}"))
-    return head("GET", path.format(**key_of_trade(draw)) + draw(any_of("", "?", "?x=y")), [("Host", "localhost")],
-                draw(any_of("HTTP/1.1", "HTTP/1.0")))
+    path = draw(any_of("/trades/{desk}/{reference}", "/lists/{desk}", "/lists/{desk}/{reference}", "/issues/{cusip}",
+                       "/trades/{desk}/{reference}/{number}", "/positions/{desk}", "/latest/{desk}"))
+    number, cusip = draw(whole(0, 4)), draw(any_of("123456AA3", "990021AA5", "000000000"))
+    target = path.format(**key_of_trade(draw), number=number, cusip=cusip) + draw(any_of("", "?", "?x=y"))
+    return head("GET", target, [("Host", "localhost")], draw(any_of("HTTP/1.1", "HTTP/1.0")))
 
 
 @st.composite
@@ -301,6 +303,7 @@ def odd_line(draw: Draw) -> bytes:
     method = draw(any_of("GET", "POST", "PUT", "DELETE", "HEAD", "OPTIONS", "get", "", "G@T", "PRI"))
     path = draw(any_of("/trades", "/issues", "/", "", "*", "//", "/trades/", "/trades/ALPHA", "/trades/ALPHA/T1/",
                        "/trades/alpha/T1", "/lists/ALPHA/..", "/%74rades", "/../etc/passwd", "http://x/trades",
+                       "/issues/", "/issues/123456aa3", "/trades/ALPHA/T1/x", "/positions", "/latest/ALPHA/T1",
                        "/lists/\u00e9", "/lists/" + "A" * 17, "/trades?" + "q" * 10_000))
     return head(method, path, [("Host", "localhost")] * draw(any_of(0, 1, 63, 64, 65, 200)),
                 draw(any_of("HTTP/1.1", "HTTP/1.0", "HTTP/2.0", "HTTP/0.9", "http/1.1", "")))

@@ -16,7 +16,7 @@ use Rattle.muni_book_step.proofs.OutcomeLemmas.{step-reason}
 use Rattle.muni_book.specs.RunLaws.{TablesAreSound, ConfirmedFiguresAreRight, AcceptedCommandsActOnce, WhatIsKeptIsAnsweredAgain, NothingKeptIsLost, EachDeskIsIsolated, RepliesAreUnique, EachEntryHasItsReason, EachRefusalHasItsCause, ConfirmationsAreOfLastVersions, ListsArePages, QuotesAreRightAnswers}
 use Rattle.muni_book.proofs.StepLemmas.{refusals-caused, causes-refused, accepted-or-refused, issues-kept, versions-kept, kept-again}
 use Rattle.muni_book.proofs.LookUpLemmas.{lasts-confirmed, pages-listed, figures-quoted}
-use Rattle.muni_book.proofs.RightReplyLemmas.{lasts-right, pages-right, steps-right, runs-right}
+use Rattle.muni_book.proofs.RightReplyLemmas.{versions-right, lasts-right, pages-right, steps-right, runs-right}
 use Rattle.muni_book.proofs.IsolationLemmas.{desks-isolated}
 use Rattle.muni_book.proofs.KeepLemmas.{runs-keep}
 use Rattle.muni_book.proofs.OnceLemmas.{act-once}
@@ -61,6 +61,7 @@ pub confirmed : ConfirmedFiguresAreRight
 confirmed = record {
   steps = λ ends. steps-right (IsRightAnswer ends) AreRightFigures (λ row asked figures is. answered-right ends row asked figures is);
   runs = λ ends. runs-right (IsRightAnswer ends) AreRightFigures (λ row asked figures is. answered-right ends row asked figures is);
+  versions = versions-right AreRightFigures;
   lasts = lasts-right AreRightFigures;
   lists = pages-right AreRightFigures;
 }

@@ -32,7 +32,7 @@ use Rattle.muni_book_step.proofs.OutcomeLemmas.{step-reason}
 use Rattle.muni_book_step.proofs.PlanLemmas.{HasReason, reason-of}
 use Rattle.muni_book_step.proofs.ReadyLemmas.{live-next, new-next}
 use Rattle.muni_book.specs.Once.{Keeps}
-use Rattle.muni_book.specs.RightReplies.{IsKeptRight, IsRightReply, StepsConfirmRight, RunsConfirmRight, LastsAreRight, IsRightLine, PagesAreRight}
+use Rattle.muni_book.specs.RightReplies.{IsKeptRight, IsRightReply, StepsConfirmRight, RunsConfirmRight, VersionsAreRight, LastsAreRight, IsRightLine, PagesAreRight}
 use Rattle.muni_book.specs.StaysSound.{PricesRight}
 use Rattle.muni_book.proofs.CauseLemmas.{IsAnswerFor, IsFor, is-for}
 use Rattle.muni_book.proofs.KeepLemmas.{step-keeps, runs-keep}
@@ -71,11 +71,14 @@ kept-right R t issue key number version sound there known =
       right = subst (λ i. R i version.terms.asked version.figures) same found.right;
     }
 
-pub lasts-right : (R : Rightness) → LastsAreRight R
-lasts-right R t key number version sound last =
-    let there = last-kept t key (number, version) last in
+pub versions-right : (R : Rightness) → VersionsAreRight R
+versions-right R t key number version sound there =
     let found = right-version R t key number version sound there in
     (found.issue, kept-right R t found.issue key number version sound there found.kept)
+
+pub lasts-right : (R : Rightness) → LastsAreRight R
+lasts-right R t key number version sound last =
+    versions-right R t key number version sound (last-kept t key (number, version) last)
 
 -- ---- lists
 first : (a b : Bool) → T (a && b) → T a

@@ -45,6 +45,13 @@ RunsConfirmRight Prices AreRight =
     (old new : Tables) (commands : List Command) (replies : List Reply) → IsSound AreRight old
     → Runs Prices old commands replies new → All (IsRightReply AreRight new) replies
 
+-- each version that is kept has right figures
+abbrev pub VersionsAreRight : Rightness → Type 0
+VersionsAreRight AreRight =
+    (tables : Tables) (key : Key) (number : ℕ) (version : Version) → IsSound AreRight tables
+    → version_at tables key number ≡ Some version
+    → (issue : IssueRow) × IsKeptRight AreRight tables issue key number version
+
 -- of each trade that is kept, the last version is one with right figures
 abbrev pub LastsAreRight : Rightness → Type 0
 LastsAreRight AreRight =

@@ -15,7 +15,7 @@ use Rattle.muni_book.specs.Isolation.{DesksAreIsolated}
 use Rattle.muni_book.specs.Kept.{AreAcceptedOrRefused, ReasonedIssuesAreKept, ReasonedVersionsAreKept, KeptIsAnsweredAgain}
 use Rattle.muni_book.specs.LookUps.{LastsAreConfirmed, PagesAreListed, FiguresAreQuoted}
 use Rattle.muni_book.specs.Once.{RunsKeep, CommandsActOnce}
-use Rattle.muni_book.specs.RightReplies.{StepsConfirmRight, RunsConfirmRight, LastsAreRight, PagesAreRight}
+use Rattle.muni_book.specs.RightReplies.{StepsConfirmRight, RunsConfirmRight, VersionsAreRight, LastsAreRight, PagesAreRight}
 use Rattle.muni_book.specs.StaysSound.{RunsStaySound}
 use Rattle.muni_book.specs.Unique.{StepsAreUnique, RunsAreUnique}
 
@@ -48,10 +48,11 @@ pub record RepliesAreUnique : Type 0 where
   pub runs : (ends : Ends) → RunsAreUnique (IsRightAnswer ends)
 
 -- Over sound tables what is confirmed has right figures, of a version and an issue that are kept: so has each reply
--- of a step and of a run, the last version of each trade, and each line of a list.
+-- of a step and of a run, each version and the last one of each trade, and each line of a list.
 pub record ConfirmedFiguresAreRight : Type 0 where
   pub steps : (ends : Ends) → StepsConfirmRight (IsRightAnswer ends) AreRightFigures
   pub runs : (ends : Ends) → RunsConfirmRight (IsRightAnswer ends) AreRightFigures
+  pub versions : VersionsAreRight AreRightFigures
   pub lasts : LastsAreRight AreRightFigures
   pub lists : PagesAreRight AreRightFigures
 

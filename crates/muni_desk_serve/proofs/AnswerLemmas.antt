@@ -4,6 +4,7 @@ use Rattle.muni_edge.specs.Sink.{HasWritten}
 use Rattle.muni_keep.specs.Tables.{Tables}
 use Rattle.muni_book_step.specs.Step.{Pricing}
 use Rattle.muni_wire.specs.Reading.{Reading, Whole, Faulty, Short, HeadAsks, Reads}
+use Rattle.muni_wire.specs.declared.look.Request.TheVariants.{Book, Look as LookAt}
 use Rattle.muni_wire.proofs.UniqueLemmas.{heads-once}
 use Rattle.muni_desk_serve.specs.Answer.{Answer, reply_answer, bad_answer}
 use Rattle.muni_desk_serve.specs.Follow.{IsAnswered}
@@ -30,11 +31,13 @@ due-answered : (Prices : Pricing) (old new : Option Tables) (before now : ℕ) (
     → IsAnswerToSome Prices old link (served.Answered status) new after
 unfolding IsAnswerToSome
 due-answered Prices old new before now link after answer status faults none rose is written (inl due) =
-    (Whole due.command, due.asks, (due.reply, due.each, due.step, due.beside, written-whole answer (reply_answer due.reply due.each) link after status due.is is written))
+    (Whole (Book due.command), due.asks, (due.reply, due.each, due.step, due.beside, written-whole answer (reply_answer due.reply due.each) link after status due.is is written))
 due-answered Prices old new before now link after answer status faults none rose is written (inr (inl due)) =
     (Faulty due.kind, due.asks, (written-whole answer (bad_answer due.kind) link after status due.is is written, due.tables))
-due-answered Prices old new before now link after answer status faults none rose is written (inr (inr due)) =
+due-answered Prices old new before now link after answer status faults none rose is written (inr (inr (inl due))) =
     absurd (none.keeper (subst (λ n. RoseBy n before now) due.one rose))
+due-answered Prices old new before now link after answer status faults none rose is written (inr (inr (inr due))) =
+    (Whole (LookAt due.look), due.asks, (answer, due.is, written-whole answer answer link after status refl is written, due.tables))
 
 answered-by : (Prices : Pricing) (old new : Option Tables) (before now : ℕ) (link after : Traffic) (came : Served) (faults : ℕ)
     → NoneRose before link now after → RoseBy faults before now → Serves Prices old link came new after faults

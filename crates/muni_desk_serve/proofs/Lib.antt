@@ -1,3 +1,5 @@
+pub mod LookLemmas
+pub mod LeavesLemmas
 pub mod ServesLemmas
 pub mod ConnectionLemmas
 pub mod StoreLemmas

@@ -10,6 +10,8 @@ use Rattle.muni_book_step.specs.Runs.{Runs, StepsTo}
 use Rattle.muni_book_step.specs.Step.{Pricing, Entry, IsStepOver, after}
 use Rattle.muni_wire.specs.Reading.{Whole, Faulty}
 use Rattle.muni_wire.specs.declared.fault.Bad.{Bad}
+use Rattle.muni_wire.specs.declared.look.Look.{Look}
+use Rattle.muni_wire.specs.declared.look.Request.TheVariants.{Book, Look as LookAt}
 use Rattle.muni_wire.proofs.UniqueLemmas.{heads-once}
 use Rattle.muni_desk_serve.specs.Answer.{Answer, reply_answer}
 use Rattle.muni_desk_serve.specs.Connections.{Exchange, AreServed}
@@ -56,10 +58,13 @@ served-both Prices old mid new (first ∷ others) later faults more (then, one, 
 -- ---- a command that has come
 
 come-bad : (exchange : Exchange) (command : Command) (kind : Bad) → HasCome exchange command → Asks exchange.before (Faulty kind) → ⊥
-come-bad exchange command kind come asks = cc (heads-once come.bytes (Whole command) (Faulty kind) come.asks (told-reading exchange.before come.bytes (Faulty kind) come.exposed asks))
+come-bad exchange command kind come asks = cc (heads-once come.bytes (Whole (Book command)) (Faulty kind) come.asks (told-reading exchange.before come.bytes (Faulty kind) come.exposed asks))
 
-come-same : (exchange : Exchange) (command other : Command) → HasCome exchange command → Asks exchange.before (Whole other) → other ≡ command
-come-same exchange command other come asks = cc (heads-once come.bytes (Whole command) (Whole other) come.asks (told-reading exchange.before come.bytes (Whole other) come.exposed asks))
+come-same : (exchange : Exchange) (command other : Command) → HasCome exchange command → Asks exchange.before (Whole (Book other)) → other ≡ command
+come-same exchange command other come asks = cc (heads-once come.bytes (Whole (Book command)) (Whole (Book other)) come.asks (told-reading exchange.before come.bytes (Whole (Book other)) come.exposed asks))
+
+come-look : (exchange : Exchange) (command : Command) (look : Look) → HasCome exchange command → Asks exchange.before (Whole (LookAt look)) → ⊥
+come-look exchange command look come asks = cc (heads-once come.bytes (Whole (Book command)) (Whole (LookAt look)) come.asks (told-reading exchange.before come.bytes (Whole (LookAt look)) come.exposed asks))
 
 -- it took a step from these tables, and got the reply to it
 record GotReply (Prices : Pricing) (old : Tables) (exchange : Exchange) (command : Command) (new : Option Tables) : Type 0 where
@@ -79,8 +84,10 @@ due-got Prices old link then answer command new status faults (inl due) come oth
     }
 due-got Prices old link then answer command new status faults (inr (inl due)) come other is written =
     absurd (come-bad (record { before = link; after = then; came = served.Answered status }) command due.kind come due.asks)
-due-got Prices old link then answer command new status faults (inr (inr due)) come other is written =
+due-got Prices old link then answer command new status faults (inr (inr (inl due))) come other is written =
     absurd (other (is ∙ ap (λ (a : Answer). a.status) due.is))
+due-got Prices old link then answer command new status faults (inr (inr (inr due))) come other is written =
+    absurd (come-look (record { before = link; after = then; came = served.Answered status }) command due.look come due.asks)
 
 got-reply : (Prices : Pricing) (old : Tables) (link then : Traffic) (came : Served) (command : Command) (new : Option Tables) (status faults : ℕ)
     → Serves Prices (Some old) link came new then faults → HasCome (record { before = link; after = then; came = came }) command → came ≡ served.Answered status → status ≢ 503
@@ -100,7 +107,8 @@ due-adds : (Prices : Pricing) (old : Tables) (link then : Traffic) (came : Serve
 due-adds Prices old link then came answer command new faults (inl due) come nothing =
     nothing due.reply (subst (λ c. StepsTo Prices old c due.reply new) (come-same (record { before = link; after = then; came = came }) command due.command come due.asks) due.step)
 due-adds Prices old link then came answer command new faults (inr (inl due)) come nothing = due.tables
-due-adds Prices old link then came answer command new faults (inr (inr due)) come nothing = due.tables
+due-adds Prices old link then came answer command new faults (inr (inr (inl due))) come nothing = due.tables
+due-adds Prices old link then came answer command new faults (inr (inr (inr due))) come nothing = due.tables
 
 adds-nothing : (Prices : Pricing) (old : Tables) (link then : Traffic) (came : Served) (command : Command) (new : Option Tables) (faults : ℕ)
     → Serves Prices (Some old) link came new then faults → HasCome (record { before = link; after = then; came = came }) command

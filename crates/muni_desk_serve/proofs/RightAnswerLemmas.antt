@@ -1,5 +1,5 @@
 -- Connections that are served over sound tables have right answers.
-use Rattle.std.proofs.Common.{List, refl, inl, inr}
+use Rattle.std.proofs.Common.{List, [], ◌∙◌, refl, ap, inl, inr}
 use Rattle.std.specs.Prelude.{All}
 use Rattle.std.proofs.lemmas.List.Elements.{All-nil, All-cons, All-head, All-tail}
 use Rattle.muni_msg.specs.declared.command.Command.{Command}
@@ -12,10 +12,11 @@ use Rattle.muni_book.specs.Answers.{IsRightAnswer}
 use Rattle.muni_book.specs.RightFigures.{AreRightFigures}
 use Rattle.muni_book.specs.RightReplies.{IsRightReply}
 use Rattle.muni_book.specs.RunLaws.{ConfirmedFiguresAreRight}
-use Rattle.muni_desk_serve.specs.Answer.{AreBeside}
+use Rattle.muni_desk_serve.specs.Answer.{AreBeside, reply_answer}
 use Rattle.muni_desk_serve.specs.Connections.{Exchange}
 use Rattle.muni_desk_serve.specs.Follow.{Follow, nothing, unreplied, replied}
-use Rattle.muni_desk_serve.specs.Laws.{AnswersAreRight}
+use Rattle.muni_desk_serve.specs.Laws.{AnswersAreRight, VersionsAreShownRight}
+use Rattle.muni_desk_serve.specs.Look.{version_shown, version_confirmed}
 use Rattle.muni_desk_serve.specs.RightAnswers.{IsRightText, IsAnsweredRight}
 use Rattle.muni_desk_serve.proofs.RunLemmas.{connections-run}
 
@@ -47,3 +48,13 @@ answers-right right ends old exchanges new faults sound served =
     let run = connections-run (IsRightAnswer ends) old exchanges new faults served in
     let last = run.2.0 in
     (last, run.2.1, answered-right last run.3 (right.runs ends old last run.0 run.1 sound run.2.2))
+
+pub versions-shown-right : ConfirmedFiguresAreRight → VersionsAreShownRight
+versions-shown-right right t key number version sound there =
+    let found = right.versions t key number version sound there in
+    record {
+      issue = found.0;
+      right = found.1;
+      shown = ap (λ v. reply_answer (version_shown t key number v) []) there
+          ∙ ap (λ i. reply_answer (version_confirmed key number version i) []) found.1.issue_kept;
+    }

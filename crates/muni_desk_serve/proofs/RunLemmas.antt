@@ -37,8 +37,10 @@ due-steps Prices old link then answer new status faults (inl due) is written =
     })
 due-steps Prices old link then answer new status faults (inr (inl due)) is written =
     inl (due.tables, λ asked came. inl (record { kind = due.kind; asks = due.asks; answer = written-whole answer (bad_answer due.kind) link then status due.is is written }))
-due-steps Prices old link then answer new status faults (inr (inr due)) is written =
-    inl (due.tables, λ asked came. inr (written-whole answer unavailable_answer link then status due.is is written))
+due-steps Prices old link then answer new status faults (inr (inr (inl due))) is written =
+    inl (due.tables, λ asked came. inr (inl (written-whole answer unavailable_answer link then status due.is is written)))
+due-steps Prices old link then answer new status faults (inr (inr (inr due))) is written =
+    inl (due.tables, λ asked came. inr (inr (due.look, due.asks)))
 
 -- a put of an answer that is due failed
 cut-steps : (Prices : Pricing) (old : Tables) (link then : Traffic) (answer : Answer) (new : Option Tables) (faults : ℕ) → IsDue Prices (Some old) link answer new faults
@@ -47,7 +49,8 @@ unfolding StepsOnce
 cut-steps Prices old link then answer new faults (inl due) =
     inr (record { command = due.command; reply = due.reply; step = due.step; has = record { asks = due.asks; answer = λ asked came. cc came } })
 cut-steps Prices old link then answer new faults (inr (inl due)) = inl (due.tables, λ asked came. cc came)
-cut-steps Prices old link then answer new faults (inr (inr due)) = inl (due.tables, λ asked came. cc came)
+cut-steps Prices old link then answer new faults (inr (inr (inl due))) = inl (due.tables, λ asked came. cc came)
+cut-steps Prices old link then answer new faults (inr (inr (inr due))) = inl (due.tables, λ asked came. cc came)
 
 serves-steps : (Prices : Pricing) (old : Tables) (link : Traffic) (came : Served) (new : Option Tables) (then : Traffic) (faults : ℕ) → Serves Prices (Some old) link came new then faults
     → StepsOnce Prices old (record { before = link; after = then; came = came }) new

@@ -25,8 +25,12 @@ use Rattle.muni_wire.specs.Answers.{Answers}
 use Rattle.muni_wire.specs.HttpStatus.{code}
 use Rattle.muni_wire.specs.Reading.{Whole, Faulty, Short}
 use Rattle.muni_wire.specs.declared.fault.Bad.{Bad}
+use Rattle.muni_wire.specs.declared.look.Look.{Look}
+use Rattle.muni_wire.specs.declared.look.Request.{Request}
+use Rattle.muni_wire.specs.declared.look.Request.TheVariants.{Book, Look as LookAt}
 use Rattle.muni_wire.specs.declared.status.HttpStatus.{HttpStatus}
 use Rattle.muni_desk_serve.specs.Answer.{Answer, IsPricedReply, AreBeside, reply_answer, bad_answer, unavailable_answer, came_of}
+use Rattle.muni_desk_serve.specs.Look.{look_answer}
 use Rattle.muni_desk_serve.specs.Serves.{Traffic, Asks, IsDue, Serves, WasServed}
 use Rattle.muni_desk_serve.specs.declared.served.Served.{Served}
 use Rattle.muni_desk_serve.specs.declared.served.Served.TheVariants as served
@@ -77,7 +81,7 @@ beside-step Prices (Some t) command reply each new step shown = shown (reply-pri
 beside-step Prices None command reply each new step shown = tt
 
 pub replied : (Prices : Pricing) (old new : Option Tables) (before now : ℕ) (link mid after : Traffic) (command : Command) (reply : Reply) (each : List EachRedemption) (came : Served)
-    → before ≤ now → Asks link (Whole command) → IfSome old (λ t. StepsTo Prices t command reply new) → IfSome old (λ t. AreBeside reply each)
+    → before ≤ now → Asks link (Whole (Book command)) → IfSome old (λ t. StepsTo Prices t command reply new) → IfSome old (λ t. AreBeside reply each)
     → IsWritten (reply_answer reply each) came mid.written after.written mid.put_faults after.put_faults → mid.written ≡ link.written → mid.put_faults ≡ link.put_faults
     → WasServed Prices old before link came new now after
 replied Prices old new before now link mid after command reply each came later asks step beside written same puts =
@@ -88,16 +92,28 @@ replied Prices old new before now link mid after command reply each came later a
       rose = omega (arith, later);
     }
 
-pub unavailable : (Prices : Pricing) (old new : Option Tables) (before now : ℕ) (link mid after : Traffic) (command : Command) (came : Served)
-    → Rose before now → Asks link (Whole command) → new ≡ old
+pub unavailable : (Prices : Pricing) (old new : Option Tables) (before now : ℕ) (link mid after : Traffic) (request : Request) (came : Served)
+    → Rose before now → Asks link (Whole request) → new ≡ old
     → IsWritten unavailable_answer came mid.written after.written mid.put_faults after.put_faults → mid.written ≡ link.written → mid.put_faults ≡ link.put_faults
     → WasServed Prices old before link came new now after
-unavailable Prices old new before now link mid after command came rose asks tables written same puts =
-    let due : IsDue Prices old link unavailable_answer new 1 = inr (inr (record { command = command; asks = asks; is = refl; tables = tables; one = refl })) in
+unavailable Prices old new before now link mid after request came rose asks tables written same puts =
+    let due : IsDue Prices old link unavailable_answer new 1 = inr (inr (inl (record { request = request; asks = asks; is = refl; tables = tables; one = refl }))) in
     record {
       faults = 1;
       serves = due-written Prices old new link mid after unavailable_answer came 1 written same puts due;
       rose = rose;
+    }
+
+pub looked-up : (Prices : Pricing) (old new : Option Tables) (before now : ℕ) (link mid after : Traffic) (look : Look) (answer : Answer) (came : Served)
+    → before ≤ now → Asks link (Whole (LookAt look)) → IfSome old (λ t. answer ≡ look_answer t look) → new ≡ old
+    → IsWritten answer came mid.written after.written mid.put_faults after.put_faults → mid.written ≡ link.written → mid.put_faults ≡ link.put_faults
+    → WasServed Prices old before link came new now after
+looked-up Prices old new before now link mid after look answer came later asks is tables written same puts =
+    let due : IsDue Prices old link answer new 0 = inr (inr (inr (record { look = look; asks = asks; is = is; tables = tables; none = refl }))) in
+    record {
+      faults = 0;
+      serves = due-written Prices old new link mid after answer came 0 written same puts due;
+      rose = omega (arith, later);
     }
 
 pub bad : (Prices : Pricing) (old : Option Tables) (before : ℕ) (link mid after : Traffic) (kind : Bad) (came : Served)

@@ -8,6 +8,8 @@ use Rattle.muni_msg.specs.declared.each.EachRedemption.{EachRedemption}
 use Rattle.muni_book_step.specs.Step.{Pricing}
 use Rattle.muni_wire.specs.Reading.{Whole, Faulty, HeadAsks}
 use Rattle.muni_wire.specs.declared.fault.Bad.{Bad}
+use Rattle.muni_wire.specs.declared.look.Look.{Look}
+use Rattle.muni_wire.specs.declared.look.Request.TheVariants.{Book, Look as LookAt}
 use Rattle.muni_desk_serve.specs.Answer.{Answer, AreBeside, reply_answer, bad_answer, unavailable_answer}
 use Rattle.muni_desk_serve.specs.Connections.{Exchange, AreServed}
 use Rattle.muni_desk_serve.specs.Serves.{Traffic, Asks, Serves}
@@ -37,7 +39,7 @@ WasAnswered exchange status = exchange.came ≡ served.Answered status
 
 -- It asked for this command, and if it has an answer, it is that of this reply.
 pub record HasReply (exchange : Exchange) (command : Command) (reply : Reply) : Type 0 where
-  pub asks : Asks exchange.before (Whole command)
+  pub asks : Asks exchange.before (Whole (Book command))
   pub answer : (status : ℕ) → WasAnswered exchange status → HasAnswerOf exchange reply
 
 -- the answer to a bad request
@@ -46,11 +48,15 @@ pub record HasBadAnswer (exchange : Exchange) : Type 0 where
   pub asks : Asks exchange.before (Faulty kind)
   pub answer : HasAnswer exchange (bad_answer kind)
 
--- If it has an answer, this is to a bad request or says that the store failed.
+-- it asked for a look at the tables
+abbrev pub AsksToLook : Exchange → Type 0
+AsksToLook exchange = (look : Look) × Asks exchange.before (Whole (LookAt look))
+
+-- If it has an answer, this is to a bad request, says that the store failed, or shows what is kept.
 abbrev pub HasNoReply : Exchange → Type 0
 HasNoReply exchange =
     (status : ℕ) → WasAnswered exchange status
-    → HasBadAnswer exchange ⊎ HasAnswer exchange unavailable_answer
+    → HasBadAnswer exchange ⊎ HasAnswer exchange unavailable_answer ⊎ AsksToLook exchange
 
 -- What connections asked for and what was replied are these commands and replies, in their order. Of a
 -- connection there is one of each, or none.
@@ -66,7 +72,7 @@ pub data Follow : List Exchange → List Command → List Reply → Type 0 where
 pub record HasCome (exchange : Exchange) (command : Command) : Type 0 where
   pub bytes : List ℕ
   pub exposed : exchange.before.left ≡ Some bytes
-  pub asks : HeadAsks bytes (Whole command)
+  pub asks : HeadAsks bytes (Whole (Book command))
 
 -- the answer to it has this reply, unless it says that the store failed
 abbrev pub IsReplied : Exchange → Reply → Type 0

@@ -1,11 +1,17 @@
 -- What is answered to what has come, and what connections make of the tables.
-use Rattle.std.specs.Prelude.{◌≡◌, ◌≢◌, ◌⊎◌, ℕ, ℤ, List, ◌∷◌, ◌++◌, Option, Some, IfSome, All}
+use Rattle.std.specs.Prelude.{◌≡◌, ◌≢◌, ◌⊎◌, ℕ, ℤ, List, [], ◌∷◌, ◌++◌, Option, Some, IfSome, All}
 use Rattle.muni_book.specs.Answers.{IsRightAnswer}
 use Rattle.muni_book.specs.SoundTables.{AreSoundTables}
 use Rattle.muni_edge.specs.Faults.{Rose}
-use Rattle.muni_keep.specs.Tables.{Tables}
+use Rattle.muni_keep.specs.Tables.{Tables, version_at}
+use Rattle.muni_terms.specs.declared.row.IssueRow.{IssueRow}
+use Rattle.muni_book.specs.RightFigures.{AreRightFigures}
+use Rattle.muni_book.specs.RightReplies.{IsKeptRight}
 use Rattle.muni_msg.specs.declared.command.Command.{Command}
+use Rattle.muni_msg.specs.declared.command.Key.{Key}
 use Rattle.muni_msg.specs.declared.command.Reply.{Reply}
+use Rattle.muni_msg.specs.declared.command.Reply.TheVariants.{Confirmed}
+use Rattle.muni_msg.specs.declared.version.Version.{Version}
 use Rattle.muni_msg.specs.declared.each.EachRedemption.{EachRedemption}
 use Rattle.muni_rule.specs.Payments.{PaymentSeries}
 use Rattle.muni_rule.specs.WorthEnds.{WorthEnds}
@@ -13,7 +19,10 @@ use Rattle.muni_book_step.specs.Accepted.{AsksToKeep, IsAccepted}
 use Rattle.muni_book_step.specs.Runs.{StepsTo, RunsTo}
 use Rattle.muni_book_step.specs.Step.{Pricing}
 use Rattle.muni_wire.specs.Reading.{Reading, Whole, Faulty, Short, HeadAsks, Reads}
-use Rattle.muni_desk_serve.specs.Answer.{AreBeside, reply_answer, bad_answer}
+use Rattle.muni_wire.specs.declared.look.Look.TheVariants as look
+use Rattle.muni_wire.specs.declared.look.Request.TheVariants.{Book, Look as LookAt}
+use Rattle.muni_desk_serve.specs.Answer.{Answer, AreBeside, reply_answer, bad_answer}
+use Rattle.muni_desk_serve.specs.Look.{look_answer}
 use Rattle.muni_desk_serve.specs.Connections.{Exchange, AreServed}
 use Rattle.muni_desk_serve.specs.Follow.{Follow, IsAnswered, HasAnswerOf, WasAnswered, HasCome, RepliesAgain}
 use Rattle.muni_desk_serve.specs.RightAnswers.{IsAnsweredRight}
@@ -29,9 +38,11 @@ pub record NoneRose (before : ℕ) (link : Traffic) (now : ℕ) (after : Traffic
 
 -- what is answered to a reading of the bytes, and the tables after it
 abbrev pub IsAnswerTo : Pricing → Reading → Option Tables → Traffic → Served → Option Tables → Traffic → Type 0
-IsAnswerTo Prices (Whole command) old link came new after =
+IsAnswerTo Prices (Whole (Book command)) old link came new after =
     (reply : Reply) × (each : List EachRedemption) × IfSome old (λ t. StepsTo Prices t command reply new)
     × IfSome old (λ t. AreBeside reply each) × IsAnswered (reply_answer reply each) link came after
+IsAnswerTo Prices (Whole (LookAt look)) old link came new after =
+    (answer : Answer) × IfSome old (λ t. answer ≡ look_answer t look) × IsAnswered answer link came after × (new ≡ old)
 IsAnswerTo Prices (Faulty kind) old link came new after =
     IsAnswered (bad_answer kind) link came after × (new ≡ old)
 IsAnswerTo Prices Short old link came new after =
@@ -93,6 +104,18 @@ AnswersAreRight =
     (ends : Ends) (old : Tables) (exchanges : List Exchange) (new : Option Tables) (faults : ℕ)
     → AreSoundTables old → AreServed (IsRightAnswer ends) (Some old) exchanges new faults
     → (last : Tables) × (new ≡ Some last) × All (IsAnsweredRight last) exchanges
+
+-- A look at a version that sound tables keep is answered by its confirmation, with figures that are right.
+pub record IsShownRight (tables : Tables) (key : Key) (number : ℕ) (version : Version) : Type 0 where
+  pub issue : IssueRow
+  pub right : IsKeptRight AreRightFigures tables issue key number version
+  pub shown : look_answer tables (look.Version key number)
+      ≡ reply_answer (Confirmed issue key number version) []
+
+abbrev pub VersionsAreShownRight : Type 0
+VersionsAreShownRight =
+    (tables : Tables) (key : Key) (number : ℕ) (version : Version) → AreSoundTables tables
+    → version_at tables key number ≡ Some version → IsShownRight tables key number version
 
 abbrev pub ServingRunsTheBook : Type 0
 ServingRunsTheBook = (ends : Ends) → ConnectionsRunTheBook (IsRightAnswer ends)

@@ -1,4 +1,5 @@
 pub mod Answer
+pub mod Look
 pub mod Serves
 pub mod Serving
 pub mod Fault

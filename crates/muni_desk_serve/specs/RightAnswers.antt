@@ -10,6 +10,7 @@ use Rattle.muni_keep.specs.Tables.{Tables, issue_at}
 use Rattle.muni_wire.specs.Answer.{answer, reply_text}
 use Rattle.muni_wire.specs.HttpStatus.{code, status_of_reply}
 use Rattle.muni_wire.specs.Reading.{Whole}
+use Rattle.muni_wire.specs.declared.look.Request.TheVariants.{Book}
 use Rattle.muni_book.specs.Each.{AreRightEach, AreWanted}
 use Rattle.muni_book.specs.RightFigures.{AreRightFigures}
 use Rattle.muni_book.specs.RightReplies.{IsKeptRight}
@@ -35,13 +36,14 @@ IsRightText tables (Refused why) text = text ≡ reply_text (Refused why) []
 pub record HasRightBody (tables : Tables) (exchange : Exchange) : Type 0 where
   pub command : Command
   pub reply : Reply
-  pub asks : Asks exchange.before (Whole command)
+  pub asks : Asks exchange.before (Whole (Book command))
   pub answered : (status : ℕ) → WasAnswered exchange status
       → (body : List ℕ) × IsRightText tables reply body × HasAnswer exchange (record {
         status = code (status_of_reply reply);
         bytes = answer (status_of_reply reply) [] body;
       })
 
--- So it is, or if a connection has an answer, this is to a bad request or says that the store failed.
+-- So it is, or if a connection has an answer, this is to a bad request, says that the store failed, or shows what
+-- is kept.
 abbrev pub IsAnsweredRight : Tables → Exchange → Type 0
 IsAnsweredRight tables exchange = HasNoReply exchange ⊎ HasRightBody tables exchange

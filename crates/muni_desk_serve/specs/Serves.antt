@@ -15,7 +15,11 @@ use Rattle.muni_book_step.specs.Step.{Pricing}
 use Rattle.muni_wire.specs.Extent.{AwaitsMore, TakesOnlyWhile}
 use Rattle.muni_wire.specs.Reading.{Reading, Whole, Faulty, Short, Reads}
 use Rattle.muni_wire.specs.declared.fault.Bad.{Bad}
+use Rattle.muni_wire.specs.declared.look.Look.{Look}
+use Rattle.muni_wire.specs.declared.look.Request.{Request}
+use Rattle.muni_wire.specs.declared.look.Request.TheVariants.{Book, Look as LookAt}
 use Rattle.muni_desk_serve.specs.Answer.{Answer, AreBeside, reply_answer, bad_answer, unavailable_answer}
+use Rattle.muni_desk_serve.specs.Look.{look_answer}
 use Rattle.muni_desk_serve.specs.declared.served.Served.{Served}
 use Rattle.muni_desk_serve.specs.declared.served.Served.TheVariants as served
 
@@ -45,7 +49,7 @@ Asks link reading = IfSome link.left (λ bytes. Reads bytes reading)
 pub record IsReply (Prices : Pricing) (old : Option Tables) (link : Traffic) (answer : Answer) (new : Option Tables) (faults : ℕ) : Type 0 where
   pub command : Command
   pub reply : Reply
-  pub asks : Asks link (Whole command)
+  pub asks : Asks link (Whole (Book command))
   pub step : IfSome old (λ t. StepsTo Prices t command reply new)
   pub each : List EachRedemption
   pub beside : IfSome old (λ t. AreBeside reply each)
@@ -60,10 +64,18 @@ pub record IsBad (old : Option Tables) (link : Traffic) (answer : Answer) (new :
   pub tables : new ≡ old
   pub none : faults ≡ 0
 
--- they are a command at which the keeper failed, and the tables stay as they are
+-- they are a look at the tables, which shows what is kept and leaves them as they are
+pub record IsLookedUp (old : Option Tables) (link : Traffic) (answer : Answer) (new : Option Tables) (faults : ℕ) : Type 0 where
+  pub look : Look
+  pub asks : Asks link (Whole (LookAt look))
+  pub is : IfSome old (λ t. answer ≡ look_answer t look)
+  pub tables : new ≡ old
+  pub none : faults ≡ 0
+
+-- they are a request at which the keeper failed, and the tables stay as they are
 pub record IsUnavailable (old : Option Tables) (link : Traffic) (answer : Answer) (new : Option Tables) (faults : ℕ) : Type 0 where
-  pub command : Command
-  pub asks : Asks link (Whole command)
+  pub request : Request
+  pub asks : Asks link (Whole request)
   pub is : answer ≡ unavailable_answer
   pub tables : new ≡ old
   pub one : faults ≡ 1
@@ -74,6 +86,7 @@ IsDue Prices old link answer new faults =
     IsReply Prices old link answer new faults
     ⊎ IsBad old link answer new faults
     ⊎ IsUnavailable old link answer new faults
+    ⊎ IsLookedUp old link answer new faults
 
 -- nothing is written, no tables change, and no fault of the keeper is reported
 pub record IsUnanswered (old : Option Tables) (link : Traffic) (new : Option Tables) (after : Traffic) (faults : ℕ) : Type 0 where
@@ -134,7 +147,7 @@ pub record LeavesCounted {K L : Type 0} (keeps : keeper.Ghosts K) (takes : sourc
   pub counts : CountsLink came (takes.faults before) (takes.faults after) (puts.faults before) (puts.faults after)
   pub unanswered : came ≡ served.Gone → new ≡ old
   pub bad : (status : ℕ) → came ≡ served.Answered status → is_bad_status status ≡ true → new ≡ old
-  pub asked : (new ≡ old) ⊎ ((command : Command) × IfSome (takes.left before) (λ bytes. Reads bytes (Whole command)))
+  pub asked : (new ≡ old) ⊎ ((request : Request) × IfSome (takes.left before) (λ bytes. Reads bytes (Whole request)))
   pub tells : is_some (keeps.tables new) ≡ is_some (keeps.tables old)
   pub later : keeps.faults old ≤ keeps.faults new
   pub lent_as : keeps.lent_as new ≡ keeps.lent_as old

@@ -5,18 +5,22 @@ ghost use Rattle.muni_book.specs.Answers.{IsRightAnswer};
 ghost use Rattle.muni_desk_serve.specs.Answer as spec;
 ghost use Rattle.muni_desk_serve.specs.Serves.{LeavesCounted, TakesRequest, WasServed, traffic};
 
+use crate::looks::{look_up, write_seen};
 use crate::served::Served;
 use arrayvec::ArrayVec;
 use muni_book::{BookFault, Calculator, each_redemption, step};
 use muni_edge::{Failed, Gate, Link};
-use muni_keep::Keeper;
+use muni_keep::{KeepFault, Keeper};
 use muni_msg::{EachRedemption, Reply};
 use muni_multi::Encloser;
-use muni_wire::{HttpStatus, WireFault, read_request, write_bad, write_reply, write_unavailable};
+use muni_wire::{
+    HttpStatus, Request, WireFault, read_request, write_bad, write_reply, write_unavailable,
+};
 use std::alloc::Global;
 use std::thread::Threads;
 
-/// Reads one request of a connection, applies it to the tables of a keeper, and writes the answer.
+/// Reads one request of a connection, applies it to the tables of a keeper or looks at them, and writes the
+/// answer.
 ///
 /// What is no command is answered too, and so is a command at which the keeper fails: by 503. A
 /// request that ends too early gets no answer, nor does one for which no memory is left; then the
@@ -37,17 +41,24 @@ pub fn answer_one<R: Threads + Sync, L: Link, K: Keeper, E: Encloser + Sync, G: 
     ensures ready { TakesRequest L.Source link.old link.new }
     ensures leaves { LeavesCounted K.Keeper L.Source L.Sink result keeper.old keeper.new link.old link.new }
 {
-    let command = match read_request(alloc, link) {
-        Ok(command) => command,
+    let request = match read_request(alloc, link) {
+        Ok(request) => request,
         Err(WireFault::Bad(bad)) => return came_of(write_bad(link, bad)),
         Err(WireFault::Gone) => return Served::Gone,
         Err(WireFault::LinkFault) => return Served::LinkFault,
         Err(WireFault::NoMemory) => return Served::NoMemory,
     };
-    match step(calculator, keeper, &command) {
-        Ok(reply) => came_of(write_reply(link, &reply, &wanted(calculator, &reply))),
-        Err(BookFault::Failed) => came_of(write_unavailable(link)),
-        Err(BookFault::NoMemory) => Served::NoMemory,
+    match request {
+        Request::Book(command) => match step(calculator, keeper, &command) {
+            Ok(reply) => came_of(write_reply(link, &reply, &wanted(calculator, &reply))),
+            Err(BookFault::Failed) => came_of(write_unavailable(link)),
+            Err(BookFault::NoMemory) => Served::NoMemory,
+        },
+        Request::Look(look) => match look_up(alloc, keeper, &look) {
+            Ok(seen) => came_of(write_seen(link, &seen)),
+            Err(KeepFault::Failed) => came_of(write_unavailable(link)),
+            Err(KeepFault::NoMemory) => Served::NoMemory,
+        },
     }
 }
 

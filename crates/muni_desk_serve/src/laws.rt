@@ -1,19 +1,20 @@
 //! What holds of the definitions that the contracts of serving cite.
 
-ghost use Rattle.muni_desk_serve.specs.Laws.{WhatHasComeIsAnswered, ServingRunsTheBook, AnswersAreRight, WhatIsSentAgainActsOnce};
+ghost use Rattle.muni_desk_serve.specs.Laws.{WhatHasComeIsAnswered, ServingRunsTheBook, AnswersAreRight, VersionsAreShownRight, WhatIsSentAgainActsOnce};
 
 use muni_book::laws::confirmed_figures_are_right;
 
 /// A law of the definitions: if no count of faults rose, what has come is answered as one of its
 /// readings says, or no memory was left. A whole request gets the answer to what it asks for, with its
-/// status, a bad one its own, and one that ends too early none. Bytes that begin with a head within the
+/// status or what it looks at, a bad one its own, and one that ends too early none. Bytes that begin with a head within the
 /// limits have one reading (`muni_wire`).
 pub fn what_has_come_is_answered()
     ensures { WhatHasComeIsAnswered }
 {}
 
 /// A law of the definitions: connections that are served one after another run commands of the book:
-/// what they asked for, at most one each, with the replies by which they were answered. So what holds
+/// what they asked for, at most one each, with the replies by which they were answered; a look at the
+/// tables is none. So what holds
 /// of every run holds of the tables that they leave, and of their replies.
 pub fn serving_runs_the_book()
     ensures { ServingRunsTheBook }
@@ -24,6 +25,14 @@ pub fn serving_runs_the_book()
 /// each that is answered by a quote has right figures.
 pub fn answers_are_right()
     ensures { AnswersAreRight }
+{
+    confirmed_figures_are_right();
+}
+
+/// A law of the definitions: over sound tables each version that is kept is shown by its confirmation, with
+/// figures that are right by the rule's exact formulas.
+pub fn versions_are_shown_right()
+    ensures { VersionsAreShownRight }
 {
     confirmed_figures_are_right();
 }

@@ -6,6 +6,7 @@ mod answers;
 mod connections;
 mod fault;
 pub mod laws;
+mod looks;
 mod served;
 
 pub use answers::answer_one;

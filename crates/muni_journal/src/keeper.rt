@@ -4,7 +4,7 @@ ghost use Rattle.std.specs.Prelude.{◌≡◌, ◌≤◌, ◌+◌, ◌^◌, Some
 ghost use Rattle.std.specs.Option.{ForSome, ForNone};
 ghost use Rattle.std.specs.Result.{result_map_both};
 ghost use Rattle.muni_keep.specs.History.{next_number};
-ghost use Rattle.muni_keep.specs.Tables.{issue_at, trade_at, version_at, last_at, trade_count, page_at, issue_past, desk_past};
+ghost use Rattle.muni_keep.specs.Tables.{issue_at, trade_at, version_at, last_at, trade_count, page_at, before_latest, issue_past, desk_past};
 ghost use Rattle.muni_journal_disk.specs.Calls.{SameDisk};
 ghost use Rattle.muni_journal_disk.specs.Disk.{StopsLeave};
 ghost use Rattle.muni_journal_slots.specs.Slots.{AllImages};
@@ -198,6 +198,13 @@ impl<D: Disk> Keeper for JournalKeeper<D> {
         ensures same { self.new ≡ self.old }
     {
         Ok(self.kept.page(desk, after))
+    }
+
+    fn before_latest(&mut self, desk: &DeskName) -> Result<Option<Reference>, KeepFault>
+        ensures found { result ≡ Ok (before_latest self.old.kept desk.now) }
+        ensures same { self.new ≡ self.old }
+    {
+        Ok(self.kept.before_latest(desk))
     }
 
     fn issue_past(&mut self, after: &Option<[u8; 9]>) -> Result<Option<([u8; 9], Issue)>, KeepFault>

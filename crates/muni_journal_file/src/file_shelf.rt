@@ -3,7 +3,7 @@
 ghost use Rattle.std.specs.Prelude.{◌≡◌, None};
 ghost use Rattle.std.specs.Option.{option_map};
 
-use crate::file_disk::FileDisk;
+use crate::file_disk::{AHEAD, FileDisk};
 use muni_edge::Faults;
 use muni_journal_disk::{DiskFault, Shelf};
 use std::fs::{self, File};
@@ -98,10 +98,11 @@ impl<'a> Shelf for FileShelf<'a> {
 
     fn take(&mut self, name: &[u8]) -> Result<FileDisk, DiskFault> {
         let out = name.to_vec(self.rt.alloc())?;
+        let room = vec![in self.rt.alloc(); 0u8; AHEAD]?;
         match self.open(name) {
             Ok(file) => {
                 self.out = Some(out);
-                Ok(FileDisk::new(file))
+                Ok(FileDisk::new(file, room))
             }
             Err(error) if error.kind() == ErrorKind::OutOfMemory => Err(DiskFault::NoMemory),
             Err(_) => Err(DiskFault::from(self.faults.fail())),

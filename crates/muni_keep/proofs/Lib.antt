@@ -2,6 +2,7 @@ mod EitherLemmas
 pub mod EntriesLemmas
 mod HistoryLemmas
 mod KeeperLemmas
+pub mod LastLemmas
 mod MapLemmas
 mod PageLemmas
 mod PastLemmas

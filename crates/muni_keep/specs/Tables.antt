@@ -1,8 +1,8 @@
 -- The tables of the desk: two finite maps, of its issues and of its trades.
-use Rattle.std.specs.Prelude.{ℕ, ◌-◌, ◌^◌, min, List, map, take, slice_get, Option, refl}
+use Rattle.std.specs.Prelude.{ℕ, ◌-◌, ◌^◌, min, List, map, reverse, take, slice_get, Option, refl}
 use Rattle.std.specs.Option.{option_map, option_and_then}
 use Rattle.std.specs.Coded.{Coded, code_by, coded×, coded_ℕ, coded_list}
-use Rattle.std.specs.FinMap.{FinMap, empty, get, insert, len, code as map_code}
+use Rattle.std.specs.FinMap.{FinMap, empty, get, insert, len, entries, code as map_code}
 use Rattle.muni_terms.specs.contracts.issue.Issue.{the_row as issue_row}
 use Rattle.muni_terms.specs.declared.row.IssueRow.{IssueRow}
 use Rattle.muni_msg.specs.declared.command.Key.{Key}
@@ -61,6 +61,15 @@ line trade = record { reference = trade.0; number = count trade.1; version = tra
 -- the first 50 trades of a desk after a reference, if one is given
 abbrev pub page_at : Tables → List ℕ → Option (List ℕ) → List Line
 page_at tables desk after = map line (take 50 (trades_past after (own desk tables.desks)))
+
+-- the last 50 trades of a desk, or all if it has fewer
+abbrev pub latest_at : Tables → List ℕ → List Line
+latest_at tables desk = map line (reverse (take 50 (reverse (entries (own desk tables.desks)))))
+
+-- the reference before those, if the desk has more
+abbrev pub before_latest : Tables → List ℕ → Option (List ℕ)
+before_latest tables desk =
+    option_map (λ trade. trade.0) (slice_get (reverse (entries (own desk tables.desks))) 50)
 
 -- the first issue after a CUSIP, if one is given, with its CUSIP
 abbrev pub issue_past : Tables → Option (List ℕ) → Option (List ℕ × IssueRow)

@@ -76,6 +76,13 @@ impl<K: Keeper, L: Keeper> Keeper for EitherKeeper<K, L> {
         }
     }
 
+    fn before_latest(&mut self, desk: &DeskName) -> Result<Option<Reference>, KeepFault> {
+        match self {
+            EitherKeeper::First(keeper) => keeper.before_latest(desk),
+            EitherKeeper::Second(keeper) => keeper.before_latest(desk),
+        }
+    }
+
     fn issue_past(
         &mut self,
         after: &Option<[u8; 9]>,

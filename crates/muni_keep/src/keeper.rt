@@ -3,7 +3,7 @@
 ghost use Rattle.std.specs.Prelude.{◌≡◌, ℕ, Option, None, IfOk, IfSome};
 ghost use Rattle.muni_keep.specs.Frames.{Found, Reads, Edits};
 ghost use Rattle.muni_keep.specs.History.{next_number};
-ghost use Rattle.muni_keep.specs.Tables.{Tables, issue_at, trade_at, version_at, last_at, trade_count, page_at, issue_past, desk_past, with_issue, with_version};
+ghost use Rattle.muni_keep.specs.Tables.{Tables, issue_at, trade_at, version_at, last_at, trade_count, page_at, before_latest, issue_past, desk_past, with_issue, with_version};
 
 use crate::fault::KeepFault;
 use arrayvec::ArrayVec;
@@ -62,6 +62,11 @@ pub trait Keeper {
     ) -> Result<ArrayVec<Line, 50>, KeepFault>
         ensures found { IfOk result
             (λ lines. IfSome (tables self.old) (λ t. lines.items ≡ page_at t desk.now after.now)) }
+        ensures reads { Reads tables faults lent_as result self.old self.new };
+
+    /// The reference after which the last 50 trades of a desk come, or none if it has no more than these.
+    fn before_latest(&mut self, desk: &DeskName) -> Result<Option<Reference>, KeepFault>
+        ensures found { Found (tables self.old) result (λ t. before_latest t desk.now) }
         ensures reads { Reads tables faults lent_as result self.old self.new };
 
     /// The first issue after a CUSIP, or the first of all if none is given, in the order of their CUSIPs,

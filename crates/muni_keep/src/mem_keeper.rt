@@ -3,7 +3,7 @@
 ghost use Rattle.std.specs.Prelude.{◌≡◌, Some, None, IfOk};
 ghost use Rattle.std.specs.Result.{result_map_both};
 ghost use Rattle.muni_keep.specs.History.{next_number};
-ghost use Rattle.muni_keep.specs.Tables.{issue_at, trade_at, version_at, last_at, trade_count, page_at, issue_past, desk_past, with_issue, with_version};
+ghost use Rattle.muni_keep.specs.Tables.{issue_at, trade_at, version_at, last_at, trade_count, page_at, before_latest, issue_past, desk_past, with_issue, with_version};
 ghost use Rattle.muni_keep.specs.MemKeeper.{new_keeper, LooksUp, Puts};
 
 use crate::fault::KeepFault;
@@ -134,6 +134,13 @@ impl Keeper for MemKeeper {
     {
         self.calls.make()?;
         Ok(self.tables.page(desk, after))
+    }
+
+    fn before_latest(&mut self, desk: &DeskName) -> Result<Option<Reference>, KeepFault>
+        ensures { LooksUp result (before_latest self.old.tables desk.now) self.old self.new }
+    {
+        self.calls.make()?;
+        Ok(self.tables.before_latest(desk))
     }
 
     fn issue_past(&mut self, after: &Option<[u8; 9]>) -> Result<Option<([u8; 9], Issue)>, KeepFault>

@@ -2,11 +2,11 @@
 
 ghost use Rattle.std.specs.Prelude.{◌≡◌, OnOk, OnErr};
 ghost use Rattle.muni_keep.specs.History.{next_number};
-ghost use Rattle.muni_keep.specs.Tables.{no_tables, issue_at, trade_at, version_at, last_at, trade_count, page_at, issue_past, desk_past, with_issue, with_version};
+ghost use Rattle.muni_keep.specs.Tables.{no_tables, issue_at, trade_at, version_at, last_at, trade_count, page_at, before_latest, issue_past, desk_past, with_issue, with_version};
 
 use crate::desks::Desks;
 use crate::issues::Issues;
-use crate::page::page;
+use crate::page::{before_latest, page};
 use arrayvec::ArrayVec;
 use muni_msg::{DeskName, Key, Line, Reference, Version};
 use muni_terms::Issue;
@@ -107,6 +107,13 @@ impl MemTables {
         ensures { result.items ≡ page_at self.now desk.now after.now }
     {
         page(&self.desks, desk, after)
+    }
+
+    /// The reference after which the last 50 trades of a desk come, or none if it has no more than these.
+    pub fn before_latest(&self, desk: &DeskName) -> Option<Reference>
+        ensures { result ≡ before_latest self.now desk.now }
+    {
+        before_latest(&self.desks, desk)
     }
 
     /// The first issue after a CUSIP, or the first of all if none is given, with its CUSIP.

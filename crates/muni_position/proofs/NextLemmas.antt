@@ -231,13 +231,18 @@ line_passed holdings e old rest text all is none so_far =
     ap (λ l. text ++ position_lines l) (sym same) ∙ so_far
 
 -- the lines of a whole range are those of the positions
-pub told_lines : (watched : Option (List ℕ)) (told : Option Tables) (holdings : Holdings) (range : List (List ℕ × Holding)) (text : List ℕ) (bound : Bound (List ℕ))
-    → AreRight watched told holdings → tree.IsOrdered by_bytes holdings → bound ≡ bound_past None → range ≡ entries_between by_bytes bound Unbounded holdings.entries
-    → text ≡ position_lines (held_of holdings range)
-    → IfSome watched (λ desk. IfSome told (λ t. text ≡ position_lines (positions_of (last_versions desk t))))
-told_lines None told holdings range text bound right ordered at are is = tt
-told_lines (Some desk) None holdings range text bound right ordered at are is = tt
-told_lines (Some desk) (Some t) holdings range text bound right ordered at are is =
+pub lines_are : (versions : List Version) (holdings : Holdings) (range : List (List ℕ × Holding)) (text : List ℕ) (bound : Bound (List ℕ))
+    → AreOf versions holdings → tree.IsOrdered by_bytes holdings → bound ≡ bound_past None → range ≡ entries_between by_bytes bound Unbounded holdings.entries
+    → text ≡ position_lines (held_of holdings range) → text ≡ position_lines (positions_of versions)
+lines_are versions holdings range text bound of ordered at are is =
     is
     ∙ ap (λ l. position_lines (held_of holdings l)) (are ∙ ap (λ b. entries_between by_bytes b Unbounded holdings.entries) at)
-    ∙ ap position_lines (past_are holdings None holdings.entries ∙ all_pass (held_of holdings holdings.entries) ∙ held_are (last_versions desk t) holdings ordered (right desk t refl refl))
+    ∙ ap position_lines (past_are holdings None holdings.entries ∙ all_pass (held_of holdings holdings.entries) ∙ held_are versions holdings ordered of)
+
+-- so are those of the desk that is watched
+pub told_lines : (watched : Option (List ℕ)) (told : Option Tables) (holdings : Holdings) (text : List ℕ) → AreRight watched told holdings
+    → ((versions : List Version) → AreOf versions holdings → text ≡ position_lines (positions_of versions))
+    → IfSome watched (λ desk. IfSome told (λ t. text ≡ position_lines (positions_of (last_versions desk t))))
+told_lines None told holdings text right is = tt
+told_lines (Some desk) None holdings text right is = tt
+told_lines (Some desk) (Some t) holdings text right is = is (last_versions desk t) (right desk t refl refl)

@@ -3,7 +3,7 @@
 ghost use Rattle.std.specs.Prelude.{◌≡◌, ◌≢◌, None, IfOk, IfSome};
 ghost use Rattle.muni_keep.specs.History.{next_number};
 ghost use Rattle.muni_keep.specs.Keeper.{EditsTables};
-ghost use Rattle.muni_keep.specs.Tables.{issue_at, trade_at, version_at, last_at, trade_count, page_at, issue_past, desk_past, with_issue, with_version};
+ghost use Rattle.muni_keep.specs.Tables.{issue_at, trade_at, version_at, last_at, trade_count, page_at, before_latest, issue_past, desk_past, with_issue, with_version};
 ghost use Rattle.muni_position.specs.Change.{HasNoRoomFor};
 
 use crate::positioned::Positioned;
@@ -116,6 +116,12 @@ impl<K: Keeper> Keeper for Following<K> {
         ensures looks { LooksInside K.Keeper result self.old.positioned self.new.positioned }
     {
         self.positioned.page(desk, after)
+    }
+
+    fn before_latest(&mut self, desk: &DeskName) -> Result<Option<Reference>, KeepFault>
+        ensures { FindsInside K.Keeper result (λ t. before_latest t desk.now) self.old.positioned self.new.positioned }
+    {
+        self.positioned.before_latest(desk)
     }
 
     fn issue_past(&mut self, after: &Option<[u8; 9]>) -> Result<Option<([u8; 9], Issue)>, KeepFault>

@@ -7,6 +7,7 @@ mod holding;
 mod holdings;
 pub mod laws;
 mod line;
+mod lines;
 mod pages;
 mod position;
 mod positioned;
@@ -14,5 +15,6 @@ mod put_fault;
 
 pub use following::{Following, follow};
 pub use line::position_line;
+pub use lines::position_text;
 pub use position::Position;
 pub use positioned::{Positioned, over};

@@ -5,17 +5,15 @@ ghost use Rattle.std.proofs.Props.{props};
 ghost use Rattle.std.specs.Option.{option_map};
 ghost use Rattle.muni_keep.specs.History.{next_number};
 ghost use Rattle.muni_keep.specs.Keeper.{OnlyReads, EditsTables, SameKeeper};
-ghost use Rattle.muni_keep.specs.Tables.{issue_at, trade_at, version_at, last_at, trade_count, page_at, issue_past, desk_past, with_issue, with_version};
+ghost use Rattle.muni_keep.specs.Tables.{issue_at, trade_at, version_at, last_at, trade_count, page_at, before_latest, issue_past, desk_past, with_issue, with_version};
 ghost use Rattle.muni_position.specs.Change.{HasNoRoomFor};
 ghost use Rattle.muni_position.specs.Holdings.{AreInRange, AreRight, HasFew, kept};
-ghost use Rattle.muni_position.specs.Holdings as spec;
-ghost use Rattle.std.specs.Range.Bound.{bound_map};
 ghost use Rattle.muni_position.specs.Line.{position_lines};
 ghost use Rattle.muni_position.specs.Positions.{last_versions, position_of, positions_of, past};
 
 use crate::change::Change;
 use crate::holdings::{Holdings, kept};
-use crate::line::position_line;
+use crate::lines::{bound_past, lines_of};
 use crate::pages::sum_desk;
 use crate::position::Position;
 use crate::put_fault::PutFault;
@@ -40,15 +38,6 @@ pub struct Positioned<K: Keeper> {
     holdings: Holdings,
     ghost range: { AreInRange holdings },
     ghost right: { AreRight desk (K.tables inner) holdings } by { Prim.hlevel props },
-}
-
-fn bound_past(after: &Option<[u8; 9]>) -> Bound<&[u8; 9]>
-    ensures { bound_map (λ cusip. cusip.now) result ≡ spec.bound_past after.now }
-{
-    match after {
-        Some(after) => Bound::Excluded(after),
-        None => Bound::Unbounded,
-    }
 }
 
 /// A keeper over another one, which watches no desk yet.
@@ -133,18 +122,7 @@ impl<K: Keeper> Positioned<K> {
         ensures { IfOk result (λ text. IfSome self.now.desk (λ desk. IfSome (K.tables self.now.inner)
             (λ t. text.items ≡ position_lines (positions_of (last_versions desk t))))) }
     {
-        let mut text = Vec::new(alloc);
-        let mut line = ArrayVec::new();
-        for (cusip, _) in self.holdings.range((bound_past(&None), Bound::Unbounded)) {
-            let held = kept(&self.holdings, cusip);
-            if held.live > 0 {
-                position_line(cusip, &held.position(), &mut line);
-                if text.extend_from_slice(line.as_slice()).is_err() {
-                    return Err(NoMemory);
-                }
-            }
-        }
-        Ok(text)
+        lines_of(alloc, &self.holdings)
     }
 
     /// The keeper inside.
@@ -235,6 +213,12 @@ impl<K: Keeper> Keeper for Positioned<K> {
         ensures looks { LooksInside K.Keeper result self.old self.new }
     {
         self.inner.page(desk, after)
+    }
+
+    fn before_latest(&mut self, desk: &DeskName) -> Result<Option<Reference>, KeepFault>
+        ensures { FindsInside K.Keeper result (λ t. before_latest t desk.now) self.old self.new }
+    {
+        self.inner.before_latest(desk)
     }
 
     fn issue_past(&mut self, after: &Option<[u8; 9]>) -> Result<Option<([u8; 9], Issue)>, KeepFault>

@@ -83,6 +83,10 @@ select_references = codes "SELECT reference FROM versions_2 WHERE desk = ?1 AND 
 abbrev pub page_values : List ℕ → Option (List ℕ) → List Value
 page_values desk after = Text desk ∷ Text (unwrap_or after []) ∷ []
 
+-- finds the reference of the trade before the last 50 of a desk
+abbrev pub select_before_latest : List ℕ
+select_before_latest = codes "SELECT reference FROM versions_2 WHERE desk = ?1 AND number = 1 ORDER BY reference DESC LIMIT 1 OFFSET 50"
+
 -- keeps a version of a trade
 abbrev pub insert_version : List ℕ
 insert_version = codes "INSERT INTO versions_2 (desk, reference, number, act, cusip, side, par, settle, basis, value, price, yld, redemption, at_price, label, days, principal, accrued, total, fee, commission) VALUES (?1, ?2, ?3, ?4, ?5, ?6, ?7, ?8, ?9, ?10, ?11, ?12, ?13, ?14, ?15, ?16, ?17, ?18, ?19, ?20, ?21)"

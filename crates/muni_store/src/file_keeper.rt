@@ -218,6 +218,16 @@ impl<S: Alter + Drop, F: OpensAnew<S> + Drop> Keeper for FileKeeper<S, F> {
         self.put_back(keeper, lines)
     }
 
+    fn before_latest(&mut self, desk: &DeskName) -> Result<Option<Reference>, KeepFault>
+        ensures looks { WhileOpen self.old.state self.new.state (Looks (state S.Store) rows.reference_in
+            spec.select_before_latest (spec.desk_values desk.now) result) }
+        ensures ends { Ends result self.old self.new }
+    {
+        let mut keeper = self.take()?;
+        let found = keeper.before_latest(desk);
+        self.put_back(keeper, found)
+    }
+
     fn issue_past(&mut self, after: &Option<[u8; 9]>) -> Result<Option<([u8; 9], Issue)>, KeepFault>
         ensures looks { WhileOpen self.old.state self.new.state (Looks (state S.Store) rows.issue_entry_in
             spec.select_issue_past (spec.past_values after.now) result) }

@@ -14,8 +14,8 @@ ghost use Rattle.muni_store.specs.Statements as spec;
 use crate::faults::{counted, is_shut};
 use crate::page::read_page;
 use crate::statements::{
-    count_trades, find_desk_past, find_issue, find_issue_past, find_last, find_version,
-    insert_issue, insert_version,
+    count_trades, find_before_latest, find_desk_past, find_issue, find_issue_past, find_last,
+    find_version, insert_issue, insert_version,
 };
 use crate::trade_counts::TradeCounts;
 use arrayvec::ArrayVec;
@@ -166,6 +166,16 @@ impl<S: Alter + Drop> Keeper for SqlKeeper<S> {
         let lines = read_page(&mut self.database, desk, after);
         self.is_shut = is_shut(&lines);
         counted(&mut self.faults, lines)
+    }
+
+    fn before_latest(&mut self, desk: &DeskName) -> Result<Option<Reference>, KeepFault>
+        ensures looks { Looks (state S.Store) rows.reference_in spec.select_before_latest (spec.desk_values desk.now)
+            result self.old self.new }
+        ensures counted { CountsFailure result self.old.faults self.new.faults }
+    {
+        let found = find_before_latest(&mut self.database, desk);
+        self.is_shut = is_shut(&found);
+        counted(&mut self.faults, found)
     }
 
     fn issue_past(&mut self, after: &Option<[u8; 9]>) -> Result<Option<([u8; 9], Issue)>, KeepFault>

@@ -11,7 +11,9 @@ ghost use Rattle.muni_store.specs.Rows as rows;
 ghost use Rattle.muni_store.specs.Statements as spec;
 
 use crate::fault::StoreFault;
-use crate::rows::{read_count, read_desk, read_issue, read_issue_entry, read_trade};
+use crate::rows::{
+    read_count, read_desk, read_issue, read_issue_entry, read_reference, read_trade,
+};
 use crate::schema::{answered, first_row, write};
 use arrayvec::ArrayVec;
 use muni_dec::text::push;
@@ -242,6 +244,28 @@ pub(crate) fn references_after<S: Alter>(
          ORDER BY reference LIMIT 50",
         &[ValueRef::Text(desk.bytes()), ValueRef::Text(after)],
     ))
+}
+
+/// The reference after which the last 50 trades of a desk come, or none if it has no more than these.
+pub(crate) fn find_before_latest<S: Alter>(
+    database: &mut Connection<S>,
+    desk: &DeskName,
+) -> Result<Option<Reference>, StoreFault>
+    ensures found { IfOk result (rows.Reads rows.reference_in (state S.Store database.old)
+        (state S.Store database.new) spec.select_before_latest (spec.desk_values desk.now)) }
+    ensures asked { Asked (state S.Store database.old) (state S.Store database.new) spec.select_before_latest
+        (spec.desk_values desk.now) }
+{
+    let row = first_row(
+        database,
+        "SELECT reference FROM versions_2 WHERE desk = ?1 AND number = 1 \
+         ORDER BY reference DESC LIMIT 1 OFFSET 50",
+        &[ValueRef::Text(desk.bytes())],
+    )?;
+    match row {
+        Some(row) => Ok(Some(read_reference(&row)?)),
+        None => Ok(None),
+    }
 }
 
 /// The first issue after a CUSIP, or the first of all if none is given, with its CUSIP.

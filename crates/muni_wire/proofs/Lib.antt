@@ -11,6 +11,7 @@ pub mod SomeReadingLemmas
 pub mod StatusLemmas
 pub mod CallLemmas
 pub mod ListLemmas
+mod LookPathLemmas
 pub mod LeftOutLemmas
 pub mod AnswerLemmas
 pub mod PathLemmas

@@ -15,8 +15,10 @@ use Rattle.muni_msg.specs.declared.names.NameFault.{NameFault}
 use Rattle.muni_msg.specs.declared.names.NameFault.TheVariants.{Empty, TooLong}
 use Rattle.muni_msg.specs.declared.command.Command.TheVariants.{Confirm, List as ListTrades}
 use Rattle.muni_msg.specs.declared.command.Key.{Key}
-use Rattle.muni_wire.specs.Routes.{target_of, post_at, trade_at, list_at, list_after_at, behind, key_of, key_at, form_of, forms, posted_under}
+use Rattle.muni_wire.specs.Routes.{target_of, of_book_at, look_at, look_of, post_at, trade_at, list_at, list_after_at, behind, key_of, key_at, form_of, forms, posted_under}
 use Rattle.muni_wire.specs.PathLaws.{IsKey, BodiesArePosted}
+use Rattle.muni_wire.specs.declared.look.Look.{Look}
+use Rattle.muni_wire.specs.declared.look.Request.TheVariants.{Book, Look as LookAt}
 use Rattle.muni_wire.specs.declared.routes.Form.{Form}
 use Rattle.muni_wire.specs.declared.routes.Target.{Target}
 use Rattle.muni_wire.specs.declared.routes.Target.TheVariants as target
@@ -31,7 +33,7 @@ short-read : (b : Bool) (fault : NameFault) (rest : Result (List ℕ) NameFault)
 short-read true fault rest text name read e = cc e
 short-read false fault rest text name read e = read e
 
-name-read : (is_letter : ℕ → Bool) (most : ℕ) (text name : List ℕ) → result_ok (name_reading is_letter most text) ≡ Some name → text ≡ name
+pub name-read : (is_letter : ℕ → Bool) (most : ℕ) (text name : List ℕ) → result_ok (name_reading is_letter most text) ≡ Some name → text ≡ name
 name-read is_letter most text name e =
     let bad = position (λ b. not (is_letter b)) text in
     let few = cond (nat_lt most (length text)) (Err TooLong) (unless_bad text bad) in
@@ -53,7 +55,7 @@ text-is-name is_letter most text name e =
     let few = passed (nat_lt most (length text)) TooLong (unless_bad text bad) name some.1 in
     record { some = grind (arith, nat_tests, some.0); few = grind (arith, nat_tests, few.0); letters = unless-none text name bad few.1 }
 
-is-name : (is_letter : ℕ → Bool) (most : ℕ) (text name : List ℕ) → result_ok (name_reading is_letter most text) ≡ Some name → IsName is_letter most name
+pub is-name : (is_letter : ℕ → Bool) (most : ℕ) (text name : List ℕ) → result_ok (name_reading is_letter most text) ≡ Some name → IsName is_letter most name
 is-name is_letter most text name e = subst (IsName is_letter most) (name-read is_letter most text name e) (text-is-name is_letter most text name e)
 
 -- what comes after a prefix
@@ -64,7 +66,7 @@ behind-by true prefix text rest is e =
     sym (take-append-drop (length prefix) text) ∙ ap (λ l. l ++ drop (length prefix) text) front ∙ ap (λ l. prefix ++ l) last
 behind-by false prefix text rest is e = cc e
 
-is-behind : (prefix text rest : List ℕ) → behind prefix text ≡ Some rest → text ≡ prefix ++ rest
+pub is-behind : (prefix text rest : List ℕ) → behind prefix text ≡ Some rest → text ≡ prefix ++ rest
 is-behind prefix text rest e = behind-by (bytes_eq (take (length prefix) text) prefix) prefix text rest refl e
 
 -- a desk, a slash and a reference
@@ -96,31 +98,31 @@ unfolding key_of
 is-key text key e = key-parts text (position (λ b. b == 47) text) key refl e
 
 -- a chain of two that ends
-both-there : {A B : Type 0} (o : Option A) (f : A → Option B) (b : B) → (o >>= f) ≡ Some b → (a : A) × (o ≡ Some a) × (f a ≡ Some b)
+pub both-there : {A B : Type 0} (o : Option A) (f : A → Option B) (b : B) → (o >>= f) ≡ Some b → (a : A) × (o ≡ Some a) × (f a ≡ Some b)
 both-there None f b e = cc e
 both-there (Some a) f b e = (a, refl, e)
 
-trade-path : (path : List ℕ) (key : Key) → trade_at path ≡ Some (target.Get (Confirm key)) → IsKey key × (path ≡ codes "/trades/" ++ (key.desk ++ 47 ∷ key.reference))
+trade-path : (path : List ℕ) (key : Key) → trade_at path ≡ Some (target.Get (Book (Confirm key))) → IsKey key × (path ≡ codes "/trades/" ++ (key.desk ++ 47 ∷ key.reference))
 trade-path path key e =
-    let first = both-there (behind (codes "/trades/") path) (λ text. key_of text >>= λ k. Some (target.Get (Confirm k))) (target.Get (Confirm key)) e in
-    let second = both-there (key_of first.0) (λ k. Some (target.Get (Confirm k))) (target.Get (Confirm key)) first.2 in
+    let first = both-there (behind (codes "/trades/") path) (λ text. key_of text >>= λ k. Some (target.Get (Book (Confirm k)))) (target.Get (Book (Confirm key))) e in
+    let second = both-there (key_of first.0) (λ k. Some (target.Get (Book (Confirm k)))) (target.Get (Book (Confirm key))) first.2 in
     let same : second.0 ≡ key = cc second.2 in
     let is = is-key first.0 key (second.1 ∙ ap Some same) in
     (is.0, is-behind (codes "/trades/") path first.0 first.1 ∙ ap (λ l. codes "/trades/" ++ l) is.1)
 
-list-path : (path desk : List ℕ) → list_at path ≡ Some (target.Get (ListTrades desk None)) → IsName is_desk_letter 16 desk × (path ≡ codes "/lists/" ++ desk)
+list-path : (path desk : List ℕ) → list_at path ≡ Some (target.Get (Book (ListTrades desk None))) → IsName is_desk_letter 16 desk × (path ≡ codes "/lists/" ++ desk)
 list-path path desk e =
-    let first = both-there (behind (codes "/lists/") path) (λ text. result_ok (name_reading is_desk_letter 16 text) >>= λ d. Some (target.Get (ListTrades d None))) (target.Get (ListTrades desk None)) e in
-    let second = both-there (result_ok (name_reading is_desk_letter 16 first.0)) (λ d. Some (target.Get (ListTrades d None))) (target.Get (ListTrades desk None)) first.2 in
+    let first = both-there (behind (codes "/lists/") path) (λ text. result_ok (name_reading is_desk_letter 16 text) >>= λ d. Some (target.Get (Book (ListTrades d None)))) (target.Get (Book (ListTrades desk None))) e in
+    let second = both-there (result_ok (name_reading is_desk_letter 16 first.0)) (λ d. Some (target.Get (Book (ListTrades d None)))) (target.Get (Book (ListTrades desk None))) first.2 in
     let same : second.0 ≡ desk = cc second.2 in
     let read = second.1 ∙ ap Some same in
     (is-name is_desk_letter 16 first.0 desk read, is-behind (codes "/lists/") path first.0 first.1 ∙ ap (λ l. codes "/lists/" ++ l) (name-read is_desk_letter 16 first.0 desk read))
 
-list-after-path : (path desk after : List ℕ) → list_after_at path ≡ Some (target.Get (ListTrades desk (Some after)))
+list-after-path : (path desk after : List ℕ) → list_after_at path ≡ Some (target.Get (Book (ListTrades desk (Some after))))
     → IsName is_desk_letter 16 desk × IsName is_ascii_alphanumeric 20 after × (path ≡ codes "/lists/" ++ (desk ++ 47 ∷ after))
 list-after-path path desk after e =
-    let first = both-there (behind (codes "/lists/") path) (λ text. key_of text >>= λ k. Some (target.Get (ListTrades k.desk (Some k.reference)))) (target.Get (ListTrades desk (Some after))) e in
-    let second = both-there (key_of first.0) (λ k. Some (target.Get (ListTrades k.desk (Some k.reference)))) (target.Get (ListTrades desk (Some after))) first.2 in
+    let first = both-there (behind (codes "/lists/") path) (λ text. key_of text >>= λ k. Some (target.Get (Book (ListTrades k.desk (Some k.reference))))) (target.Get (Book (ListTrades desk (Some after)))) e in
+    let second = both-there (key_of first.0) (λ k. Some (target.Get (Book (ListTrades k.desk (Some k.reference))))) (target.Get (Book (ListTrades desk (Some after)))) first.2 in
     let same_desk : second.0.desk ≡ desk = cc second.2 in
     let same_after : second.0.reference ≡ after = cc second.2 in
     let is = is-key first.0 second.0 second.1 in (
@@ -131,25 +133,25 @@ list-after-path path desk after e =
     )
 
 -- which command each route may give
-no-trade : (path : List ℕ) (c : Target) → trade_at path ≡ Some c → (key : Key) × (c ≡ target.Get (Confirm key))
+pub no-trade : (path : List ℕ) (c : Target) → trade_at path ≡ Some c → (key : Key) × (c ≡ target.Get (Book (Confirm key)))
 no-trade path c e =
-    let first = both-there (behind (codes "/trades/") path) (λ text. key_of text >>= λ k. Some (target.Get (Confirm k))) c e in
-    let second = both-there (key_of first.0) (λ k. Some (target.Get (Confirm k))) c first.2 in
+    let first = both-there (behind (codes "/trades/") path) (λ text. key_of text >>= λ k. Some (target.Get (Book (Confirm k)))) c e in
+    let second = both-there (key_of first.0) (λ k. Some (target.Get (Book (Confirm k)))) c first.2 in
     (second.0, cc second.2)
 
-no-list : (path : List ℕ) (c : Target) → list_at path ≡ Some c → (desk : List ℕ) × (c ≡ target.Get (ListTrades desk None))
+pub no-list : (path : List ℕ) (c : Target) → list_at path ≡ Some c → (desk : List ℕ) × (c ≡ target.Get (Book (ListTrades desk None)))
 no-list path c e =
-    let first = both-there (behind (codes "/lists/") path) (λ text. result_ok (name_reading is_desk_letter 16 text) >>= λ d. Some (target.Get (ListTrades d None))) c e in
-    let second = both-there (result_ok (name_reading is_desk_letter 16 first.0)) (λ d. Some (target.Get (ListTrades d None))) c first.2 in
+    let first = both-there (behind (codes "/lists/") path) (λ text. result_ok (name_reading is_desk_letter 16 text) >>= λ d. Some (target.Get (Book (ListTrades d None)))) c e in
+    let second = both-there (result_ok (name_reading is_desk_letter 16 first.0)) (λ d. Some (target.Get (Book (ListTrades d None)))) c first.2 in
     (second.0, cc second.2)
 
-no-list-after : (path : List ℕ) (c : Target) → list_after_at path ≡ Some c → (k : Key) × (c ≡ target.Get (ListTrades k.desk (Some k.reference)))
+pub no-list-after : (path : List ℕ) (c : Target) → list_after_at path ≡ Some c → (k : Key) × (c ≡ target.Get (Book (ListTrades k.desk (Some k.reference))))
 no-list-after path c e =
-    let first = both-there (behind (codes "/lists/") path) (λ text. key_of text >>= λ k. Some (target.Get (ListTrades k.desk (Some k.reference)))) c e in
-    let second = both-there (key_of first.0) (λ k. Some (target.Get (ListTrades k.desk (Some k.reference)))) c first.2 in
+    let first = both-there (behind (codes "/lists/") path) (λ text. key_of text >>= λ k. Some (target.Get (Book (ListTrades k.desk (Some k.reference))))) c e in
+    let second = both-there (key_of first.0) (λ k. Some (target.Get (Book (ListTrades k.desk (Some k.reference))))) c first.2 in
     (second.0, cc second.2)
 
-no-post : (path : List ℕ) (c : Target) → post_at path ≡ Some c → (form : Form) × (form_of path ≡ Some form) × (c ≡ target.Post form)
+pub no-post : (path : List ℕ) (c : Target) → post_at path ≡ Some c → (form : Form) × (form_of path ≡ Some form) × (c ≡ target.Post form)
 no-post path c e = by (form_of path) refl e
   where
     by : (o : Option Form) → form_of path ≡ o → option_map (λ form. target.Post form) o ≡ Some c → (form : Form) × (form_of path ≡ Some form) × (c ≡ target.Post form)
@@ -157,41 +159,55 @@ no-post path c e = by (form_of path) refl e
     by (Some form) is e = (form, is, cc e)
 
 -- the one of them that a path is
-either : {A : Type 0} (a b : Option A) (c : A) → option_or a b ≡ Some c → (a ≡ Some c) ⊎ (b ≡ Some c)
+pub either : {A : Type 0} (a b : Option A) (c : A) → option_or a b ≡ Some c → (a ≡ Some c) ⊎ (b ≡ Some c)
 either None b c e = inr e
 either (Some a) b c e = inl e
 
-abbrev IsOneOf : List ℕ → Target → Type 0
+abbrev pub IsOneOf : List ℕ → Target → Type 0
 IsOneOf path c = (post_at path ≡ Some c) ⊎ (trade_at path ≡ Some c) ⊎ (list_at path ≡ Some c) ⊎ (list_after_at path ≡ Some c)
 
 later : {A B C : Type 0} → A ⊎ B → (B → C) → A ⊎ C
 later (inl a) next = inl a
 later (inr b) next = inr (next b)
 
-one-of : (path : List ℕ) (c : Target) → target_of path ≡ Some c → IsOneOf path c
-unfolding target_of
-one-of path c e =
+pub of-book : (path : List ℕ) (c : Target) → of_book_at path ≡ Some c → IsOneOf path c
+unfolding of_book_at
+of-book path c e =
     later (either (post_at path) (option_or (trade_at path) (option_or (list_at path) (list_after_at path))) c e)
     (λ e. later (either (trade_at path) (option_or (list_at path) (list_after_at path)) c e)
     (λ e. either (list_at path) (list_after_at path) c e))
 
-confirms : (path : List ℕ) (key : Key) → IsOneOf path (target.Get (Confirm key)) → IsKey key × (path ≡ codes "/trades/" ++ (key.desk ++ 47 ∷ key.reference))
-confirms path key (inl e) = cc (no-post path (target.Get (Confirm key)) e).2
+-- a look at the tables is what the book is asked under no path
+pub no-look : (found : Option Look) (c : Target) → option_map (λ look. target.Get (LookAt look)) found ≡ Some c → (look : Look) × (found ≡ Some look) × (c ≡ target.Get (LookAt look))
+no-look None c e = cc e
+no-look (Some look) c e = (look, refl, cc e)
+
+one-of : (path : List ℕ) (c : Target) → ((look : Look) → c ≡ target.Get (LookAt look) → ⊥) → target_of path ≡ Some c → IsOneOf path c
+unfolding target_of
+one-of path c none e =
+    by (either (of_book_at path) (look_at path) c e)
+  where
+    by : (of_book_at path ≡ Some c) ⊎ (look_at path ≡ Some c) → IsOneOf path c
+    by (inl e) = of-book path c e
+    by (inr e) = let found = no-look (look_of path) c e in absurd (none found.0 found.2)
+
+confirms : (path : List ℕ) (key : Key) → IsOneOf path (target.Get (Book (Confirm key))) → IsKey key × (path ≡ codes "/trades/" ++ (key.desk ++ 47 ∷ key.reference))
+confirms path key (inl e) = cc (no-post path (target.Get (Book (Confirm key))) e).2
 confirms path key (inr (inl e)) = trade-path path key e
-confirms path key (inr (inr (inl e))) = cc (no-list path (target.Get (Confirm key)) e).1
-confirms path key (inr (inr (inr e))) = cc (no-list-after path (target.Get (Confirm key)) e).1
+confirms path key (inr (inr (inl e))) = cc (no-list path (target.Get (Book (Confirm key))) e).1
+confirms path key (inr (inr (inr e))) = cc (no-list-after path (target.Get (Book (Confirm key))) e).1
 
-lists : (path desk : List ℕ) → IsOneOf path (target.Get (ListTrades desk None)) → IsName is_desk_letter 16 desk × (path ≡ codes "/lists/" ++ desk)
-lists path desk (inl e) = cc (no-post path (target.Get (ListTrades desk None)) e).2
-lists path desk (inr (inl e)) = cc (no-trade path (target.Get (ListTrades desk None)) e).1
+lists : (path desk : List ℕ) → IsOneOf path (target.Get (Book (ListTrades desk None))) → IsName is_desk_letter 16 desk × (path ≡ codes "/lists/" ++ desk)
+lists path desk (inl e) = cc (no-post path (target.Get (Book (ListTrades desk None))) e).2
+lists path desk (inr (inl e)) = cc (no-trade path (target.Get (Book (ListTrades desk None))) e).1
 lists path desk (inr (inr (inl e))) = list-path path desk e
-lists path desk (inr (inr (inr e))) = cc (no-list-after path (target.Get (ListTrades desk None)) e).1
+lists path desk (inr (inr (inr e))) = cc (no-list-after path (target.Get (Book (ListTrades desk None))) e).1
 
-goes-on : (path desk after : List ℕ) → IsOneOf path (target.Get (ListTrades desk (Some after)))
+goes-on : (path desk after : List ℕ) → IsOneOf path (target.Get (Book (ListTrades desk (Some after))))
     → IsName is_desk_letter 16 desk × IsName is_ascii_alphanumeric 20 after × (path ≡ codes "/lists/" ++ (desk ++ 47 ∷ after))
-goes-on path desk after (inl e) = cc (no-post path (target.Get (ListTrades desk (Some after))) e).2
-goes-on path desk after (inr (inl e)) = cc (no-trade path (target.Get (ListTrades desk (Some after))) e).1
-goes-on path desk after (inr (inr (inl e))) = cc (no-list path (target.Get (ListTrades desk (Some after))) e).1
+goes-on path desk after (inl e) = cc (no-post path (target.Get (Book (ListTrades desk (Some after)))) e).2
+goes-on path desk after (inr (inl e)) = cc (no-trade path (target.Get (Book (ListTrades desk (Some after)))) e).1
+goes-on path desk after (inr (inr (inl e))) = cc (no-list path (target.Get (Book (ListTrades desk (Some after)))) e).1
 goes-on path desk after (inr (inr (inr e))) = list-after-path path desk after e
 
 posts : (path : List ℕ) (form : Form) → IsOneOf path (target.Post form) → form_of path ≡ Some form
@@ -200,15 +216,15 @@ posts path form (inr (inl e)) = cc (no-trade path (target.Post form) e).1
 posts path form (inr (inr (inl e))) = cc (no-list path (target.Post form) e).1
 posts path form (inr (inr (inr e))) = cc (no-list-after path (target.Post form) e).1
 
-pub trades-confirmed : (path : List ℕ) (key : Key) → target_of path ≡ Some (target.Get (Confirm key)) → IsKey key × (path ≡ codes "/trades/" ++ (key.desk ++ 47 ∷ key.reference))
-trades-confirmed path key e = confirms path key (one-of path (target.Get (Confirm key)) e)
+pub trades-confirmed : (path : List ℕ) (key : Key) → target_of path ≡ Some (target.Get (Book (Confirm key))) → IsKey key × (path ≡ codes "/trades/" ++ (key.desk ++ 47 ∷ key.reference))
+trades-confirmed path key e = confirms path key (one-of path (target.Get (Book (Confirm key))) (λ look is. cc is) e)
 
-pub lists-given : (path desk : List ℕ) → target_of path ≡ Some (target.Get (ListTrades desk None)) → IsName is_desk_letter 16 desk × (path ≡ codes "/lists/" ++ desk)
-lists-given path desk e = lists path desk (one-of path (target.Get (ListTrades desk None)) e)
+pub lists-given : (path desk : List ℕ) → target_of path ≡ Some (target.Get (Book (ListTrades desk None))) → IsName is_desk_letter 16 desk × (path ≡ codes "/lists/" ++ desk)
+lists-given path desk e = lists path desk (one-of path (target.Get (Book (ListTrades desk None))) (λ look is. cc is) e)
 
-pub lists-go-on : (path desk after : List ℕ) → target_of path ≡ Some (target.Get (ListTrades desk (Some after)))
+pub lists-go-on : (path desk after : List ℕ) → target_of path ≡ Some (target.Get (Book (ListTrades desk (Some after))))
     → IsName is_desk_letter 16 desk × IsName is_ascii_alphanumeric 20 after × (path ≡ codes "/lists/" ++ (desk ++ 47 ∷ after))
-lists-go-on path desk after e = goes-on path desk after (one-of path (target.Get (ListTrades desk (Some after))) e)
+lists-go-on path desk after e = goes-on path desk after (one-of path (target.Get (Book (ListTrades desk (Some after)))) (λ look is. cc is) e)
 
 -- a form is found by its path
 found-by : (v : Bool) (here form : Form) (rest : Option Form) (path : List ℕ) → bytes_eq path (posted_under here) ≡ v → (rest ≡ Some form → path ≡ posted_under form)
@@ -225,8 +241,8 @@ form-found path form (here ∷ others) e =
     found-by (bytes_eq path (posted_under here)) here form (find (λ form. bytes_eq path (posted_under form)) others) path refl (form-found path form others) e
 
 pub bodies-have-one-path : (path : List ℕ) (posted : Form) → target_of path ≡ Some (target.Post posted) → path ≡ posted_under posted
-bodies-have-one-path path posted e = form-found path posted forms (posts path posted (one-of path (target.Post posted) e))
+bodies-have-one-path path posted e = form-found path posted forms (posts path posted (one-of path (target.Post posted) (λ look is. cc is) e))
 
 pub bodies-posted : BodiesArePosted
-unfolding target_of
+unfolding target_of of_book_at
 bodies-posted = record { issues = refl; trades = refl; corrections = refl; cancels = refl; quotes = refl }

@@ -3,12 +3,12 @@ use Rattle.std.proofs.Common.{◌≡◌, ◌≤◌, ◌+◌, ◌-◌, ℕ, List,
 use Rattle.std.proofs.lemmas.List.{drop-append-le, take-append-le, append_assoc, length-append, length-drop}
 use Rattle.std.proofs.lemmas.Bool.Decides.{nat_tests}
 use Rattle.std.specs.Io.KnownBytes.{Consumes, IsAtEnd}
-use Rattle.muni_msg.specs.declared.command.Command.{Command}
-use Rattle.muni_wire.specs.Body.{command_of}
+use Rattle.muni_wire.specs.Body.{request_of}
 use Rattle.muni_wire.specs.Faults.{IsOfBody}
 use Rattle.muni_wire.specs.Head.{IsNoHead, IsHeadTooLarge, EndsInHead}
 use Rattle.muni_wire.specs.Reading.{Reading, Whole, Faulty, Short, carried_out, of_body, Reads, Allows}
 use Rattle.muni_wire.specs.Taken.{IsWholeAt, IsAnswerTo}
+use Rattle.muni_wire.specs.declared.look.Request.{Request}
 use Rattle.muni_wire.specs.declared.fault.Bad.{Bad}
 use Rattle.muni_wire.specs.declared.fault.Bad.TheVariants as bad
 use Rattle.muni_wire.specs.declared.fault.WireFault.{WireFault}
@@ -29,10 +29,10 @@ pub refused : (old new : Option (List ℕ)) (bytes : List ℕ) (end : ℕ) (kind
 refused old new bytes end kind took whole =
     told (λ all. Reads all (Faulty kind)) old new bytes took (λ more. asks bytes more end (plan.Refuse kind) (Faulty kind) whole refl)
 
-pub asked : (old new : Option (List ℕ)) (bytes : List ℕ) (end : ℕ) (command : Command) → Consumes old new bytes
-    → IsWholeAt bytes end (plan.Ask command) → IfSome old (λ all. Allows all (Ok command))
-asked old new bytes end command took whole =
-    told (λ all. Reads all (Whole command)) old new bytes took (λ more. asks bytes more end (plan.Ask command) (Whole command) whole refl)
+pub asked : (old new : Option (List ℕ)) (bytes : List ℕ) (end : ℕ) (request : Request) → Consumes old new bytes
+    → IsWholeAt bytes end (plan.Ask request) → IfSome old (λ all. Allows all (Ok request))
+asked old new bytes end request took whole =
+    told (λ all. Reads all (Whole request)) old new bytes took (λ more. asks bytes more end (plan.Ask request) (Whole request) whole refl)
 
 pub no-head : (old new : Option (List ℕ)) (bytes : List ℕ) → Consumes old new bytes
     → ((more : List ℕ) → IsNoHead (bytes ++ more)) → IfSome old (λ all. Allows all (Err (fault.Bad bad.BadRequest)))
@@ -51,15 +51,15 @@ short-head old new bytes took (ends, end) =
 
 -- ---- a body
 
-allowed-body : (bytes left : List ℕ) (end size : ℕ) (form : Form) (result : Result Command WireFault) → IsWholeAt bytes end (plan.Read form size)
+allowed-body : (bytes left : List ℕ) (end size : ℕ) (form : Form) (result : Result Request WireFault) → IsWholeAt bytes end (plan.Read form size)
     → IsAnswerTo form size (drop end bytes ++ left) result → Allows (bytes ++ left) result
-allowed-body bytes left end size form (Ok command) whole is = asks bytes left end (plan.Read form size) (Whole command) whole is
+allowed-body bytes left end size form (Ok request) whole is = asks bytes left end (plan.Read form size) (Whole request) whole is
 allowed-body bytes left end size form (Err (fault.Bad kind)) whole is = asks bytes left end (plan.Read form size) (Faulty kind) whole is
 allowed-body bytes left end size form (Err fault.Gone) whole is = asks bytes left end (plan.Read form size) Short whole is
 allowed-body bytes left end size form (Err fault.LinkFault) whole is = tt
 allowed-body bytes left end size form (Err fault.NoMemory) whole is = tt
 
-pub told-body : (old new : Option (List ℕ)) (bytes : List ℕ) (end size : ℕ) (form : Form) (result : Result Command WireFault) → Consumes old new bytes
+pub told-body : (old new : Option (List ℕ)) (bytes : List ℕ) (end size : ℕ) (form : Form) (result : Result Request WireFault) → Consumes old new bytes
     → IsWholeAt bytes end (plan.Read form size) → IfSome new (λ left. IsAnswerTo form size (drop end bytes ++ left) result) → IfSome old (λ all. Allows all result)
 told-body None new bytes end size form result took whole is = tt
 told-body (Some all) None bytes end size form result took whole is = absurd took
@@ -79,12 +79,12 @@ body-is items piece rest end size inside long =
       not-short _ size (omega (arith, whole, length-append (drop end items) piece, length-append (drop end items) (piece ++ rest), length-append piece rest)),
     )
 
-answer-of : (rest body : List ℕ) (size : ℕ) (form : Form) (result : Result Command WireFault)
+answer-of : (rest body : List ℕ) (size : ℕ) (form : Form) (result : Result Request WireFault)
     → take size rest ≡ body → nat_lt (length rest) size ≡ false
-    → IfOk result (λ command. command_of form body ≡ Some command)
-    → ((kind : Bad) → result ≡ Err (fault.Bad kind) → (kind ≡ bad.BadRequest) × (command_of form body ≡ None))
+    → IfOk result (λ request. request_of form body ≡ Some request)
+    → ((kind : Bad) → result ≡ Err (fault.Bad kind) → (kind ≡ bad.BadRequest) × (request_of form body ≡ None))
     → IfErr result IsOfBody → IsAnswerTo form size rest result
-answer-of rest body size form (Ok command) is long whole faulty others = sym (rw (long, is) (ap of_body whole))
+answer-of rest body size form (Ok request) is long whole faulty others = sym (rw (long, is) (ap of_body whole))
 answer-of rest body size form (Err (fault.Bad kind)) is long whole faulty others =
     let f = faulty kind refl in
     sym (rw (long, is) (ap of_body f.1 ∙ ap Faulty (sym f.0)))
@@ -92,10 +92,10 @@ answer-of rest body size form (Err fault.Gone) is long whole faulty others = abs
 answer-of rest body size form (Err fault.LinkFault) is long whole faulty others = tt
 answer-of rest body size form (Err fault.NoMemory) is long whole faulty others = tt
 
-pub body-answer : (old new : Option (List ℕ)) (items piece both : List ℕ) (end size : ℕ) (form : Form) (result : Result Command WireFault)
+pub body-answer : (old new : Option (List ℕ)) (items piece both : List ℕ) (end size : ℕ) (form : Form) (result : Result Request WireFault)
     → Consumes old new piece → both ≡ items ++ piece → end ≤ length items → end + size ≤ length both
-    → IfOk result (λ command. command_of form (take ((end + size) - end) (drop end both)) ≡ Some command)
-    → ((kind : Bad) → result ≡ Err (fault.Bad kind) → (kind ≡ bad.BadRequest) × (command_of form (take ((end + size) - end) (drop end both)) ≡ None))
+    → IfOk result (λ request. request_of form (take ((end + size) - end) (drop end both)) ≡ Some request)
+    → ((kind : Bad) → result ≡ Err (fault.Bad kind) → (kind ≡ bad.BadRequest) × (request_of form (take ((end + size) - end) (drop end both)) ≡ None))
     → IfErr result IsOfBody → IfSome old (λ left. IsAnswerTo form size (drop end items ++ left) result)
 body-answer None new items piece both end size form result took is inside long whole faulty others = tt
 body-answer (Some all) None items piece both end size form result took is inside long whole faulty others = absurd took

@@ -4,11 +4,11 @@ use Rattle.std.proofs.lemmas.List.{append-nil, take_all}
 use Rattle.httparse.specs.Grammar.{RequestHead, ReadsRequest, HasNoRequest, print_request, MayBecomeRequest}
 use Rattle.httparse.specs.Spans.{RequestExceeds}
 use Rattle.httparse.proofs.GrammarLemmas.{request_unique}
-use Rattle.muni_msg.specs.declared.command.Command.{Command}
 use Rattle.muni_wire.specs.Head.{HasHead, IsNoHead, IsUnfinished, EndsInHead, head_limit, field_limit}
 use Rattle.muni_wire.specs.Laws.{IsAmbiguous, IsCutOff, IsTheAnswer, answer_to}
 use Rattle.muni_wire.specs.Awaited.{plan_of}
 use Rattle.muni_wire.specs.Reading.{Reading, Whole, Faulty, Short, HeadAsks, carried_out, Reads, Allows}
+use Rattle.muni_wire.specs.declared.look.Request.{Request}
 use Rattle.muni_wire.specs.declared.fault.WireFault.{WireFault}
 use Rattle.muni_wire.specs.declared.fault.WireFault.TheVariants as fault
 use Rattle.muni_wire.proofs.CutLemmas.{cut}
@@ -82,24 +82,24 @@ reads-once bytes a b (inr (inr (inr x))) (inr (inr (inl (inl y, _)))) = absurd (
 reads-once bytes a b (inr (inr (inr x))) (inr (inr (inl (inr y, _)))) = inl (inr (y, (ends-front bytes x.0).none))
 reads-once bytes a b (inr (inr (inr x))) (inr (inr (inr y))) = inr (x.1 ∙ sym y.1)
 
-joined : (bytes : List ℕ) (result : Result Command WireFault) (a b : Reading) → result ≡ answer_to a → IsAmbiguous bytes ⊎ (a ≡ b)
+joined : (bytes : List ℕ) (result : Result Request WireFault) (a b : Reading) → result ≡ answer_to a → IsAmbiguous bytes ⊎ (a ≡ b)
     → IsAmbiguous bytes ⊎ IsCutOff result ⊎ (result ≡ answer_to b)
 joined bytes result a b is (inl ambiguous) = inl ambiguous
 joined bytes result a b is (inr same) = inr (inr (is ∙ ap answer_to same))
 
-answers : (bytes : List ℕ) (result : Result Command WireFault) (a : Reading) → Reads bytes a → result ≡ answer_to a → IsTheAnswer bytes result
+answers : (bytes : List ℕ) (result : Result Request WireFault) (a : Reading) → Reads bytes a → result ≡ answer_to a → IsTheAnswer bytes result
 answers bytes result a reads is = record {
   whole = λ b asks. inr (is ∙ ap answer_to (sym (heads-once bytes b a asks reads)));
   one = λ b other. joined bytes result a b is (reads-once bytes a b reads other);
 }
 
-the-answer : (bytes : List ℕ) (result : Result Command WireFault) → Allows bytes result → IsTheAnswer bytes result
-the-answer bytes (Ok command) allowed = answers bytes (Ok command) (Whole command) allowed refl
+the-answer : (bytes : List ℕ) (result : Result Request WireFault) → Allows bytes result → IsTheAnswer bytes result
+the-answer bytes (Ok request) allowed = answers bytes (Ok request) (Whole request) allowed refl
 the-answer bytes (Err (fault.Bad kind)) allowed = answers bytes (Err (fault.Bad kind)) (Faulty kind) allowed refl
 the-answer bytes (Err fault.Gone) allowed = answers bytes (Err fault.Gone) Short allowed refl
 the-answer bytes (Err fault.LinkFault) allowed = record { whole = λ b asks. inl tt; one = λ b other. inr (inl tt) }
 the-answer bytes (Err fault.NoMemory) allowed = record { whole = λ b asks. inl tt; one = λ b other. inr (inl tt) }
 
-pub told_answer : (told : Option (List ℕ)) (result : Result Command WireFault) → IfSome told (λ bytes. Allows bytes result) → IfSome told (λ bytes. IsTheAnswer bytes result)
+pub told_answer : (told : Option (List ℕ)) (result : Result Request WireFault) → IfSome told (λ bytes. Allows bytes result) → IfSome told (λ bytes. IsTheAnswer bytes result)
 told_answer None result allowed = tt
 told_answer (Some bytes) result allowed = the-answer bytes result allowed

@@ -20,8 +20,8 @@ body_plan form (Err fault) = plan.Refuse fault
 -- by what is asked under the path, by the method, and by the header fields
 abbrev pub plan_on : Option Target → List ℕ → List FieldText → Awaited
 plan_on None method fields = plan.Refuse bad.NotFound
-plan_on (Some (target.Get command)) method fields =
-    if bytes_eq method (codes "GET") then plan.Ask command else plan.Refuse (bad.NotAllowed false)
+plan_on (Some (target.Get request)) method fields =
+    if bytes_eq method (codes "GET") then plan.Ask request else plan.Refuse (bad.NotAllowed false)
 plan_on (Some (target.Post form)) method fields =
     if bytes_eq method (codes "POST") then body_plan form (body_length fields)
     else plan.Refuse (bad.NotAllowed true)

@@ -1,5 +1,5 @@
 -- What a body asks for: the members of a JSON object (RFC 8259).
-use Rattle.std.specs.Prelude.{ℕ, Bool, false, List, codes, Option, Some, None, if◌then◌else◌}
+use Rattle.std.specs.Prelude.{ℕ, Bool, false, List, codes, Option, Some, None, option_map, if◌then◌else◌}
 use Rattle.std.specs.Char.{is_ascii_alphanumeric}
 use Rattle.std.specs.Result.{result_ok}
 use Rattle.std.specs.Str.{is_utf8}
@@ -27,6 +27,8 @@ use Rattle.muni_msg.specs.declared.command.Command.TheVariants as command
 use Rattle.muni_msg.specs.declared.command.Key.{Key}
 use Rattle.muni_wire.specs.Calls.{calls_in}
 use Rattle.muni_wire.specs.Members.{member, optional}
+use Rattle.muni_wire.specs.declared.look.Request.{Request}
+use Rattle.muni_wire.specs.declared.look.Request.TheVariants.{Book}
 use Rattle.muni_wire.specs.declared.routes.Form.{Form}
 use Rattle.muni_wire.specs.declared.routes.Form.TheVariants as form
 
@@ -171,3 +173,6 @@ command_in form.Quote value = do
 -- what a body of a form asks for
 abbrev pub command_of : Form → List ℕ → Option Command
 command_of posted body = data_of body >>= command_in posted
+
+abbrev pub request_of : Form → List ℕ → Option Request
+request_of posted body = option_map (λ command. Book command) (command_of posted body)

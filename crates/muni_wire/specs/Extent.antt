@@ -45,7 +45,7 @@ pub record TakesHead {L : Type 0} (takes : source.Ghosts L) (old new : L) : Type
 -- how many bytes after a head are awaited: those of its body
 abbrev pub awaited_size : Awaited → ℕ
 awaited_size (plan.Refuse kind) = 0
-awaited_size (plan.Ask command) = 0
+awaited_size (plan.Ask request) = 0
 awaited_size (plan.Read form size) = size
 
 -- More is to come of a request: its head, or if that has come within the limits, the rest of its body.

@@ -2,10 +2,10 @@
 use Rattle.std.specs.Prelude.{◌≡◌, ◌⊎◌, List, ℕ, take, Result, Ok, Err, ⊤}
 use Rattle.httparse.specs.Grammar.{EndsInTarget, HasNoRequest}
 use Rattle.httparse.specs.Spans.{RequestExceeds}
-use Rattle.muni_msg.specs.declared.command.Command.{Command}
 use Rattle.muni_wire.specs.Head.{IsNoHead, head_limit, field_limit}
 use Rattle.muni_wire.specs.Reading.{Reading, Whole, Faulty, Short, HeadAsks, Reads}
 use Rattle.muni_wire.specs.declared.fault.WireFault.{WireFault}
+use Rattle.muni_wire.specs.declared.look.Request.{Request}
 use Rattle.muni_wire.specs.declared.fault.WireFault.TheVariants as fault
 
 -- The first bytes, as many as a head has, end within a target that no head continues, or they hold too
@@ -29,21 +29,21 @@ abbrev pub AreAllRead : Type 0
 AreAllRead = (bytes : List ℕ) → ¬ ((reading : Reading) → ¬ (Reads bytes reading))
 
 -- the answer that a reading is
-abbrev pub answer_to : Reading → Result Command WireFault
-answer_to (Whole command) = Ok command
+abbrev pub answer_to : Reading → Result Request WireFault
+answer_to (Whole request) = Ok request
 answer_to (Faulty kind) = Err (fault.Bad kind)
 answer_to Short = Err fault.Gone
 
 -- the link failed, or memory ran out
-abbrev pub IsCutOff : Result Command WireFault → Type 0
-IsCutOff (Ok command) = ⊥
+abbrev pub IsCutOff : Result Request WireFault → Type 0
+IsCutOff (Ok request) = ⊥
 IsCutOff (Err (fault.Bad kind)) = ⊥
 IsCutOff (Err fault.Gone) = ⊥
 IsCutOff (Err fault.LinkFault) = ⊤
 IsCutOff (Err fault.NoMemory) = ⊤
 
 -- if the bytes have one reading, it is answered, unless that was cut off
-pub record IsTheAnswer (bytes : List ℕ) (result : Result Command WireFault) : Type 0 where
+pub record IsTheAnswer (bytes : List ℕ) (result : Result Request WireFault) : Type 0 where
   pub whole : (reading : Reading) → HeadAsks bytes reading
       → IsCutOff result ⊎ (result ≡ answer_to reading)
   pub one : (reading : Reading) → Reads bytes reading

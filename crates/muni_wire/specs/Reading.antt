@@ -1,34 +1,34 @@
 -- What the bytes of a connection ask for.
 use Rattle.std.specs.Prelude.{◌≡◌, ◌⊎◌, ℕ, List, length, take, nat_lt, Option, Some, None, Result, Ok, Err, if◌then◌else◌, ⊤}
 use Rattle.httparse.specs.Grammar.{RequestHead}
-use Rattle.muni_msg.specs.declared.command.Command.{Command}
-use Rattle.muni_wire.specs.Body.{command_of}
+use Rattle.muni_wire.specs.Body.{request_of}
 use Rattle.muni_wire.specs.Head.{HasHead, IsNoHead, IsHeadTooLarge, EndsInHead}
 use Rattle.muni_wire.specs.Awaited.{plan_of}
 use Rattle.muni_wire.specs.declared.fault.Bad.{Bad}
 use Rattle.muni_wire.specs.declared.fault.Bad.TheVariants as bad
 use Rattle.muni_wire.specs.declared.fault.WireFault.{WireFault}
 use Rattle.muni_wire.specs.declared.fault.WireFault.TheVariants as fault
+use Rattle.muni_wire.specs.declared.look.Request.{Request}
 use Rattle.muni_wire.specs.declared.head.Awaited.{Awaited}
 use Rattle.muni_wire.specs.declared.head.Awaited.TheVariants as plan
 
--- a whole command, a bad request, or bytes that end before the request does
+-- a whole request, a bad one, or bytes that end before the request does
 pub data Reading : Type 0 where
-  Whole : Command → Reading
+  Whole : Request → Reading
   Faulty : Bad → Reading
   Short : Reading
 
 -- a body that is there
-abbrev pub of_body : Option Command → Reading
-of_body (Some command) = Whole command
+abbrev pub of_body : Option Request → Reading
+of_body (Some request) = Whole request
 of_body None = Faulty bad.BadRequest
 
 -- what comes of a plan with the bytes after the head
 abbrev pub carried_out : Awaited → List ℕ → Reading
 carried_out (plan.Refuse kind) rest = Faulty kind
-carried_out (plan.Ask command) rest = Whole command
+carried_out (plan.Ask request) rest = Whole request
 carried_out (plan.Read form size) rest =
-    if nat_lt (length rest) size then Short else of_body (command_of form (take size rest))
+    if nat_lt (length rest) size then Short else of_body (request_of form (take size rest))
 
 -- the bytes begin with a head within the limits, and it asks for this with the bytes after it
 pub record HeadAsks (bytes : List ℕ) (reading : Reading) : Type 0 where
@@ -46,8 +46,8 @@ Reads bytes reading =
     ⊎ (EndsInHead bytes × (reading ≡ Short))
 
 -- The bytes allow this answer. A fault of the link and a lack of memory say nothing of them.
-abbrev pub Allows : List ℕ → Result Command WireFault → Type 0
-Allows bytes (Ok command) = Reads bytes (Whole command)
+abbrev pub Allows : List ℕ → Result Request WireFault → Type 0
+Allows bytes (Ok request) = Reads bytes (Whole request)
 Allows bytes (Err (fault.Bad kind)) = Reads bytes (Faulty kind)
 Allows bytes (Err fault.Gone) = Reads bytes Short
 Allows bytes (Err fault.LinkFault) = ⊤

@@ -5,11 +5,15 @@ use Rattle.std.specs.List.{before_first}
 use Rattle.std.specs.Option.{option_or}
 use Rattle.std.specs.Result.{result_ok}
 use Rattle.std.specs.Str.{bytes_eq}
-use Rattle.muni_msg.specs.Fields.{◌>>=◌}
+use Rattle.muni_msg.specs.Fields.{◌>>=◌, version_number}
+use Rattle.muni_msg.specs.IssueFields.{cusip_reading}
 use Rattle.muni_msg.specs.Names.{is_desk_letter}
 use Rattle.muni_msg.specs.NameReading.{name_reading}
 use Rattle.muni_msg.specs.declared.command.Command.TheVariants.{Confirm, List as ListTrades}
 use Rattle.muni_msg.specs.declared.command.Key.{Key}
+use Rattle.muni_wire.specs.declared.look.Look.{Look}
+use Rattle.muni_wire.specs.declared.look.Look.TheVariants as look
+use Rattle.muni_wire.specs.declared.look.Request.TheVariants.{Book, Look as LookAt}
 use Rattle.muni_wire.specs.declared.routes.Form.{Form}
 use Rattle.muni_wire.specs.declared.routes.Form.TheVariants as form
 use Rattle.muni_wire.specs.declared.routes.Target.{Target}
@@ -57,22 +61,69 @@ abbrev pub trade_at : List ℕ → Option Target
 trade_at path = do
   text ← behind (codes "/trades/") path
   key ← key_of text
-  Some (target.Get (Confirm key))
+  Some (target.Get (Book (Confirm key)))
 
 -- `/lists/` and a desk
 abbrev pub list_at : List ℕ → Option Target
 list_at path = do
   text ← behind (codes "/lists/") path
   desk ← result_ok (name_reading is_desk_letter 16 text)
-  Some (target.Get (ListTrades desk None))
+  Some (target.Get (Book (ListTrades desk None)))
 
 -- `/lists/`, a desk, a slash and a reference
 abbrev pub list_after_at : List ℕ → Option Target
 list_after_at path = do
   text ← behind (codes "/lists/") path
   key ← key_of text
-  Some (target.Get (ListTrades key.desk (Some key.reference)))
+  Some (target.Get (Book (ListTrades key.desk (Some key.reference))))
 
--- what is asked under a path: the one of these that it is
+-- what the book is asked under a path: the one of these that it is
+unfoldable pub of_book_at : List ℕ → Option Target
+of_book_at path = option_or (post_at path) (option_or (trade_at path) (option_or (list_at path) (list_after_at path)))
+
+-- `/issues/` and a CUSIP
+abbrev pub issue_at : List ℕ → Option Look
+issue_at path = do
+  text ← behind (codes "/issues/") path
+  cusip ← cusip_reading text
+  Some (look.Issue cusip)
+
+-- what comes before the first slash and after it
+abbrev pub parts_of : List ℕ → Option (List ℕ × List ℕ)
+parts_of text = position (λ b. b == 47) text >>= λ slash. Some (take slash text, drop (slash + 1) text)
+
+-- `/trades/`, a desk, a slash, a reference, a slash and a number
+abbrev pub version_at : List ℕ → Option Look
+version_at path = do
+  text ← behind (codes "/trades/") path
+  first ← parts_of text
+  second ← parts_of first.1
+  desk ← result_ok (name_reading is_desk_letter 16 first.0)
+  reference ← result_ok (name_reading is_ascii_alphanumeric 20 second.0)
+  number ← version_number second.1
+  Some (look.Version (record { desk = desk; reference = reference }) number)
+
+-- `/positions/` and a desk
+abbrev pub positions_at : List ℕ → Option Look
+positions_at path = do
+  text ← behind (codes "/positions/") path
+  desk ← result_ok (name_reading is_desk_letter 16 text)
+  Some (look.Positions desk)
+
+-- `/latest/` and a desk
+abbrev pub latest_at : List ℕ → Option Look
+latest_at path = do
+  text ← behind (codes "/latest/") path
+  desk ← result_ok (name_reading is_desk_letter 16 text)
+  Some (look.Latest desk)
+
+-- which look at the tables is asked for: the one of these
+unfoldable pub look_of : List ℕ → Option Look
+look_of path = option_or (issue_at path) (option_or (version_at path) (option_or (positions_at path) (latest_at path)))
+
+abbrev pub look_at : List ℕ → Option Target
+look_at path = option_map (λ look. target.Get (LookAt look)) (look_of path)
+
+-- what is asked under a path
 unfoldable pub target_of : List ℕ → Option Target
-target_of path = option_or (post_at path) (option_or (trade_at path) (option_or (list_at path) (list_after_at path)))
+target_of path = option_or (of_book_at path) (look_at path)

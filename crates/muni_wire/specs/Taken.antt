@@ -3,13 +3,13 @@ use Rattle.std.specs.Prelude.{◌≡◌, ◌≤◌, ◌==◌, ◌||◌, ℕ, Lis
 use Rattle.std.specs.Io.KnownBytes.{IsAtEnd}
 use Rattle.std.specs.List.{list_any}
 use Rattle.httparse.specs.Grammar.{RequestHead, HasNoRequest}
-use Rattle.muni_msg.specs.declared.command.Command.{Command}
 use Rattle.muni_wire.specs.BodyLength.{body_limit}
 use Rattle.muni_wire.specs.Head.{HasHead, IsNoHead, IsHeadTooLarge, EndsInHead}
 use Rattle.muni_wire.specs.Awaited.{plan_of}
 use Rattle.muni_wire.specs.Reading.{Whole, Faulty, Short, carried_out}
 use Rattle.muni_wire.specs.declared.fault.WireFault.{WireFault}
 use Rattle.muni_wire.specs.declared.fault.WireFault.TheVariants as fault
+use Rattle.muni_wire.specs.declared.look.Request.{Request}
 use Rattle.muni_wire.specs.declared.routes.Form.{Form}
 use Rattle.muni_wire.specs.declared.head.Awaited.{Awaited}
 use Rattle.muni_wire.specs.declared.head.Awaited.TheVariants as plan
@@ -29,7 +29,7 @@ IsWholeAt bytes end plan =
 -- a body that is to be read is within its limit
 abbrev pub IsWithinLimit : Awaited → Type 0
 IsWithinLimit (plan.Refuse kind) = ⊤
-IsWithinLimit (plan.Ask command) = ⊤
+IsWithinLimit (plan.Ask request) = ⊤
 IsWithinLimit (plan.Read form size) = size ≤ body_limit
 
 -- what a head says of these bytes, whatever follows them
@@ -52,8 +52,8 @@ IsHeadOf head.Never bytes left = (more : List ℕ) → IsNoHead (bytes ++ more)
 IsHeadOf head.TooLarge bytes left = (more : List ℕ) → IsHeadTooLarge (bytes ++ more)
 
 -- the answer to a body of so many bytes, by all bytes after the head
-abbrev pub IsAnswerTo : Form → ℕ → List ℕ → Result Command WireFault → Type 0
-IsAnswerTo form size rest (Ok command) = Whole command ≡ carried_out (plan.Read form size) rest
+abbrev pub IsAnswerTo : Form → ℕ → List ℕ → Result Request WireFault → Type 0
+IsAnswerTo form size rest (Ok request) = Whole request ≡ carried_out (plan.Read form size) rest
 IsAnswerTo form size rest (Err (fault.Bad kind)) = Faulty kind ≡ carried_out (plan.Read form size) rest
 IsAnswerTo form size rest (Err fault.Gone) = Short ≡ carried_out (plan.Read form size) rest
 IsAnswerTo form size rest (Err fault.LinkFault) = ⊤

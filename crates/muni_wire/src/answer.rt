@@ -1,6 +1,6 @@
 //! The answers to requests.
 
-ghost use Rattle.std.specs.Prelude.{◌≡◌, ◌≤◌, ◌+◌, ◌++◌, [], decimal, length};
+ghost use Rattle.std.specs.Prelude.{◌≡◌, ◌≤◌, ◌+◌, ◌++◌, [], decimal, length, IfOk};
 ghost use Rattle.arrayvec.specs.ArrayVec.{array_vec_len};
 ghost use Rattle.muni_confirm.specs.Confirmation.{confirmation_text};
 ghost use Rattle.muni_confirm.specs.Each.{quoted_text};
@@ -17,9 +17,10 @@ use arrayvec::ArrayVec;
 use itoa::Buffer;
 use muni_confirm::{confirmation, figure_lines, push_each, refusal_line};
 use muni_dec::text::{push, push_line};
-use muni_edge::{Failed, Link};
+use muni_edge::{Failed, Link, NoMemory};
 use muni_msg::{Asked, EachRedemption, Figures, Key, Line, Refusal, Reply, Version};
 use muni_terms::Issue;
+use std::alloc::Global;
 
 /// Answers a reply: its status and its text. A confirmation, the lines of figures, the lines of a
 /// list, each a trade of the desk, or the line of a refusal. Returns the status.
@@ -46,6 +47,29 @@ pub fn write_reply<L: Link>(
         } => write_confirmation(link, issue, key, *number, version),
         Reply::Refused(refusal) => write_refusal(link, refusal),
     }
+}
+
+/// The answer to a request that was done, with a text of any length.
+pub fn success(alloc: Global, text: &[u8]) -> Result<Vec<u8>, NoMemory>
+    ensures { IfOk result (λ answer. answer.items ≡ spec.success text.now) }
+{
+    let mut head = ArrayVec::new();
+    push_head(&mut head, HttpStatus::Success, b"", text.len());
+    let mut answer = Vec::new(alloc);
+    if answer.extend_from_slice(&head).is_err() || answer.extend_from_slice(text).is_err() {
+        return Err(NoMemory);
+    }
+    Ok(answer)
+}
+
+/// Answers a request by an answer that is made: its bytes. Returns the status.
+///
+/// After a failure the connection may hold a part of the answer.
+pub fn write_success<L: Link>(link: &mut L, answer: &[u8]) -> Result<HttpStatus, Failed>
+    ensures { Answers L.Source L.Sink HttpStatus.Success answer.now result link.old link.new }
+{
+    link.put(answer)?;
+    Ok(HttpStatus::Success)
 }
 
 /// Answers a request that is no command: its status, and that with its phrase as the text. If the

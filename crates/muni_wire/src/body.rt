@@ -8,7 +8,7 @@ ghost use Rattle.muni_wire.specs.Members as members;
 
 use crate::calls::read_calls;
 use crate::routes::Form;
-use crate::{Bad, WireFault};
+use crate::{Bad, Request, WireFault};
 use arrayvec::ArrayVec;
 use muni_days::{Basis, Day};
 use muni_dec::{Coupon, Fee, Par};
@@ -22,15 +22,15 @@ use serde_json::Value;
 use std::alloc::Global;
 
 /// What a body of this form asks for.
-pub(crate) fn read_body(alloc: Global, form: Form, body: &[u8]) -> Result<Command, WireFault>
-    ensures whole { IfOk result (λ command. spec.command_of form body.now ≡ Some command) }
+pub(crate) fn read_body(alloc: Global, form: Form, body: &[u8]) -> Result<Request, WireFault>
+    ensures whole { IfOk result (λ request. spec.request_of form body.now ≡ Some request) }
     ensures bad { (kind : _) → result ≡ Err (WireFault.Bad kind)
-        → (kind ≡ Bad.BadRequest) × (spec.command_of form body.now ≡ None) }
+        → (kind ≡ Bad.BadRequest) × (spec.request_of form body.now ≡ None) }
     ensures others { IfErr result (λ fault. IsOfBody fault) }
 {
     let value = read_value(alloc, body)?;
     match read_command(form, &value) {
-        Some(command) => Ok(command),
+        Some(command) => Ok(Request::Book(command)),
         None => Err(WireFault::Bad(Bad::BadRequest)),
     }
 }

@@ -6,18 +6,17 @@ ghost use Rattle.muni_wire.specs.Head.{EndsInHead, head_limit};
 ghost use Rattle.muni_wire.specs.Awaited as spec;
 ghost use Rattle.muni_wire.specs.Taken.{IsSeenIn, IsWithinLimit};
 
-use crate::Bad;
 use crate::length::body_length;
 use crate::routes::{Form, Target, find_target, path_of};
+use crate::{Bad, Request};
 use httparse::spans::{EMPTY_HEADER_SPAN, HeaderSpan, RequestSpans, parse_request};
 use httparse::{Error, Status};
-use muni_msg::Command;
 
 /// What is to be done about a request, by its head alone.
 #[derive(Drop)]
 pub(crate) enum Awaited {
     Refuse(Bad),
-    Ask(Command),
+    Ask(Request),
     /// A body of `size` bytes is to be read.
     Read { form: Form, size: usize },
 }
@@ -83,9 +82,9 @@ fn plan_for(bytes: &[u8], head: &RequestSpans, headers: &[HeaderSpan]) -> Awaite
     let method = head.method.of(bytes);
     match find_target(path_of(head.path.of(bytes))) {
         None => Awaited::Refuse(Bad::NotFound),
-        Some(Target::Get(command)) => {
+        Some(Target::Get(request)) => {
             if method == b"GET".as_slice() {
-                Awaited::Ask(command)
+                Awaited::Ask(request)
             } else {
                 Awaited::Refuse(Bad::NotAllowed { post: false })
             }

@@ -4,7 +4,7 @@ ghost use Rattle.muni_wire.specs.Laws.{HeadsAreReadOnce, AreReadOnce, AreAllRead
 ghost use Rattle.muni_wire.specs.LeftOut.{MayBeLeftOut};
 ghost use Rattle.muni_wire.specs.LengthLaw.{LengthsAreGiven};
 ghost use Rattle.muni_wire.specs.OtherMembers.{OtherMembersAreIgnored};
-ghost use Rattle.muni_wire.specs.PathLaws.{BodiesArePosted, TradesAreConfirmed, ListsAreGiven, ListsGoOn, BodiesHaveOnePath, EachTradeIsConfirmed, EachListIsGiven, EachListGoesOn};
+ghost use Rattle.muni_wire.specs.PathLaws.{BodiesArePosted, TradesAreConfirmed, ListsAreGiven, ListsGoOn, BodiesHaveOnePath, EachTradeIsConfirmed, EachListIsGiven, EachListGoesOn, LooksHavePaths, EachLookIsMade};
 ghost use Rattle.muni_wire.specs.StatusLaws.{RefusalsHaveCodes};
 
 /// The bytes of a connection have one reading, unless they are ambiguous: if they, or the first
@@ -58,4 +58,12 @@ pub fn each_path_leads_to_its_request()
     ensures confirmed { EachTradeIsConfirmed }
     ensures listed { EachListIsGiven }
     ensures listed_after { EachListGoesOn }
+{}
+
+/// Each look at the tables is made under its paths, and under no other: at an issue under `/issues/` and
+/// its CUSIP, at a version under `/trades/`, its desk, its reference and its number with slashes between,
+/// at the positions of a desk under `/positions/` and its name, and at its last trades under `/latest/`.
+pub fn looks_have_paths()
+    ensures only { LooksHavePaths }
+    ensures each { EachLookIsMade }
 {}

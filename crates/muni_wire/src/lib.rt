@@ -9,12 +9,14 @@ mod head;
 pub mod laws;
 mod length;
 mod list;
+mod look;
 mod request;
 mod routes;
 mod status;
 mod taking;
 
-pub use answer::{write_bad, write_reply, write_unavailable};
+pub use answer::{success, write_bad, write_reply, write_success, write_unavailable};
 pub use fault::{Bad, WireFault};
+pub use look::{Look, Request};
 pub use request::read_request;
 pub use status::HttpStatus;

@@ -13,9 +13,8 @@ use crate::body::read_body;
 use crate::head::{Awaited, Head};
 use crate::routes::Form;
 use crate::taking::{fill, read_head};
-use crate::{Bad, WireFault};
+use crate::{Bad, Request, WireFault};
 use muni_edge::Link;
-use muni_msg::Command;
 use std::alloc::Global;
 
 /// Reads one request of HTTP/1.0 or HTTP/1.1 (RFC 9112), by all bytes of the connection, however
@@ -24,7 +23,7 @@ use std::alloc::Global;
 ///
 /// If memory runs out nothing is said of the bytes.
 #[tactic(auto, using(crate::proofs::UniqueLemmas::told_answer))]
-pub fn read_request<L: Link>(alloc: Global, link: &mut L) -> Result<Command, WireFault>
+pub fn read_request<L: Link>(alloc: Global, link: &mut L) -> Result<Request, WireFault>
     ensures allowed { IfSome (L.left link.old) (λ bytes. Allows bytes result) }
     ensures only { IfSome (L.left link.old) (λ bytes. IsTheAnswer bytes result) }
     ensures no_further { ReadsNoFurther (L.left link.old) (L.left link.new) }
@@ -38,7 +37,7 @@ pub fn read_request<L: Link>(alloc: Global, link: &mut L) -> Result<Command, Wir
         Head::TooLarge => Err(WireFault::Bad(Bad::HeadTooLarge)),
         Head::Whole { end, plan } => match plan {
             Awaited::Refuse(bad) => Err(WireFault::Bad(bad)),
-            Awaited::Ask(command) => Ok(command),
+            Awaited::Ask(request) => Ok(request),
             Awaited::Read { form, size } => take_body(alloc, link, &mut bytes, end, form, size),
         },
     }
@@ -52,7 +51,7 @@ fn take_body<L: Link>(
     end: usize,
     form: Form,
     size: usize,
-) -> Result<Command, WireFault>
+) -> Result<Request, WireFault>
     requires inside { end ≤ vec_len bytes.old }
     requires head { end ≤ head_limit }
     requires body { size ≤ body_limit }

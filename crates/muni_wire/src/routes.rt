@@ -1,10 +1,11 @@
 //! What is asked under the path of a request.
 
-ghost use Rattle.std.specs.Prelude.{◌≡◌};
+ghost use Rattle.std.specs.Prelude.{◌≡◌, option_map};
 ghost use Rattle.muni_wire.specs.Routes as spec;
 
+use crate::{Look, Request};
 use muni_dec::text::find;
-use muni_msg::{Command, DeskName, Key, Reference};
+use muni_msg::{Command, DeskName, Key, Reference, read_cusip, read_version_number};
 
 /// What a body asks for.
 #[derive(Clone, Copy, Debug, PartialEq, Eq)]
@@ -16,11 +17,11 @@ pub(crate) enum Form {
     Quote,
 }
 
-/// What is asked under a path: a body of a form is posted, or a trade or a list is got.
+/// What is asked under a path: a body of a form is posted, or something kept is got.
 #[derive(Drop)]
 pub(crate) enum Target {
     Post(Form),
-    Get(Command),
+    Get(Request),
 }
 
 /// The path of a target: what comes before the first `?`.
@@ -38,10 +39,33 @@ pub(crate) fn path_of(target: &[u8]) -> &[u8]
 pub(crate) fn find_target(path: &[u8]) -> Option<Target>
     ensures { result ≡ spec.target_of path.now }
 {
+    of_book(path).or_else(|| look(path))
+}
+
+#[tactic(auto, unfolding(crate::specs::Routes::of_book_at))]
+fn of_book(path: &[u8]) -> Option<Target>
+    ensures { result ≡ spec.of_book_at path.now }
+{
     post(path)
         .or_else(|| trade(path))
         .or_else(|| list(path))
         .or_else(|| list_after(path))
+}
+
+fn look(path: &[u8]) -> Option<Target>
+    ensures { result ≡ spec.look_at path.now }
+{
+    Some(Target::Get(Request::Look(find_look(path)?)))
+}
+
+#[tactic(auto, unfolding(crate::specs::Routes::look_of))]
+fn find_look(path: &[u8]) -> Option<Look>
+    ensures { result ≡ spec.look_of path.now }
+{
+    issue(path)
+        .or_else(|| version(path))
+        .or_else(|| positions(path))
+        .or_else(|| latest(path))
 }
 
 fn post(path: &[u8]) -> Option<Target>
@@ -73,24 +97,67 @@ fn trade(path: &[u8]) -> Option<Target>
     ensures { result ≡ spec.trade_at path.now }
 {
     let key = read_key(path.strip_prefix(b"/trades/")?)?;
-    Some(Target::Get(Command::Confirm { key }))
+    Some(Target::Get(Request::Book(Command::Confirm { key })))
 }
 
 fn list(path: &[u8]) -> Option<Target>
     ensures { result ≡ spec.list_at path.now }
 {
     let desk = DeskName::read(path.strip_prefix(b"/lists/")?).ok()?;
-    Some(Target::Get(Command::List { desk, after: None }))
+    Some(Target::Get(Request::Book(Command::List { desk, after: None })))
 }
 
 fn list_after(path: &[u8]) -> Option<Target>
     ensures { result ≡ spec.list_after_at path.now }
 {
     let Key { desk, reference } = read_key(path.strip_prefix(b"/lists/")?)?;
-    Some(Target::Get(Command::List {
+    Some(Target::Get(Request::Book(Command::List {
         desk,
         after: Some(reference),
-    }))
+    })))
+}
+
+fn issue(path: &[u8]) -> Option<Look>
+    ensures { result ≡ spec.issue_at path.now }
+{
+    let cusip = read_cusip(path.strip_prefix(b"/issues/")?)?;
+    Some(Look::Issue { cusip })
+}
+
+fn version(path: &[u8]) -> Option<Look>
+    ensures { result ≡ spec.version_at path.now }
+{
+    let (desk, rest) = parts(path.strip_prefix(b"/trades/")?)?;
+    let (reference, number) = parts(rest)?;
+    let desk = DeskName::read(desk).ok()?;
+    let reference = Reference::read(reference).ok()?;
+    let number = read_version_number(number)?;
+    Some(Look::Version {
+        key: Key { desk, reference },
+        number,
+    })
+}
+
+fn positions(path: &[u8]) -> Option<Look>
+    ensures { result ≡ spec.positions_at path.now }
+{
+    let desk = DeskName::read(path.strip_prefix(b"/positions/")?).ok()?;
+    Some(Look::Positions { desk })
+}
+
+fn latest(path: &[u8]) -> Option<Look>
+    ensures { result ≡ spec.latest_at path.now }
+{
+    let desk = DeskName::read(path.strip_prefix(b"/latest/")?).ok()?;
+    Some(Look::Latest { desk })
+}
+
+// What comes before the first slash and after it.
+fn parts(text: &[u8]) -> Option<(&[u8], &[u8])>
+    ensures { option_map (λ parts. (parts.0.now, parts.1.now)) result ≡ spec.parts_of text.now }
+{
+    let slash = find(text, b'/')?;
+    Some((&text[..slash], &text[slash + 1..]))
 }
 
 // A desk, a slash and a reference.

@@ -24,7 +24,7 @@ returns-in-Refuse-clause-allowed g c =
 pub returns-in-Ask-clause-allowed : goal.returns-in-Ask-clause-allowed
 returns-in-Ask-clause-allowed g c =
     let said = rw (c.in-Whole.is, c.in-Ask.is) at c.in_ok-head.ensures in
-    asked (g.L.Source.left c.args.link.now) (g.L.Source.left c.read_head.new.link) c.in_ok-head.bytes.items c.in-Whole.end c.in-Ask.command said.taken said.head.0
+    asked (g.L.Source.left c.args.link.now) (g.L.Source.left c.read_head.new.link) c.in_ok-head.bytes.items c.in-Whole.end c.in-Ask.request said.taken said.head.0
 
 pub returns-in-More-clause-allowed : goal.returns-in-More-clause-allowed
 returns-in-More-clause-allowed g c =
@@ -111,7 +111,7 @@ pub returns-in-Refuse-clause-only : goal.returns-in-Refuse-clause-only
 returns-in-Refuse-clause-only g c = told_answer (g.L.Source.left c.args.link.now) (Err (fault.Bad c.in-Refuse.bad)) (returns-in-Refuse-clause-allowed g c)
 
 pub returns-in-Ask-clause-only : goal.returns-in-Ask-clause-only
-returns-in-Ask-clause-only g c = told_answer (g.L.Source.left c.args.link.now) (Ok c.in-Ask.command) (returns-in-Ask-clause-allowed g c)
+returns-in-Ask-clause-only g c = told_answer (g.L.Source.left c.args.link.now) (Ok c.in-Ask.request) (returns-in-Ask-clause-allowed g c)
 
 pub returns-clause-only : goal.returns-clause-only
 returns-clause-only g c = told_answer (g.L.Source.left c.args.link.now) c.take_body.result (returns-clause-allowed g c)
