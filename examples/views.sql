@@ -94,3 +94,25 @@ FROM (
     GROUP BY settle, desk
 )
 ORDER BY settle, desk;
+
+-- The same by the day with which references begin, as 20240403A0001 begins with 2024-04-03: that of the trade, if the desk
+-- gives its references so. A trade whose reference does not begin with a day of the calendar is not in it.
+CREATE VIEW IF NOT EXISTS trades_by_reference_date AS
+SELECT
+    day, desk, trades, bought, sold,
+    printf('%s%d.%02d', CASE WHEN paid < 0 THEN '-' ELSE '' END, abs(paid) / 100, abs(paid) % 100) AS paid,
+    printf('%s%d.%02d', CASE WHEN received < 0 THEN '-' ELSE '' END, abs(received) / 100, abs(received) % 100) AS received
+FROM (
+    SELECT
+        substr(reference, 1, 4) || '-' || substr(reference, 5, 2) || '-' || substr(reference, 7, 2) AS day,
+        desk,
+        COUNT(*) AS trades,
+        SUM(CASE side WHEN 0 THEN par ELSE 0 END) AS bought,
+        SUM(CASE side WHEN 1 THEN par ELSE 0 END) AS sold,
+        SUM(CASE side WHEN 0 THEN total ELSE 0 END) AS paid,
+        SUM(CASE side WHEN 1 THEN total ELSE 0 END) AS received
+    FROM live_versions
+    GROUP BY day, desk
+)
+WHERE date(day, '+0 days') = day
+ORDER BY day, desk;

@@ -8,6 +8,8 @@ const SLOW = 2_000;
 // Statuses of what stands before the desk, and of a store that failed: the same request may go well later.
 const LATER = [429, 502, 503, 504];
 export const TRIES = PAUSES.length + 1;
+// Of many requests so many are under way at once.
+const AT_ONCE = 4;
 
 const pause = time => new Promise(done => setTimeout(done, time));
 
@@ -41,6 +43,23 @@ export async function ask(path, body, waiting = () => {}) {
     await pause(PAUSES[sent - 1]);
   }
 }
+
+// Does something with each of many, a few at a time, as long as it is wanted. Gives what came of each, in their order.
+export async function eachOf(items, does, isCurrent) {
+  const came = [];
+  let next = 0;
+  const worker = async () => {
+    while (next < items.length && isCurrent()) {
+      const place = next++;
+      came[place] = await does(items[place]);
+    }
+  };
+  await Promise.all(Array.from({ length: AT_ONCE }, worker));
+  return came;
+}
+
+// Whether the desk has no such path, as one of an earlier version than this page.
+export const isUnknownPath = answer => answer.kind === "status" && answer.status === 404;
 
 function sort({ status, text, isText }, isCut) {
   if (isCut) return { kind: "cut", status: 0, text: "" };

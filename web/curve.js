@@ -1,10 +1,9 @@
 // The curve of price over yield: each point is a quote of the desk, in the colour of the redemption that decides.
-import { ask } from "./ask.js";
+import { ask, eachOf } from "./ask.js";
 import { $, element } from "./dom.js";
 import { readLines, scaled, split, unscaled } from "./texts.js";
 
 const STEPS = 40;
-const AT_ONCE = 4;
 const COLOURS = 8;
 const MARGIN = { left: 56, right: 14, top: 24, bottom: 40 };
 let shown = null;
@@ -22,19 +21,6 @@ async function quoteAt(body, by, at) {
   const answer = await ask("/quotes", { ...body, basis: by, value: text(at) });
   if (answer.kind === "done") return pointOf(readLines(answer.text), at);
   return { at, refused: answer.kind === "refused" ? answer.name : "without an answer" };
-}
-
-async function quoteAll(places, quote, isCurrent) {
-  const points = [];
-  let next = 0;
-  const worker = async () => {
-    while (next < places.length && isCurrent()) {
-      const place = next++;
-      points[place] = await quote(places[place]);
-    }
-  };
-  await Promise.all(Array.from({ length: AT_ONCE }, worker));
-  return points;
 }
 
 // The points between two of other redemptions, halved down to the thousandth at which it changes.
@@ -56,7 +42,7 @@ export async function traceCurve(body, lines, isCurrent) {
   const middle = by === "yield" ? quoted.x : quoted.y;
   const places = Array.from({ length: STEPS + 1 }, (_, step) => middle - half + step * (2 * half / STEPS));
   const quote = at => quoteAt(body, by, at);
-  const asked = await quoteAll(by === "price" ? places.filter(at => at > 0) : places, quote, isCurrent);
+  const asked = await eachOf(by === "price" ? places.filter(at => at > 0) : places, quote, isCurrent);
   const points = asked.filter(point => point && !point.refused);
   const refused = asked.filter(point => point?.refused);
   const between = [];

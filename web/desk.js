@@ -3,9 +3,10 @@ import { ask } from "./ask.js";
 import { $, element } from "./dom.js";
 import { dress, read } from "./fields.js";
 import { goToIssue, startIssue } from "./issue.js";
+import { choosePositions, chooseTrades, clearPositions, refreshPositions, startPositions } from "./positions.js";
 import { clearSheet, startSheet } from "./sheet.js";
-import { quoteIssue, startTicket, takeTrade } from "./ticket.js";
-import { clearTrades, focusTrades, readFirstPage, readPage, startTrades } from "./trades.js";
+import { propose, quoteIssue, startTicket, takeTrade } from "./ticket.js";
+import { clearTrades, focusTrades, readFirstPage, showTrade, startTrades } from "./trades.js";
 
 const house = $("house");
 const told = $("house-told");
@@ -30,7 +31,16 @@ function openDesk(name) {
   $("ticket").elements.number.value = "";
   clearSheet();
   clearTrades();
+  clearPositions();
   readFirstPage();
+  refreshPositions();
+  propose(name);
+}
+
+// The last act is seen in the list, and in the positions if they are shown.
+function showAct(reference) {
+  showTrade(reference);
+  refreshPositions();
 }
 
 // Who has logged in and which desks are his, as the service tells it; else the desk's name is typed.
@@ -48,13 +58,17 @@ async function openFirstDesk() {
 
 const TARGETS = {
   ticket: () => $("ticket-cusip").focus(),
-  trades: focusTrades,
+  trades: () => {
+    chooseTrades();
+    focusTrades();
+  },
+  positions: choosePositions,
   issue: () => $("issue-cusip").focus(),
 };
 
 function goTo(id) {
+  (TARGETS[id] ?? (() => $(id).focus({ preventScroll: true })))();
   $(id).scrollIntoView({ block: "nearest" });
-  (TARGETS[id] ?? (() => $(id).focus()))();
 }
 
 function startPanels() {
@@ -79,9 +93,10 @@ function startPanels() {
 
 startPanels();
 startSheet(takeTrade);
-startTicket({ desk: deskAtHand, refresh: readPage, addIssue: goToIssue });
+startTicket({ desk: deskAtHand, atHand: () => desk, showTrade: showAct, addIssue: goToIssue });
 startIssue(quoteIssue);
 startTrades(() => desk);
+startPositions(() => desk);
 dress(house);
 house.addEventListener("submit", event => {
   event.preventDefault();

@@ -3,7 +3,8 @@ import { ask } from "./ask.js";
 import { $, element } from "./dom.js";
 import { dress, dressField, FORMS, mark, read, unmark } from "./fields.js";
 import { sure } from "./sure.js";
-import { FAULTS, hush, hushGood, refuse, say, tellSent, waitingIn } from "./tell.js";
+import { readIssue } from "./texts.js";
+import { FAULTS, hush, hushGood, refuse, refuseNew, say, tellSent, waitingIn } from "./tell.js";
 
 const form = $("issue");
 const told = $("issue-told");
@@ -150,14 +151,53 @@ async function add() {
     ["Quote it", () => quoteIssue(typed.cusip)]);
 }
 
-function clear() {
+// Puts terms and calls into the form, in the place of all that is there.
+function fill(terms, calls) {
   form.reset();
   body.replaceChildren();
+  for (const [name, value] of Object.entries(terms)) form.elements[name].value = value;
+  for (const { date, price, mark: kept } of calls) {
+    addCall();
+    const row = body.rows[body.rows.length - 1];
+    fieldsOf(row).forEach((field, place) => { field.value = [date, price][place]; });
+    kindOf(row).value = kept;
+  }
   growCalls();
   kindChanged();
   for (const field of form.querySelectorAll("input, select")) unmark(field);
+}
+
+function clear() {
+  fill({}, []);
   hush(told);
   form.elements.cusip.focus();
+}
+
+// Reads the terms that are kept of the CUSIP into the form.
+async function readTerms() {
+  const typed = read(form, ["cusip"]);
+  if (!typed) return;
+  hush(told);
+  const answer = await ask(`/issues/${typed.cusip}`, null, waitingIn(told));
+  if (answer.kind !== "done") {
+    refuseNew(told, answer, "Terms of an issue");
+    return;
+  }
+  const { terms, calls } = readIssue(answer.text);
+  fill(terms, calls);
+  say(told, "good", [`These are the terms that are kept of ${typed.cusip}`, "They are never changed."],
+    ["Quote it", () => quoteIssue(typed.cusip)]);
+}
+
+// One request at a time.
+async function alone(does) {
+  if (isBusy) return;
+  isBusy = true;
+  try {
+    await does();
+  } finally {
+    isBusy = false;
+  }
 }
 
 // Goes to the form. A CUSIP that is missing is filled in, but none that was typed is lost.
@@ -175,15 +215,10 @@ export function startIssue(quote) {
   form.elements.kind.addEventListener("change", kindChanged);
   body.addEventListener("input", growCalls);
   body.addEventListener("paste", pasteCalls);
+  $("issue-read").addEventListener("click", () => alone(readTerms));
   $("issue-clear").addEventListener("click", clear);
-  form.addEventListener("submit", async event => {
+  form.addEventListener("submit", event => {
     event.preventDefault();
-    if (isBusy) return;
-    isBusy = true;
-    try {
-      await add();
-    } finally {
-      isBusy = false;
-    }
+    alone(add);
   });
 }

@@ -3,8 +3,11 @@ import { ask } from "./ask.js";
 import { $, element } from "./dom.js";
 import { grouped, readConfirmation, split } from "./texts.js";
 import { hush, refuse, say, waitingIn } from "./tell.js";
+import { offerVersions, startVersions } from "./versions.js";
 
+// The version that is shown, and the last one that is known of its trade.
 let shown = null;
+let last = null;
 
 function row(label, value, remark) {
   const line = element("tr");
@@ -64,14 +67,17 @@ function remarks(confirmation) {
 }
 
 function draw(confirmation) {
-  const { lines } = confirmation;
+  shown = confirmation;
+  const { lines, number } = confirmation;
   const paper = $("sheet-paper");
   const basis = lines.has("BASIS") ? row("Days counted by", lines.get("BASIS").toLowerCase()) : null;
   const figures = figureRows(lines);
+  const old = element("p", `Version ${number} of ${last.number}: not the present state.`, "old");
   figures.at(-1).className = "total";
   paper.className = confirmation.isCanceled ? "canceled" : "";
   paper.replaceChildren(
     element("h3", confirmation.title),
+    ...(number < last.number ? [old] : []),
     part("Trade", [
       row("Desk", confirmation.desk),
       row("Reference", confirmation.reference),
@@ -91,26 +97,27 @@ function draw(confirmation) {
   );
 }
 
+// Shows the last version of a trade.
 export function showSheet(text) {
-  shown = readConfirmation(text);
-  draw(shown);
+  last = readConfirmation(text);
+  draw(last);
+  offerVersions(last);
   $("sheet-paper").hidden = false;
   $("sheet-acts").hidden = false;
   $("sheet").classList.add("has");
   hush($("sheet-told"));
-  return shown;
+  return last;
 }
 
 export function clearSheet() {
   shown = null;
+  last = null;
   $("sheet-paper").replaceChildren();
   $("sheet-paper").hidden = true;
   $("sheet-acts").hidden = true;
   $("sheet").classList.remove("has");
   hush($("sheet-told"));
 }
-
-export const shownSheet = () => shown;
 
 // Reads the last version of a trade and shows it. Gives the answer.
 export async function openTrade(desk, reference, box) {
@@ -125,13 +132,14 @@ export async function openTrade(desk, reference, box) {
 }
 
 export function startSheet(take) {
+  startVersions(draw);
   $("sheet-print").addEventListener("click", () => window.print());
-  $("sheet-take").addEventListener("click", () => take(shown));
+  $("sheet-take").addEventListener("click", () => take(shown, last));
   $("sheet-again").addEventListener("click", async () => {
-    const before = shown;
-    const answer = await openTrade(shown.desk, shown.reference, $("sheet-told"));
+    const before = last;
+    const answer = await openTrade(last.desk, last.reference, $("sheet-told"));
     if (answer.kind !== "done") return;
-    const isNew = shown.number > before.number;
-    say($("sheet-told"), "good", [isNew ? `${shown.title} has come since.` : "This is the last version."]);
+    const isNew = last.number > before.number;
+    say($("sheet-told"), "good", [isNew ? `${last.title} has come since.` : "This is the last version."]);
   });
 }

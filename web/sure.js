@@ -3,15 +3,19 @@ import { $, element } from "./dom.js";
 
 const box = $("sure");
 
-export function sure(title, rows, word) {
+// Each row has a label and its values, which the words of `head` are of. `notes` stand below.
+export function sure(title, rows, word, { head = [], notes = [] } = {}) {
   $("sure-title").textContent = title;
   $("sure-yes").textContent = word;
   const table = element("table");
-  for (const [label, value] of rows) {
-    const row = table.insertRow();
-    row.append(element("th", label, "", { scope: "row" }), element("td", value));
+  if (head.length) {
+    table.createTHead().insertRow().append(...head.map(each => element("th", each, "", { scope: "col" })));
   }
-  $("sure-lines").replaceChildren(table);
+  const body = table.createTBody();
+  for (const [label, ...values] of rows) {
+    body.insertRow().append(element("th", label, "", { scope: "row" }), ...values.map(each => element("td", each)));
+  }
+  $("sure-lines").replaceChildren(table, ...notes.map(each => element("p", each, "note")));
   box.returnValue = "no";
   box.showModal();
   return new Promise(done => box.addEventListener("close", () => done(box.returnValue === "yes"), { once: true }));

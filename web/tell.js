@@ -1,5 +1,5 @@
 // What is said of each answer: what it means and what to do, in the words of the desk's documents.
-import { TRIES } from "./ask.js";
+import { isUnknownPath, TRIES } from "./ask.js";
 import { element } from "./dom.js";
 import { FAULTS, REFUSALS } from "./refusals.js";
 
@@ -12,7 +12,7 @@ export const STATUSES = {
     "check the desk; whoever runs the service says who may do what"],
   404: ["the path is unknown",
     "compare it with the table of requests: a desk is 1 to 16 capitals and digits, a reference 1 to 20 letters and " +
-    "digits, and small letters are others than capitals"],
+    "digits, a CUSIP nine capitals and digits, and small letters are others than capitals"],
   405: ["the path has the other method, which the field Allow names", "take that one"],
   411: ["a POST has a Transfer-Encoding or no Content-Length", "send the length of the body"],
   413: ["the length is above 65,536",
@@ -61,6 +61,8 @@ const pair = ([means, todo]) => [`What it means: ${means}.`, `What to do: ${todo
 // What stands before the desk says 503 too, and does not know then what the desk has done.
 const MAYBE = "What stands before the desk may have said this. Whether it was kept is then not known: send the same " +
   "again, it acts once.";
+const OLDER = "The desk does not know this request: it is of an earlier version than this page. All else works as " +
+  "before.";
 const UNKNOWN = ["", "a refusal that this page does not know", "ask whoever runs the desk"];
 
 // The lines for an answer that is not "done": the first is its head.
@@ -116,4 +118,9 @@ export function hushGood(box) {
 }
 
 export const refuse = (box, answer, ...buttons) => say(box, "bad", tell(answer), ...buttons);
+// The same of a request that a desk of an earlier version does not know.
+export function refuseNew(box, answer, what) {
+  if (isUnknownPath(answer)) say(box, "note", [`${what} cannot be shown here`, OLDER]);
+  else refuse(box, answer);
+}
 export const waitingIn = box => what => say(box, "wait", tellWaiting(what));

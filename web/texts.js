@@ -31,11 +31,31 @@ export function readConfirmation(text) {
   };
 }
 
+// A page of a list has so many trades if it is full.
+export const PAGE = 50;
+
 export function readList(text) {
   return text.split("\n").slice(0, -1).map(line => {
     const [reference, number, state, par, price, yields] = line.split(" ");
     return { reference, number, state, par, price, yields };
   });
+}
+
+export function readPositions(text) {
+  return text.split("\n").slice(0, -1).map(line => line.split(" "));
+}
+
+// The terms of an issue by the names of their fields. Decimals have no zeros at the end, as they are typed.
+export function readIssue(row) {
+  const plain = (text, places) => unscaled(scaled(text, places), places);
+  const fields = [...row.trim().matchAll(/(?:^|,)(?:"((?:[^"]|"")*)"|([^",]*))/g)]
+    .map(([, quoted, bare]) => quoted?.replaceAll('""', '"') ?? bare);
+  const [, cusip, name, kind, dated, first, maturity, coupon, calls, days] = fields;
+  return {
+    terms: { cusip, name, kind, dated, first, maturity, days, coupon: Number(coupon) ? plain(coupon, 7) : "" },
+    calls: [...calls.matchAll(/(\S+):([\d.]+)([+!]?)/g)]
+      .map(([, date, price, mark]) => ({ date, price: plain(price, 6), mark })),
+  };
 }
 
 const EACH = /^EACH (\S+) ([\d.]+) (MATURITY|PAR OPTION|CALLED|CALL) (?:(?:PRICE|YIELD) (-?[\d.]+)|(.+))$/;

@@ -1,124 +1,35 @@
-// The ticket: quotes, trades, corrections and cancels.
+// The ticket: trades are entered, corrected and canceled by it, each after a look at what is kept.
 import { ask } from "./ask.js";
-import { clearCurve, showCurve, startCurve, traceCurve } from "./curve.js";
-import { $, element } from "./dom.js";
+import { startCurve } from "./curve.js";
+import { $ } from "./dom.js";
 import { dress, read, unmark } from "./fields.js";
-import { showEach } from "./each.js";
-import { figureRows, openTrade, showSheet } from "./sheet.js";
+import { givenOf, missingWords, remember } from "./given.js";
+import { changesOf, rowsOfEntry, rowsOfTrade } from "./questions.js";
+import { curve, isQuoted, quote, stale } from "./quote.js";
+import { nextReference, today } from "./references.js";
+import { openTrade, showSheet } from "./sheet.js";
 import { sure } from "./sure.js";
-import { grouped, netPrice, readConfirmation, readEach, readLines, scaled, split } from "./texts.js";
-import { hush, hushGood, refuse, say, tellSent, waitingIn } from "./tell.js";
+import { readConfirmation } from "./texts.js";
+import { hush, refuse, say, tellSent, waitingIn } from "./tell.js";
 
 const form = $("ticket");
 const told = $("ticket-told");
-const QUOTED = ["cusip", "par", "settle", "basis", "value"];
 const TRADED = ["reference", "cusip", "side", "par", "settle", "basis", "value", "fee"];
 const VALUES = { price: "Price per 100", yield: "Yield, percent", rate: "Rate, percent" };
-const WORDS = { price: "a price", yield: "a yield", rate: "a discount rate" };
+// What is kept of a trade that is not entered yet.
+const NONE = { number: 0 };
 
 let opened = null;
-let asked = 0;
 let isBusy = false;
-// What this window sent and the desk kept, by desk, reference and number: it alone is known in full.
-const kept = new Map();
-const keyOf = (desk, reference, number) => `${desk} ${reference} ${number}`;
-
-const isNone = fee => !fee || scaled(fee, 3) === 0n;
-const isNetInRange = net => !net.startsWith("-") && scaled(net, 6) > 0n && scaled(net, 6) <= 999_999_999n;
-
-// Figures are of what was quoted, and go when the ticket asks for something else.
-function stale() {
-  asked += 1;
-  $("figures").classList.remove("has");
-  $("figures-lines").replaceChildren();
-  $("figures-each").replaceChildren();
-  clearCurve();
-  hushGood(told);
-}
-
-function showFigures(typed, lines, notes) {
-  const { cusip, par, settle, basis, value } = typed;
-  const table = element("table");
-  const rows = figureRows(lines);
-  rows.at(-1).className = "total";
-  table.append(element("caption", `${grouped(par)} of ${cusip}, settlement ${settle}, at ${WORDS[basis]} of ${value}`),
-    ...rows);
-  $("figures-lines").replaceChildren(table, ...notes.map(words => element("p", words, "note")));
-  $("figures").classList.add("has");
-}
-
-// The desk's quote takes no commission. What it does to the yield is had by a quote of the net price.
-async function commissionNotes(typed) {
-  const { side, fee, ...body } = typed;
-  if (isNone(fee)) return [];
-  const refused = "a trade with this ticket would be refused.";
-  if (body.basis !== "price") return [`A commission goes with a price alone: ${refused}`];
-  const without = "The desk's quote takes no commission: these figures are without it.";
-  const net = netPrice(body.value, fee, side);
-  if (!isNetInRange(net)) return [without, `With it the price would be ${net}, which is out of range: ${refused}`];
-  const answer = await ask("/quotes", { ...body, value: net }, waitingIn(told));
-  const head = `With ${fee} per 100 the party that ${side === "buy" ? "buys pays" : "sells gets"} ${net}`;
-  if (answer.kind !== "done") {
-    return [without, `${head}, which the desk does not quote: ${answer.text.trim() || "no answer came"}.`];
-  }
-  const lines = readLines(answer.text);
-  const [yields, day] = ["YIELD", "REDEMPTION"].map(name => split(lines.get(name))[0]);
-  return [without, `${head}, at a yield of ${yields} to ${day}. ` +
-    "The confirmation has that yield, the commission and the total."];
-}
-
-// An answer that comes after the ticket has changed is not shown.
-function dropped() {
-  hush(told);
-  return null;
-}
-
-// Asks for figures and shows them. Gives what was quoted with its lines, or null.
-async function quote() {
-  const typed = read(form, [...QUOTED, "side", "fee"], ["fee"]);
-  if (!typed) return null;
-  stale();
-  const mine = asked;
-  const { side, fee, ...body } = typed;
-  hush(told);
-  const answer = await ask("/quotes", { ...body, each: true }, waitingIn(told));
-  if (mine !== asked) return dropped();
-  if (answer.kind !== "done") {
-    refuse(told, answer, ...buttons(answer));
-    return null;
-  }
-  const lines = readLines(answer.text);
-  const notes = await commissionNotes(typed);
-  if (mine !== asked) return dropped();
-  showFigures(typed, lines, notes);
-  showEach(readEach(answer.text), lines);
-  say(told, "good", ["Quoted", ...tellSent(answer), "Nothing is kept."]);
-  return { body, lines, isCurrent: () => mine === asked };
-}
-
-async function curve() {
-  const quoted = await quote();
-  if (!quoted) return;
-  say(told, "wait", ["Drawing the curve", "The desk is asked for a price at each of its yields."]);
-  const traced = await traceCurve(quoted.body, quoted.lines, quoted.isCurrent);
-  if (!traced) {
-    dropped();
-    return;
-  }
-  if (traced.points.length < 2) {
-    say(told, "bad", ["No curve", "The desk priced fewer than two of its yields."]);
-    return;
-  }
-  showCurve(traced);
-  say(told, "good", ["Quoted, with its curve", "Nothing is kept."]);
-}
+let proposed = "";
 
 // What may be done at once about a refusal.
 function buttons(answer) {
   if (answer.number === 1) return [["Go to new issue", () => opened.addIssue(form.elements.cusip.value)]];
   if ([11, 12, 13].includes(answer.number) || (answer.number === 3 && answer.rest !== "issue")) {
     const reference = form.elements.reference.value.trim();
-    return [["Show last version", () => openTrade(opened.desk(), reference, $("sheet-told"))]];
+    const show = ["Show last version", () => openTrade(opened.desk(), reference, $("sheet-told"))];
+    return answer.number === 3 ? [show, ["Next reference", newReference]] : [show];
   }
   return [];
 }
@@ -130,11 +41,12 @@ function sayKept(answer, made, before, last) {
   if (last.number > made.number) {
     say(told, "note", [`${name} was kept before`,
       `It is not the present state: the last version is ${last.title}, which the sheet shows.`]);
-  } else if (before && before.number >= made.number) {
+  } else if (before.number >= made.number) {
     say(told, "note", [`Nothing was added: ${name} was kept before`,
       "It has equal contents. Another trade takes another reference, and a correction the next version."]);
   } else {
-    say(told, "good", [`${name} is kept`, ...tellSent(answer)]);
+    const more = made.number === 1 ? [["Next reference", newReference]] : [];
+    say(told, "good", [`${name} is kept`, ...tellSent(answer)], ...more);
   }
 }
 
@@ -146,28 +58,30 @@ function nextNumber(last) {
   unmark(number);
 }
 
-async function act(path, names, optional) {
-  const typed = read(form, names, optional);
-  const desk = opened.desk();
-  if (!typed || !desk) return;
+const pathOf = ({ desk, reference }) => `/trades/${desk}/${reference}`;
+
+// The last version of a trade, or NONE if it is none yet and is to be one. What else comes is told, and gives null.
+async function look(body, isNew) {
   hush(told);
+  const answer = await ask(pathOf(body), null, waitingIn(told));
+  if (answer.kind === "done") return readConfirmation(answer.text);
+  if (isNew && answer.number === 2) return NONE;
+  refuse(told, answer);
+  return null;
+}
+
+// Sends an act on a trade, of which `before` was kept, and shows what is kept then.
+async function act(path, body, before) {
   const waiting = waitingIn(told);
-  const place = `/trades/${desk}/${typed.reference}`;
-  const before = await ask(place, null, waiting);
-  if (before.kind !== "done" && before.number !== 2) {
-    refuse(told, before);
-    return;
-  }
-  const body = { desk, ...typed };
   const answer = await ask(path, body, waiting);
   if (answer.kind !== "done") {
     refuse(told, answer, ...buttons(answer));
     return;
   }
   const made = readConfirmation(answer.text);
-  const old = before.kind === "done" ? readConfirmation(before.text) : null;
-  if (path !== "/cancels") kept.set(keyOf(desk, made.reference, made.number), typed);
-  const after = await ask(place, null, waiting);
+  if (path !== "/cancels") remember(made, body);
+  const after = await ask(pathOf(body), null, waiting);
+  if (body.desk === opened.atHand()) opened.showTrade(body.reference);
   if (after.kind !== "done") {
     showSheet(answer.text);
     say(told, "bad", [`${made.title} of ${made.reference} is kept`,
@@ -175,9 +89,64 @@ async function act(path, names, optional) {
     return;
   }
   const last = showSheet(after.text);
-  sayKept(answer, made, old, last);
+  sayKept(answer, made, before, last);
   nextNumber(last);
-  opened.refresh();
+}
+
+// What is typed for an act at the desk at hand, or null.
+function typedOf(names, optional) {
+  const typed = read(form, names, optional);
+  const desk = typed && opened.desk();
+  return desk ? { desk, ...typed } : null;
+}
+
+const notDone = what => say(told, "note", [`Nothing was ${what}`, "What was typed is as it was."]);
+
+async function enter() {
+  const body = typedOf(TRADED, ["fee"]);
+  if (!body) return;
+  if (!isQuoted()) {
+    const quoted = await quote(buttons);
+    if (!quoted) return;
+    const title = "Enter this trade? It was not quoted as it stands.";
+    const isSure = await sure(title, rowsOfEntry(body, quoted.lines), "Enter trade", { notes: quoted.notes });
+    if (!isSure) {
+      notDone("entered");
+      return;
+    }
+  }
+  const before = await look(body, true);
+  if (before) await act("/trades", body, before);
+}
+
+// The number that was typed, or that of the version after the last one.
+function numbered(body, last) {
+  const number = body.number ?? String(last.number + 1);
+  form.elements.number.value = number;
+  unmark(form.elements.number);
+  return { ...body, number };
+}
+
+async function correct() {
+  const typed = typedOf([...TRADED, "number"], ["fee", "number"]);
+  const last = typed && await look(typed);
+  if (!last) return;
+  const body = numbered(typed, last);
+  const rows = changesOf(last, body);
+  const title = `Correct ${last.title} of ${body.reference}?` + (rows.length ? "" : " Nothing of it changes.");
+  if (await sure(title, rows, "Correct trade", { head: ["", "Now", "Then"] })) await act("/corrections", body, last);
+  else notDone("corrected");
+}
+
+async function cancel() {
+  const typed = typedOf(["reference", "number"], ["number"]);
+  const last = typed && await look(typed);
+  if (!last) return;
+  const body = numbered(typed, last);
+  const rows = [...rowsOfTrade(last), ["Next version", body.number]];
+  const isSure = await sure("Cancel this trade? Nothing follows a cancel.", rows, "Cancel trade");
+  if (isSure) await act("/cancels", body, last);
+  else notDone("canceled");
 }
 
 // One act at a time: a second press meanwhile is passed over.
@@ -195,12 +164,23 @@ function once(does) {
   };
 }
 
-async function cancel() {
-  const typed = read(form, ["reference", "number"]);
-  if (!typed || !opened.desk()) return;
-  const rows = [["Desk", opened.desk()], ["Reference", typed.reference], ["Next version", typed.number]];
-  const isSure = await sure("Cancel this trade? Nothing follows a cancel.", rows, "Cancel trade");
-  if (isSure) await act("/cancels", ["reference", "number"]);
+// Proposes the next reference of today at a desk, in the place of none and of one that was proposed before.
+export async function propose(desk) {
+  const field = form.elements.reference;
+  const isOurs = () => ["", proposed].includes(field.value);
+  if (!desk || !isOurs()) return;
+  const next = await nextReference(desk, today());
+  if (!isOurs() || desk !== opened.atHand()) return;
+  field.value = proposed = next;
+  unmark(field);
+}
+
+async function newReference() {
+  form.elements.reference.value = form.elements.number.value = "";
+  stale();
+  hush(told);
+  await propose(opened.atHand());
+  form.elements.reference.focus();
 }
 
 function fill(values) {
@@ -212,47 +192,27 @@ function fill(values) {
   stale();
 }
 
-// What was given, if it is known in full: as this window sent it, or a discount rate, which is printed in full.
-function givenOf(confirmation) {
-  const { lines } = confirmation;
-  const number = confirmation.number - (confirmation.isCanceled ? 1 : 0);
-  const sent = kept.get(keyOf(confirmation.desk, confirmation.reference, number));
-  if (sent) return { basis: sent.basis, value: sent.value, fee: sent.fee ?? "" };
-  if (lines.has("RATE")) return { basis: "rate", value: split(lines.get("RATE"))[0], fee: "" };
-  return { basis: lines.get("PRICE").endsWith(" GIVEN") ? "price" : "yield", value: "", fee: "" };
-}
-
-// What a confirmation does not tell in full.
-function missingWords(basis, lines) {
-  const [printed] = split(lines.get(basis === "price" ? "PRICE" : "YIELD"));
-  const words = [`Type the ${basis} in full: the confirmation prints ${printed}, which may be rounded, so it was not ` +
-    "taken."];
-  if (lines.has("COMMISSION")) {
-    const dollars = grouped(lines.get("COMMISSION"));
-    words.push(`Type the commission per 100 too: the confirmation has its dollars alone, ${dollars}.`);
-  }
-  return words;
-}
-
-// Takes a confirmation into the ticket, but no figure that it may have rounded.
-export function takeTrade(confirmation) {
-  const { lines } = confirmation;
-  const given = givenOf(confirmation);
+// Takes a version into the ticket, but no figure that it may have rounded. What is sent comes after the last version.
+export function takeTrade(version, last) {
+  const { lines } = version;
+  const given = givenOf(version);
   fill({
-    reference: confirmation.isCanceled ? "" : confirmation.reference,
-    number: confirmation.isCanceled ? "" : String(confirmation.number + 1),
+    reference: last.isCanceled ? "" : last.reference,
+    number: last.isCanceled ? "" : String(last.number + 1),
     cusip: lines.get("CUSIP"),
-    par: confirmation.par,
+    par: version.par,
     settle: lines.get("SETTLEMENT"),
-    side: confirmation.side,
+    side: version.side,
     ...given,
   });
   const words = given.value === "" ? missingWords(given.basis, lines) : ["All is as it was given, in full."];
-  if (confirmation.isCanceled) words.push("The trade is canceled: it takes another reference.");
-  say(told, given.value === "" || confirmation.isCanceled ? "note" : "good",
-    [`${confirmation.title} of ${confirmation.reference} was taken into the ticket`, ...words]);
-  const next = ["reference", "value"].find(name => form.elements[name].value === "") ?? "par";
-  form.elements[next].focus();
+  if (last.isCanceled) {
+    words.push("The trade is canceled: it takes another reference.");
+    propose(opened.atHand());
+  }
+  say(told, given.value === "" || last.isCanceled ? "note" : "good",
+    [`${version.title} of ${version.reference} was taken into the ticket`, ...words]);
+  form.elements[given.value === "" ? "value" : "par"].focus();
 }
 
 function basisChanged() {
@@ -267,6 +227,7 @@ function clear() {
   basisChanged();
   stale();
   hush(told);
+  propose(opened.atHand());
   form.elements.cusip.focus();
 }
 
@@ -275,26 +236,34 @@ export function quoteIssue(cusip) {
   form.elements.par.focus();
 }
 
-// `opened` has the desk at hand, what reads the list again, and what goes to a new issue.
+// A reference that is proposed is typed over.
+function chooseProposed({ target }) {
+  setTimeout(() => target.value === proposed && document.activeElement === target && target.select());
+}
+
+function changed({ target: { name } }) {
+  if (name === "basis") basisChanged();
+  // The number belongs to the trade whose last version was seen.
+  if (name === "reference") form.elements.number.value = "";
+  if (name !== "reference" && name !== "number") stale();
+}
+
+// `opened` has the desk at hand, which is asked for if none is open or not; what shows a trade in the list; and what
+// goes to a new issue.
 export function startTicket(given) {
   opened = given;
   dress(form);
   basisChanged();
-  form.addEventListener("input", event => {
-    const name = event.target.name;
-    if (name === "basis") basisChanged();
-    // The number belongs to the trade whose last version was seen.
-    if (name === "reference") form.elements.number.value = "";
-    if (name !== "reference" && name !== "number") stale();
-  });
+  form.addEventListener("input", changed);
   form.addEventListener("submit", event => {
     event.preventDefault();
-    once(quote)();
+    once(() => quote(buttons))();
   });
-  $("ticket-curve").addEventListener("click", once(curve));
-  $("ticket-enter").addEventListener("click", once(() => act("/trades", TRADED, ["fee"])));
-  $("ticket-correct").addEventListener("click", once(() => act("/corrections", [...TRADED, "number"], ["fee"])));
+  form.elements.reference.addEventListener("focus", chooseProposed);
+  $("ticket-curve").addEventListener("click", once(() => curve(buttons)));
+  $("ticket-enter").addEventListener("click", once(enter));
+  $("ticket-correct").addEventListener("click", once(correct));
   $("ticket-cancel").addEventListener("click", once(cancel));
   $("ticket-clear").addEventListener("click", clear);
-  startCurve(once(curve));
+  startCurve(once(() => curve(buttons)));
 }

@@ -1,38 +1,59 @@
 // The desk's trades, page by page.
-import { ask } from "./ask.js";
+import { ask, eachOf, isUnknownPath } from "./ask.js";
+import { detailed } from "./details.js";
 import { $, element } from "./dom.js";
 import { dress, read } from "./fields.js";
+import { justBefore } from "./references.js";
 import { openTrade } from "./sheet.js";
-import { grouped, readList } from "./texts.js";
-import { hush, refuse, waitingIn } from "./tell.js";
+import { grouped, PAGE, readList } from "./texts.js";
+import { hush, refuse, refuseNew, waitingIn } from "./tell.js";
 
 const told = $("trades-told");
 const body = $("trades-list").tBodies[0];
-const PAGE = 50;
+// After the reference. The names with `figure` stand at the right.
+const COLUMNS = [["number", "figure"], ["state"], ["side"], ["cusip"], ["par", "figure"], ["price", "figure"],
+  ["yields", "figure"], ["settle", "figure"], ["total", "figure"]];
 let desk = () => "";
-// After which reference each page up to the one at hand begins. The first page begins at the first trade.
-let pages = [""];
+// The paths of the pages up to the one at hand, and how far that one goes.
+let pages = [];
 let last = "";
-let hasMore = false;
+// The reference of the trade whose row is marked.
+let marked = "";
 let round = 0;
 
-const pathOf = after => `/lists/${desk()}` + (after && `/${after}`);
+const listPath = after => `/lists/${desk()}` + (after && `/${after}`);
+const lastPath = () => `/latest/${desk()}`;
+
+// Writes what is known of a trade into its row.
+function write(row, trade) {
+  row.className = trade.state === "CANCELED" ? "canceled" : "";
+  const [par, total] = [grouped(trade.par), grouped(trade.total ?? "")];
+  const words = { ...trade, state: trade.state.toLowerCase(), par, total };
+  COLUMNS.forEach(([name], place) => { row.cells[place + 1].textContent = words[name] ?? ""; });
+}
 
 function rowOf(trade) {
-  const row = element("tr", "", trade.state === "CANCELED" ? "canceled" : "");
+  const row = element("tr");
   const first = element("th", "", "", { scope: "row" });
   first.append(element("button", trade.reference, "link", { type: "button", tabIndex: -1 }));
-  const figures = [grouped(trade.par), trade.price, trade.yields].map(words => element("td", words, "figure"));
-  row.append(first, element("td", trade.number, "figure"), element("td", trade.state.toLowerCase()), ...figures);
-  row.addEventListener("click", () => openRow(row, trade.reference));
+  row.append(first, ...COLUMNS.map(([, name]) => element("td", "", name)));
+  write(row, trade);
+  row.addEventListener("click", () => {
+    mark(trade.reference);
+    openTrade(desk(), trade.reference, told);
+  });
   return row;
 }
 
-async function openRow(row, reference) {
-  for (const each of body.rows) each.removeAttribute("aria-current");
-  row.setAttribute("aria-current", "true");
-  reach(row);
-  await openTrade(desk(), reference, told);
+const referenceOf = row => row.querySelector("button").textContent;
+
+function mark(reference) {
+  marked = reference;
+  const rows = [...body.rows];
+  for (const each of rows) each.removeAttribute("aria-current");
+  const row = rows.find(each => referenceOf(each) === reference);
+  row?.setAttribute("aria-current", "true");
+  reach(row ?? rows[0]);
 }
 
 // One line of the list is reached by Tab; Up and Down go from it to the others.
@@ -53,50 +74,95 @@ function walk(event) {
   reach(rows[to], true);
 }
 
-function placeWords(trades) {
-  const isFirst = pages.length === 1 && pages[0] === "";
-  if (!trades.length) return isFirst ? "The desk has no trades." : "No trade comes after this.";
+function placeWords({ path, trades, hasMore }) {
+  if (!trades.length) {
+    return [listPath(""), lastPath()].includes(path)
+      ? `Desk ${desk()} has no trades. If it should have some, check its name.` : "No trade comes after this.";
+  }
   const count = trades.length === 1 ? "1 trade" : `${trades.length} trades`;
   const time = new Date().toTimeString().slice(0, 8);
-  const end = hasMore ? "" : " No more follow.";
-  return `Page ${pages.length}: ${count}, ${trades[0].reference} to ${last}, read at ${time}.${end}`;
+  const name = path === lastPath() ? "Last page" : `Page ${pages.length}`;
+  return `${name}: ${count}, ${trades[0].reference} to ${last}, read at ${time}.${hasMore ? "" : " No more follow."}`;
 }
 
 function allow(id, isAllowed) {
   $(id).setAttribute("aria-disabled", String(!isAllowed));
 }
 
-// Reads the page at hand. A full one does not tell whether more follow, so the desk is asked for what comes after it.
-export async function readPage() {
-  if (!desk()) return;
-  const mine = ++round;
-  const answer = await ask(pathOf(pages.at(-1)), null, waitingIn(told));
-  if (mine !== round) return;
-  if (answer.kind !== "done") {
-    refuse(told, answer);
-    return;
-  }
+// A page as it is read. A full one does not tell whether more follow, so the desk is asked for what comes after it.
+async function readAt(path) {
+  const answer = await ask(path, null, waitingIn(told));
+  if (answer.kind !== "done") return { answer };
   const trades = readList(answer.text);
   const end = trades.at(-1)?.reference ?? "";
-  const rest = trades.length === PAGE ? await ask(pathOf(end)) : null;
-  if (mine !== round) return;
-  last = end;
-  hasMore = rest !== null && rest.text !== "";
-  hush(told);
-  body.replaceChildren(...trades.map(rowOf));
-  reach(body.rows[0]);
-  $("trades-place").textContent = placeWords(trades);
-  allow("trades-first", pages.length > 1 || pages[0] !== "");
-  allow("trades-back", pages.length > 1);
-  allow("trades-next", hasMore);
+  const rest = trades.length === PAGE && path !== lastPath() ? await ask(listPath(end)) : null;
+  return { answer, path, trades, end, hasMore: rest !== null && rest.text !== "" };
 }
 
-export function readFirstPage() {
-  pages = [""];
-  return readPage();
+function draw(page) {
+  last = page.end;
+  hush(told);
+  body.replaceChildren(...page.trades.map(rowOf));
+  mark(marked);
+  $("trades-place").textContent = placeWords(page);
+  allow("trades-first", pages.length > 1 || pages[0] !== listPath(""));
+  allow("trades-back", pages.length > 1);
+  allow("trades-next", page.hasMore);
+  allow("trades-last", page.path !== lastPath());
+  complete(page.trades);
+}
+
+// Fills in what the list does not tell, a few trades at a time.
+async function complete(trades) {
+  const [mine, name, rows] = [round, desk(), [...body.rows]];
+  const isCurrent = () => mine === round;
+  await eachOf(trades.map((trade, place) => [trade, rows[place]]), async ([trade, row]) => {
+    const line = await detailed(name, trade);
+    if (isCurrent()) write(row, line);
+  }, isCurrent);
+}
+
+// Turns to the last of these pages, if it can be read.
+async function turn(wanted) {
+  if (!desk()) return;
+  const mine = ++round;
+  const page = await readAt(wanted.at(-1));
+  if (mine !== round) return;
+  if (page.answer.kind !== "done") {
+    refuseNew(told, page.answer, "The last page");
+    return;
+  }
+  pages = wanted;
+  draw(page);
+}
+
+export const readFirstPage = () => turn([listPath("")]);
+
+// Turns to a page that has the trade, and marks it: the page at hand, the last one, or the one that begins with it.
+export async function showTrade(reference) {
+  marked = reference;
+  const mine = ++round;
+  const toLast = [...pages.filter(each => each !== lastPath()), lastPath()];
+  for (const wanted of [pages, toLast, [listPath(justBefore(reference))]].filter(each => each.length)) {
+    const page = await readAt(wanted.at(-1));
+    if (mine !== round) return;
+    if (page.answer.kind !== "done" && !isUnknownPath(page.answer)) {
+      refuse(told, page.answer);
+      return;
+    }
+    if (page.trades?.some(each => each.reference === reference)) {
+      pages = wanted;
+      draw(page);
+      return;
+    }
+  }
+  hush(told);
 }
 
 export function clearTrades() {
+  round += 1;
+  pages = [];
+  marked = "";
   body.replaceChildren();
   $("trades-place").textContent = "";
   hush(told);
@@ -107,7 +173,10 @@ export function focusTrades() {
   (line ?? $("find-reference")).focus();
 }
 
-const isOff = id => $(id).getAttribute("aria-disabled") === "true";
+// A button that is off has no effect.
+function onPress(id, does) {
+  $(id).addEventListener("click", () => $(id).getAttribute("aria-disabled") === "true" || does());
+}
 
 export function startTrades(deskAtHand) {
   desk = deskAtHand;
@@ -117,24 +186,17 @@ export function startTrades(deskAtHand) {
   find.addEventListener("submit", event => {
     event.preventDefault();
     const typed = read(find, ["reference"]);
-    if (typed && desk()) openTrade(desk(), typed.reference, told);
+    if (!typed || !desk()) return;
+    mark(typed.reference);
+    openTrade(desk(), typed.reference, told);
   });
   $("trades-from").addEventListener("click", () => {
     const typed = read(find, ["reference"]);
-    if (!typed) return;
-    pages = [typed.reference];
-    readPage();
+    if (typed) turn([listPath(typed.reference)]);
   });
-  $("trades-first").addEventListener("click", () => isOff("trades-first") || readFirstPage());
-  $("trades-again").addEventListener("click", readPage);
-  $("trades-back").addEventListener("click", () => {
-    if (isOff("trades-back")) return;
-    pages.pop();
-    readPage();
-  });
-  $("trades-next").addEventListener("click", () => {
-    if (isOff("trades-next")) return;
-    pages.push(last);
-    readPage();
-  });
+  onPress("trades-first", readFirstPage);
+  onPress("trades-last", () => turn([...pages, lastPath()]));
+  onPress("trades-again", () => turn(pages.length ? pages : [listPath("")]));
+  onPress("trades-back", () => turn(pages.slice(0, -1)));
+  onPress("trades-next", () => turn([...pages, listPath(last)]));
 }

@@ -11,17 +11,18 @@ import subprocess
 import sys
 import types
 import zipfile
+from collections.abc import Iterator
 
 import pytest
 
 import muni
-from support.program import ROOT, needs
-from support.server import Server
+from support.program import ROOT, needs, program_path
+from support.server import Server, free_port, reached
 
 FOLDER = ROOT / "clients/python"
 VERSION = (ROOT / "VERSION").read_text().strip()
 TYPED = ("clients/python/src/muni", "clients/python/compare.py", "tests/client/test_client_desk.py",
-         "tests/client/test_client_cuts.py", "tests/client/test_client_each.py")
+         "tests/client/test_client_cuts.py", "tests/client/test_client_each.py", "tests/client/test_client_kept.py")
 BONDS = 100
 
 
@@ -58,13 +59,28 @@ def test_an_example_of_the_code_gives_what_it_shows(case: doctest.DocTest) -> No
 
 
 def test_no_example_of_the_code_is_left_out() -> None:
-    assert len(EXAMPLES) == 13
+    assert len(EXAMPLES) == 16
 
 
-def test_the_program_of_the_readme_prints_the_same_twice(served: Server) -> None:
+@pytest.fixture
+def readme_desk(tmp_path: pathlib.Path) -> Iterator[int]:
+    """The port of the desk that the README starts, by its words but for the port."""
+    port = free_port()
+    words = next(block for block in readme_blocks() if block.startswith("./muni serve"))
+    (tmp_path / "muni").symlink_to(program_path())
+    process = subprocess.Popen(words.replace("8735", f"{port}").split(), cwd=tmp_path)
+    try:
+        reached(process, port).close()
+        yield port
+    finally:
+        process.kill()
+        process.wait()
+
+
+def test_the_program_of_the_readme_prints_the_same_twice(readme_desk: int) -> None:
     blocks = readme_blocks()
     place = next(place for place, block in enumerate(blocks) if "import muni" in block)
-    program, shown = blocks[place].replace(":8735", f":{served.port}"), blocks[place + 1]
+    program, shown = blocks[place].replace(":8735", f":{readme_desk}"), blocks[place + 1]
     for _ in range(2):
         told = python("-c", program, path=FOLDER / "src")
         assert (told.stdout.strip("\n"), told.stderr) == (shown, "")

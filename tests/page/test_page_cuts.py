@@ -22,8 +22,9 @@ CUTS = {"CUT1": ("cut", "The answer was cut"), "CUT2": ("half", "The answer was 
 
 @pytest.fixture
 def ticket(page):
-    """The page with a ticket that has no reference yet, of which each word is heard."""
+    """The page with a ticket that was quoted and has no reference yet, of which each word is heard."""
     page.fill("ticket", **TICKET)
+    page.press("ticket-quote")
     page.js(LISTEN)
     return page
 
@@ -57,14 +58,14 @@ def test_no_answer_at_all_is_told_and_the_same_again_adds_nothing(ticket):
 
 def test_a_last_version_that_cannot_be_read_is_told(ticket):
     ticket.fill("ticket", reference="CUT6")
-    ticket.relay.rules = [("GET /trades", "pass")] + [("GET /trades", "cut")] * 4
+    ticket.relay.rules = [("GET /trades/RETAIL/CUT6", "pass")] + [("GET /trades/RETAIL/CUT6", "cut")] * 4
     told = ticket.press("ticket-enter")
     assert missing(["CONFIRMATION 1 of CUT6 is kept", "The last version could not be read"], told) == []
 
 
 def test_nothing_is_entered_if_what_is_kept_cannot_be_looked_at(ticket):
     ticket.fill("ticket", reference="CUT7")
-    ticket.relay.rules = [("GET /trades", "cut")] * 4
+    ticket.relay.rules = [("GET /trades/RETAIL/CUT7", "cut")] * 4
     assert "No answer came" in ticket.press("ticket-enter")
     assert not [body for body in ticket.relay.sent("POST /trades") if "CUT7" in body]
 

@@ -7,6 +7,7 @@ import pytest
 from selenium.webdriver.common.keys import Keys
 
 from support.page import TICKET, missing
+from support.relay import plain
 
 pytestmark = pytest.mark.xdist_group("page_issues")
 
@@ -120,6 +121,58 @@ def test_an_issue_that_has_been_called_is_kept_and_quoted_as_called(page):
     page.fill("ticket", **TICKET | {"cusip": "990000085", "value": "98"})
     page.press("ticket-quote")
     assert ["Redemption", "at 101.000000, called", "2034-08-01"] in page.rows("#figures-lines tr")
+
+
+TERMS = ("name", "kind", "dated", "first", "maturity", "coupon", "days")
+
+
+def terms(page, cusip: str) -> tuple[str, ...]:
+    """The terms of an issue that is kept, as they are read into the form."""
+    page.click("#issue-clear")
+    page.fill("issue", cusip=cusip)
+    assert f"These are the terms that are kept of {cusip}" in page.press("issue-read", "issue-told")
+    return tuple(page.typed()[f"issue-{name}"] for name in TERMS)
+
+
+def test_the_terms_of_an_issue_that_is_kept_are_read_into_the_form(page):
+    assert terms(page, "990034AA8") == (ELM_GROVE["name"], "periodic", "2023-08-01", "2024-02-01", "2039-08-01",
+                                        "4.125", "30/360")
+    assert page.js(SCHEDULE) == CALLS + [["", ""]]
+    assert page.js(KINDS)[:3] == ["on or after this day"] * 3
+    page.shot("terms")
+    assert terms(page, "990081AB7")[1:] == ("at-redemption", "2024-02-29", "", "2025-02-28", "3.9", "actual/365")
+    assert page.js(SCHEDULE) == [["", ""]]
+    page.click("#issue-told button")
+    assert page.ticket("cusip") == ("990081AB7",)
+
+
+def test_what_was_read_is_sent_as_it_is_kept(page):
+    terms(page, "990034AA8")
+    assert "ADDED 990034AA8" in page.press("#issue .first", "issue-told", "#sure-yes")
+
+
+def test_a_name_with_quotes_and_commas_is_read(page):
+    name = 'TOWN OF "OAK", 5S, 2030'
+    page.fill("issue", cusip="990000093", name=name, kind="zero", dated="2020-01-01", maturity="2030-01-01")
+    pasted(page, "2025-01-01:99.5 2026-01-01:101!")
+    page.press("#issue .first", "issue-told", "#sure-yes")
+    assert terms(page, "990000093") == (name, "zero", "2020-01-01", "", "2030-01-01", "", "30/360")
+    assert page.js(SCHEDULE) == [["2025-01-01", "99.5"], ["2026-01-01", "101"], ["", ""]]
+    assert page.js(KINDS)[:2] == ["on this day", "called (certain)"]
+
+
+def test_terms_that_are_not_kept_are_refused_and_what_was_typed_stays(page):
+    page.fill("issue", cusip="000000000", name="TYPED")
+    assert "REFUSED 1 UnknownIssue" in page.press("issue-read", "issue-told")
+    assert page.typed()["issue-name"] == "TYPED"
+
+
+def test_a_desk_that_does_not_tell_terms_says_so_and_what_was_typed_stays(page):
+    page.fill("issue", cusip="990034AA8", name="TYPED")
+    page.relay.rules = [("GET /issues", plain(404, "Not Found"))]
+    told = page.press("issue-read", "issue-told")
+    assert missing(["Terms of an issue cannot be shown here", "of an earlier version than this page"], told) == []
+    assert page.typed()["issue-name"] == "TYPED"
 
 
 def test_a_new_issue_with_its_calls_can_be_read(page):

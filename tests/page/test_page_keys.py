@@ -11,7 +11,7 @@ from support import looks
 
 pytestmark = pytest.mark.xdist_group("page_keys")
 
-PANELS = {"g": "figures", "c": "curve", "s": "sheet", "l": "trades", "i": "issue", "t": "ticket"}
+PANELS = {"g": "figures", "c": "curve", "s": "sheet", "l": "list", "p": "tab-positions", "i": "issue", "t": "ticket"}
 HAS_FOCUS = "return document.getElementById(arguments[0]).contains(document.activeElement)"
 STOPS = ["ticket-par", "ticket-settle", "ticket-basis", "ticket-value", "ticket-quote", "ticket-curve",
          "ticket-reference", "ticket-side", "ticket-fee", "ticket-number", "ticket-enter"]
@@ -49,7 +49,7 @@ class Hand:
         self.page.shows("ticket-told", "Quoted")
 
     def enter(self, reference: str) -> str:
-        """Quotes a sale and enters it, and gives what is told."""
+        """Quotes a purchase, enters it as a sale after the question, and gives what is told."""
         self.quote()
         self.tab(3)
         self.press(*reference)
@@ -59,7 +59,14 @@ class Hand:
         self.press(*"0.375")
         self.tab(2)
         self.press(Keys.ENTER)
+        self.answer()
         return self.page.shows("ticket-told", "kept")
+
+    def answer(self) -> None:
+        """Answers the question, which begins at No, with its other button."""
+        self.page.asks()
+        self.press(Keys.TAB, Keys.ENTER)
+        self.page.asks(False)
 
     def open(self, reference: str) -> None:
         """Opens a trade by the list."""
@@ -120,6 +127,7 @@ def test_a_trade_is_corrected_and_canceled(page, hand):
             break
         hand.press(Keys.TAB)
     hand.press(Keys.ENTER)
+    hand.answer()
     assert page.shows("ticket-told", "CORRECTED CONFIRMATION 2 of KEYS3 is kept")
     assert (page.kept("KEYS3").number, page.kept("KEYS3").par) == (2, 30_000)
     hand.press(Keys.TAB, Keys.ENTER)

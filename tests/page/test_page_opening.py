@@ -16,7 +16,7 @@ def test_it_tells_who_has_logged_in(page):
 
 
 def test_a_desk_without_trades_says_so(page):
-    assert "The desk has no trades." in page.shows("trades-place", "desk")
+    assert "Desk RETAIL has no trades. If it should have some, check its name." in page.shows("trades-place", "Desk")
 
 
 def test_each_field_has_its_label(page):

@@ -52,12 +52,13 @@ def test_the_way_from_an_unknown_issue_to_a_new_one_keeps_what_was_typed_there(p
 
 def test_a_cancel_of_no_trade_is_refused(page):
     change = {"reference": "w0001", "number": "2"}
-    told, stays = page.refused("ticket", "ticket-cancel", "#sure-yes", **RIVERTON | change)
+    told, stays = page.refused("ticket", "ticket-cancel", **RIVERTON | change)
     assert missing(page.lines_of("REFUSED 2 UnknownTrade"), told) == [] and stays
 
 
 def test_a_commission_beside_a_yield_is_refused(page):
-    told, stays = page.refused("ticket", "ticket-enter", **RIVERTON | {"reference": "W0005", "fee": "0.125"})
+    change = {"reference": "W0005", "fee": "0.125"}
+    told, stays = page.refused("ticket", "ticket-enter", "#sure-yes", **RIVERTON | change)
     assert missing(page.lines_of("REFUSED 15 WrongBasis"), told) == [] and stays
 
 
@@ -71,7 +72,8 @@ def test_a_version_past_the_99th_is_refused_and_its_cancel_is_taken(page):
     page.desk.enter(trade)
     for number in range(2, 100):
         page.desk.correct(replace(trade, par=1_000 + number), number)
-    told, stays = page.refused("ticket", "ticket-correct", **RIVERTON | {"reference": "FULL", "number": "100"})
+    change = {"reference": "FULL", "number": "100"}
+    told, stays = page.refused("ticket", "ticket-correct", "#sure-yes", **RIVERTON | change)
     assert missing(page.lines_of("REFUSED 13 VersionsFull"), told) == [] and stays
     assert "CANCELED CONFIRMATION 100 of FULL is kept" in page.press("ticket-cancel", sure="#sure-yes")
 

@@ -19,14 +19,15 @@ SALE = TICKET | {"value": "104.2505", "side": "sell", "fee": "0.375"}
 
 
 def sold(page, reference: str) -> None:
-    """Enters a sale by the page."""
+    """Enters a sale by the page, without a quote before it."""
     page.fill("ticket", **SALE | {"reference": reference})
-    assert f"CONFIRMATION 1 of {reference} is kept" in page.press("ticket-enter")
+    assert f"CONFIRMATION 1 of {reference} is kept" in page.press("ticket-enter", sure="#sure-yes")
 
 
 def test_a_second_press_while_a_trade_is_entered_sends_nothing(page):
     sent = len(page.relay.sent("POST /trades"))
     page.fill("ticket", **SALE | {"reference": "TWICE"})
+    page.press("ticket-quote")
     with page.relay.holding("POST /trades"):
         page.click("#ticket-enter")
         page.click("#ticket-enter")
@@ -50,7 +51,7 @@ def test_a_trade_that_is_entered_again_adds_nothing(page):
 
 def test_another_trade_under_its_reference_is_refused(page):
     sold(page, "TAKEN")
-    told, stays = page.refused("ticket", "ticket-enter", par="30000")
+    told, stays = page.refused("ticket", "ticket-enter", "#sure-yes", par="30000")
     assert missing(page.lines_of("REFUSED 3 Conflict version 1"), told) == [] and stays
     assert page.kept("TAKEN").par == 25_000
     page.shot("conflict")
@@ -58,17 +59,17 @@ def test_another_trade_under_its_reference_is_refused(page):
 
 def test_a_number_that_is_left_out_is_refused(page):
     sold(page, "NUMBER")
-    told, stays = page.refused("ticket", "ticket-correct", par="30000", number="3")
+    told, stays = page.refused("ticket", "ticket-correct", "#sure-yes", par="30000", number="3")
     assert missing(page.lines_of("REFUSED 12 WrongNumber 2"), told) == [] and stays
 
 
 def test_after_a_correction_the_sheet_shows_the_present_state_whatever_is_sent_again(page):
     sold(page, "CORRECT")
     page.fill("ticket", par="30000", number="2")
-    assert "CORRECTED CONFIRMATION 2 of CORRECT is kept" in page.press("ticket-correct")
+    assert "CORRECTED CONFIRMATION 2 of CORRECT is kept" in page.press("ticket-correct", sure="#sure-yes")
     assert page.sheet() == sheet_shown(page.kept("CORRECT"))
     page.fill("ticket", par="25000")
-    told = page.press("ticket-enter")
+    told = page.press("ticket-enter", sure="#sure-yes")
     assert missing(["CONFIRMATION 1 of CORRECT was kept before",
                     "It is not the present state: the last version is CORRECTED CONFIRMATION 2"], told) == []
     assert (page.title(), page.sheet()["Sold"]) == ("CORRECTED CONFIRMATION 2", "30,000")
@@ -77,7 +78,7 @@ def test_after_a_correction_the_sheet_shows_the_present_state_whatever_is_sent_a
 def test_a_trade_of_this_window_is_taken_in_full(page):
     sold(page, "MINE")
     page.fill("ticket", par="30000", number="2")
-    page.press("ticket-correct")
+    page.press("ticket-correct", sure="#sure-yes")
     page.click("#ticket-clear")
     page.click("#sheet-take")
     assert page.ticket("value", "fee", "number", "par") == ("104.2505", "0.375", "3", "30000")
@@ -146,7 +147,8 @@ def test_after_a_cancel_a_correction_is_refused_and_the_trade_is_taken_for_anoth
     sold(page, "GONE")
     page.fill("ticket", number="2")
     page.press("ticket-cancel", sure="#sure-yes")
-    told, stays = page.refused("ticket", "ticket-correct", number="3")
+    told, stays = page.refused("ticket", "ticket-correct", "#sure-yes", number="3")
     assert missing(page.lines_of("REFUSED 11 Canceled"), told) == [] and stays
     page.click("#sheet-take")
-    assert page.ticket("reference", "number", "value", "fee") == ("", "", "104.2505", "0.375")
+    assert page.ticket("number", "value", "fee") == ("", "104.2505", "0.375")
+    assert page.proposed()

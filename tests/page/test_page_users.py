@@ -44,11 +44,11 @@ def test_who_has_two_desks_is_offered_both(opened):
 def test_another_desk_has_its_own_trades_and_no_old_sheet(opened):
     page = opened("alice")
     page.fill("ticket", **TICKET | {"reference": "A1"})
-    page.press("ticket-enter")
+    page.press("ticket-enter", sure="#sure-yes")
     assert page.title() != ""
     page.browser.write("#house-desk", "BETA")
     page.browser.press(Keys.ENTER)
-    assert page.shows("trades-place", "The desk has no trades.")
+    assert page.shows("trades-place", "Desk BETA has no trades.")
     assert page.title() == ""
 
 

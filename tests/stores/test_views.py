@@ -15,7 +15,7 @@ from support.program import ROOT
 from support.stores import Store
 
 ROWS = (ROOT / "examples/book.csv").read_text(encoding="ascii")
-VIEWS = ("blotter", "desk_positions", "live_trades", "live_versions", "trade_versions")
+VIEWS = ("blotter", "desk_positions", "live_trades", "live_versions", "trade_versions", "trades_by_reference_date")
 TRADE = {"desk": "RETAIL", "reference": "V0001", "cusip": "990034AA8", "side": "sell", "par": "25000",
          "settle": "2024-04-03", "basis": "price", "value": "104.25", "fee": "0.375"}
 CONFIRMATION = """SELECT desk, reference, number, side, par, cusip, issue, coupon, maturity, settle, price, yield,
@@ -116,6 +116,19 @@ def test_the_blotter_has_the_last_version_of_each_trade_that_is_not_canceled(vie
     wanted = [(*key, *line[:3], "%d.%02d" % divmod(line[3], 100), "%d.%02d" % divmod(line[4], 100))
               for key, line in sorted(days.items())]
     assert viewed.sql("SELECT * FROM blotter") == wanted
+
+
+def test_trades_are_grouped_by_the_day_with_which_their_references_begin(muni, tmp_path):
+    book = viewed_book(muni, tmp_path)
+    assert book.sql("SELECT * FROM trades_by_reference_date") == [], "no reference of the book begins with a day"
+    for reference in ("20240403A0001", "20240403A0002", "20240403", "20240404B0001", "20240230A0001", "20241301A0001",
+                      "2024040", "2024040A3"):
+        row = "trade," + ",".join({**TRADE, "reference": reference}.values()) + "\n"
+        assert b"confirmed" in book.report(row)
+    book.report("cancel,RETAIL,20240403A0002,2\n")
+    assert book.sql("SELECT * FROM trades_by_reference_date") == [
+        ("2024-04-03", "RETAIL", 2, 0, 50_000, "0.00", "52292.70"),
+        ("2024-04-04", "RETAIL", 1, 0, 25_000, "0.00", "26146.35")]
 
 
 def test_the_desk_works_over_a_store_with_views(muni, tmp_path, serve, report):

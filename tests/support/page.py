@@ -117,6 +117,21 @@ class Page:
         typed = self.typed()
         return tuple(typed[f"ticket-{name}"] for name in names)
 
+    def proposed(self) -> str:
+        """The reference that is proposed, once it is there."""
+        return self.until("""const found = document.getElementById("ticket-reference").value;
+                             return /^20\\d{6}[A-Z]\\d{4}$/.test(found) ? found : "" """)
+
+    def marked(self) -> list[str]:
+        """The references of the rows of the list that are marked, once one is."""
+        self.until("return document.querySelector('#trades-list [aria-current]')")
+        return self.texts("#trades-list [aria-current] button")
+
+    def asked(self) -> list[list[str]]:
+        """The rows of the question that is open."""
+        self.asks()
+        return self.rows("#sure-lines tr")
+
     def focus(self) -> str:
         return self.js("return document.activeElement.id")
 

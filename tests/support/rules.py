@@ -39,6 +39,7 @@ NGINX, QUEUE, DESK, QUEUE_UNIT = "nginx.conf", "queue.cfg", "muni.service", "mun
 NAMED = 'geo $is_unlimited {\n        default "";'
 UNLIMITED = Edit(NGINX, NAMED, NAMED + "\n        127.0.0.0/8 yes;")
 REFUSED = " {\n            return 403;\n        }"
+ISSUE = '{9})$" {\n            proxy_set_header X-Allowed '
 
 RULES: dict[str, Rule] = {
     "password": of(
@@ -78,6 +79,15 @@ RULES: dict[str, Rule] = {
     "path as it came": of(
         "paths: the desk of another is not read",
         (NGINX, "map $request_uri $desk_of_path", "map $uri $desk_of_path")),
+    "paths of a desk": of(
+        "paths: an own desk is read",
+        (NGINX, "~^/(?:trades|lists|latest|positions)/(?<in_path>", "~^/(?:trades|lists)/(?<in_path>")),
+    "path of a version": of(
+        "paths: an own desk is read",
+        (NGINX, "(?:/[A-Za-z0-9]{1,20}){0,2}", "(?:/[A-Za-z0-9]{1,20})?")),
+    "terms of an issue": of(
+        "issues: the terms of an issue are read by all who may quote",
+        (NGINX, ISSUE + "yes;", ISSUE + "$adds_issues;")),
     "several desks": of(
         "paths: an own desk is read",
         (NGINX, "(?:[A-Z0-9]+ )*(?<own_path>", "(?<own_path>")),

@@ -19,6 +19,7 @@ trade, and `Client.confirmation` alone tells the last one.
 from __future__ import annotations
 
 import base64
+import csv
 import enum
 import http.client
 import json
@@ -37,9 +38,9 @@ from ._refusals import WORDS
 __all__ = [
     "Act", "BadTerms", "Basis", "Call", "CallKind", "Canceled", "Candidate", "Client", "Confirmation", "Conflict",
     "DayCount", "DeskFull", "Error", "Figures", "GivenOutOfRange", "Issue", "Kind", "Label", "Listed", "NoTime", "PAGE",
-    "REFUSALS", "Redemption", "Refused", "SettleOutside", "Side", "Status", "Trade", "Unanswered", "Undecided",
-    "UnknownIssue", "UnknownTrade", "VersionsFull", "WrongBasis", "WrongNumber", "YieldAbove", "YieldBelow",
-    "read_confirmation", "read_figures", "read_list",
+    "Position", "REFUSALS", "Redemption", "Refused", "SettleOutside", "Side", "Status", "Trade", "Unanswered",
+    "Undecided", "UnknownIssue", "UnknownTrade", "VersionsFull", "WrongBasis", "WrongNumber", "YieldAbove",
+    "YieldBelow", "read_confirmation", "read_figures", "read_issue", "read_list", "read_positions",
 ]
 
 __version__ = "1.5.0"
@@ -218,6 +219,19 @@ class Listed:
     par: int
     price: Decimal
     yield_: Decimal
+
+
+@dataclass(frozen=True)
+class Position:
+    """The live trades of a desk in an issue: how many, the par bought, sold and left, and the money paid less the money
+    received. The side is that of the party that is confirmed."""
+
+    cusip: str
+    trades: int
+    bought: int
+    sold: int
+    par: int
+    money: Decimal
 
 
 class Error(Exception):
@@ -523,6 +537,47 @@ def read_list(text: str) -> list[Listed]:
     return found
 
 
+def read_positions(text: str) -> list[Position]:
+    """Reads the lines of a desk's positions.
+
+    >>> read_positions('990010AC4 2 30000 15000 15000 16433.36\\n')[0].money
+    Decimal('16433.36')
+    """
+    found = []
+    for line in text.splitlines():
+        cusip, trades, bought, sold, par, money = line.split(" ")
+        found.append(Position(cusip, int(trades), int(bought), int(sold), int(par), Decimal(money)))
+    return found
+
+
+def _kept_call(text: str) -> Call:
+    """Reads a call of a row.
+
+    >>> _kept_call("2030-07-01:100.500000+")
+    Call(day=datetime.date(2030, 7, 1), price=Decimal('100.500000'), kind=<CallKind.ON_OR_AFTER: '+'>)
+    """
+    day, _, price = text.partition(":")
+    number = price.rstrip("+!")
+    return Call(date.fromisoformat(day), Decimal(number), CallKind(price[len(number):]))
+
+
+def read_issue(text: str) -> Issue:
+    """Reads the row of an issue, as an export has it.
+
+    >>> read = read_issue('issue,990081AB7,"MARLOW, NOTES",at-redemption,2024-02-29,,2025-02-28,3.9000000,,actual/365\\n')
+    >>> read.name, read.coupon, read.first, read.calls, read.day_count.name
+    ('MARLOW, NOTES', Decimal('3.9000000'), None, (), 'ACTUAL_365')
+    """
+    # A name may hold the end of a line, so the row is read as a whole.
+    [(row, cusip, name, kind, dated, first, maturity, coupon, calls, days)] = csv.reader([text])
+    if row != "issue":
+        raise ValueError(f"no issue: {text!r}")
+    has_coupon = Kind(kind) in (Kind.PERIODIC, Kind.AT_REDEMPTION)
+    return Issue(cusip, name, Kind(kind), date.fromisoformat(dated), date.fromisoformat(maturity),
+                 coupon=Decimal(coupon) if has_coupon else None, first=date.fromisoformat(first) if first else None,
+                 calls=tuple(_kept_call(call) for call in calls.split()), day_count=DayCount(days))
+
+
 def _amount(name: str, value: Amount, places: int, least: str, most: str) -> str:
     """The text of an amount, or an exception if it is out of the range or has too many decimals.
 
@@ -707,9 +762,30 @@ class Client:
         body = {"desk": _desk(desk), "reference": _reference(reference), "number": _number(number)}
         return self._confirmation(self._ask("POST", "/cancels", body))
 
+    def issue(self, cusip: str) -> Issue:
+        """The terms of an issue that is kept."""
+        text = self._ask("GET", f"/issues/{_cusip(cusip)}")
+        try:
+            return read_issue(text)
+        except (ValueError, csv.Error) as error:
+            raise Status(200, text) from error
+
     def confirmation(self, desk: str, reference: str) -> Confirmation:
         """The confirmation of the last version of a trade."""
         return self._confirmation(self._ask("GET", f"/trades/{_desk(desk)}/{_reference(reference)}"))
+
+    def version(self, desk: str, reference: str, number: int) -> Confirmation:
+        """The confirmation of a version of a trade, by its number from 1 to 100."""
+        place = f"{_desk(desk)}/{_reference(reference)}/{_amount('number', number, 0, '1', '100')}"
+        return self._confirmation(self._ask("GET", f"/trades/{place}"))
+
+    def positions(self, desk: str) -> list[Position]:
+        """The positions of a desk, by CUSIP. A desk without live trades has none."""
+        return read_positions(self._ask("GET", f"/positions/{_desk(desk)}"))
+
+    def latest(self, desk: str) -> list[Listed]:
+        """The last 50 trades of a desk by their references, in that order."""
+        return read_list(self._ask("GET", f"/latest/{_desk(desk)}"))
 
     def page(self, desk: str, after: str = "") -> list[Listed]:
         """The first 50 trades of a desk by their references, or the first 50 after a reference."""
