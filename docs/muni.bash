@@ -3,7 +3,7 @@
 # their place; from a clone `. docs/muni.bash` loads them.
 
 # Made of the launcher's tables by tests/documents/made_pages.py.
-_muni_commands='quote-one quote import confirm serve drill positions mark export list help'
+_muni_commands='quote-one quote import confirm serve drill positions mark export list load help'
 _muni_flags=' --each --all --issues '
 
 _muni_options() {
@@ -17,6 +17,7 @@ _muni_options() {
     mark) echo --store ;;
     export) echo --store --desk --issues ;;
     list) echo --store --desk ;;
+    load) echo --store ;;
     esac
 }
 

@@ -25,6 +25,7 @@ positions --store --desk
 mark --store
 export --store --desk --issues
 list --store --desk
+load --store
 help
 """
 
@@ -99,6 +100,8 @@ def over_store(asked: OverStore, book: Book, data: bytes | Callable[[], bytes], 
             if len(text) > IMPORTED_MAX:
                 return Said(Status.TOO_LARGE)
             return said(rows.report(book, text, choose) + positions(book, asked.desk))
+        case "load":
+            return said(rows.report(book, data if isinstance(data, bytes) else data(), choose))
         case _:
             text = data if isinstance(data, bytes) else data()
             return Said(Status.TOO_LARGE) if len(text) > MARKED_MAX else said(rows.marks(book, text, choose))

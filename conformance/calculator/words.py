@@ -195,6 +195,6 @@ def over_store(name: str, options: Options) -> OverStore:
             if desk and is_issues:
                 raise Usage
             return OverStore(name, store, desk, is_issues=is_issues)
-        case "mark":
+        case "mark" | "load":
             return OverStore(name, store)
     raise Usage

@@ -66,6 +66,7 @@ positions --store --desk
 mark --store
 export --store --desk --issues
 list --store --desk
+load --store
 help"""),
 }
 CONFIRMATION = """CONFIRMATION 1

@@ -78,6 +78,7 @@ def commands() -> list[Command]:
             Command(f"{kind}import", importing, KEPT + LATER, is_import=True),
             Command(f"{kind}import again", importing, KEPT + LATER, None, KEPT + LATER, True),
             Command(f"{kind}import with positions", (*importing, "--positions=ALPHA"), LATER, None, KEPT, True),
+            Command(f"{kind}load", ("load", store), KEPT + LATER, is_import=True),
             Command(f"{kind}confirm", ("confirm", store, "--desk=ALPHA", "--ref=T0001"), before=KEPT),
             Command(f"{kind}positions", ("positions", store, "--desk=ALPHA"), before=KEPT),
             Command(f"{kind}export", ("export", store), before=KEPT, is_in_pieces=True),

@@ -16,6 +16,7 @@ use Rattle.muni_desk_export.specs.Kept.{WritesKept}
 use Rattle.muni_desk_export.specs.declared.wanted.Wanted.{Wanted}
 use Rattle.muni_desk_import.specs.Confirmed.{Confirmed}
 use Rattle.muni_desk_import.specs.Imported.{Imported}
+use Rattle.muni_desk_import.specs.Loaded.{HasTooManyRows, Loaded}
 use Rattle.muni_desk_import.specs.declared.confirmations.Answered.{Answered}
 use Rattle.muni_desk_import.specs.declared.confirmations.Answered.TheVariants as answered
 use Rattle.muni_desk_positions.specs.Imported.{ImportedWith}
@@ -27,11 +28,11 @@ use Rattle.muni_desk_serve.specs.Serves.{Traffic}
 use Rattle.muni_desk_serve.specs.Serving.{ServedStore}
 use Rattle.muni_desk_serve.specs.declared.fault.ServeFault.TheVariants as serve
 use Rattle.muni_desk.specs.Answers.{IsQuoteOneText, IsQuoteText, IsDrillText, IsHelpText, IsAnswer}
-use Rattle.muni_desk.specs.CompletenessLaws.{HasAtMost, EndsWell, EndsWellOverStore, CommandsAreCompleted}
+use Rattle.muni_desk.specs.CompletenessLaws.{HasAtMost, HasRowsAtMost, EndsWell, EndsWellOverStore, CommandsAreCompleted}
 use Rattle.muni_desk.specs.Does.{Says}
 use Rattle.muni_desk.specs.Status.{of_answered, of_done, of_served}
 use Rattle.muni_desk.specs.declared.command.DeskCommand.{DeskCommand}
-use Rattle.muni_desk.specs.declared.command.DeskCommand.TheVariants.{QuoteOne, Quote, Import, Confirm, Serve, Positions, Mark, Export, Drill, Help}
+use Rattle.muni_desk.specs.declared.command.DeskCommand.TheVariants.{QuoteOne, Quote, Import, Load, Confirm, Serve, Positions, Mark, Export, Drill, Help}
 use Rattle.muni_desk.specs.declared.drill.options.DrillRequest.{DrillRequest}
 use Rattle.muni_desk.specs.declared.quote_one.QuoteOneRequest.{QuoteOneRequest}
 use Rattle.muni_desk.specs.declared.request.QuoteRequest.{QuoteRequest}
@@ -64,6 +65,7 @@ right-answered ends (Quote request each) answer is = quote-answered ends request
 right-answered ends (Drill request) answer is = drill-answered ends request answer.status answer.text.items is
 right-answered ends Help answer is = help-answered answer.status answer.text.items is
 right-answered ends (Import store listed) answer is = absurd is
+right-answered ends (Load store) answer is = absurd is
 right-answered ends (Confirm store key) answer is = absurd is
 right-answered ends (Serve store port connections) answer is = absurd is
 right-answered ends (Positions store desk) answer is = absurd is
@@ -100,6 +102,21 @@ import-completed source sink cabinet Prices store (Err Store) end old new is did
 import-completed source sink cabinet Prices store (Err Write) end old new is did few input output stored = absurd (output did.2)
 import-completed source sink cabinet Prices store (Err Read) end old new is did few input output stored = absurd (input did.1)
 import-completed source sink cabinet Prices store (Err TooLarge) end old new is did few input output stored = absurd (not-large source 4_194_304 old.input few did.1)
+
+many-rows : {I : Type 0} (source : Source.Ghosts I) (input : I) → HasRowsAtMost source 4_294_967_295 input → IfSome (source.left input) HasTooManyRows → ⊥
+many-rows source input (text, is, few) large =
+    let many = subst (λ left. IfSome left HasTooManyRows) is large in
+    absurd (omega (arith, few, many))
+
+load-completed : {I O C K : Type 0} (source : Source.Ghosts I) (sink : Sink.Ghosts O) (cabinet : Cabinet.Ghosts C K) (Prices : Pricing) (store : List ℕ) (result : Result (Unit {0}) Fault) (end : Status) (old new : Lent I O C)
+    → end ≡ of_done result → Loaded source sink cabinet Prices store result old new → HasRowsAtMost source 4_294_967_295 old.input
+    → ¬ (Rose (source.faults old.input) (source.faults new.input)) → ¬ (Rose (sink.faults old.output) (sink.faults new.output)) → ¬ (Rose (cabinet.faults old.cabinet) (cabinet.faults new.cabinet)) → EndsWellOverStore end
+load-completed source sink cabinet Prices store (Ok done) end old new is did few input output stored = subst EndsWellOverStore (sym is) tt
+load-completed source sink cabinet Prices store (Err NoMemory) end old new is did few input output stored = subst EndsWellOverStore (sym is) tt
+load-completed source sink cabinet Prices store (Err Store) end old new is did few input output stored = absurd (stored did.1)
+load-completed source sink cabinet Prices store (Err Write) end old new is did few input output stored = absurd (output did.1)
+load-completed source sink cabinet Prices store (Err Read) end old new is did few input output stored = absurd (input did.1)
+load-completed source sink cabinet Prices store (Err TooLarge) end old new is did few input output stored = absurd (many-rows source old.input few did.1)
 
 listing-completed : {I O C K : Type 0} (source : Source.Ghosts I) (sink : Sink.Ghosts O) (cabinet : Cabinet.Ghosts C K) (Prices : Pricing) (store desk : List ℕ) (result : Result (Unit {0}) Fault) (end : Status) (old new : Lent I O C)
     → end ≡ of_done result → ImportedWith source sink cabinet Prices store desk result old new → HasAtMost source 4_194_304 old.input → ¬ (MayNotSum desk (cabinet.told old.cabinet store))
@@ -168,6 +185,8 @@ completed source sink cabinet door ends told (Import store None) end old new bef
     import-completed source sink cabinet _ store.items does.0.0 end old new does.0.1 does.0.2.0 few none.reads none.writes none.stores
 completed source sink cabinet door ends told (Import store (Some desk)) end old new before after does none few can =
     listing-completed source sink cabinet _ store.items desk does.0.0 end old new does.0.1 does.0.2.0 few can none.reads none.writes none.stores
+completed source sink cabinet door ends told (Load store) end old new before after does none few can =
+    load-completed source sink cabinet _ store.items does.0.0 end old new does.0.1 does.0.2.0 few none.reads none.writes none.stores
 completed source sink cabinet door ends told (Confirm store key) end old new before after does none few can =
     confirm-completed sink cabinet store.items key does.0.0 end old.output new.output old.cabinet new.cabinet does.0.1 does.0.2.0 none.writes none.stores
 completed source sink cabinet door ends told (Serve store port connections) end old new before after does none few can =

@@ -26,6 +26,7 @@ use Rattle.muni_desk_import.specs.Confirmed.{Confirmed}
 use Rattle.muni_desk_import.specs.Import.{report, Did, DidFirst, DidBeforeOrNone, DidPart}
 use Rattle.muni_desk_import.specs.Imported.{Imported}
 use Rattle.muni_desk_import.specs.Laws.{ReportsAreRight, ConfirmationsAreRight}
+use Rattle.muni_desk_import.specs.Loaded.{DidCame, DidMost, Loaded}
 use Rattle.muni_desk_import.specs.declared.confirmations.Answered.{Answered}
 use Rattle.muni_desk_import.specs.declared.confirmations.Answered.TheVariants as answered
 use Rattle.muni_desk_import.proofs.ImportLemmas.{report-then}
@@ -36,7 +37,7 @@ use Rattle.muni_desk_serve.specs.Connections.{exchange, AreServed, IsRunOver}
 use Rattle.muni_desk_serve.specs.Fault.{Outcome}
 use Rattle.muni_desk_serve.specs.Laws.{AnswersAreRight}
 use Rattle.muni_desk_serve.specs.Serves.{Traffic}
-use Rattle.muni_desk.specs.PrintLaws.{ReportsRight, PrintsReport, ImportsPrintRight, ConfirmsRight, ConfirmationsPrintRight, AnswersRight, ConnectionsAreAnsweredRight}
+use Rattle.muni_desk.specs.PrintLaws.{ReportsRight, PrintsReport, ImportsPrintRight, LoadsPrintRight, ConfirmsRight, ConfirmationsPrintRight, AnswersRight, ConnectionsAreAnsweredRight}
 use Rattle.muni_desk.specs.Status.{of_answered, of_done}
 use Rattle.muni_desk.specs.declared.status.Status.{Status}
 use Rattle.muni_desk.specs.declared.status.Status.TheVariants as status
@@ -189,6 +190,33 @@ imports-print source sink cabinet door right ends told store None end old new be
 }
 imports-print source sink cabinet door right ends told store (Some desk) end old new before after text tables does there known sound =
     listing-right source sink cabinet right ends store.items desk does.0.0 end old new text tables does.0.1 does.0.2.0 there known sound
+
+-- ---- loads
+loaded-right : {I O C K : Type 0} (source : Source.Ghosts I) (sink : Sink.Ghosts O) (cabinet : Cabinet.Ghosts C K) (right : ReportsAreRight) (ends : Ends) (store : List ℕ) (result : Result (Unit {0}) Fault) (end : Status) (old new : Lent I O C) (text : List ℕ) (tables : Tables)
+    → end ≡ of_done result → Loaded source sink cabinet (IsRightAnswer ends) store result old new → source.left old.input ≡ Some text → cabinet.told old.cabinet store ≡ Some tables → AreSoundTables tables
+    → ReportsRight end (cabinet.told new.cabinet store) (sink.bytes old.output) (sink.bytes new.output)
+loaded-right source sink cabinet right ends store (Ok done) end old new text tables is did there known sound =
+    did-right right ends (rows_of text) tables _ _ _ end sound
+    (at-exposed source cabinet store old (λ text tables. Did (IsRightAnswer ends) (rows_of text) tables (cabinet.told new.cabinet store) (sink.bytes old.output) (sink.bytes new.output)) text tables there known did)
+loaded-right source sink cabinet right ends store (Err Store) end old new text tables is did there known sound =
+    before-right right ends text tables _ _ _ end (λ done. let never : status.StoreFault ≡ status.Done = sym is ∙ done in cc) sound
+    (at-exposed source cabinet store old (λ text tables. DidBeforeOrNone (IsRightAnswer ends) text tables (cabinet.told new.cabinet store) (sink.bytes old.output) (sink.bytes new.output)) text tables there known did.0)
+loaded-right source sink cabinet right ends store (Err NoMemory) end old new text tables is did there known sound =
+    let first = at-exposed source cabinet store old (λ text tables. DidFirst (IsRightAnswer ends) text tables (cabinet.told new.cabinet store) (sink.bytes old.output) (sink.bytes new.output)) text tables there known did in
+    did-right right ends first.rows tables _ _ _ end sound first.did
+loaded-right source sink cabinet right ends store (Err Write) end old new text tables is did there known sound =
+    part-right right ends text tables _ _ _ end (λ done. let never : status.WriteFault ≡ status.Done = sym is ∙ done in cc) sound
+    (at-exposed source cabinet store old (λ text tables. DidPart (IsRightAnswer ends) text tables (cabinet.told new.cabinet store) (sink.bytes old.output) (sink.bytes new.output)) text tables there known did.0)
+loaded-right source sink cabinet right ends store (Err Read) end old new text tables is did there known sound =
+    let came = at-exposed source cabinet store old (λ text tables. DidCame (IsRightAnswer ends) text (source.left new.input) tables (cabinet.told new.cabinet store) (sink.bytes old.output) (sink.bytes new.output)) text tables there known did.0 in
+    did-right right ends came.first.rows tables _ _ _ end sound came.first.did
+loaded-right source sink cabinet right ends store (Err TooLarge) end old new text tables is did there known sound =
+    let most = at-exposed source cabinet store old (λ text tables. DidMost (IsRightAnswer ends) text tables (cabinet.told new.cabinet store) (sink.bytes old.output) (sink.bytes new.output)) text tables there known did.0 in
+    did-right right ends most.first.rows tables _ _ _ end sound most.first.did
+
+pub loads-print : {I O C K D L : Type 0} (source : Source.Ghosts I) (sink : Sink.Ghosts O) (cabinet : Cabinet.Ghosts C K) (door : Door.Ghosts D L) → ReportsAreRight → LoadsPrintRight source sink cabinet door
+loads-print source sink cabinet door right ends told store end old new before after text tables does there known sound =
+    loaded-right source sink cabinet right ends store.items does.0.0 end old new text tables does.0.1 does.0.2.0 there known sound
 
 -- ---- confirmations
 last-confirmed : (right : ConfirmationsAreRight) (tables : Tables) (key : Key) (had has : Option (List ℕ)) (last : Option (ℕ × Version)) → AreSoundTables tables → last_at tables key ≡ last → answered.Confirmed ≡ (confirmed tables key).answered → HasWritten had has (confirmed tables key).text → ConfirmsRight tables key had has

@@ -16,11 +16,11 @@ use Rattle.muni_desk_export.specs.declared.wanted.Wanted.{Wanted}
 use Rattle.muni_desk_export.specs.declared.wanted.Wanted.TheVariants as want
 use Rattle.muni_desk.specs.Words.{◌>>=◌, are_options, are_options_beside, has_word, value_of}
 use Rattle.muni_desk.specs.QuoteOptions.{workers_of}
-use Rattle.muni_desk.specs.StoreOptions.{import_options, confirm_options, serve_options, desk_options, mark_options, all_word, issues_word, is_store_name, store_reading, store_of, listed_in, listed_of, import_line, import_of, confirm_line, confirm_one_of, confirm_all_line, confirm_all_of, confirm_of, serve_line, serve_of, positions_line, positions_of, mark_line, mark_of, wanted_in, wanted_of, export_line, export_of, list_line, list_of}
+use Rattle.muni_desk.specs.StoreOptions.{import_options, confirm_options, serve_options, desk_options, store_options, all_word, issues_word, is_store_name, store_reading, store_of, listed_in, listed_of, import_line, import_of, load_line, load_of, confirm_line, confirm_one_of, confirm_all_line, confirm_all_of, confirm_of, serve_line, serve_of, positions_line, positions_of, mark_line, mark_of, wanted_in, wanted_of, export_line, export_of, list_line, list_of}
 use Rattle.muni_desk.specs.Help.{help_of}
-use Rattle.muni_desk.specs.WordLaws.{AsksFor, Has, IsCommandLine, IsImport, IsConfirm, IsConfirmAll, IsServe, IsPositions, IsMark, IsExport, IsList, IsSingle, SaysPositions, SaysStore, SaysWanted}
+use Rattle.muni_desk.specs.WordLaws.{AsksFor, Has, IsCommandLine, IsImport, IsConfirm, IsConfirmAll, IsServe, IsPositions, IsStoreAlone, IsExport, IsList, IsSingle, SaysPositions, SaysStore, SaysWanted}
 use Rattle.muni_desk.specs.declared.command.CommandLine.{CommandLine}
-use Rattle.muni_desk.specs.declared.command.DeskCommand.TheVariants.{Import, Confirm, Serve, Positions, Mark, Export, Help}
+use Rattle.muni_desk.specs.declared.command.DeskCommand.TheVariants.{Import, Load, Confirm, Serve, Positions, Mark, Export, Help}
 use Rattle.muni_desk.proofs.CommandLawLemmas.{read-ok, ok-read, read-option, option-read, read-workers, workers-read}
 use Rattle.muni_desk.proofs.OptionalLemmas.{bind-some, some-bind, map-some, ok-some, if-some, when-true}
 use Rattle.muni_desk.proofs.WordLawLemmas.{both, options-read, are-options, options-read-beside, are-options-beside, has-read, read-has, has-unknown, found-says, says-found, none-lacks, lacks-none}
@@ -238,22 +238,41 @@ positions-read words store desk said =
     (some-bind _ (desk_of words) desk line (ok-read (name_reading is_desk_letter 16) words (codes "--desk=") desk (said.single 1 [] (omega arith)) said.desk_named)
     refl))
 
+-- ---- `load`
+abbrev load_from : ArrayVec ℕ → CommandLine
+load_from store = record { command = Load store; workers = 1 }
+
+pub read-load : (words : List (List ℕ)) (name : List ℕ) (line : CommandLine) → name ≡ codes "load" → load_of words ≡ Some line → IsCommandLine (name ∷ words) line
+read-load words name line named is =
+    let options_read = if-some (are_options store_options store_options words) (load_line words) line is in
+    let stand = options-read store_options store_options words options_read.0 in
+    let store = bind-some _ (store_of words) line options_read.1 in
+    subst (IsCommandLine (name ∷ words)) (same_Some (load_from store.0) line store.2)
+    (named, record { known = stand.0; single = stand.1; named = read-store words store.0 store.1 }, refl)
+
+pub load-read : (words : List (List ℕ)) (store : ArrayVec ℕ) → IsStoreAlone words store → load_of words ≡ Some (record { command = Load store; workers = 1 })
+load-read words store said =
+    let line = load_from store in
+    when-true (are_options store_options store_options words) (load_line words) line (are-options store_options store_options words said.known said.single)
+    (some-bind _ (store_of words) store line (store-read words store (said.single 0 [] (omega arith)) said.named)
+    refl)
+
 -- ---- `mark`
 abbrev mark_from : ArrayVec ℕ → CommandLine
 mark_from store = record { command = Mark store; workers = 1 }
 
 pub read-mark : (words : List (List ℕ)) (name : List ℕ) (line : CommandLine) → name ≡ codes "mark" → mark_of words ≡ Some line → IsCommandLine (name ∷ words) line
 read-mark words name line named is =
-    let options_read = if-some (are_options mark_options mark_options words) (mark_line words) line is in
-    let stand = options-read mark_options mark_options words options_read.0 in
+    let options_read = if-some (are_options store_options store_options words) (mark_line words) line is in
+    let stand = options-read store_options store_options words options_read.0 in
     let store = bind-some _ (store_of words) line options_read.1 in
     subst (IsCommandLine (name ∷ words)) (same_Some (mark_from store.0) line store.2)
     (named, record { known = stand.0; single = stand.1; named = read-store words store.0 store.1 }, refl)
 
-pub mark-read : (words : List (List ℕ)) (store : ArrayVec ℕ) → IsMark words store → mark_of words ≡ Some (record { command = Mark store; workers = 1 })
+pub mark-read : (words : List (List ℕ)) (store : ArrayVec ℕ) → IsStoreAlone words store → mark_of words ≡ Some (record { command = Mark store; workers = 1 })
 mark-read words store said =
     let line = mark_from store in
-    when-true (are_options mark_options mark_options words) (mark_line words) line (are-options mark_options mark_options words said.known said.single)
+    when-true (are_options store_options store_options words) (mark_line words) line (are-options store_options store_options words said.known said.single)
     (some-bind _ (store_of words) store line (store-read words store (said.single 0 [] (omega arith)) said.named)
     refl)
 

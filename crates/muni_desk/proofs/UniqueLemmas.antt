@@ -24,7 +24,7 @@ use Rattle.muni_desk.specs.NextInterestDate.{is_next}
 use Rattle.muni_desk.specs.Request.{IsAnswerOf}
 use Rattle.muni_desk.specs.Sums.{Answered, summary_text}
 use Rattle.muni_desk.specs.declared.command.DeskCommand.{DeskCommand}
-use Rattle.muni_desk.specs.declared.command.DeskCommand.TheVariants.{QuoteOne, Quote, Import, Confirm, Serve, Positions, Mark, Export, Drill, Help}
+use Rattle.muni_desk.specs.declared.command.DeskCommand.TheVariants.{QuoteOne, Quote, Import, Load, Confirm, Serve, Positions, Mark, Export, Drill, Help}
 use Rattle.muni_desk.specs.declared.drill.options.DrillRequest.{DrillRequest}
 use Rattle.muni_desk.specs.declared.quote_one.QuoteOneRequest.{QuoteOneRequest}
 use Rattle.muni_desk.specs.declared.request.QuoteRequest.{QuoteRequest}
@@ -128,6 +128,7 @@ answer-unique ends (Quote request each) answer other fine is also = answer-by an
 answer-unique ends (Drill request) answer other few is also = answer-by answer other (drill-same ends request answer.status other.status answer.text.items other.text.items is also)
 answer-unique ends Help answer other fine is also = answer-by answer other (help-same answer.status other.status answer.text.items other.text.items is also)
 answer-unique ends (Import store listed) answer other fine is also = absurd is
+answer-unique ends (Load store) answer other fine is also = absurd is
 answer-unique ends (Confirm store key) answer other fine is also = absurd is
 answer-unique ends (Serve store port connections) answer other fine is also = absurd is
 answer-unique ends (Positions store desk) answer other fine is also = absurd is

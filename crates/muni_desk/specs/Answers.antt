@@ -17,7 +17,7 @@ use Rattle.muni_desk.specs.Help.{help_text}
 use Rattle.muni_desk.specs.QuoteOne.{IsPriced}
 use Rattle.muni_desk.specs.Request.{IsAnswerOf}
 use Rattle.muni_desk.specs.declared.command.DeskCommand.{DeskCommand}
-use Rattle.muni_desk.specs.declared.command.DeskCommand.TheVariants.{QuoteOne, Quote, Import, Confirm, Serve, Positions, Mark, Export, Drill, Help}
+use Rattle.muni_desk.specs.declared.command.DeskCommand.TheVariants.{QuoteOne, Quote, Import, Load, Confirm, Serve, Positions, Mark, Export, Drill, Help}
 use Rattle.muni_desk.specs.declared.drill.options.DrillRequest.{DrillRequest}
 use Rattle.muni_desk.specs.declared.quote_one.QuoteOneRequest.{QuoteOneRequest}
 use Rattle.muni_desk.specs.declared.request.QuoteRequest.{QuoteRequest}
@@ -70,6 +70,7 @@ abbrev pub IsAnswer : (ends : PaymentSeries → ℤ → WorthEnds) → DeskComma
 IsAnswer ends (QuoteOne request) answer = IsQuoteOneText request answer.status answer.text.items
 IsAnswer ends (Quote request wanted) answer = IsQuoteText ends request wanted answer.status answer.text.items
 IsAnswer ends (Import store listed) answer = ⊥
+IsAnswer ends (Load store) answer = ⊥
 IsAnswer ends (Confirm store key) answer = ⊥
 IsAnswer ends (Serve store port connections) answer = ⊥
 IsAnswer ends (Positions store desk) answer = ⊥

@@ -7,12 +7,13 @@ use Rattle.muni_edge.specs.declared.door.Door as Door
 use Rattle.muni_edge.specs.declared.sink.Sink as Sink
 use Rattle.muni_edge.specs.declared.source.Source as Source
 use Rattle.muni_keep.specs.declared.cabinet.Cabinet as Cabinet
+use Rattle.muni_import.specs.Rows.{rows_of}
 use Rattle.muni_desk_io.specs.Lent.{Lent}
 use Rattle.muni_desk_positions.specs.Listing.{MayNotSum}
 use Rattle.muni_desk_serve.specs.Serves.{Traffic}
 use Rattle.muni_desk.specs.Does.{Does}
 use Rattle.muni_desk.specs.declared.command.DeskCommand.{DeskCommand}
-use Rattle.muni_desk.specs.declared.command.DeskCommand.TheVariants.{QuoteOne, Quote, Import, Confirm, Serve, Positions, Mark, Export, Drill, Help}
+use Rattle.muni_desk.specs.declared.command.DeskCommand.TheVariants.{QuoteOne, Quote, Import, Load, Confirm, Serve, Positions, Mark, Export, Drill, Help}
 use Rattle.muni_desk.specs.declared.status.Status.{Status}
 use Rattle.muni_desk.specs.declared.status.Status.TheVariants.{Done, Refused, NoMemory}
 
@@ -27,9 +28,14 @@ pub record NoneFailed {I O C K D L : Type 0} (source : Source.Ghosts I) (sink : 
 abbrev pub HasAtMost : {I : Type 0} → Source.Ghosts I → ℕ → I → Type 0
 HasAtMost source most input = (text : List ℕ) × (source.left input ≡ Some text) × (length text ≤ most)
 
+-- or so many rows
+abbrev pub HasRowsAtMost : {I : Type 0} → Source.Ghosts I → ℕ → I → Type 0
+HasRowsAtMost source most input = (text : List ℕ) × (source.left input ≡ Some text) × (length (rows_of text) ≤ most)
+
 -- no more than the command reads
 abbrev pub IsWithinLimit : {I : Type 0} → Source.Ghosts I → DeskCommand → I → Type 0
 IsWithinLimit source (Import store listed) input = HasAtMost source 4_194_304 input
+IsWithinLimit source (Load store) input = HasRowsAtMost source 4_294_967_295 input
 IsWithinLimit source (Mark store) input = HasAtMost source 1_048_576 input
 IsWithinLimit source command input = ⊤
 
@@ -56,6 +62,7 @@ abbrev pub IsCompleted : DeskCommand → Status → Type 0
 IsCompleted (QuoteOne request) status = EndsWell status
 IsCompleted (Quote request each) status = EndsWell status
 IsCompleted (Import store listed) status = EndsWellOverStore status
+IsCompleted (Load store) status = EndsWellOverStore status
 IsCompleted (Confirm store key) status = EndsWellOverStore status
 IsCompleted (Serve store port connections) status = EndsWellOverStore status
 IsCompleted (Positions store desk) status = EndsWellOverStore status

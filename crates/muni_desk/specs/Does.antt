@@ -11,10 +11,10 @@ use Rattle.muni_book.specs.Answers.{IsRightAnswer}
 use Rattle.muni_desk_io.specs.Lent.{Lent}
 use Rattle.muni_desk.specs.Answers.{IsAnswer}
 use Rattle.muni_desk_serve.specs.Serves.{Traffic}
-use Rattle.muni_desk.specs.Store.{ImportsInto, ImportsWith, Confirms, Serves, Lists, Marks, Exports}
+use Rattle.muni_desk.specs.Store.{ImportsInto, ImportsWith, LoadsInto, Confirms, Serves, Lists, Marks, Exports}
 use Rattle.muni_desk.specs.Written.{WritesAnswer, TellsFaults}
 use Rattle.muni_desk.specs.declared.command.DeskCommand.{DeskCommand}
-use Rattle.muni_desk.specs.declared.command.DeskCommand.TheVariants.{QuoteOne, Quote, Import, Confirm, Serve, Positions, Mark, Export, Drill, Help}
+use Rattle.muni_desk.specs.declared.command.DeskCommand.TheVariants.{QuoteOne, Quote, Import, Load, Confirm, Serve, Positions, Mark, Export, Drill, Help}
 use Rattle.muni_desk.specs.declared.status.Answer.{Answer}
 use Rattle.muni_desk.specs.declared.status.Status.{Status}
 use Rattle.muni_desk.specs.declared.status.Status.TheVariants.{ReadFault, StoreFault, NoMemory, TooLarge}
@@ -31,6 +31,7 @@ Does source sink cabinet door ends told (QuoteOne request) status old new before
 Does source sink cabinet door ends told (Quote request each) status old new before after = Says sink (IsAnswer ends (Quote request each)) status old.output new.output
 Does source sink cabinet door ends told (Import store None) status old new before after = ImportsInto source sink cabinet (IsRightAnswer ends) store.items status old new
 Does source sink cabinet door ends told (Import store (Some desk)) status old new before after = ImportsWith source sink cabinet (IsRightAnswer ends) store.items desk status old new
+Does source sink cabinet door ends told (Load store) status old new before after = LoadsInto source sink cabinet (IsRightAnswer ends) store.items status old new
 Does source sink cabinet door ends told (Confirm store key) status old new before after = Confirms sink cabinet store.items key status old new
 Does source sink cabinet door ends told (Serve store port connections) status old new before after =
     Serves cabinet door (IsRightAnswer ends) told store.items port connections status old.cabinet new.cabinet before after
@@ -49,6 +50,7 @@ Spares (Quote request each) status input output cabinet door = input × cabinet 
 Spares (Import store listed) ReadFault input output cabinet door = output × cabinet × door
 Spares (Import store listed) TooLarge input output cabinet door = output × cabinet × door
 Spares (Import store listed) status input output cabinet door = door
+Spares (Load store) status input output cabinet door = door
 Spares (Confirm store key) StoreFault input output cabinet door = input × output × door
 Spares (Confirm store key) NoMemory input output cabinet door = input × output × door
 Spares (Confirm store key) status input output cabinet door = input × door

@@ -21,4 +21,5 @@ help_text =
     ++ (codes "mark --store\n"
     ++ (codes "export --store --desk --issues\n"
     ++ (codes "list --store --desk\n"
-    ++ codes "help\n")))))))))
+    ++ (codes "load --store\n"
+    ++ codes "help\n"))))))))))

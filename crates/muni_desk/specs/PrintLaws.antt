@@ -25,7 +25,7 @@ use Rattle.muni_desk_serve.specs.Connections.{Connection, exchange, AreHandedBac
 use Rattle.muni_desk_serve.specs.RightAnswers.{IsAnsweredRight}
 use Rattle.muni_desk_serve.specs.Serves.{Traffic}
 use Rattle.muni_desk.specs.Does.{Does}
-use Rattle.muni_desk.specs.declared.command.DeskCommand.TheVariants.{Import, Confirm, Serve}
+use Rattle.muni_desk.specs.declared.command.DeskCommand.TheVariants.{Import, Load, Confirm, Serve}
 use Rattle.muni_desk.specs.declared.status.Status.{Status}
 use Rattle.muni_desk.specs.declared.status.Status.TheVariants.{Done}
 
@@ -58,6 +58,14 @@ ImportsPrintRight {I} {O} {C} {K} {D} {L} source sink cabinet door =
     → Does source sink cabinet door ends told (Import store listed) status old new before after
     → source.left old.input ≡ Some text → cabinet.told old.cabinet store.items ≡ Some tables → AreSoundTables tables
     → PrintsReport listed status (cabinet.told new.cabinet store.items) (sink.bytes old.output) (sink.bytes new.output)
+
+-- a load wrote its report, and nothing else
+abbrev pub LoadsPrintRight : {I O C K D L : Type 0} → Source.Ghosts I → Sink.Ghosts O → Cabinet.Ghosts C K → Door.Ghosts D L → Type 0
+LoadsPrintRight {I} {O} {C} {K} {D} {L} source sink cabinet door =
+    (ends : PaymentSeries → ℤ → WorthEnds) (told : L → Traffic) (store : ArrayVec ℕ) (status : Status) (old new : Lent I O C) (before after : D) (text : List ℕ) (tables : Tables)
+    → Does source sink cabinet door ends told (Load store) status old new before after
+    → source.left old.input ≡ Some text → cabinet.told old.cabinet store.items ≡ Some tables → AreSoundTables tables
+    → ReportsRight status (cabinet.told new.cabinet store.items) (sink.bytes old.output) (sink.bytes new.output)
 
 -- what was written is the confirmation of the last version of a trade, which is kept with right figures
 pub record ConfirmsRight (tables : Tables) (key : Key) (had has : Option (List ℕ)) : Type 0 where

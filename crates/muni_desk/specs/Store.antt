@@ -15,6 +15,7 @@ use Rattle.muni_desk_export.specs.Kept.{WritesKept}
 use Rattle.muni_desk_export.specs.declared.wanted.Wanted.{Wanted}
 use Rattle.muni_desk_import.specs.Confirmed.{Confirmed}
 use Rattle.muni_desk_import.specs.Imported.{Imported}
+use Rattle.muni_desk_import.specs.Loaded.{Loaded, LoadReported, TakesSome}
 use Rattle.muni_desk_import.specs.Reported.{Reported}
 use Rattle.muni_desk_positions.specs.Imported.{ImportedWith, DoesNoneOfTooMany}
 use Rattle.muni_desk_positions.specs.Listed.{Listed}
@@ -43,6 +44,14 @@ ImportsWith source sink cabinet Prices store desk status old new =
     × ReportsReads source result old.input new.input × ReportsWrites sink result old.output new.output)
     × DoesNoneOfTooMany cabinet store desk old new
     × TakesUpTo source 4_194_305 old.input new.input × LeavesOthers cabinet store old.cabinet new.cabinet
+
+-- a load into a store
+abbrev pub LoadsInto : {I O C K : Type 0} → Source.Ghosts I → Sink.Ghosts O → Cabinet.Ghosts C K → Pricing → List ℕ → Status → (old new : Lent I O C) → Type 0
+LoadsInto source sink cabinet Prices store status old new =
+    EndsAs of_done status (λ result. Loaded source sink cabinet Prices store result old new
+    × IfSome (source.left old.input) (λ text. LoadReported text result (sink.bytes old.output) (sink.bytes new.output))
+    × ReportsReads source result old.input new.input × ReportsWrites sink result old.output new.output)
+    × TakesSome source old.input new.input × LeavesOthers cabinet store old.cabinet new.cabinet
 
 -- a confirmation
 abbrev pub Confirms : {I O C K : Type 0} → Sink.Ghosts O → Cabinet.Ghosts C K → List ℕ → Key → Status → (old new : Lent I O C) → Type 0

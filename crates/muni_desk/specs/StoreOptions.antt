@@ -11,7 +11,7 @@ use Rattle.muni_desk_export.specs.declared.wanted.Wanted.{Wanted}
 use Rattle.muni_desk_export.specs.declared.wanted.Wanted.TheVariants as want
 use Rattle.muni_desk.specs.QuoteOptions.{workers_of}
 use Rattle.muni_desk.specs.Words.{◌>>=◌, are_options, are_options_beside, has_word, value_of}
-use Rattle.muni_desk.specs.declared.command.DeskCommand.TheVariants.{Import, Confirm, Serve, Positions, Mark, Export}
+use Rattle.muni_desk.specs.declared.command.DeskCommand.TheVariants.{Import, Load, Confirm, Serve, Positions, Mark, Export}
 use Rattle.muni_desk.specs.declared.command.CommandLine.{CommandLine}
 
 -- all options, each at most once
@@ -28,8 +28,9 @@ serve_options = codes "--store=" ∷ codes "--port=" ∷ codes "--connections=" 
 abbrev pub desk_options : List (List ℕ)
 desk_options = codes "--store=" ∷ codes "--desk=" ∷ []
 
-abbrev pub mark_options : List (List ℕ)
-mark_options = codes "--store=" ∷ []
+-- a store alone
+abbrev pub store_options : List (List ℕ)
+store_options = codes "--store=" ∷ []
 
 -- the words that have no value: the confirmations of all trades are wanted, or the issues alone
 abbrev pub all_word : List ℕ
@@ -83,6 +84,16 @@ import_line words = do
 abbrev pub import_of : List (List ℕ) → Option CommandLine
 import_of words =
     if are_options import_options import_options words then import_line words else None
+
+-- a load into a store
+abbrev pub load_line : List (List ℕ) → Option CommandLine
+load_line words = do
+  store ← store_of words
+  Some (record { command = Load store; workers = 1 })
+
+abbrev pub load_of : List (List ℕ) → Option CommandLine
+load_of words =
+    if are_options store_options store_options words then load_line words else None
 
 -- the trade of a desk under a reference, in a store
 abbrev pub confirm_line : List (List ℕ) → Option CommandLine
@@ -142,7 +153,7 @@ mark_line words = do
 
 abbrev pub mark_of : List (List ℕ) → Option CommandLine
 mark_of words =
-    if are_options mark_options mark_options words then mark_line words else None
+    if are_options store_options store_options words then mark_line words else None
 
 -- what is wanted: a desk, or the issues alone, or everything if neither is given
 abbrev pub wanted_in : Bool → Option (List ℕ) → Option Wanted

@@ -26,10 +26,10 @@ use Rattle.muni_desk_export.specs.declared.wanted.Wanted.TheVariants as want
 use Rattle.muni_desk.specs.Words.{word, is_option}
 use Rattle.muni_desk.specs.QuoteOptions.{options, single_options}
 use Rattle.muni_desk.specs.DrillOptions as drill
-use Rattle.muni_desk.specs.StoreOptions.{import_options, confirm_options, serve_options, desk_options, mark_options}
+use Rattle.muni_desk.specs.StoreOptions.{import_options, confirm_options, serve_options, desk_options, store_options}
 use Rattle.muni_desk.specs.Command.{command_of}
 use Rattle.muni_desk.specs.declared.command.DeskCommand.{DeskCommand}
-use Rattle.muni_desk.specs.declared.command.DeskCommand.TheVariants.{QuoteOne, Quote, Import, Confirm, Serve, Positions, Mark, Export, Drill, Help}
+use Rattle.muni_desk.specs.declared.command.DeskCommand.TheVariants.{QuoteOne, Quote, Import, Load, Confirm, Serve, Positions, Mark, Export, Drill, Help}
 use Rattle.muni_desk.specs.declared.command.CommandLine.{CommandLine}
 use Rattle.muni_desk.specs.declared.drill.options.DrillRequest.{DrillRequest}
 use Rattle.muni_desk.specs.declared.quote_one.QuoteOneRequest.{QuoteOneRequest}
@@ -259,10 +259,10 @@ pub record IsPositions (words : List (List ℕ)) (store : ArrayVec ℕ) (desk : 
   pub desk_named :
       Reads words (codes "--desk=") (λ text. name_reading is_desk_letter 16 text ≡ Ok desk)
 
--- words after `mark`: a store
-pub record IsMark (words : List (List ℕ)) (store : ArrayVec ℕ) : Type 0 where
-  pub known : All (IsKnown mark_options) words
-  pub single : All (IsSingle words) mark_options
+-- words after `load` and after `mark`: a store
+pub record IsStoreAlone (words : List (List ℕ)) (store : ArrayVec ℕ) : Type 0 where
+  pub known : All (IsKnown store_options) words
+  pub single : All (IsSingle words) store_options
   pub named : SaysStore words store
 
 -- what is wanted of an export: a desk, or the issues alone by the word `--issues`, or everything by neither
@@ -334,6 +334,8 @@ IsSaid (name ∷ words) (Quote request each) workers =
     (name ≡ codes "quote") × IsQuote words request each workers
 IsSaid (name ∷ words) (Import store listed) workers =
     (name ≡ codes "import") × IsImport words store listed workers
+IsSaid (name ∷ words) (Load store) workers =
+    (name ≡ codes "load") × IsStoreAlone words store × (workers ≡ 1)
 IsSaid (name ∷ words) (Confirm store key) workers =
     (name ≡ codes "confirm") × IsConfirm words store key × (workers ≡ 1)
 IsSaid (name ∷ words) (Serve store port connections) workers =
@@ -341,7 +343,7 @@ IsSaid (name ∷ words) (Serve store port connections) workers =
 IsSaid (name ∷ words) (Positions store desk) workers =
     (name ≡ codes "positions") × IsPositions words store desk × (workers ≡ 1)
 IsSaid (name ∷ words) (Mark store) workers =
-    (name ≡ codes "mark") × IsMark words store × (workers ≡ 1)
+    (name ≡ codes "mark") × IsStoreAlone words store × (workers ≡ 1)
 IsSaid (name ∷ words) (Export store wanted) workers =
     AsksFor name words store wanted × (workers ≡ 1)
 IsSaid (name ∷ words) (Drill request) workers =

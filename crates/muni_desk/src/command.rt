@@ -9,7 +9,8 @@ use crate::quote_one::{QuoteOneRequest, read_quote_one};
 use crate::quote_options::read_quote;
 use crate::request::QuoteRequest;
 use crate::store_options::{
-    read_confirm, read_export, read_import, read_list, read_mark, read_positions, read_serve,
+    read_confirm, read_export, read_import, read_list, read_load, read_mark, read_positions,
+    read_serve,
 };
 use arrayvec::ArrayVec;
 use muni_book::Workers;
@@ -31,6 +32,10 @@ pub enum DeskCommand {
     Import {
         store: ArrayVec<u8, 200>,
         listed: Option<DeskName>,
+    },
+    /// To apply the rows of an input of any length to the tables of a store.
+    Load {
+        store: ArrayVec<u8, 200>,
     },
     /// The confirmation of a trade that a store keeps.
     Confirm {
@@ -95,6 +100,7 @@ fn read_over_store(name: &str, options: &[String]) -> Option<CommandLine>
         "mark" => read_mark(options),
         "export" => read_export(options),
         "list" => read_list(options),
+        "load" => read_load(options),
         _ => None,
     }
 }

@@ -18,6 +18,7 @@ positions --store --desk\n\
 mark --store\n\
 export --store --desk --issues\n\
 list --store --desk\n\
+load --store\n\
 help\n";
 
 /// What is asked for if there are no words.

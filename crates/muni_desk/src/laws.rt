@@ -2,7 +2,7 @@
 
 ghost use Rattle.muni_desk.specs.AnswerLaws.{AnswersAreUnique, WorkersDoNotShow};
 ghost use Rattle.muni_desk.specs.CompletenessLaws.{CommandsAreCompleted};
-ghost use Rattle.muni_desk.specs.PrintLaws.{ImportsPrintRight, ConfirmationsPrintRight, ConnectionsAreAnsweredRight};
+ghost use Rattle.muni_desk.specs.PrintLaws.{ImportsPrintRight, LoadsPrintRight, ConfirmationsPrintRight, ConnectionsAreAnsweredRight};
 
 mod words;
 
@@ -32,11 +32,12 @@ pub fn commands_are_completed<I: Source, O: Sink, C: Cabinet, D: Door>()
 {}
 
 /// A law of the definitions: over sound tables what the desk prints is right by the rule's exact
-/// formulas. Each line of an import that confirms a trade has the price, the yield, the date of the
-/// redemption and the total of a version that is kept. A confirmation, asked for by `confirm` or answered
-/// over HTTP, is the whole text of one.
+/// formulas. Each line of an import or a load that confirms a trade has the price, the yield, the date
+/// of the redemption and the total of a version that is kept. A confirmation, asked for by `confirm` or
+/// answered over HTTP, is the whole text of one.
 pub fn printed_figures_are_right<I: Source, O: Sink, C: Cabinet, D: Door>()
     ensures imports { ImportsPrintRight I.Source O.Sink C.Cabinet D.Door }
+    ensures loads { LoadsPrintRight I.Source O.Sink C.Cabinet D.Door }
     ensures confirmations { ConfirmationsPrintRight I.Source O.Sink C.Cabinet D.Door }
     ensures connections { ConnectionsAreAnsweredRight I.Source O.Sink C.Cabinet D.Door }
 {

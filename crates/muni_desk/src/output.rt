@@ -13,7 +13,7 @@ use crate::command::read;
 use crate::{Answer, CommandLine, DeskCommand, Status};
 use muni_book::Calculator;
 use muni_desk_export::write_kept;
-use muni_desk_import::{confirm, import};
+use muni_desk_import::{confirm, import, load};
 use muni_desk_positions::{import_with_positions, positions};
 use muni_desk_serve::serve;
 use muni_edge::{Door, Gate, Sink, Source};
@@ -29,11 +29,12 @@ use std::thread::Threads;
 /// to redemption. `quote` and options in any order give the figures of a security, whose worth with more
 /// than six months left comes from the encloser. `drill` and options in any order price a generated book
 /// of trades, and give the sums. `import` applies the rows of the input to the tables of a store, and
-/// writes a line on each, and then the positions of a desk if one is named. `confirm` writes the
-/// confirmation of a trade that a store keeps, or with `--all` those of all trades of a desk. `serve`
-/// answers the requests of connections that come in by a door. `positions` writes what a desk holds of
-/// each security, and `mark` what the rows of a portfolio are worth. `export` writes rows of what a store
-/// keeps, which an import reads, and `list` a line on each trade of a desk. `help` names the commands.
+/// writes a line on each, and then the positions of a desk if one is named. `load` does so of an input of
+/// any length. `confirm` writes the confirmation of a trade that a store keeps, or with `--all` those of
+/// all trades of a desk. `serve` answers the requests of connections that come in by a door. `positions`
+/// writes what a desk holds of each security, and `mark` what the rows of a portfolio are worth. `export`
+/// writes rows of what a store keeps, which a load reads, and `list` a line on each trade of a desk.
+/// `help` names the commands.
 /// Only the commands over a store allocate memory.
 // As many threads look for yields as the words name workers, and the gate is called when they begin
 // (tested).
@@ -125,6 +126,9 @@ fn carry_out<
             )),
             None => Status::of_done(import(calculator, alloc, &store, input, output, cabinet)),
         },
+        DeskCommand::Load { store } => {
+            Status::of_done(load(calculator, alloc, &store, input, output, cabinet))
+        }
         DeskCommand::Confirm { store, key } => Status::of_answered(confirm(
             &store, &key, output, cabinet,
         )),

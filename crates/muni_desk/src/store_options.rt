@@ -32,7 +32,7 @@ const CONFIRM: [&[u8]; 3] = [STORE, DESK, REF];
 
 const OF_DESK: [&[u8]; 2] = [STORE, DESK];
 
-const MARK: [&[u8]; 1] = [STORE];
+const OF_STORE: [&[u8]; 1] = [STORE];
 
 const ALL: &[u8] = b"--all";
 
@@ -144,11 +144,25 @@ pub fn read_positions(words: &[String]) -> Option<CommandLine>
     })
 }
 
+/// What words ask for, where they are options of `load`.
+pub fn read_load(words: &[String]) -> Option<CommandLine>
+    ensures { result ≡ spec.load_of (map string_bytes words.now) }
+{
+    if !are_options(words, &OF_STORE, &OF_STORE) {
+        return None;
+    }
+    let store = read_store(words)?;
+    Some(CommandLine {
+        command: DeskCommand::Load { store },
+        workers: Workers::ONE,
+    })
+}
+
 /// What words ask for, where they are options of `mark`.
 pub fn read_mark(words: &[String]) -> Option<CommandLine>
     ensures { result ≡ spec.mark_of (map string_bytes words.now) }
 {
-    if !are_options(words, &MARK, &MARK) {
+    if !are_options(words, &OF_STORE, &OF_STORE) {
         return None;
     }
     let store = read_store(words)?;

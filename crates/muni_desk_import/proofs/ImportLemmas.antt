@@ -1,4 +1,4 @@
--- One row of an import after others.
+-- Rows that are done one after another.
 use Rattle.std.proofs.Common.{◌≡◌, ◌≤◌, ◌+◌, ◌∙◌, ℕ, List, [], ◌∷◌, ◌++◌, length, take, Option, Some, None, Ok, Err, IfSome, refl, sym, ap, subst, arith}
 use Rattle.std.specs.List.{AllZip}
 use Rattle.std.proofs.lemmas.List.{append_assoc, append-nil, length-append}
@@ -10,17 +10,17 @@ use Rattle.muni_import.specs.Report.{Said, row_line}
 use Rattle.muni_import.specs.Row.{Row}
 use Rattle.muni_import.specs.Rows.{rows_of, IsNext}
 use Rattle.muni_import.proofs.RowLemmas.{HasRead, read-more, read-all, read-few, few-rows}
-use Rattle.muni_desk_import.specs.Reported.{IsSaidOf, ReportsRows, ReportsFirst, ReportsPart}
-use Rattle.muni_desk_import.specs.Import.{Came, Imports, report, Did, DidNext, DidBefore, DidFirst, DidPart, WroteTo}
+use Rattle.muni_desk_import.specs.Blocks.{Done, DoneNext, DoneFirst, DoneBefore, DonePart, DoneMost}
+use Rattle.muni_desk_import.specs.Reported.{IsSaidOf, ReportsRowsAt}
+use Rattle.muni_desk_import.specs.Import.{Came, Imports, report, Did, DidAt, DidNextAt, WroteToAt}
 
--- what came of one row more
-imports-then : (Prices : Pricing) (old : Tables) (rows : List Row) (said : List Said) (mid : Tables) (row : Row) (last : Said) (new : Tables)
-    → Imports Prices old rows said mid → Came Prices mid row last (Some new) → Imports Prices old (rows ++ row ∷ []) (said ++ last ∷ []) new
-imports-then Prices old [] [] mid row last new imports came = (new, subst (λ t. Came Prices t row last (Some new)) imports came, refl)
-imports-then Prices old [] (first ∷ said) mid row last new imports came = absurd imports
-imports-then Prices old (first ∷ rows) [] mid row last new imports came = absurd imports
-imports-then Prices old (first ∷ rows) (told ∷ said) mid row last new (next, here, later) came =
-    (next, here, imports-then Prices next rows said mid row last new later came)
+-- ---- rows after rows
+imports-join : (Prices : Pricing) (old : Tables) (rows others : List Row) (said more : List Said) (mid new : Tables) → Imports Prices old rows said mid → Imports Prices mid others more new → Imports Prices old (rows ++ others) (said ++ more) new
+imports-join Prices old [] others [] more mid new first second = subst (λ t. Imports Prices t others more new) first second
+imports-join Prices old [] others (told ∷ said) more mid new first second = absurd first
+imports-join Prices old (row ∷ rows) others [] more mid new first second = absurd first
+imports-join Prices old (row ∷ rows) others (told ∷ said) more mid new (next, here, later) second =
+    (next, here, imports-join Prices next rows others said more mid new later second)
 
 imports-count : (Prices : Pricing) (old : Tables) (rows : List Row) (said : List Said) (new : Tables) → Imports Prices old rows said new → length said ≡ length rows
 imports-count Prices old [] [] new imports = refl
@@ -28,21 +28,16 @@ imports-count Prices old [] (first ∷ said) new imports = absurd imports
 imports-count Prices old (first ∷ rows) [] new imports = absurd imports
 imports-count Prices old (first ∷ rows) (told ∷ said) new (next, here, later) = omega (arith, imports-count Prices next rows said new later)
 
--- tables are known after it
-came-told : (Prices : Pricing) (old : Tables) (row : Row) (said : Said) (now : Option Tables) → Came Prices old row said now → (new : Tables) × (now ≡ Some new)
-came-told Prices old (Ok command) (Ok reply) now (entry, step, told) = (after entry old, told)
-came-told Prices old (Ok command) (Err fault) now came = absurd came
-came-told Prices old (Err fault) (Ok reply) now came = absurd came
-came-told Prices old (Err fault) (Err told) now (same, is) = (old, is)
-
--- and its line
-pub report-then : (place : ℕ) (said : List Said) (last : Said) → report place (said ++ last ∷ []) ≡ report place said ++ row_line (place + length said) last
-report-then place [] last = let first : place + 0 ≡ place = omega arith in rw first (append-nil (row_line place last))
-report-then place (told ∷ said) last =
+-- their lines
+report-join : (place : ℕ) (said more : List Said) → report place (said ++ more) ≡ report place said ++ report (place + length said) more
+report-join place [] more = let first : place ≡ place + 0 = omega arith in ap (λ n. report n more) first
+report-join place (told ∷ said) more =
     let next : place + 1 + length said ≡ place + length (told ∷ said) = omega arith in
-    ap (λ lines. row_line place told ++ lines) (report-then (place + 1) said last
-    ∙ ap (λ n. report (place + 1) said ++ row_line n last) next)
-    ∙ sym (append_assoc (row_line place told) (report (place + 1) said) (row_line (place + length (told ∷ said)) last))
+    ap (λ lines. row_line place told ++ lines) (report-join (place + 1) said more ∙ ap (λ n. report (place + 1) said ++ report n more) next)
+    ∙ sym (append_assoc (row_line place told) (report (place + 1) said) (report (place + length (told ∷ said)) more))
+
+pub report-then : (place : ℕ) (said : List Said) (last : Said) → report place (said ++ last ∷ []) ≡ report place said ++ row_line (place + length said) last
+report-then place said last = report-join place said (last ∷ []) ∙ ap (λ lines. report place said ++ lines) (append-nil (row_line (place + length said) last))
 
 written-then : (had mid has : Option (List ℕ)) (xs ys zs : List ℕ) → HasWritten had mid xs → HasWritten mid has ys → zs ≡ xs ++ ys → HasWritten had has zs
 written-then None mid has xs ys zs first second is = tt
@@ -51,184 +46,222 @@ written-then (Some text) (Some there) has xs ys zs first second is =
     let same : there ≡ text ++ xs = cc first in
     rw is (second ∙ ap Some (ap (λ l. l ++ ys) same ∙ append_assoc text xs ys))
 
-part-then : (had mid has : Option (List ℕ)) (xs ys : List ℕ) → HasWritten had mid xs → HasWrittenPart mid has ys
-    → IfSome had (λ text. (count : ℕ) × (has ≡ Some ((text ++ xs) ++ take count ys)))
-part-then None mid has xs ys first part = tt
-part-then (Some text) None has xs ys first part = absurd (cc first)
-part-then (Some text) (Some there) has xs ys first (count, part) =
-    let same : there ≡ text ++ xs = cc first in
-    (count, part ∙ ap (λ l. Some (l ++ take count ys)) same)
+wrote-join : (place count : ℕ) (said more : List Said) (last : Said) (had mid has : Option (List ℕ)) → length said ≡ count → HasWritten had mid (report place said) → WroteToAt (place + count) more last mid has → WroteToAt place (said ++ more) last had has
+wrote-join place count said more last None mid has is first second = record { part = tt }
+wrote-join place count said more last (Some text) None has is first second = absurd (cc first)
+wrote-join place count said more last (Some text) (Some there) has is first second =
+    let same : there ≡ text ++ report place said = cc first in
+    let lines : (text ++ report place said) ++ report (place + count) more ≡ text ++ report place (said ++ more) =
+    append_assoc text (report place said) (report (place + count) more)
+    ∙ ap (λ l. text ++ l) (ap (λ n. report place said ++ report (place + n) more) (sym is) ∙ sym (report-join place said more)) in
+    let here : place + count + length more ≡ place + length (said ++ more) = omega (arith, is, length-append said more) in
+    let part = second.part in
+    record { part = (part.0, part.1 ∙ ap (λ l. Some ((l ++ report (place + count) more) ++ take part.0 (row_line (place + count + length more) last))) same ∙ (λ i. Some (lines i ++ take part.0 (row_line (here i) last)))) }
 
+-- what is said of them
+said-join : (rows others : List Row) (said more : List Said) → AllZip IsSaidOf rows said → AllZip IsSaidOf others more → AllZip IsSaidOf (rows ++ others) (said ++ more)
+said-join [] others [] more are also = also
+said-join [] others (told ∷ said) more are also = absurd are
+said-join (row ∷ rows) others [] more are also = absurd are
+said-join (row ∷ rows) others (told ∷ said) more are also = (are.0, said-join rows others said more are.1 also)
+
+reports-join : (place : ℕ) (rows others : List Row) (had mid has : Option (List ℕ)) → ReportsRowsAt place rows had mid → ReportsRowsAt (place + length rows) others mid has → ReportsRowsAt place (rows ++ others) had has
+reports-join place rows others had mid has first second =
+    let count : length first.said ≡ length rows = omega (arith, AllZip-long IsSaidOf rows first.said first.each) in
+    record {
+      said = first.said ++ second.said;
+      each = said-join rows others first.said second.said first.each second.each;
+      written =
+          written-then had mid has (report place first.said) (report (place + length rows) second.said) (report place (first.said ++ second.said)) first.written second.written
+          (report-join place first.said second.said ∙ ap (λ n. report place first.said ++ report (place + n) second.said) count);
+    }
+
+-- what they do
+did-join : (place : ℕ) (Prices : Pricing) (rows others : List Row) (old : Tables) (mid now : Option Tables) (had there has : Option (List ℕ)) → DidAt place Prices rows old mid had there → IfSome mid (λ t. DidAt (place + length rows) Prices others t now there has)
+    → DidAt place Prices (rows ++ others) old now had has
+did-join place Prices rows others old mid now had there has first second =
+    let then = subst (λ m. IfSome m (λ t. DidAt (place + length rows) Prices others t now there has)) first.told second in
+    let count = imports-count Prices old rows first.said first.new first.imports in
+    record {
+      said = first.said ++ then.said;
+      new = then.new;
+      imports = imports-join Prices old rows others first.said then.said first.new then.new first.imports then.imports;
+      told = then.told;
+      written =
+          written-then had there has (report place first.said) (report (place + length rows) then.said) (report place (first.said ++ then.said)) first.written then.written
+          (report-join place first.said then.said ∙ ap (λ n. report place first.said ++ report (place + n) then.said) count);
+    }
+
+next-join : (place : ℕ) (Prices : Pricing) (rows others : List Row) (row : Row) (old : Tables) (mid now : Option Tables) (had there has : Option (List ℕ)) → DidAt place Prices rows old mid had there → IfSome mid (λ t. DidNextAt (place + length rows) Prices others row t now there has)
+    → DidNextAt place Prices (rows ++ others) row old now had has
+next-join place Prices rows others row old mid now had there has first second =
+    let then = subst (λ m. IfSome m (λ t. DidNextAt (place + length rows) Prices others row t now there has)) first.told second in
+    let count = imports-count Prices old rows first.said first.new first.imports in
+    record {
+      said = first.said ++ then.said;
+      last = then.last;
+      new = then.new;
+      imports = rw (append_assoc rows others (row ∷ []), append_assoc first.said then.said (then.last ∷ []))
+          (imports-join Prices old rows (others ++ row ∷ []) first.said (then.said ++ then.last ∷ []) first.new then.new first.imports then.imports);
+      told = then.told;
+      written = wrote-join place (length rows) first.said then.said then.last had there has count first.written then.written;
+    }
+
+did-known : (place : ℕ) (Prices : Pricing) (rows others : List Row) (old mid now : Option Tables) (had there has : Option (List ℕ)) → IfSome old (λ t. DidAt place Prices rows t mid had there) → IfSome mid (λ t. DidAt (place + length rows) Prices others t now there has)
+    → IfSome old (λ t. DidAt place Prices (rows ++ others) t now had has)
+did-known place Prices rows others None mid now had there has first second = tt
+did-known place Prices rows others (Some t) mid now had there has first second = did-join place Prices rows others t mid now had there has first second
+
+next-known : (place : ℕ) (Prices : Pricing) (rows others : List Row) (row : Row) (old mid now : Option Tables) (had there has : Option (List ℕ)) → IfSome old (λ t. DidAt place Prices rows t mid had there) → IfSome mid (λ t. DidNextAt (place + length rows) Prices others row t now there has)
+    → IfSome old (λ t. DidNextAt place Prices (rows ++ others) row t now had has)
+next-known place Prices rows others row None mid now had there has first second = tt
+next-known place Prices rows others row (Some t) mid now had there has first second = next-join place Prices rows others row t mid now had there has first second
+
+pub done-join : (place : ℕ) (Prices : Pricing) (rows others : List Row) (old mid now : Option Tables) (had there has : Option (List ℕ)) → Done place Prices rows old mid had there → Done (place + length rows) Prices others mid now there has → Done place Prices (rows ++ others) old now had has
+done-join place Prices rows others old mid now had there has first second = record {
+  reports = reports-join place rows others had there has first.reports second.reports;
+  did = did-known place Prices rows others old mid now had there has first.did second.did;
+}
+
+pub done-next : (place : ℕ) (Prices : Pricing) (rows others : List Row) (row : Row) (old mid now : Option Tables) (had there has : Option (List ℕ)) → Done place Prices rows old mid had there → DoneNext (place + length rows) Prices others row mid now there has
+    → DoneNext place Prices (rows ++ others) row old now had has
+done-next place Prices rows others row old mid now had there has first second =
+    let said = first.reports.said in
+    let count : length said ≡ length rows = omega (arith, AllZip-long IsSaidOf rows said first.reports.each) in
+    record {
+      said = said ++ second.said;
+      last = second.last;
+      each = rw (append_assoc rows others (row ∷ []), append_assoc said second.said (second.last ∷ []))
+          (said-join rows (others ++ row ∷ []) said (second.said ++ second.last ∷ []) first.reports.each second.each);
+      written = wrote-join place (length rows) said second.said second.last had there has count first.reports.written second.written;
+      did = next-known place Prices rows others row old mid now had there has first.did second.did;
+    }
+
+-- ---- no row, and one
 nothing-written : (had : Option (List ℕ)) → HasWritten had had []
 nothing-written None = tt
 nothing-written (Some text) = ap Some (sym (append-nil text))
 
+none-did : (place : ℕ) (Prices : Pricing) (old : Tables) (had : Option (List ℕ)) → DidAt place Prices [] old (Some old) had had
+none-did place Prices old had = record { said = []; new = old; imports = refl; told = refl; written = nothing-written had }
+
 pub did-none : (Prices : Pricing) (old : Tables) (had : Option (List ℕ)) → Did Prices [] old (Some old) had had
-did-none Prices old had = record { said = []; new = old; imports = refl; told = refl; written = nothing-written had }
+did-none Prices old had = none-did 1 Prices old had
 
--- ---- what hangs on the rows alone
-said-then : (rows : List Row) (said : List Said) (row : Row) (last : Said) → AllZip IsSaidOf rows said → IsSaidOf row last → AllZip IsSaidOf (rows ++ row ∷ []) (said ++ last ∷ [])
-said-then [] [] row last are is = (is, tt)
-said-then [] (first ∷ said) row last are is = absurd are
-said-then (first ∷ rows) [] row last are is = absurd are
-said-then (first ∷ rows) (told ∷ said) row last are is = (are.0, said-then rows said row last are.1 is)
+none-known : (place : ℕ) (Prices : Pricing) (old : Option Tables) (had : Option (List ℕ)) → IfSome old (λ t. DidAt place Prices [] t old had had)
+none-known place Prices None had = tt
+none-known place Prices (Some t) had = none-did place Prices t had
 
-reports-none : (had : Option (List ℕ)) → ReportsRows [] had had
-reports-none had = record { said = []; each = tt; written = nothing-written had }
+pub done-none : (place : ℕ) (Prices : Pricing) (old : Option Tables) (had : Option (List ℕ)) → Done place Prices [] old old had had
+done-none place Prices old had = record { reports = record { said = []; each = tt; written = nothing-written had }; did = none-known place Prices old had }
 
-reports-then : (rows : List Row) (row : Row) (place : ℕ) (said : Said) (had mid has : Option (List ℕ)) → place ≡ 1 + length rows → ReportsRows rows had mid → IsSaidOf row said
-    → HasWritten mid has (row_line place said) → ReportsRows (rows ++ row ∷ []) had has
-reports-then rows row place said had mid has is reports of_row written =
-    let long = AllZip-long IsSaidOf rows reports.said reports.each in
-    let here : place ≡ 1 + length reports.said = omega (arith, is, long) in
-    record {
-      said = reports.said ++ said ∷ [];
-      each = said-then rows reports.said row said reports.each of_row;
-      written =
-          written-then had mid has (report 1 reports.said) (row_line place said) (report 1 (reports.said ++ said ∷ [])) reports.written written
-          (report-then 1 reports.said said ∙ ap (λ n. report 1 reports.said ++ row_line n said) (sym here));
-    }
+-- tables are known after a row
+came-told : (Prices : Pricing) (old : Tables) (row : Row) (said : Said) (now : Option Tables) → Came Prices old row said now → (new : Tables) × (now ≡ Some new)
+came-told Prices old (Ok command) (Ok reply) now (entry, step, told) = (after entry old, told)
+came-told Prices old (Ok command) (Err fault) now came = absurd came
+came-told Prices old (Err fault) (Ok reply) now came = absurd came
+came-told Prices old (Err fault) (Err told) now (same, is) = (old, is)
 
--- these rows are done, and the reader is after them
-pub record IsAt (Prices : Pricing) (text : List ℕ) (reader : Option (List Row)) (count : ℕ) (old now : Option Tables) (had has : Option (List ℕ)) : Type 0 where
+one-did : (place : ℕ) (Prices : Pricing) (row : Row) (said : Said) (old now : Option Tables) (had has : Option (List ℕ)) → IfSome old (λ t. Came Prices t row said now) → HasWritten had has (report place (said ∷ [])) → IfSome old (λ t. DidAt place Prices (row ∷ []) t now had has)
+one-did place Prices row said None now had has came written = tt
+one-did place Prices row said (Some t) now had has came written =
+    let told = came-told Prices t row said now came in
+    record { said = said ∷ []; new = told.0; imports = (told.0, subst (λ n. Came Prices t row said n) told.1 came, refl); told = told.1; written = written }
+
+done-one : (place : ℕ) (Prices : Pricing) (row : Row) (said : Said) (old now : Option Tables) (had has : Option (List ℕ)) → IsSaidOf row said → IfSome old (λ t. Came Prices t row said now) → HasWritten had has (row_line place said) → Done place Prices (row ∷ []) old now had has
+done-one place Prices row said old now had has of_row came line =
+    let written = subst (HasWritten had has) (sym (append-nil (row_line place said))) line in
+    record { reports = record { said = said ∷ []; each = (of_row, tt); written = written }; did = one-did place Prices row said old now had has came written }
+
+part-one : (place : ℕ) (last : Said) (had has : Option (List ℕ)) → HasWrittenPart had has (row_line place last) → WroteToAt place [] last had has
+part-one place last None has part = record { part = tt }
+part-one place last (Some text) has (count, part) =
+    let here : place ≡ place + 0 = omega arith in
+    record { part = (count, part ∙ (λ i. Some (sym (append-nil text) i ++ take count (row_line (here i) last)))) }
+
+one-next : (place : ℕ) (Prices : Pricing) (row : Row) (said : Said) (old now : Option Tables) (had has : Option (List ℕ)) → IfSome old (λ t. Came Prices t row said now) → WroteToAt place [] said had has → IfSome old (λ t. DidNextAt place Prices [] row t now had has)
+one-next place Prices row said None now had has came written = tt
+one-next place Prices row said (Some t) now had has came written =
+    let told = came-told Prices t row said now came in
+    record { said = []; last = said; new = told.0; imports = (told.0, subst (λ n. Came Prices t row said n) told.1 came, refl); told = told.1; written = written }
+
+next-one : (place : ℕ) (Prices : Pricing) (row : Row) (said : Said) (old now : Option Tables) (had has : Option (List ℕ)) → IsSaidOf row said → IfSome old (λ t. Came Prices t row said now) → HasWrittenPart had has (row_line place said) → DoneNext place Prices [] row old now had has
+next-one place Prices row said old now had has of_row came line =
+    let written = part-one place said had has line in
+    record { said = []; last = said; each = (of_row, tt); written = written; did = one-next place Prices row said old now had has came written }
+
+-- ---- these rows are done, and the reader is after them
+pub record IsAt (place : ℕ) (Prices : Pricing) (all : List Row) (reader : Option (List Row)) (count : ℕ) (old now : Option Tables) (had has : Option (List ℕ)) : Type 0 where
   pub rows : List Row
-  pub read : HasRead rows reader (rows_of text)
+  pub read : HasRead rows reader all
   pub counted : length rows ≡ count
-  pub reports : ReportsRows rows had has
-  pub did : IfSome old (λ t. Did Prices rows t now had has)
+  pub done : Done place Prices rows old now had has
 
-pub at-start : (Prices : Pricing) (text : List ℕ) (old : Option Tables) (had : Option (List ℕ)) → IsAt Prices text (Some (rows_of text)) 0 old old had had
-at-start Prices text old had = record { rows = []; read = (rows_of text, refl, refl); counted = refl; reports = reports-none had; did = none old }
-  where
-    none : (old : Option Tables) → IfSome old (λ t. Did Prices [] t old had had)
-    none None = tt
-    none (Some t) = did-none Prices t had
-
-did-then : (Prices : Pricing) (rows : List Row) (row : Row) (place : ℕ) (said : Said) (old now later : Option Tables) (had mid has : Option (List ℕ))
-    → place ≡ 1 + length rows → IfSome old (λ t. Did Prices rows t now had mid) → IfSome now (λ t. Came Prices t row said later)
-    → HasWritten mid has (row_line place said) → IfSome old (λ t. Did Prices (rows ++ row ∷ []) t later had has)
-did-then Prices rows row place said None now later had mid has is did came written = tt
-did-then Prices rows row place said (Some t) now later had mid has is did came written =
-    let then = subst (λ n. IfSome n (λ t. Came Prices t row said later)) did.told came in
-    let told = came-told Prices did.new row said later then in
-    let count = imports-count Prices t rows did.said did.new did.imports in
-    let here : place ≡ 1 + length did.said = omega (arith, is, count) in
-    record {
-      said = did.said ++ said ∷ [];
-      new = told.0;
-      imports = imports-then Prices t rows did.said did.new row said told.0 did.imports (subst (λ n. Came Prices did.new row said n) told.1 then);
-      told = told.1;
-      written =
-          written-then had mid has (report 1 did.said) (row_line place said) (report 1 (did.said ++ said ∷ [])) did.written written
-          (report-then 1 did.said said ∙ ap (λ n. report 1 did.said ++ row_line n said) (sym here));
-    }
-
-did-part : (Prices : Pricing) (rows : List Row) (row : Row) (place : ℕ) (said : Said) (old now later : Option Tables) (had mid has : Option (List ℕ))
-    → place ≡ 1 + length rows → IfSome old (λ t. Did Prices rows t now had mid) → IfSome now (λ t. Came Prices t row said later)
-    → HasWrittenPart mid has (row_line place said) → IfSome old (λ t. DidNext Prices rows row t later had has)
-did-part Prices rows row place said None now later had mid has is did came written = tt
-did-part Prices rows row place said (Some t) now later had mid has is did came written =
-    let then = subst (λ n. IfSome n (λ t. Came Prices t row said later)) did.told came in
-    let told = came-told Prices did.new row said later then in
-    let count = imports-count Prices t rows did.said did.new did.imports in
-    let here : place ≡ 1 + length did.said = omega (arith, is, count) in
-    record {
-      said = did.said;
-      last = said;
-      new = told.0;
-      imports = imports-then Prices t rows did.said did.new row said told.0 did.imports (subst (λ n. Came Prices did.new row said n) told.1 then);
-      told = told.1;
-      written = record { part = part-then had mid has (report 1 did.said) (row_line (1 + length did.said) said) did.written (subst (λ n. HasWrittenPart mid has (row_line n said)) here written) };
-    }
+pub at-start : (place : ℕ) (Prices : Pricing) (all : List Row) (old : Option Tables) (had : Option (List ℕ)) → IsAt place Prices all (Some all) 0 old old had had
+at-start place Prices all old had = record { rows = []; read = (all, refl, refl); counted = refl; done = done-none place Prices old had }
 
 -- one row more is done
-pub row-done : (Prices : Pricing) (text : List ℕ) (reader behind : Option (List Row)) (count : ℕ) (row : Row) (said : Said) (old now later : Option Tables) (had mid has : Option (List ℕ))
-    → IsAt Prices text reader count old now had mid → IfSome reader (λ left. IsNext left (Some row) behind) → IsSaidOf row said → IfSome now (λ t. Came Prices t row said later)
-    → HasWritten mid has (row_line (count + 1) said) → IsAt Prices text behind (count + 1) old later had has
-row-done Prices text reader behind count row said old now later had mid has at next of_row came written =
-    let place : count + 1 ≡ 1 + length at.rows = omega (arith, at.counted) in
+pub row-done : (place : ℕ) (Prices : Pricing) (all : List Row) (reader behind : Option (List Row)) (count here : ℕ) (row : Row) (said : Said) (old now later : Option Tables) (had mid has : Option (List ℕ))
+    → IsAt place Prices all reader count old now had mid → IfSome reader (λ left. IsNext left (Some row) behind) → here ≡ place + count → IsSaidOf row said → IfSome now (λ t. Came Prices t row said later)
+    → HasWritten mid has (row_line here said) → IsAt place Prices all behind (count + 1) old later had has
+row-done place Prices all reader behind count here row said old now later had mid has at next is of_row came written =
+    let spot : here ≡ place + length at.rows = omega (arith, is, at.counted) in
     record {
       rows = at.rows ++ row ∷ [];
-      read = read-more at.rows row reader behind (rows_of text) at.read next;
+      read = read-more at.rows row reader behind all at.read next;
       counted = omega (arith, length-append at.rows (row ∷ []), at.counted);
-      reports = reports-then at.rows row (count + 1) said had mid has place at.reports of_row written;
-      did = did-then Prices at.rows row (count + 1) said old now later had mid has place at.did came written;
+      done = done-join place Prices at.rows (row ∷ []) old now later had mid has at.done
+          (done-one (place + length at.rows) Prices row said now later mid has of_row came (subst (λ n. HasWritten mid has (row_line n said)) spot written));
     }
 
 -- all rows are done
-all-done-by : (Prices : Pricing) (rows all : List Row) (old now : Option Tables) (had has : Option (List ℕ)) → rows ≡ all → IfSome old (λ t. Did Prices rows t now had has) → IfSome old (λ t. Did Prices all t now had has)
-all-done-by Prices rows all old now had has same did = subst (λ rows. IfSome old (λ t. Did Prices rows t now had has)) same did
+pub all-done : (place : ℕ) (Prices : Pricing) (all : List Row) (reader behind : Option (List Row)) (count : ℕ) (old now : Option Tables) (had has : Option (List ℕ))
+    → IsAt place Prices all reader count old now had has → IfSome reader (λ left. IsNext left None behind) → Done place Prices all old now had has × (count ≡ length all)
+all-done place Prices all reader behind count old now had has at next =
+    let same = read-all at.rows reader behind all at.read next in
+    (subst (λ rows. Done place Prices rows old now had has) same at.done, sym at.counted ∙ ap length same)
 
-pub all-done : (Prices : Pricing) (text : List ℕ) (reader behind : Option (List Row)) (count : ℕ) (old now : Option Tables) (had has : Option (List ℕ))
-    → IsAt Prices text reader count old now had has → IfSome reader (λ left. IsNext left None behind) → IfSome old (λ t. Did Prices (rows_of text) t now had has)
-all-done Prices text reader behind count old now had has at next =
-    all-done-by Prices at.rows (rows_of text) old now had has (read-all at.rows reader behind (rows_of text) at.read next) at.did
+-- the first of them are
+pub first-done : (place : ℕ) (Prices : Pricing) (all : List Row) (reader : Option (List Row)) (count : ℕ) (old now : Option Tables) (had has : Option (List ℕ)) → IsAt place Prices all reader count old now had has → DoneFirst place Prices all old now had has
+first-done place Prices all reader count old now had has at = record { rows = at.rows; left = at.read.0; split = at.read.2; done = at.done }
 
--- the first rows are, and the next one is at hand
-before-by : (Prices : Pricing) (text : List ℕ) (rows : List Row) (row : Row) (left : List Row) (old now : Option Tables) (had has : Option (List ℕ)) → rows ++ row ∷ left ≡ rows_of text
-    → IfSome old (λ t. Did Prices rows t now had has) → IfSome old (λ t. DidBefore Prices text t now had has)
-before-by Prices text rows row left None now had has all did = tt
-before-by Prices text rows row left (Some t) now had has all did = record { rows = rows; row = row; left = left; all = all; did = did }
+-- and the next one is at hand
+at-hand : (rows : List Row) (row : Row) (reader behind : Option (List Row)) (all : List Row) → HasRead rows reader all → IfSome reader (λ left. IsNext left (Some row) behind) → (left : List Row) × (rows ++ row ∷ left ≡ all)
+at-hand rows row reader behind all read next =
+    let more = read-more rows row reader behind all read next in
+    (more.0, sym (append_assoc rows (row ∷ []) more.0) ∙ more.2)
 
-pub before-done : (Prices : Pricing) (text : List ℕ) (reader behind : Option (List Row)) (count : ℕ) (row : Row) (old now later : Option Tables) (had has : Option (List ℕ))
-    → IsAt Prices text reader count old now had has → IfSome reader (λ left. IsNext left (Some row) behind) → later ≡ now → IfSome old (λ t. DidBefore Prices text t later had has)
-before-done Prices text reader behind count row old now later had has at next same =
-    let read = read-more at.rows row reader behind (rows_of text) at.read next in
-    let all : at.rows ++ row ∷ read.0 ≡ rows_of text = sym (append_assoc at.rows (row ∷ []) read.0) ∙ read.2 in
-    rw same (before-by Prices text at.rows row read.0 old now had has all at.did)
+pub before-done : (place : ℕ) (Prices : Pricing) (all : List Row) (reader behind : Option (List Row)) (count : ℕ) (row : Row) (old now later : Option Tables) (had has : Option (List ℕ))
+    → IsAt place Prices all reader count old now had has → IfSome reader (λ left. IsNext left (Some row) behind) → later ≡ now → DoneBefore place Prices all old later had has
+before-done place Prices all reader behind count row old now later had has at next same =
+    let hand = at-hand at.rows row reader behind all at.read next in
+    rw same record { rows = at.rows; row = row; left = hand.0; split = hand.1; done = at.done }
 
-pub before-first : (Prices : Pricing) (text : List ℕ) (old now : Option Tables) (had has : Option (List ℕ)) → IfSome old (λ t. DidBefore Prices text t now had has) → IfSome old (λ t. DidFirst Prices text t now had has)
-before-first Prices text None now had has before = tt
-before-first Prices text (Some t) now had has before = record { rows = before.rows; left = before.row ∷ before.left; all = before.all; did = before.did }
+pub most-done : (before : ℕ) (Prices : Pricing) (all : List Row) (reader behind : Option (List Row)) (count : ℕ) (row : Row) (old now : Option Tables) (had has : Option (List ℕ))
+    → IsAt (before + 1) Prices all reader count old now had has → IfSome reader (λ left. IsNext left (Some row) behind) → before + count ≡ 4_294_967_295 → DoneMost before Prices all old now had has
+most-done before Prices all reader behind count row old now had has at next most =
+    let hand = at-hand at.rows row reader behind all at.read next in
+    record { first = record { rows = at.rows; row = row; left = hand.0; split = hand.1; done = at.done }; most = ap (λ n. before + n) at.counted ∙ most }
 
--- the first rows are and the next one, of whose line a part was written
-next-by : (Prices : Pricing) (text : List ℕ) (rows : List Row) (row : Row) (left : List Row) (old now : Option Tables) (had has : Option (List ℕ)) → rows ++ row ∷ left ≡ rows_of text
-    → IfSome old (λ t. DidNext Prices rows row t now had has) → IfSome old (λ t. DidPart Prices text t now had has)
-next-by Prices text rows row left None now had has all did = tt
-next-by Prices text rows row left (Some t) now had has all did = record { rows = rows; row = row; left = left; all = all; did = did }
-
-pub next-done : (Prices : Pricing) (text : List ℕ) (reader behind : Option (List Row)) (count : ℕ) (row : Row) (said : Said) (old now later : Option Tables) (had mid has : Option (List ℕ))
-    → IsAt Prices text reader count old now had mid → IfSome reader (λ left. IsNext left (Some row) behind) → IfSome now (λ t. Came Prices t row said later)
-    → HasWrittenPart mid has (row_line (count + 1) said) → IfSome old (λ t. DidPart Prices text t later had has)
-next-done Prices text reader behind count row said old now later had mid has at next came written =
-    let place : count + 1 ≡ 1 + length at.rows = omega (arith, at.counted) in
-    let read = read-more at.rows row reader behind (rows_of text) at.read next in
-    let all : at.rows ++ row ∷ read.0 ≡ rows_of text = sym (append_assoc at.rows (row ∷ []) read.0) ∙ read.2 in
-    next-by Prices text at.rows row read.0 old later had has all (did-part Prices at.rows row (count + 1) said old now later had mid has place at.did came written)
-
--- ---- what is reported of them
-pub all-reported : (Prices : Pricing) (text : List ℕ) (reader behind : Option (List Row)) (count : ℕ) (old now : Option Tables) (had has : Option (List ℕ))
-    → IsAt Prices text reader count old now had has → IfSome reader (λ left. IsNext left None behind) → ReportsRows (rows_of text) had has
-all-reported Prices text reader behind count old now had has at next =
-    subst (λ rows. ReportsRows rows had has) (read-all at.rows reader behind (rows_of text) at.read next) at.reports
-
-pub first-reported : (Prices : Pricing) (text : List ℕ) (reader : Option (List Row)) (count : ℕ) (old now : Option Tables) (had has : Option (List ℕ))
-    → IsAt Prices text reader count old now had has → ReportsFirst text had has
-first-reported Prices text reader count old now had has at = record { rows = at.rows; left = at.read.0; all = at.read.2; reports = at.reports }
-
-part-reported : (had mid has : Option (List ℕ)) (said : List Said) (last : Said) → HasWritten had mid (report 1 said) → HasWrittenPart mid has (row_line (1 + length said) last) → WroteTo said last had has
-part-reported had mid has said last written part = record { part = part-then had mid has (report 1 said) (row_line (1 + length said) last) written part }
-
-pub next-reported : (Prices : Pricing) (text : List ℕ) (reader behind : Option (List Row)) (count : ℕ) (row : Row) (said : Said) (old now : Option Tables) (had mid has : Option (List ℕ))
-    → IsAt Prices text reader count old now had mid → IfSome reader (λ left. IsNext left (Some row) behind) → IsSaidOf row said
-    → HasWrittenPart mid has (row_line (count + 1) said) → ReportsPart text had has
-next-reported Prices text reader behind count row said old now had mid has at next of_row part =
-    let read = read-more at.rows row reader behind (rows_of text) at.read next in
-    let long = AllZip-long IsSaidOf at.rows at.reports.said at.reports.each in
-    let here : count + 1 ≡ 1 + length at.reports.said = omega (arith, at.counted, long) in
+-- with a part of its line
+pub part-done : (place : ℕ) (Prices : Pricing) (all : List Row) (reader behind : Option (List Row)) (count here : ℕ) (row : Row) (said : Said) (old now later : Option Tables) (had mid has : Option (List ℕ))
+    → IsAt place Prices all reader count old now had mid → IfSome reader (λ left. IsNext left (Some row) behind) → here ≡ place + count → IsSaidOf row said → IfSome now (λ t. Came Prices t row said later)
+    → HasWrittenPart mid has (row_line here said) → DonePart place Prices all old later had has
+part-done place Prices all reader behind count here row said old now later had mid has at next is of_row came written =
+    let spot : here ≡ place + length at.rows = omega (arith, is, at.counted) in
+    let hand = at-hand at.rows row reader behind all at.read next in
+    let rows : at.rows ++ [] ≡ at.rows = append-nil at.rows in
     record {
       rows = at.rows;
       row = row;
-      left = read.0;
-      said = at.reports.said;
-      last = said;
-      all = sym (append_assoc at.rows (row ∷ []) read.0) ∙ read.2;
-      each = said-then at.rows at.reports.said row said at.reports.each of_row;
-      written = part-reported had mid has at.reports.said said at.reports.written (subst (λ n. HasWrittenPart mid has (row_line n said)) here part);
+      left = hand.0;
+      split = hand.1;
+      done = subst (λ rows. DoneNext place Prices rows row old later had has) rows
+          (done-next place Prices at.rows [] row old now later had mid has at.done
+          (next-one (place + length at.rows) Prices row said now later mid has of_row came (subst (λ n. HasWrittenPart mid has (row_line n said)) spot written)));
     }
 
 -- no more rows than the text has bytes
-pub few-done : (Prices : Pricing) (text : List ℕ) (reader : Option (List Row)) (count : ℕ) (old now : Option Tables) (had has : Option (List ℕ))
-    → IsAt Prices text reader count old now had has → count ≤ length text
-few-done Prices text reader count old now had has at =
+pub few-done : (place : ℕ) (Prices : Pricing) (text : List ℕ) (reader : Option (List Row)) (count : ℕ) (old now : Option Tables) (had has : Option (List ℕ)) → IsAt place Prices (rows_of text) reader count old now had has → count ≤ length text
+few-done place Prices text reader count old now had has at =
     omega (arith, at.counted, read-few at.rows reader (rows_of text) at.read, few-rows text)

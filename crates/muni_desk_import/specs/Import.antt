@@ -29,26 +29,35 @@ abbrev pub report : ℕ → List Said → List ℕ
 report place [] = []
 report place (said ∷ more) = row_line place said ++ report (place + 1) more
 
--- these rows were done, and the report on them was written
-pub record Did (Prices : Pricing) (rows : List Row) (old : Tables) (now : Option Tables) (had has : Option (List ℕ)) : Type 0 where
+-- these rows were done, and the report on them was written, whose first line has this place
+pub record DidAt (place : ℕ) (Prices : Pricing) (rows : List Row) (old : Tables) (now : Option Tables) (had has : Option (List ℕ)) : Type 0 where
   pub said : List Said
   pub new : Tables
   pub imports : Imports Prices old rows said new
   pub told : now ≡ Some new
-  pub written : HasWritten had has (report 1 said)
+  pub written : HasWritten had has (report place said)
+
+abbrev pub Did : Pricing → List Row → Tables → Option Tables → (had has : Option (List ℕ)) → Type 0
+Did Prices rows old now had has = DidAt 1 Prices rows old now had has
 
 -- of the report on some rows and of a line more, all but an end of that line was written
-pub record WroteTo (said : List Said) (last : Said) (had has : Option (List ℕ)) : Type 0 where
-  pub part : IfSome had (λ text. (count : ℕ) × (has ≡ Some ((text ++ report 1 said) ++ take count (row_line (1 + length said) last))))
+pub record WroteToAt (place : ℕ) (said : List Said) (last : Said) (had has : Option (List ℕ)) : Type 0 where
+  pub part : IfSome had (λ text. (count : ℕ) × (has ≡ Some ((text ++ report place said) ++ take count (row_line (place + length said) last))))
+
+abbrev pub WroteTo : List Said → Said → (had has : Option (List ℕ)) → Type 0
+WroteTo said last had has = WroteToAt 1 said last had has
 
 -- these rows were done and one more, of whose line a part was written
-pub record DidNext (Prices : Pricing) (rows : List Row) (row : Row) (old : Tables) (now : Option Tables) (had has : Option (List ℕ)) : Type 0 where
+pub record DidNextAt (place : ℕ) (Prices : Pricing) (rows : List Row) (row : Row) (old : Tables) (now : Option Tables) (had has : Option (List ℕ)) : Type 0 where
   pub said : List Said
   pub last : Said
   pub new : Tables
   pub imports : Imports Prices old (rows ++ row ∷ []) (said ++ last ∷ []) new
   pub told : now ≡ Some new
-  pub written : WroteTo said last had has
+  pub written : WroteToAt place said last had has
+
+abbrev pub DidNext : Pricing → List Row → Row → Tables → Option Tables → (had has : Option (List ℕ)) → Type 0
+DidNext Prices rows row old now had has = DidNextAt 1 Prices rows row old now had has
 
 -- the first rows of a text were done, and no more
 pub record DidFirst (Prices : Pricing) (text : List ℕ) (old : Tables) (now : Option Tables) (had has : Option (List ℕ)) : Type 0 where

@@ -1,7 +1,9 @@
+pub mod Blocks
 pub mod Confirm
 pub mod Confirmed
 pub mod Import
 pub mod RightLines
 pub mod Imported
+pub mod Loaded
 pub mod Reported
 pub mod Laws

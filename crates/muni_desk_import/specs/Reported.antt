@@ -16,11 +16,14 @@ IsSaidOf (Err fault) (Err said) = said ≡ fault
 IsSaidOf (Ok command) (Err said) = ⊥
 IsSaidOf (Err fault) (Ok reply) = ⊥
 
--- a line on each of these rows was written, in their order and with their places
-pub record ReportsRows (rows : List Row) (had has : Option (List ℕ)) : Type 0 where
+-- a line on each of these rows was written, in their order and with their places, of which this is the first
+pub record ReportsRowsAt (place : ℕ) (rows : List Row) (had has : Option (List ℕ)) : Type 0 where
   pub said : List Said
   pub each : AllZip IsSaidOf rows said
-  pub written : HasWritten had has (report 1 said)
+  pub written : HasWritten had has (report place said)
+
+abbrev pub ReportsRows : List Row → (had has : Option (List ℕ)) → Type 0
+ReportsRows rows had has = ReportsRowsAt 1 rows had has
 
 -- on the first rows of a text
 pub record ReportsFirst (text : List ℕ) (had has : Option (List ℕ)) : Type 0 where

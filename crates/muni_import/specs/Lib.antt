@@ -1,6 +1,8 @@
+pub mod Blocks
 pub mod ColumnLaws
 pub mod Fault
 pub mod Line
+pub mod Places
 pub mod Reader
 pub mod Report
 pub mod Row

@@ -10,6 +10,8 @@ const IMPORT: &str = "import --store=S";
 
 const LISTED: &str = "import --store=S --positions=ALPHA";
 
+const LOAD: &str = "load --store=S";
+
 const FIRST: &str = "confirm --store=S --desk=ALPHA --ref=T0001";
 
 const SECOND: &str = "confirm --store=S --desk=ALPHA --ref=T0002";
@@ -97,6 +99,24 @@ fn a_put_that_fails_ends_an_import_after_its_row(rt: HostRuntime) -> Result<(), 
     Ok(())
 }
 
+// The rows come with the first take, and the end with the second.
+#[test]
+fn a_take_that_fails_ends_a_load_after_the_rows_before(rt: HostRuntime) -> Result<(), Fail> {
+    for (take, status, lines, is_kept) in [
+        (0, Status::ReadFault, 0, false),
+        (1, Status::ReadFault, 3, true),
+        (2, Status::Done, 3, true),
+    ] {
+        let failing = Failing {
+            takes: &[take],
+            ..NONE_FAILS
+        };
+        let found = imported_with(&rt, rt.alloc(), LOAD, failing, SECOND)?;
+        assert_eq!(rt; found, (status, lines, is_kept), "take {take}");
+    }
+    Ok(())
+}
+
 // The calls 10 and 11 are those of the confirmation. With positions one page is asked for before the first
 // row, and none after the last.
 #[test]
@@ -115,6 +135,9 @@ fn a_keeper_that_fails_ends_an_import_before_its_row(rt: HostRuntime) -> Result<
         (IMPORT, 10, Status::Done, 3, false),
         (IMPORT, 11, Status::Done, 3, false),
         (IMPORT, 12, Status::Done, 3, true),
+        (LOAD, 0, Status::StoreFault, 0, false),
+        (LOAD, 6, Status::StoreFault, 2, true),
+        (LOAD, 10, Status::Done, 3, false),
         (LISTED, 0, Status::StoreFault, 0, false),
         (LISTED, 3, Status::StoreFault, 1, false),
         (LISTED, 12, Status::StoreFault, 2, true),

@@ -87,6 +87,8 @@ COMMISSION 112.50
 TOTAL 31375.63
 ";
 
+const LOAD: &str = "load --store=S";
+
 // A command over the tables of an import.
 fn said_over<'a, R: Threads + Sync>(
     rt: &R,
@@ -133,6 +135,18 @@ fn an_export_that_is_imported_is_exported_again(rt: HostRuntime) -> Result<(), F
 }
 
 #[test]
+fn a_load_does_what_an_import_does(rt: HostRuntime) -> Result<(), Fail> {
+    let both = [NONE_FAILS, NONE_FAILS];
+    let export = ("export --store=S", b"".as_slice());
+    let (imported, kept) = ask_both(&rt, rt.alloc(), both, (IMPORT, ROWS), export)?;
+    let (loaded, also) = ask_both(&rt, rt.alloc(), both, (LOAD, ROWS), export)?;
+    assert_eq!(rt; loaded.status, Status::Done);
+    assert_eq!(rt; loaded.output.bytes(), imported.output.bytes());
+    assert_eq!(rt; also.output.bytes(), kept.output.bytes());
+    Ok(())
+}
+
+#[test]
 fn other_words_of_these_commands_are_refused(rt: HostRuntime) -> Result<(), Fail> {
     for words in [
         "export",
@@ -145,6 +159,9 @@ fn other_words_of_these_commands_are_refused(rt: HostRuntime) -> Result<(), Fail
         "export --store=S --all",
         "export --store=S --ref=T0001",
         "export --store=S --workers=1",
+        "load",
+        "load --store=S --store=S",
+        "load --store=S --workers=1",
         "list --store=S",
         "list --desk=ALPHA",
         "list --store=S --desk=ALPHA --issues",

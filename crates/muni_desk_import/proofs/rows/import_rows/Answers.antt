@@ -1,78 +1,17 @@
-use Rattle.std.proofs.Common.{◌∙◌, Err, ap, refl, arith}
-use Rattle.std.proofs.lemmas.Result.{err_from_is_err_and}
 use Rattle.muni_book.specs.Answers.{IsRightAnswer}
-use Rattle.muni_desk_import.proofs.FaultLemmas.{unanswered}
-use Rattle.muni_desk_import.proofs.ImportLemmas.{at-start, row-done, next-done, before-done, all-done, few-done, all-reported, next-reported}
+use Rattle.std.proofs.lemmas.Result.{err_from_is_err_and}
+use Rattle.std.proofs.Common.{◌∙◌, Err, ap}
+use Rattle.muni_desk_import.proofs.FaultLemmas.{import-ended}
 use Rattle.muni_desk_import.proofs.rows.import_rows.Goals as goal
 
-pub loop-count-init : goal.loop-count-init
-loop-count-init g c = record {
-  at = rw c.new-rows.ensures (at-start (IsRightAnswer (g.E.Encloser.ends c.args.calculator.now.encloser.now)) c.args.text.now (g.K.Keeper.tables c.args.keeper.now) (g.O.Sink.bytes c.args.output.now));
-  tells = refl;
-  later = omega arith;
-  puts = refl;
-  lent_as = refl;
-}
+pub returns-in_err-rows_after-clause-applied : goal.returns-in_err-rows_after-clause-applied
+returns-in_err-rows_after-clause-applied g c =
+    let p = err_from_is_err_and c.from_residual.result c.from_residual.ensures.1 in
+    (import-ended g.K.Keeper g.O.Sink (IsRightAnswer (g.E.Encloser.ends c.args.calculator.now.encloser.now)) c.args.text.now c.in_err-rows_after.field-0.0 c.rows_after.result c.from_residual.result
+    c.args.keeper.now c.rows_after.new.keeper c.args.output.now c.rows_after.new.output c.in_err-rows_after.was (p.1 ∙ ap Err p.2) c.requires c.rows_after.ensures.applied).0
 
-pub returns-in-None-clause-applied : goal.returns-in-None-clause-applied
-returns-in-None-clause-applied g c =
-    let next = rw c.in-None.is at c.in_ok-row.ensures.next in
-    all-done (IsRightAnswer (g.E.Encloser.ends c.args.calculator.now.encloser.now)) c.args.text.now c.loop-count.rows c.next_row.new.self c.loop-count.count (g.K.Keeper.tables c.args.keeper.now) (g.K.Keeper.tables c.loop-count.keeper)
-    (g.O.Sink.bytes c.args.output.now) (g.O.Sink.bytes c.loop-count.output) c.loop-count.invariant.at next
-
-pub returns-in_err-said-clause-applied : goal.returns-in_err-said-clause-applied
-returns-in_err-said-clause-applied g c =
-    let Prices = IsRightAnswer (g.E.Encloser.ends c.args.calculator.now.encloser.now) in
-    let next = rw c.in-Some.is at c.in_ok-row.ensures.next in
-    let p = err_from_is_err_and c.from_residual-in_err-said.result c.from_residual-in_err-said.ensures.1 in
-    unanswered g.K.Keeper g.O.Sink Prices c.args.text.now c.in_err-said.field-0.0 c.from_residual-in_err-said.result c.args.keeper.now c.said_of.new.keeper c.args.output.now c.loop-count.output
-    (p.1 ∙ ap Err p.2)
-    (before-done Prices c.args.text.now c.loop-count.rows c.next_row.new.self c.loop-count.count c.in-Some.row (g.K.Keeper.tables c.args.keeper.now) (g.K.Keeper.tables c.loop-count.keeper) (g.K.Keeper.tables c.said_of.new.keeper)
-    (g.O.Sink.bytes c.args.output.now) (g.O.Sink.bytes c.loop-count.output) c.loop-count.invariant.at next c.in_err-said.ensures.unchanged)
-
-pub returns-in_err-write_line-clause-applied : goal.returns-in_err-write_line-clause-applied
-returns-in_err-write_line-clause-applied g c =
-    let Prices = IsRightAnswer (g.E.Encloser.ends c.args.calculator.now.encloser.now) in
-    let next = rw c.in-Some.is at c.in_ok-row.ensures.next in
-    let p = err_from_is_err_and c.from_residual-in_err-write_line.result c.from_residual-in_err-write_line.ensures.1 in
-    let part = next-done Prices c.args.text.now c.loop-count.rows c.next_row.new.self c.loop-count.count c.in-Some.row c.in_ok-said.said
-    (g.K.Keeper.tables c.args.keeper.now) (g.K.Keeper.tables c.loop-count.keeper) (g.K.Keeper.tables c.said_of.new.keeper)
-    (g.O.Sink.bytes c.args.output.now) (g.O.Sink.bytes c.loop-count.output) (g.O.Sink.bytes c.write_line.new.output)
-    c.loop-count.invariant.at next c.in_ok-said.ensures.came c.in_err-write_line.ensures.part in
-    rw (p.1, p.2, c.in_err-write_line.ensures.only) (part, omega (arith, c.loop-count.invariant.puts, c.in_err-write_line.ensures.failed))
-
-pub loop-count-preserved : goal.loop-count-preserved
-loop-count-preserved g c =
-    let Prices = IsRightAnswer (g.E.Encloser.ends c.args.calculator.now.encloser.now) in
-    let next = rw c.in-Some.is at c.in_ok-row.ensures.next in
-    record {
-      at = row-done Prices c.args.text.now c.loop-count.rows c.next_row.new.self c.loop-count.count c.in-Some.row c.in_ok-said.said
-          (g.K.Keeper.tables c.args.keeper.now) (g.K.Keeper.tables c.loop-count.keeper) (g.K.Keeper.tables c.said_of.new.keeper)
-          (g.O.Sink.bytes c.args.output.now) (g.O.Sink.bytes c.loop-count.output) (g.O.Sink.bytes c.write_line.new.output)
-          c.loop-count.invariant.at next c.in_ok-said.ensures.said c.in_ok-said.ensures.came c.in_ok-write_line.ensures.written;
-      tells = c.in_ok-said.ensures.same.tells ∙ c.loop-count.invariant.tells;
-      later = omega (arith, c.in_ok-said.ensures.same.later, c.loop-count.invariant.later);
-      puts = c.in_ok-write_line.ensures.uncounted ∙ c.loop-count.invariant.puts;
-      lent_as = c.in_ok-said.ensures.same.lent_as ∙ c.loop-count.invariant.lent_as;
-    }
-
-pub unreachable-requires : goal.unreachable-requires
-unreachable-requires g c =
-    omega (arith, few-done (IsRightAnswer (g.E.Encloser.ends c.args.calculator.now.encloser.now)) c.args.text.now c.loop-count.rows c.loop-count.count (g.K.Keeper.tables c.args.keeper.now) (g.K.Keeper.tables c.loop-count.keeper) (g.O.Sink.bytes c.args.output.now) (g.O.Sink.bytes c.loop-count.output) c.loop-count.invariant.at)
-
--- ---- what is reported of the rows
-pub returns-in-None-clause-reported : goal.returns-in-None-clause-reported
-returns-in-None-clause-reported g c =
-    let next = rw c.in-None.is at c.in_ok-row.ensures.next in
-    all-reported (IsRightAnswer (g.E.Encloser.ends c.args.calculator.now.encloser.now)) c.args.text.now c.loop-count.rows c.next_row.new.self c.loop-count.count (g.K.Keeper.tables c.args.keeper.now) (g.K.Keeper.tables c.loop-count.keeper)
-    (g.O.Sink.bytes c.args.output.now) (g.O.Sink.bytes c.loop-count.output) c.loop-count.invariant.at next
-
-pub returns-in_err-write_line-clause-reported : goal.returns-in_err-write_line-clause-reported
-returns-in_err-write_line-clause-reported g c =
-    let next = rw c.in-Some.is at c.in_ok-row.ensures.next in
-    let p = err_from_is_err_and c.from_residual-in_err-write_line.result c.from_residual-in_err-write_line.ensures.1 in
-    let part = next-reported (IsRightAnswer (g.E.Encloser.ends c.args.calculator.now.encloser.now)) c.args.text.now c.loop-count.rows c.next_row.new.self c.loop-count.count c.in-Some.row c.in_ok-said.said
-    (g.K.Keeper.tables c.args.keeper.now) (g.K.Keeper.tables c.loop-count.keeper)
-    (g.O.Sink.bytes c.args.output.now) (g.O.Sink.bytes c.loop-count.output) (g.O.Sink.bytes c.write_line.new.output)
-    c.loop-count.invariant.at next c.in_ok-said.ensures.said c.in_err-write_line.ensures.part in
-    rw (p.1, p.2, c.in_err-write_line.ensures.only) part
+pub returns-in_err-rows_after-clause-reported : goal.returns-in_err-rows_after-clause-reported
+returns-in_err-rows_after-clause-reported g c =
+    let p = err_from_is_err_and c.from_residual.result c.from_residual.ensures.1 in
+    (import-ended g.K.Keeper g.O.Sink (IsRightAnswer (g.E.Encloser.ends c.args.calculator.now.encloser.now)) c.args.text.now c.in_err-rows_after.field-0.0 c.rows_after.result c.from_residual.result
+    c.args.keeper.now c.rows_after.new.keeper c.args.output.now c.rows_after.new.output c.in_err-rows_after.was (p.1 ∙ ap Err p.2) c.requires c.rows_after.ensures.applied).1
