@@ -23,8 +23,10 @@ import csv
 import enum
 import http.client
 import json
+import os
 import re
 import ssl
+import subprocess
 import time
 import urllib.parse
 from collections.abc import Iterator
@@ -37,10 +39,10 @@ from ._refusals import WORDS
 
 __all__ = [
     "Act", "BadTerms", "Basis", "Call", "CallKind", "Canceled", "Candidate", "Client", "Confirmation", "Conflict",
-    "DayCount", "DeskFull", "Error", "Figures", "GivenOutOfRange", "Issue", "Kind", "Label", "Listed", "NoTime", "PAGE",
+    "DayCount", "DeskFull", "Ended", "Error", "Figures", "GivenOutOfRange", "Issue", "Kind", "Label", "Listed", "NoTime", "PAGE",
     "Position", "REFUSALS", "Redemption", "Refused", "SettleOutside", "Side", "Status", "Trade", "Unanswered",
     "Undecided", "UnknownIssue", "UnknownTrade", "VersionsFull", "WrongBasis", "WrongNumber", "YieldAbove",
-    "YieldBelow", "read_confirmation", "read_figures", "read_issue", "read_list", "read_positions",
+    "YieldBelow", "export", "read_confirmation", "read_figures", "read_issue", "read_list", "read_positions",
 ]
 
 __version__ = "1.5.0"
@@ -249,6 +251,15 @@ class Status(Error):
         super().__init__(f"status {status}: {text.strip()[:200]}")
         self.status = status
         self.text = text
+
+
+class Ended(Error):
+    """The program ended with another status than 0. docs/FORMATS.md says what each means."""
+
+    def __init__(self, status: int, said: str) -> None:
+        super().__init__(f"status {status}: {said.strip()}")
+        self.status = status
+        self.said = said
 
 
 class Refused(Error):
@@ -576,6 +587,19 @@ def read_issue(text: str) -> Issue:
     return Issue(cusip, name, Kind(kind), date.fromisoformat(dated), date.fromisoformat(maturity),
                  coupon=Decimal(coupon) if has_coupon else None, first=date.fromisoformat(first) if first else None,
                  calls=tuple(_kept_call(call) for call in calls.split()), day_count=DayCount(days))
+
+
+def export(store: str | os.PathLike[str], desk: str = "", *, program: str | os.PathLike[str] = "muni") -> str:
+    """The rows of what a store keeps, or of one desk with the issues that it names. `muni load` reads them again.
+
+    It starts the program, which must be on the path if it is not named. No server may have the store open.
+    """
+    words = ["export", f"--store={os.fspath(store)}", *([f"--desk={_desk(desk)}"] if desk else [])]
+    done = subprocess.run([os.fspath(program), *words], capture_output=True, stdin=subprocess.DEVNULL, check=False)
+    if done.returncode != 0:
+        raise Ended(done.returncode, done.stderr.decode(errors="replace"))
+    return done.stdout.decode()
+
 
 
 def _amount(name: str, value: Amount, places: int, least: str, most: str) -> str:
