@@ -1,7 +1,9 @@
 """A server of the program over a store, and what a client gets from it."""
 from __future__ import annotations
 
+import contextlib
 import pathlib
+import random
 import socket
 import subprocess
 import time
@@ -12,12 +14,18 @@ from support.program import PATIENCE, Program
 # The most connections that a server takes.
 MOST = 1_000_000
 
+# Below the ports that the system gives to connections, so that none of these takes one before its server does.
+PORTS = range(10_000, 20_000)
+DRAWS = random.SystemRandom()
+
 
 def free_port() -> int:
     """A port of the loopback that was free a moment ago."""
-    with socket.socket() as probe:
-        probe.bind(("127.0.0.1", 0))
-        return probe.getsockname()[1]
+    while True:
+        port = DRAWS.choice(PORTS)
+        with socket.socket() as probe, contextlib.suppress(OSError):
+            probe.bind(("127.0.0.1", port))
+            return port
 
 
 def listening(port: int) -> list[tuple[str, str]]:
