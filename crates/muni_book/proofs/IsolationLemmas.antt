@@ -7,7 +7,7 @@ use Rattle.muni_msg.specs.declared.command.Reply.{Reply}
 use Rattle.muni_keep.specs.Tables.{Tables}
 use Rattle.muni_keep.specs.Trades.{by_bytes, Desks, own, put_own}
 use Rattle.muni_book_step.specs.Runs.{Runs}
-use Rattle.muni_book_step.specs.Step.{Pricing, Entry, NewIssue, NewVersion, IsStep, IsStepOver, after, desk_of, own_of}
+use Rattle.muni_book_step.specs.Step.{Rules, Entry, NewIssue, NewVersion, IsStep, IsStepOver, after, desk_of, own_of}
 use Rattle.muni_book_step.specs.Reasons.{IsReasoned}
 use Rattle.muni_book_step.proofs.OutcomeLemmas.{step-reason}
 use Rattle.muni_book.specs.Isolation.{is_no_other, concerning, replies_to, AreAlike, DesksAreIsolated}
@@ -19,7 +19,7 @@ IsPlaced desk None = Unit {0}
 IsPlaced desk (Some (NewIssue issue)) = desk ≡ None
 IsPlaced desk (Some (NewVersion key version)) = desk ≡ Some key.desk
 
-placed : (P : Pricing) (t : Tables) (c : Command) (reply : Reply) (entry : Option Entry) → IsReasoned P t c reply entry → IsPlaced (desk_of c) entry
+placed : (P : Rules) (t : Tables) (c : Command) (reply : Reply) (entry : Option Entry) → IsReasoned P t c reply entry → IsPlaced (desk_of c) entry
 placed P t c reply None why = tt
 placed P t c reply (Some (NewIssue issue)) why = ap desk_of why.0.command
 placed P t c reply (Some (NewVersion key version)) (issue, number, told, inl cancel) = ap desk_of cancel.command
@@ -55,13 +55,13 @@ same-own : (desk : List ℕ) (old others : Tables) (named : Option (List ℕ)) �
 same-own desk old others None same alike = refl
 same-own desk old others (Some named) same alike = subst (λ x. own x old.desks ≡ own x others.desks) (same-name desk named same) alike.trades
 
-same-step : (P : Pricing) (desk : List ℕ) (old others : Tables) (c : Command) (reply : Reply) (entry : Option Entry) → is_no_other desk (desk_of c) ≡ true → AreAlike desk old others
+same-step : (P : Rules) (desk : List ℕ) (old others : Tables) (c : Command) (reply : Reply) (entry : Option Entry) → is_no_other desk (desk_of c) ≡ true → AreAlike desk old others
     → IsStepOver P old c (record { reply = reply; entry = entry }) → IsStepOver P others c (record { reply = reply; entry = entry })
 same-step P desk old others c reply entry same alike step =
     subst (λ issues. IsStep P issues (own_of (desk_of c) others) c (record { reply = reply; entry = entry })) alike.issues
     (subst (λ own. IsStep P old.issues own c (record { reply = reply; entry = entry })) (same-own desk old others (desk_of c) same alike) step)
 
-pub desks-isolated : (P : Pricing) → DesksAreIsolated P
+pub desks-isolated : (P : Rules) → DesksAreIsolated P
 desks-isolated P desk old others new [] [] alike run = (others, refl, subst (λ t. AreAlike desk t others) (sym run) alike)
 desks-isolated P desk old others new [] (reply ∷ replies) alike run = absurd run
 desks-isolated P desk old others new (c ∷ commands) [] alike run = absurd run

@@ -14,7 +14,7 @@ use Rattle.muni_keep.specs.History.{History, versions, version_in, grown}
 use Rattle.muni_keep.specs.Tables.{Tables, version_at, with_version}
 use Rattle.muni_keep.specs.Trades.{by_bytes}
 use Rattle.muni_book_step.specs.Plan.{Issues}
-use Rattle.muni_book_step.specs.Step.{Pricing, Entry, NewIssue, NewVersion, IsStepOver, after}
+use Rattle.muni_book_step.specs.Step.{Rules, Entry, NewIssue, NewVersion, IsStepOver, after}
 use Rattle.muni_book_step.specs.Reasons.{IsReasoned}
 use Rattle.muni_book_step.proofs.OutcomeLemmas.{step-reason}
 use Rattle.muni_book.specs.Once.{Keeps, RunsKeep}
@@ -62,7 +62,7 @@ version-stays t key other added version number kept =
     ]
 
 -- ---- runs
-keeps-with : (P : Pricing) (t : Tables) (c : Command) (reply : Reply) (entry : Option Entry) → IsReasoned P t c reply entry → Keeps t (after entry t)
+keeps-with : (P : Rules) (t : Tables) (c : Command) (reply : Reply) (entry : Option Entry) → IsReasoned P t c reply entry → Keeps t (after entry t)
 keeps-with P t c reply None why = record { issues = λ cusip issue kept. kept; versions = λ key number version kept. kept }
 keeps-with P t c reply (Some (NewIssue added)) why = record {
   issues = λ cusip issue kept. issue-stays t.issues added.cusip cusip added issue why.0.is_new kept;
@@ -73,7 +73,7 @@ keeps-with P t c reply (Some (NewVersion key added)) why = record {
   versions = λ other number version kept. version-stays t key other added version number kept;
 }
 
-pub step-keeps : (P : Pricing) (t : Tables) (c : Command) (reply : Reply) (entry : Option Entry) → IsStepOver P t c (record { reply = reply; entry = entry }) → Keeps t (after entry t)
+pub step-keeps : (P : Rules) (t : Tables) (c : Command) (reply : Reply) (entry : Option Entry) → IsStepOver P t c (record { reply = reply; entry = entry }) → Keeps t (after entry t)
 step-keeps P t c reply entry step = keeps-with P t c reply entry (step-reason P t c reply entry step)
 
 keeps-both : (old mid new : Tables) → Keeps old mid → Keeps mid new → Keeps old new
@@ -85,7 +85,7 @@ keeps-both old mid new first later = record {
 keeps-itself : (t : Tables) → Keeps t t
 keeps-itself t = record { issues = λ cusip issue kept. kept; versions = λ key number version kept. kept }
 
-pub runs-keep : (P : Pricing) → RunsKeep P
+pub runs-keep : (P : Rules) → RunsKeep P
 runs-keep P old new [] [] run = subst (Keeps old) (sym run) (keeps-itself old)
 runs-keep P old new [] (reply ∷ replies) run = absurd run
 runs-keep P old new (c ∷ commands) [] run = absurd run

@@ -9,7 +9,7 @@ use Rattle.muni_keep.specs.Tables.{no_tables, trade_at}
 use Rattle.muni_keep.specs.Trades.{by_bytes, own}
 use Rattle.muni_book.proofs.RightLemmas.{answered-right}
 use Rattle.muni_book.proofs.UniqueLemmas.{answers-unique}
-use Rattle.muni_book.specs.Answers.{IsRightAnswer}
+use Rattle.muni_book.specs.Rules.{book_rules}
 use Rattle.muni_book.specs.RightFigures.{AreRightFigures}
 use Rattle.muni_book.specs.SoundTables.{AreSoundTables}
 use Rattle.muni_book_step.proofs.OutcomeLemmas.{step-reason}
@@ -39,55 +39,55 @@ empty-sound = record {
 pub sound : TablesAreSound
 sound = record {
   first = empty-sound;
-  later = λ ends. runs-stay-sound (IsRightAnswer ends) AreRightFigures (λ row asked figures is. answered-right ends row asked figures is);
+  later = λ limit ends. runs-stay-sound (book_rules limit ends) AreRightFigures (λ row asked figures is. answered-right ends row asked figures is);
 }
 
 pub once : AcceptedCommandsActOnce
-once ends = act-once (IsRightAnswer ends)
+once limit ends = act-once (book_rules limit ends)
 
 pub kept : NothingKeptIsLost
-kept ends = runs-keep (IsRightAnswer ends)
+kept limit ends = runs-keep (book_rules limit ends)
 
 pub isolated : EachDeskIsIsolated
-isolated ends = desks-isolated (IsRightAnswer ends)
+isolated limit ends = desks-isolated (book_rules limit ends)
 
 pub unique : RepliesAreUnique
 unique = record {
-  steps = λ ends. steps-unique (IsRightAnswer ends) (λ row asked answer other is also. answers-unique ends row asked answer other is also);
-  runs = λ ends. runs-unique (IsRightAnswer ends) (λ row asked answer other is also. answers-unique ends row asked answer other is also);
+  steps = λ limit ends. steps-unique (book_rules limit ends) (λ row asked answer other is also. answers-unique ends row asked answer other is also);
+  runs = λ limit ends. runs-unique (book_rules limit ends) (λ row asked answer other is also. answers-unique ends row asked answer other is also);
 }
 
 pub confirmed : ConfirmedFiguresAreRight
 confirmed = record {
-  steps = λ ends. steps-right (IsRightAnswer ends) AreRightFigures (λ row asked figures is. answered-right ends row asked figures is);
-  runs = λ ends. runs-right (IsRightAnswer ends) AreRightFigures (λ row asked figures is. answered-right ends row asked figures is);
+  steps = λ limit ends. steps-right (book_rules limit ends) AreRightFigures (λ row asked figures is. answered-right ends row asked figures is);
+  runs = λ limit ends. runs-right (book_rules limit ends) AreRightFigures (λ row asked figures is. answered-right ends row asked figures is);
   versions = versions-right AreRightFigures;
   lasts = lasts-right AreRightFigures;
   lists = pages-right AreRightFigures;
 }
 
 pub again : WhatIsKeptIsAnsweredAgain
-again ends = kept-again (IsRightAnswer ends)
+again limit ends = kept-again (book_rules limit ends)
 
 pub caused : EachRefusalHasItsCause
 caused = record {
-  only = λ ends. refusals-caused (IsRightAnswer ends);
-  always = λ ends. causes-refused (IsRightAnswer ends) (λ row asked answer other is also. answers-unique ends row asked answer other is also);
+  only = λ limit ends. refusals-caused (book_rules limit ends);
+  always = λ limit ends. causes-refused (book_rules limit ends) (λ row asked answer other is also. answers-unique ends row asked answer other is also);
 }
 
 pub reasoned : EachEntryHasItsReason
 reasoned = record {
-  only = λ ends t c reply entry step. step-reason (IsRightAnswer ends) t c reply entry step;
-  answered = λ ends. accepted-or-refused (IsRightAnswer ends);
-  issues = λ ends. issues-kept (IsRightAnswer ends);
-  versions = λ ends. versions-kept (IsRightAnswer ends) (λ row asked answer other is also. answers-unique ends row asked answer other is also);
+  only = λ limit ends t c reply entry step. step-reason (book_rules limit ends) t c reply entry step;
+  answered = λ limit ends. accepted-or-refused (book_rules limit ends);
+  issues = λ limit ends. issues-kept (book_rules limit ends);
+  versions = λ limit ends. versions-kept (book_rules limit ends) (λ row asked answer other is also. answers-unique ends row asked answer other is also);
 }
 
 pub lasts : ConfirmationsAreOfLastVersions
-lasts ends = lasts-confirmed (IsRightAnswer ends)
+lasts limit ends = lasts-confirmed (book_rules limit ends)
 
 pub pages : ListsArePages
-pages ends = pages-listed (IsRightAnswer ends)
+pages limit ends = pages-listed (book_rules limit ends)
 
 pub quotes : QuotesAreRightAnswers
-quotes ends = figures-quoted (IsRightAnswer ends)
+quotes limit ends = figures-quoted (book_rules limit ends)

@@ -16,5 +16,6 @@ pub mod IsolationLemmas
 pub mod KeepLemmas
 pub mod OnceLemmas
 pub mod ReplyLemmas
+pub mod FewLemmas
 pub mod SoundLemmas
 pub mod LawLemmas

@@ -10,7 +10,7 @@ use Rattle.muni_msg.specs.declared.version.Version.{Version}
 use Rattle.muni_keep.specs.Tables.{Tables, issue_at, last_at}
 use Rattle.muni_book_step.specs.declared.plan.Plan.TheVariants.{Answer, Quote}
 use Rattle.muni_book_step.specs.Plan.{for_issue, for_trade, confirmed}
-use Rattle.muni_book_step.specs.Step.{Pricing, Outcome, quoted, IsOutcome}
+use Rattle.muni_book_step.specs.Step.{Pricing, Rules, Outcome, quoted, IsOutcome}
 use Rattle.muni_book.specs.LookUps.{ConfirmsLast, QuotesFigures, LastsAreConfirmed, PagesAreListed, FiguresAreQuoted}
 
 -- ---- confirmations
@@ -26,11 +26,11 @@ by-last : (P : Pricing) (t : Tables) (key : Key) (o : Option (ℕ × Version)) (
 by-last P t key None outcome is step = subst (ByLast t key) (sym step) (inl (refl, is), refl)
 by-last P t key (Some last) outcome is step = by-issue P t key last (issue_at t last.1.terms.asked.cusip) outcome is refl step
 
-pub lasts-confirmed : (P : Pricing) → LastsAreConfirmed P
-lasts-confirmed P t key reply entry step = by-last P t key (last_at t key) (record { reply = reply; entry = entry }) refl step
+pub lasts-confirmed : (P : Rules) → LastsAreConfirmed P
+lasts-confirmed P t key reply entry step = by-last P.prices t key (last_at t key) (record { reply = reply; entry = entry }) refl step
 
 -- ---- lists
-pub pages-listed : (P : Pricing) → PagesAreListed P
+pub pages-listed : (P : Rules) → PagesAreListed P
 pages-listed P t desk from reply entry step = (ap (λ (o : Outcome). o.reply) step, ap (λ (o : Outcome). o.entry) step)
 
 -- ---- quotes
@@ -45,5 +45,5 @@ by-figures : (P : Pricing) (t : Tables) (asked : Asked) (each : Bool) (o : Optio
 by-figures P t asked each None outcome there step = subst (ByFigures P t asked each) (sym step) (inl (refl, there), refl)
 by-figures P t asked each (Some issue) outcome there step = subst (ByFigures P t asked each) (sym step.2) (by-answer P t asked each issue step.0 there step.1)
 
-pub figures-quoted : (P : Pricing) → FiguresAreQuoted P
-figures-quoted P t asked each reply entry step = by-figures P t asked each (issue_at t asked.cusip) (record { reply = reply; entry = entry }) refl step
+pub figures-quoted : (P : Rules) → FiguresAreQuoted P
+figures-quoted P t asked each reply entry step = by-figures P.prices t asked each (issue_at t asked.cusip) (record { reply = reply; entry = entry }) refl step

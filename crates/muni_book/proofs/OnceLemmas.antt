@@ -16,7 +16,7 @@ use Rattle.muni_keep.specs.Tables.{Tables, issue_at, trade_at, with_version}
 use Rattle.muni_book_step.specs.declared.plan.Plan.TheVariants.{Answer}
 use Rattle.muni_book_step.specs.Accepted.{AsksToKeep, IsAccepted, IsConfirmed, IsKept}
 use Rattle.muni_book_step.specs.Plan.{confirmed, sent_again, is_corrected, is_canceled, plan_of}
-use Rattle.muni_book_step.specs.Step.{Pricing, Entry, NewIssue, NewVersion, Outcome, answered, IsOutcome, after, desk_of, own_of}
+use Rattle.muni_book_step.specs.Step.{Rules, Entry, NewIssue, NewVersion, Outcome, answered, IsOutcome, after, desk_of, own_of}
 use Rattle.muni_book_step.specs.Reasons.{IsReasoned, IsReasonFor}
 use Rattle.muni_book_step.proofs.OutcomeLemmas.{step-reason}
 use Rattle.muni_book_step.proofs.ReadyLemmas.{live-next, new-next}
@@ -25,7 +25,7 @@ use Rattle.muni_book.proofs.KeepLemmas.{issue-put, runs-keep}
 use Rattle.muni_book.proofs.PutLemmas.{version-put}
 
 -- ---- what was accepted is kept
-next-of-reason : (P : Pricing) (t : Tables) (c : Command) (issue : IssueRow) (key : Key) (number : ℕ) (version : Version) → IsReasonFor P t c issue key number version → number ≡ next_number (trade_at t key)
+next-of-reason : (P : Rules) (t : Tables) (c : Command) (issue : IssueRow) (key : Key) (number : ℕ) (version : Version) → IsReasonFor P t c issue key number version → number ≡ next_number (trade_at t key)
 next-of-reason P t c issue key number version (inl cancel) = live-next t key number cancel.last cancel.is_live
 next-of-reason P t c issue key number version (inr (inl entered, prices)) = new-next t key number entered.number_is entered.is_new
 next-of-reason P t c issue key number version (inr (inr corrected, prices)) = live-next t key number corrected.last corrected.is_live
@@ -40,7 +40,7 @@ confirmed-put t issue key number version reply next there told = record {
   confirmed = told;
 }
 
-version-kept : (P : Pricing) (t : Tables) (c : Command) (issue : IssueRow) (key : Key) (number : ℕ) (version : Version) (reply : Reply) → reply ≡ Confirmed issue key number version
+version-kept : (P : Rules) (t : Tables) (c : Command) (issue : IssueRow) (key : Key) (number : ℕ) (version : Version) (reply : Reply) → reply ≡ Confirmed issue key number version
     → IsReasonFor P t c issue key number version → IsKept (with_version key version t) c reply
 version-kept P t c issue key number version reply told (inl cancel) =
     let there = subst (λ v. issue_at t v.terms.asked.cusip ≡ Some issue) (sym cancel.version_is) cancel.issue_is in
@@ -57,7 +57,7 @@ version-kept P t c issue key number version reply told (inr (inr corrected, pric
     subst (λ c. IsKept (with_version key version t) c reply) (sym corrected.command)
     (confirmed-put t issue key number version reply next corrected.issue_is told, refl, corrected.act_is)
 
-accepted-kept : (P : Pricing) (t : Tables) (c : Command) (reply : Reply) (entry : Option Entry) → AsksToKeep c → IsAccepted reply → IsReasoned P t c reply entry → IsKept (after entry t) c reply
+accepted-kept : (P : Rules) (t : Tables) (c : Command) (reply : Reply) (entry : Option Entry) → AsksToKeep c → IsAccepted reply → IsReasoned P t c reply entry → IsKept (after entry t) c reply
 accepted-kept P t c reply None asks accepted why = why asks accepted
 accepted-kept P t c reply (Some (NewIssue issue)) asks accepted why =
     subst (λ c. IsKept (after (Some (NewIssue issue)) t) c reply) (sym why.0.command) (issue, why.0.passed, issue-put t.issues issue, why.1)
@@ -95,25 +95,25 @@ pub has-last : {V : Type 0} (trade : Option (History V)) (number : ℕ) (v : V) 
 has-last None number v kept = absurd (let never : None ≡ Some v = kept in cc)
 has-last (Some history) number v kept = ((count history, history.last), refl)
 
-pub answered-again : (t : Tables) (c : Command) (reply : Reply) → IsKept t c reply → plan_of t.issues (own_of (desk_of c) t) c ≡ Answer reply
-answered-again t (command.AddIssue row) reply kept =
+pub answered-again : (limit : ℕ) (t : Tables) (c : Command) (reply : Reply) → IsKept t c reply → plan_of limit t.issues (own_of (desk_of c) t) c ≡ Answer reply
+answered-again limit t (command.AddIssue row) reply kept =
     rw (kept.1, kept.2, (row_decides kept.0 kept.0).1 refl) (ap (λ r. Answer r) (sym kept.3))
-answered-again t (command.Enter key terms) reply kept =
+answered-again limit t (command.Enter key terms) reply kept =
     rw kept.0.version_kept (again-sent t key 1 terms reply kept.0 kept.1)
-answered-again t (command.Correct key number terms) reply kept =
+answered-again limit t (command.Correct key number terms) reply kept =
     let last = has-last (trade_at t key) number kept.0.version kept.0.version_kept in
     rw (last.1, kept.0.version_kept, ap is_corrected kept.2) (again-sent t key number terms reply kept.0 kept.1)
-answered-again t (command.Cancel key number) reply kept =
+answered-again limit t (command.Cancel key number) reply kept =
     let last = has-last (trade_at t key) number kept.0.version kept.0.version_kept in
     rw (last.1, kept.0.version_kept, ap is_canceled kept.1) (again-confirmed t key number reply kept.0)
-answered-again t (command.Confirm key) reply kept = absurd kept
-answered-again t (command.Quote asked each) reply kept = absurd kept
-answered-again t (command.List desk from) reply kept = absurd kept
+answered-again limit t (command.Confirm key) reply kept = absurd kept
+answered-again limit t (command.Quote asked each) reply kept = absurd kept
+answered-again limit t (command.List desk from) reply kept = absurd kept
 
-pub act-once : (P : Pricing) → CommandsActOnce P
+pub act-once : (P : Rules) → CommandsActOnce P
 act-once P old new c first again entry other commands replies asks accepted step run repeated =
     let kept = accepted-kept P old c first entry asks accepted (step-reason P old c first entry step) in
     let stays = kept-stays (after entry old) new c first (runs-keep P (after entry old) new commands replies run) kept in
     let is : record { reply = again; entry = other } ≡ answered first =
-    subst (λ plan. IsOutcome P plan (record { reply = again; entry = other })) (answered-again new c first stays) repeated in
+    subst (λ plan. IsOutcome P.prices plan (record { reply = again; entry = other })) (answered-again P.limit new c first stays) repeated in
     (ap (λ (o : Outcome). o.reply) is, ap (λ (o : Outcome). o.entry) is)

@@ -12,31 +12,31 @@ use Rattle.muni_book_step.specs.Reasons.{IsNewIssue, IsNewTrade, IsCorrection, I
 use Rattle.muni_book.proofs.PutLemmas.{next-free}
 use Rattle.muni_book.proofs.RefusedLemmas.{IsPlanned, next}
 
-pub issue-planned : (t : Tables) (c : Command) (issue : IssueRow) → IsNewIssue t c issue → IsPlanned t (KeepIssue issue) c
-issue-planned t c issue why = subst (IsPlanned t (KeepIssue issue)) (sym why.command) (rw (why.passed, why.is_new) refl)
+pub issue-planned : (limit : ℕ) (t : Tables) (c : Command) (issue : IssueRow) → IsNewIssue t c issue → IsPlanned limit t (KeepIssue issue) c
+issue-planned limit t c issue why = subst (IsPlanned limit t (KeepIssue issue)) (sym why.command) (rw (why.passed, why.is_new) refl)
 
-entry-planned : (t : Tables) (c : Command) (issue : IssueRow) (key : Key) (number : ℕ) (act : Act) (terms : Terms) → IsNewTrade t c issue key number act terms → IsPlanned t (KeepPriced issue key number act terms) c
-entry-planned t c issue key number act terms why =
-    subst (IsPlanned t (KeepPriced issue key number act terms)) (sym why.command)
+entry-planned : (limit : ℕ) (t : Tables) (c : Command) (issue : IssueRow) (key : Key) (number : ℕ) (act : Act) (terms : Terms) → IsNewTrade limit t c issue key number act terms → IsPlanned limit t (KeepPriced issue key number act terms) c
+entry-planned limit t c issue key number act terms why =
+    subst (IsPlanned limit t (KeepPriced issue key number act terms)) (sym why.command)
     (rw (why.is_new, why.issue_is, why.room) (λ i. KeepPriced issue key (sym why.number_is i) (sym why.act_is i) terms))
 
-correction-planned : (t : Tables) (c : Command) (issue : IssueRow) (key : Key) (number : ℕ) (act : Act) (terms : Terms) → IsCorrection t c issue key number act terms → IsPlanned t (KeepPriced issue key number act terms) c
-correction-planned t c issue key number act terms why =
+correction-planned : (limit : ℕ) (t : Tables) (c : Command) (issue : IssueRow) (key : Key) (number : ℕ) (act : Act) (terms : Terms) → IsCorrection t c issue key number act terms → IsPlanned limit t (KeepPriced issue key number act terms) c
+correction-planned limit t c issue key number act terms why =
     let last = why.last in
     let live = why.is_live in
-    subst (IsPlanned t (KeepPriced issue key number act terms)) (sym why.command)
+    subst (IsPlanned limit t (KeepPriced issue key number act terms)) (sym why.command)
     (rw (live.last_is, next-free t key number last live.last_is live.number_is, live.live, why.room, next number last.0 live.number_is, why.issue_is)
     (ap (λ a. KeepPriced issue key number a terms) (sym why.act_is)))
 
-pub priced-planned : (t : Tables) (c : Command) (issue : IssueRow) (key : Key) (number : ℕ) (act : Act) (terms : Terms) → (IsNewTrade t c issue key number act terms ⊎ IsCorrection t c issue key number act terms)
-    → IsPlanned t (KeepPriced issue key number act terms) c
-priced-planned t c issue key number act terms (inl why) = entry-planned t c issue key number act terms why
-priced-planned t c issue key number act terms (inr why) = correction-planned t c issue key number act terms why
+pub priced-planned : (limit : ℕ) (t : Tables) (c : Command) (issue : IssueRow) (key : Key) (number : ℕ) (act : Act) (terms : Terms) → (IsNewTrade limit t c issue key number act terms ⊎ IsCorrection t c issue key number act terms)
+    → IsPlanned limit t (KeepPriced issue key number act terms) c
+priced-planned limit t c issue key number act terms (inl why) = entry-planned limit t c issue key number act terms why
+priced-planned limit t c issue key number act terms (inr why) = correction-planned limit t c issue key number act terms why
 
-pub cancel-planned : (t : Tables) (c : Command) (issue : IssueRow) (key : Key) (number : ℕ) (version : Version) → IsCancel t c issue key number version → IsPlanned t (KeepVersion issue key number version) c
-cancel-planned t c issue key number version why =
+pub cancel-planned : (limit : ℕ) (t : Tables) (c : Command) (issue : IssueRow) (key : Key) (number : ℕ) (version : Version) → IsCancel t c issue key number version → IsPlanned limit t (KeepVersion issue key number version) c
+cancel-planned limit t c issue key number version why =
     let last = why.last in
     let live = why.is_live in
-    subst (IsPlanned t (KeepVersion issue key number version)) (sym why.command)
+    subst (IsPlanned limit t (KeepVersion issue key number version)) (sym why.command)
     (rw (live.last_is, next-free t key number last live.last_is live.number_is, live.live, next number last.0 live.number_is, why.issue_is)
     (ap (λ v. KeepVersion issue key number v) (sym why.version_is)))

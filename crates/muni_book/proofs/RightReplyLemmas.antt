@@ -1,5 +1,5 @@
 -- Over sound tables each reply carries figures that are right.
-use Rattle.std.proofs.Common.{◌≡◌, inl, inr, ℕ, ◌-◌, ◌==◌, Bool, true, false, cond, refl, sym, ap, subst, ◌∙◌, Option, Some, None, Result, Ok, Err, List, [], ◌∷◌, take, All}
+use Rattle.std.proofs.Common.{◌≡◌, ◌≤◌, inl, inr, ℕ, ◌-◌, ◌==◌, Bool, true, false, cond, refl, sym, ap, subst, ◌∙◌, Option, Some, None, Result, Ok, Err, List, [], ◌∷◌, take, All}
 use Rattle.std.specs.Prelude.{T, ◌&&◌, slice_get, if◌then◌else◌}
 use Rattle.std.specs.Option.{option_map, option_and_then}
 use Rattle.std.specs.Ordering.{is_lt, is_eq, ordering_reverse}
@@ -27,7 +27,7 @@ use Rattle.muni_keep.specs.Trades.{by_bytes, own, is_past, trades_past}
 use Rattle.muni_book_step.specs.declared.plan.Plan.{Plan}
 use Rattle.muni_book_step.specs.declared.plan.Plan.TheVariants.{Answer, Quote, KeepIssue, KeepVersion, KeepPriced}
 use Rattle.muni_book_step.specs.Sound.{Rightness, IsRightVersion, IsSound}
-use Rattle.muni_book_step.specs.Step.{Pricing, Entry, Outcome, quoted, kept, priced, IsOutcome, IsStepOver, after}
+use Rattle.muni_book_step.specs.Step.{Pricing, Rules, Entry, Outcome, quoted, kept, priced, IsOutcome, IsStepOver, after}
 use Rattle.muni_book_step.proofs.OutcomeLemmas.{step-reason}
 use Rattle.muni_book_step.proofs.PlanLemmas.{HasReason, reason-of}
 use Rattle.muni_book_step.proofs.ReadyLemmas.{live-next, new-next}
@@ -138,12 +138,12 @@ IsKeptReply R t (Refused why) = Unit {0}
 abbrev HasKept : Rightness → Tables → Outcome → Type 0
 HasKept R t outcome = IsKeptReply R (after outcome.entry t) outcome.reply
 
-by-answer : (R : Rightness) (t : Tables) (c : Command) (reply : Reply) → IsAnswerFor t c reply → IsKeptReply R t reply
-by-answer R t c (Added cusip) answer = tt
-by-answer R t c (Quoted issue asked figures each) answer = absurd answer
-by-answer R t c (Listed lines) answer = tt
-by-answer R t c (Confirmed issue key number version) answer = answer
-by-answer R t c (Refused why) answer = tt
+by-answer : (limit : ℕ) (R : Rightness) (t : Tables) (c : Command) (reply : Reply) → IsAnswerFor limit t c reply → IsKeptReply R t reply
+by-answer limit R t c (Added cusip) answer = tt
+by-answer limit R t c (Quoted issue asked figures each) answer = absurd answer
+by-answer limit R t c (Listed lines) answer = tt
+by-answer limit R t c (Confirmed issue key number version) answer = answer
+by-answer limit R t c (Refused why) answer = tt
 
 by-quoted : (P : Pricing) (R : Rightness) → PricesRight P R → (t : Tables) (issue : IssueRow) (asked : Asked) (each : Bool) (answer : Result Figures Refusal) → issue_at t asked.cusip ≡ Some issue → P issue asked answer → HasKept R t (quoted issue asked each answer)
 by-quoted P R priced t issue asked each (Ok figures) known prices = (known, priced issue asked figures prices)
@@ -157,9 +157,9 @@ by-priced : (R : Rightness) (t : Tables) (issue : IssueRow) (key : Key) (number 
 by-priced R t issue key number act terms (Ok figures) next known = by-put R t issue key number (record { act = act; terms = terms; figures = figures }) next known
 by-priced R t issue key number act terms (Err why) next known = tt
 
-by-plan : (P : Pricing) (R : Rightness) → PricesRight P R → (t : Tables) (c : Command) (plan : Plan) (outcome : Outcome) → IsFor t c plan → HasReason t c plan → IsOutcome P plan outcome → HasKept R t outcome
-by-plan P R right t c (Answer reply) outcome answer reason is = subst (HasKept R t) (sym is) (by-answer R t c reply answer)
-by-plan P R right t c (Quote issue asked each) outcome known reason is = subst (HasKept R t) (sym is.2) (by-quoted P R right t issue asked each is.0 known is.1)
+by-plan : (P : Rules) (R : Rightness) → PricesRight P.prices R → (t : Tables) (c : Command) (plan : Plan) (outcome : Outcome) → IsFor P.limit t c plan → HasReason P.limit t c plan → IsOutcome P.prices plan outcome → HasKept R t outcome
+by-plan P R right t c (Answer reply) outcome answer reason is = subst (HasKept R t) (sym is) (by-answer P.limit R t c reply answer)
+by-plan P R right t c (Quote issue asked each) outcome known reason is = subst (HasKept R t) (sym is.2) (by-quoted P.prices R right t issue asked each is.0 known is.1)
 by-plan P R right t c (KeepIssue issue) outcome answer reason is = subst (HasKept R t) (sym is) tt
 by-plan P R right t c (KeepVersion issue key number version) outcome answer reason is =
     let known = subst (λ (v : Version). issue_at t v.terms.asked.cusip ≡ Some issue) (sym reason.version_is) reason.issue_is in
@@ -170,9 +170,9 @@ by-plan P R right t c (KeepPriced issue key number act terms) outcome answer (in
     subst (HasKept R t) (sym is.2) (by-priced R t issue key number act terms is.0 (live-next t key number correction.last correction.is_live) correction.issue_is)
 
 -- the figures of a quote are those that may be answered
-pub step-quoted : (P : Pricing) (t : Tables) (c : Command) (issue : IssueRow) (asked : Asked) (figures : Figures) (each : Bool) (entry : Option Entry) → IsStepOver P t c (record { reply = Quoted issue asked figures each; entry = entry }) → P issue asked (Ok figures)
+pub step-quoted : (P : Rules) (t : Tables) (c : Command) (issue : IssueRow) (asked : Asked) (figures : Figures) (each : Bool) (entry : Option Entry) → IsStepOver P t c (record { reply = Quoted issue asked figures each; entry = entry }) → P.prices issue asked (Ok figures)
 step-quoted P t c issue asked figures each entry step =
-    (by-plan P (λ row what found. P row what (Ok found)) (λ row what found prices. prices) t c _ (record { reply = Quoted issue asked figures each; entry = entry }) (is-for t c) (reason-of t c) step).1
+    (by-plan P (λ row what found. P.prices row what (Ok found)) (λ row what found prices. prices) t c _ (record { reply = Quoted issue asked figures each; entry = entry }) (is-for P.limit t c) (reason-of P.limit t c) step).1
 
 -- ---- steps and runs
 right-reply : (R : Rightness) (t : Tables) (reply : Reply) → IsSound R t → IsKeptReply R t reply → IsRightReply R t reply
@@ -195,20 +195,20 @@ still-right R old new (Confirmed issue key number version) keeps is = record {
 }
 still-right R old new (Refused why) keeps is = tt
 
-sound-step : (P : Pricing) (R : Rightness) → PricesRight P R → (t : Tables) (c : Command) (reply : Reply) (entry : Option Entry) → IsSound R t → IsStepOver P t c (record { reply = reply; entry = entry }) → IsSound R (after entry t)
-sound-step P R priced t c reply entry sound step = sound-after P R priced t c reply entry sound (step-keeps P t c reply entry step) (step-reason P t c reply entry step)
+sound-step : (P : Rules) (R : Rightness) → PricesRight P.prices R → P.limit ≤ 100_000_000 → (t : Tables) (c : Command) (reply : Reply) (entry : Option Entry) → IsSound R t → IsStepOver P t c (record { reply = reply; entry = entry }) → IsSound R (after entry t)
+sound-step P R priced few t c reply entry sound step = sound-after P R priced few t c reply entry sound (step-keeps P t c reply entry step) (step-reason P t c reply entry step)
 
-pub steps-right : (P : Pricing) (R : Rightness) → PricesRight P R → StepsConfirmRight P R
-steps-right P R priced old c reply entry sound step =
-    right-reply R (after entry old) reply (sound-step P R priced old c reply entry sound step)
-    (by-plan P R priced old c _ (record { reply = reply; entry = entry }) (is-for old c) (reason-of old c) step)
+pub steps-right : (P : Rules) (R : Rightness) → PricesRight P.prices R → StepsConfirmRight P R
+steps-right P R priced few old c reply entry sound step =
+    right-reply R (after entry old) reply (sound-step P R priced few old c reply entry sound step)
+    (by-plan P R priced old c _ (record { reply = reply; entry = entry }) (is-for P.limit old c) (reason-of P.limit old c) step)
 
-pub runs-right : (P : Pricing) (R : Rightness) → PricesRight P R → RunsConfirmRight P R
-runs-right P R priced old new [] [] sound run = All-nil (IsRightReply R new)
-runs-right P R priced old new [] (reply ∷ replies) sound run = absurd run
-runs-right P R priced old new (c ∷ commands) [] sound run = absurd run
-runs-right P R priced old new (c ∷ commands) (reply ∷ replies) sound run =
+pub runs-right : (P : Rules) (R : Rightness) → PricesRight P.prices R → RunsConfirmRight P R
+runs-right P R priced few old new [] [] sound run = All-nil (IsRightReply R new)
+runs-right P R priced few old new [] (reply ∷ replies) sound run = absurd run
+runs-right P R priced few old new (c ∷ commands) [] sound run = absurd run
+runs-right P R priced few old new (c ∷ commands) (reply ∷ replies) sound run =
     let mid = after run.0 old in
     All-cons (IsRightReply R new) reply replies
-    (still-right R mid new reply (runs-keep P mid new commands replies run.2) (steps-right P R priced old c reply run.0 sound run.1))
-    (runs-right P R priced mid new commands replies (sound-step P R priced old c reply run.0 sound run.1) run.2)
+    (still-right R mid new reply (runs-keep P mid new commands replies run.2) (steps-right P R priced few old c reply run.0 sound run.1))
+    (runs-right P R priced few mid new commands replies (sound-step P R priced few old c reply run.0 sound run.1) run.2)

@@ -1,10 +1,10 @@
 -- Sound tables stay sound.
-use Rattle.std.proofs.Common.{◌≡◌, ◌⊎◌, inl, inr, ℕ, ◌+◌, ◌≤◌, ◌<◌, arith, Bool, true, false, cond, refl, sym, ap, subst, ◌∙◌, Option, Some, None, Ok, Err, List, [], ◌∷◌, ◌++◌, All}
+use Rattle.std.proofs.Common.{◌≡◌, ◌⊎◌, inl, inr, ℕ, ◌≤◌, arith, true, false, cond, refl, sym, ap, subst, ◌∙◌, Option, Some, None, Ok, Err, List, [], ◌∷◌, ◌++◌, All}
 use Rattle.std.specs.Prelude.{nat_le}
-use Rattle.std.specs.Option.{option_map, is_some}
+use Rattle.std.specs.Option.{option_map}
 use Rattle.std.specs.Ordering.{eq_by_cmp}
 use Rattle.std.specs.Cmp.Lexicographic.{nat_list_cmp_total}
-use Rattle.std.specs.FinMap.{get, len, insert, contains_key, get-insert, len-insert}
+use Rattle.std.specs.FinMap.{get, insert, get-insert}
 use Rattle.std.proofs.lemmas.Bool.Decides.{nat_tests}
 use Rattle.std.proofs.lemmas.List.Elements.{All-head, All-tail, All-cons, All-nil}
 use Rattle.std.proofs.lemmas.Option.{same_Some}
@@ -17,17 +17,18 @@ use Rattle.muni_msg.specs.declared.version.Act.TheVariants.{Entered, Canceled}
 use Rattle.muni_msg.specs.declared.version.Version.{Version}
 use Rattle.muni_keep.specs.History.{History, versions, count, grown}
 use Rattle.muni_keep.specs.Tables.{Tables, trade_at, with_version}
-use Rattle.muni_keep.specs.Trades.{by_bytes, own, put_own}
-use Rattle.muni_book_step.specs.Plan.{Issues, is_full, is_canceled, cancel_of}
-use Rattle.muni_book_step.specs.Sound.{Rightness, IsRightVersion, Follows, AreFollowing, AreVersions, IsSoundTrade, IsSoundIssue, IsSound}
-use Rattle.muni_book_step.specs.Step.{Pricing, Entry, NewIssue, NewVersion, after}
+use Rattle.muni_keep.specs.Trades.{by_bytes}
+use Rattle.muni_book_step.specs.Plan.{Issues, is_canceled, cancel_of}
+use Rattle.muni_book_step.specs.Sound.{Rightness, IsRightVersion, Follows, AreFollowing, AreVersions, IsSoundTrade, IsSoundIssue, HaveAtMost, IsSound}
+use Rattle.muni_book_step.specs.Step.{Rules, Entry, NewIssue, NewVersion, after}
 use Rattle.muni_book_step.specs.Reasons.{IsReasoned, IsReasonFor}
 use Rattle.muni_book_step.proofs.OutcomeLemmas.{step-reason}
 use Rattle.muni_book_step.proofs.ReadyLemmas.{none-kept}
 use Rattle.muni_book.specs.StaysSound.{PricesRight, RunsStaySound}
 use Rattle.muni_book.specs.Once.{Keeps}
+use Rattle.muni_book.proofs.FewLemmas.{few-after}
 use Rattle.muni_book.proofs.KeepLemmas.{step-keeps}
-use Rattle.muni_book.proofs.PutLemmas.{same-name, own-put, trade-put, length-behind}
+use Rattle.muni_book.proofs.PutLemmas.{same-name, trade-put, length-behind}
 
 -- ---- lists
 pub all-still : {A : Type 0} (P Q : A → Type 0) (xs : List A) → ((x : A) → P x → Q x) → All P xs → All Q xs
@@ -57,7 +58,6 @@ record IsFirstPut (R : Rightness) (t : Tables) (key : Key) (version : Version) :
   is_new : trade_at t key ≡ None
   act : version.act ≡ Entered
   right : IsRightVersion R t.issues version
-  room : is_full (own key.desk t.desks) ≡ false
 
 -- a version of a live trade
 record IsNextPut (R : Rightness) (t : Tables) (key : Key) (version : Version) : Type 0 where
@@ -73,9 +73,6 @@ MayBePut R t key version = IsFirstPut R t key version ⊎ IsNextPut R t key vers
 
 few-versions : (n : ℕ) → nat_le 99 n ≡ false → n ≤ 98
 few-versions n few = grind (arith, nat_tests)
-
-has-room : (n : ℕ) → nat_le 100_000 n ≡ false → n < 100_000
-has-room n room = grind (arith, nat_tests)
 
 live-few : (history : History Version) → (count history ≤ 99) ⊎ ((count history ≤ 100) × (history.last.act ≡ Canceled)) → is_canceled history.last.act ≡ false → count history ≤ 99
 live-few history (inl few) live = few
@@ -111,29 +108,11 @@ put-trades R t key other version history sound may kept =
       | inr elsewhere ↦ sound.trades other history (sym elsewhere.1 ∙ kept)
     ]
 
--- ---- one trade more
-one-more : (b : Bool) (n : ℕ) → n < 100_000 → cond b n (n + 1) ≤ 100_000
-one-more true n room = omega arith
-one-more false n room = omega arith
-
-few-trades : (R : Rightness) (t : Tables) (key : Key) (version : Version) → IsSound R t → MayBePut R t key version → len (put_own key.reference version (own key.desk t.desks)) ≤ 100_000
-few-trades R t key version sound (inl first) =
-    let trades = own key.desk t.desks in
-    rw (len-insert nat_list_cmp_total trades key.reference (grown (trade_at t key) version)) (one-more (contains_key trades key.reference) (len trades) (has-room (len trades) first.room))
-few-trades R t key version sound (inr next) =
-    let trades = own key.desk t.desks in
-    let there : contains_key trades key.reference ≡ true = ap is_some next.kept in
-    rw (len-insert nat_list_cmp_total trades key.reference (grown (trade_at t key) version), there) (sound.few key.desk)
-
-put-sound : (R : Rightness) (t : Tables) (key : Key) (version : Version) → IsSound R t → MayBePut R t key version → IsSound R (with_version key version t)
-put-sound R t key version sound may = record {
+put-sound : (R : Rightness) (t : Tables) (key : Key) (version : Version) → IsSound R t → MayBePut R t key version → HaveAtMost 100_000_000 (with_version key version t) → IsSound R (with_version key version t)
+put-sound R t key version sound may few = record {
   issues = sound.issues;
   trades = λ other history kept. put-trades R t key other version history sound may kept;
-  few = λ desk. rw (own-put desk key.desk key.reference version t.desks)
-      (elim (eq_by_cmp by_bytes desk key.desk) as (λ b. len (cond b (put_own key.reference version (own key.desk t.desks)) (own desk t.desks)) ≤ 100_000) [
-        | true ↦ few-trades R t key version sound may
-        | false ↦ sound.few desk
-      ]);
+  few = few;
 }
 
 -- ---- what a step puts may be put
@@ -144,7 +123,7 @@ last-history (Some history) last is =
     let same = same_Some (count history, history.last) last is in
     (history, refl, ap (λ (pair : ℕ × Version). pair.0) same, ap (λ (pair : ℕ × Version). pair.1) same)
 
-may-be-put : (P : Pricing) (R : Rightness) → PricesRight P R → (t : Tables) (c : Command) (issue : IssueRow) (key : Key) (number : ℕ) (version : Version) → IsSound R t
+may-be-put : (P : Rules) (R : Rightness) → PricesRight P.prices R → (t : Tables) (c : Command) (issue : IssueRow) (key : Key) (number : ℕ) (version : Version) → IsSound R t
     → IsReasonFor P t c issue key number version → MayBePut R t key version
 may-be-put P R priced t c issue key number version sound (inl cancel) =
     let found = last-history (trade_at t key) cancel.last cancel.is_live.last_is in
@@ -164,7 +143,6 @@ may-be-put P R priced t c issue key number version sound (inr (inl entered, pric
       is_new = none-kept (trade_at t key) entered.is_new;
       act = entered.act_is;
       right = record { issue = issue; kept = entered.issue_is; right = priced issue version.terms.asked version.figures prices };
-      room = entered.room;
     })
 may-be-put P R priced t c issue key number version sound (inr (inr corrected, prices)) =
     let found = last-history (trade_at t key) corrected.last corrected.is_live.last_is in
@@ -201,22 +179,23 @@ still-sound R issues more history keeps sound = record {
   right = all-still (IsRightVersion R issues) (IsRightVersion R more) (versions history) (λ version right. record { issue = right.issue; kept = keeps version.terms.asked.cusip right.issue right.kept; right = right.right }) sound.right;
 }
 
-pub sound-after : (P : Pricing) (R : Rightness) → PricesRight P R → (t : Tables) (c : Command) (reply : Reply) (entry : Option Entry) → IsSound R t → Keeps t (after entry t)
+pub sound-after : (P : Rules) (R : Rightness) → PricesRight P.prices R → P.limit ≤ 100_000_000 → (t : Tables) (c : Command) (reply : Reply) (entry : Option Entry) → IsSound R t → Keeps t (after entry t)
     → IsReasoned P t c reply entry → IsSound R (after entry t)
-sound-after P R priced t c reply None sound keeps why = sound
-sound-after P R priced t c reply (Some (NewIssue issue)) sound keeps why = record {
+sound-after P R priced few t c reply None sound keeps why = sound
+sound-after P R priced few t c reply (Some (NewIssue issue)) sound keeps why = record {
   issues = λ cusip other kept. sound-issue t.issues issue cusip other sound.issues (passed-row why.0.row issue why.0.passed) kept;
   trades = λ key history kept. still-sound R t.issues _ history keeps.issues (sound.trades key history kept);
   few = sound.few;
 }
-sound-after P R priced t c reply (Some (NewVersion key version)) sound keeps why =
+sound-after P R priced few t c reply (Some (NewVersion key version)) sound keeps why =
     put-sound R t key version sound (may-be-put P R priced t c why.0 key why.1 version sound why.3)
+    (λ desk. few-after P 100_000_000 few desk t c reply (Some (NewVersion key version)) why (sound.few desk))
 
-pub runs-stay-sound : (P : Pricing) (R : Rightness) → PricesRight P R → RunsStaySound P R
-runs-stay-sound P R priced old new [] [] sound run = subst (IsSound R) (sym run) sound
-runs-stay-sound P R priced old new [] (reply ∷ replies) sound run = absurd run
-runs-stay-sound P R priced old new (c ∷ commands) [] sound run = absurd run
-runs-stay-sound P R priced old new (c ∷ commands) (reply ∷ replies) sound run =
+pub runs-stay-sound : (P : Rules) (R : Rightness) → PricesRight P.prices R → RunsStaySound P R
+runs-stay-sound P R priced few old new [] [] sound run = subst (IsSound R) (sym run) sound
+runs-stay-sound P R priced few old new [] (reply ∷ replies) sound run = absurd run
+runs-stay-sound P R priced few old new (c ∷ commands) [] sound run = absurd run
+runs-stay-sound P R priced few old new (c ∷ commands) (reply ∷ replies) sound run =
     let entry = run.0 in
-    let next = sound-after P R priced old c reply entry sound (step-keeps P old c reply entry run.1) (step-reason P old c reply entry run.1) in
-    runs-stay-sound P R priced (after entry old) new commands replies next run.2
+    let next = sound-after P R priced few old c reply entry sound (step-keeps P old c reply entry run.1) (step-reason P old c reply entry run.1) in
+    runs-stay-sound P R priced few (after entry old) new commands replies next run.2

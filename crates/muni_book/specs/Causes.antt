@@ -21,7 +21,7 @@ use Rattle.muni_msg.specs.declared.version.Version.{Version}
 use Rattle.muni_keep.specs.Tables.{Tables, issue_at, version_at, last_at}
 use Rattle.muni_keep.specs.Trades.{own}
 use Rattle.muni_book_step.specs.Reasons.{IsNewTrade, IsLive, IsCorrection}
-use Rattle.muni_book_step.specs.Step.{Pricing, Entry, Outcome, answered, IsStepOver}
+use Rattle.muni_book_step.specs.Step.{Rules, Entry, Outcome, answered, IsStepOver}
 
 -- ---- what a command asks for
 -- a correction or a cancel of a trade, under a number
@@ -97,41 +97,41 @@ IsOfIssue tables asked cusip =
 
 -- ---- the causes
 -- the cause of each refusal that is not one of figures
-abbrev pub HasCause : Tables → Command → Refusal → Type 0
-HasCause tables asked (BadTerms fault) =
+abbrev pub HasCause : (limit : ℕ) → Tables → Command → Refusal → Type 0
+HasCause limit tables asked (BadTerms fault) =
     (row : IssueRow) × (asked ≡ command.AddIssue row) × (checked row ≡ Err fault)
-HasCause tables asked UnknownTrade =
+HasCause limit tables asked UnknownTrade =
     (key : Key) × AsksForTrade asked key × (last_at tables key ≡ None)
-HasCause tables asked (Conflict (kept.Issue other)) =
+HasCause limit tables asked (Conflict (kept.Issue other)) =
     (row : IssueRow) × (issue : IssueRow) × (asked ≡ command.AddIssue row) × (checked row ≡ Ok issue)
     × (issue_at tables issue.cusip ≡ Some other) × (other ≢ issue)
-HasCause tables asked (Conflict (kept.Version number version)) =
+HasCause limit tables asked (Conflict (kept.Version number version)) =
     (key : Key) × AsksForVersion asked key number
     × (version_at tables key number ≡ Some version) × (IsAsked asked version → ⊥)
-HasCause tables asked Canceled =
+HasCause limit tables asked Canceled =
     (key : Key) × (number : ℕ) × (last : ℕ × Version) × IsNewChange tables asked key number last
     × (last.1.act ≡ act.Canceled)
-HasCause tables asked VersionsFull =
+HasCause limit tables asked VersionsFull =
     (key : Key) × (number : ℕ) × (terms : Terms) × (last : ℕ × Version)
     × (asked ≡ command.Correct key number terms) × IsNewChange tables asked key number last
     × (last.1.act ≢ act.Canceled) × (99 ≤ last.0)
-HasCause tables asked (WrongNumber next) =
+HasCause limit tables asked (WrongNumber next) =
     (key : Key) × (number : ℕ) × (last : ℕ × Version) × IsNewChange tables asked key number last
     × (last.1.act ≢ act.Canceled) × HasRoom asked last.0
     × (number ≢ last.0 + 1) × (next ≡ min (last.0 + 1) (2 ^ 32 - 1))
-HasCause tables asked UnknownIssue =
+HasCause limit tables asked UnknownIssue =
     (cusip : List ℕ) × IsOfIssue tables asked cusip × (issue_at tables cusip ≡ None)
-HasCause tables asked DeskFull =
+HasCause limit tables asked DeskFull =
     (key : Key) × (terms : Terms) × (issue : IssueRow) × (asked ≡ command.Enter key terms)
     × (version_at tables key 1 ≡ None) × (issue_at tables terms.asked.cusip ≡ Some issue)
-    × (100_000 ≤ len (own key.desk tables.desks))
-HasCause tables asked SettleOutside = ⊥
-HasCause tables asked (GivenOutOfRange range) = ⊥
-HasCause tables asked (YieldBelow date) = ⊥
-HasCause tables asked YieldAbove = ⊥
-HasCause tables asked (NoTime date) = ⊥
-HasCause tables asked (Undecided date boundary) = ⊥
-HasCause tables asked WrongBasis = ⊥
+    × (limit ≤ len (own key.desk tables.desks))
+HasCause limit tables asked SettleOutside = ⊥
+HasCause limit tables asked (GivenOutOfRange range) = ⊥
+HasCause limit tables asked (YieldBelow date) = ⊥
+HasCause limit tables asked YieldAbove = ⊥
+HasCause limit tables asked (NoTime date) = ⊥
+HasCause limit tables asked (Undecided date boundary) = ⊥
+HasCause limit tables asked WrongBasis = ⊥
 
 -- a quote of an issue that is kept
 pub record IsQuote (tables : Tables) (asked : Command) (issue : IssueRow) (what : Asked) : Type 0 where
@@ -141,24 +141,24 @@ pub record IsQuote (tables : Tables) (asked : Command) (issue : IssueRow) (what 
 
 -- The figures that it asks for are refused, and nothing else is wrong: a quote, a new trade, or a
 -- correction.
-abbrev pub HasNoFigures : Pricing → Tables → Command → Refusal → Type 0
-HasNoFigures Prices tables asked why =
-    ((issue : IssueRow) × (what : Asked) × IsQuote tables asked issue what × Prices issue what (Err why))
+abbrev pub HasNoFigures : Rules → Tables → Command → Refusal → Type 0
+HasNoFigures rules tables asked why =
+    ((issue : IssueRow) × (what : Asked) × IsQuote tables asked issue what × rules.prices issue what (Err why))
     ⊎ ((issue : IssueRow) × (key : Key) × (number : ℕ) × (act : Act) × (terms : Terms)
-    × (IsNewTrade tables asked issue key number act terms ⊎ IsCorrection tables asked issue key number act terms)
-    × Prices issue terms.asked (Err why))
+    × (IsNewTrade rules.limit tables asked issue key number act terms ⊎ IsCorrection tables asked issue key number act terms)
+    × rules.prices issue terms.asked (Err why))
 
 -- ---- the laws
 -- a refusal comes only if it has its cause, or if figures are refused so
-abbrev pub RefusalsHaveCauses : Pricing → Type 0
-RefusalsHaveCauses Prices =
+abbrev pub RefusalsHaveCauses : Rules → Type 0
+RefusalsHaveCauses rules =
     (tables : Tables) (asked : Command) (why : Refusal) (entry : Option Entry)
-    → IsStepOver Prices tables asked (record { reply = Refused why; entry = entry })
-    → HasCause tables asked why ⊎ HasNoFigures Prices tables asked why
+    → IsStepOver rules tables asked (record { reply = Refused why; entry = entry })
+    → HasCause rules.limit tables asked why ⊎ HasNoFigures rules tables asked why
 
 -- and always then
-abbrev pub CausesAreRefused : Pricing → Type 0
-CausesAreRefused Prices =
+abbrev pub CausesAreRefused : Rules → Type 0
+CausesAreRefused rules =
     (tables : Tables) (asked : Command) (why : Refusal) (outcome : Outcome)
-    → HasCause tables asked why ⊎ HasNoFigures Prices tables asked why
-    → IsStepOver Prices tables asked outcome → outcome ≡ answered (Refused why)
+    → HasCause rules.limit tables asked why ⊎ HasNoFigures rules tables asked why
+    → IsStepOver rules tables asked outcome → outcome ≡ answered (Refused why)

@@ -7,7 +7,7 @@ use Rattle.muni_msg.specs.declared.command.Reply.{Reply}
 use Rattle.muni_keep.specs.Tables.{Tables}
 use Rattle.muni_keep.specs.Trades.{by_bytes, own}
 use Rattle.muni_book_step.specs.Runs.{Runs}
-use Rattle.muni_book_step.specs.Step.{Pricing, desk_of}
+use Rattle.muni_book_step.specs.Step.{Rules, desk_of}
 
 -- this desk is named, or none
 abbrev pub is_no_other : List ℕ → Option (List ℕ) → Bool
@@ -33,9 +33,9 @@ pub record AreAlike (desk : List ℕ) (tables others : Tables) : Type 0 where
 
 -- Of a run, the commands that name no other desk are a run with the same replies, over any tables
 -- that are alike for the desk; and the tables after both are alike again.
-abbrev pub DesksAreIsolated : Pricing → Type 0
-DesksAreIsolated Prices =
+abbrev pub DesksAreIsolated : Rules → Type 0
+DesksAreIsolated rules =
     (desk : List ℕ) (old others new : Tables) (commands : List Command) (replies : List Reply)
-    → AreAlike desk old others → Runs Prices old commands replies new
-    → (end : Tables) × Runs Prices others (concerning desk commands) (replies_to desk commands replies) end
+    → AreAlike desk old others → Runs rules old commands replies new
+    → (end : Tables) × Runs rules others (concerning desk commands) (replies_to desk commands replies) end
     × AreAlike desk new end

@@ -10,32 +10,32 @@ use Rattle.muni_keep.specs.Tables.{Tables}
 use Rattle.muni_book_step.specs.Accepted.{AsksToKeep, IsAccepted, IsKept}
 use Rattle.muni_book_step.specs.Reasons.{IsNewIssue, IsReasonFor}
 use Rattle.muni_book_step.specs.Runs.{IsRefusal}
-use Rattle.muni_book_step.specs.Step.{Pricing, Entry, NewIssue, Outcome, answered, kept, IsStepOver}
+use Rattle.muni_book_step.specs.Step.{Rules, Entry, NewIssue, Outcome, answered, kept, IsStepOver}
 
 -- a command that asks to keep something is accepted, or it is refused
-abbrev pub AreAcceptedOrRefused : Pricing → Type 0
-AreAcceptedOrRefused Prices =
+abbrev pub AreAcceptedOrRefused : Rules → Type 0
+AreAcceptedOrRefused rules =
     (tables : Tables) (asked : Command) (reply : Reply) (entry : Option Entry) → AsksToKeep asked
-    → IsStepOver Prices tables asked (record { reply = reply; entry = entry })
+    → IsStepOver rules tables asked (record { reply = reply; entry = entry })
     → IsAccepted reply ⊎ IsRefusal reply
 
 -- a new issue that has its reason is kept
-abbrev pub ReasonedIssuesAreKept : Pricing → Type 0
-ReasonedIssuesAreKept Prices =
+abbrev pub ReasonedIssuesAreKept : Rules → Type 0
+ReasonedIssuesAreKept rules =
     (tables : Tables) (asked : Command) (issue : IssueRow) (outcome : Outcome)
-    → IsNewIssue tables asked issue → IsStepOver Prices tables asked outcome
+    → IsNewIssue tables asked issue → IsStepOver rules tables asked outcome
     → outcome ≡ record { reply = Added issue.cusip; entry = Some (NewIssue issue) }
 
 -- and so is a version: a new trade, a correction or a cancel
-abbrev pub ReasonedVersionsAreKept : Pricing → Type 0
-ReasonedVersionsAreKept Prices =
+abbrev pub ReasonedVersionsAreKept : Rules → Type 0
+ReasonedVersionsAreKept rules =
     (tables : Tables) (asked : Command) (issue : IssueRow) (key : Key) (number : ℕ) (version : Version)
     (outcome : Outcome)
-    → IsReasonFor Prices tables asked issue key number version → IsStepOver Prices tables asked outcome
+    → IsReasonFor rules tables asked issue key number version → IsStepOver rules tables asked outcome
     → outcome ≡ kept issue key number version
 
 -- What is kept is answered again, and nothing is added, whatever led to the tables.
-abbrev pub KeptIsAnsweredAgain : Pricing → Type 0
-KeptIsAnsweredAgain Prices =
+abbrev pub KeptIsAnsweredAgain : Rules → Type 0
+KeptIsAnsweredAgain rules =
     (tables : Tables) (asked : Command) (first : Reply) (outcome : Outcome) → IsKept tables asked first
-    → IsStepOver Prices tables asked outcome → outcome ≡ answered first
+    → IsStepOver rules tables asked outcome → outcome ≡ answered first

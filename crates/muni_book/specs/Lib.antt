@@ -15,4 +15,5 @@ pub mod Isolation
 pub mod Once
 pub mod Unique
 pub mod StaysSound
+pub mod Rules
 pub mod RunLaws

@@ -9,7 +9,7 @@ use Rattle.muni_msg.specs.declared.command.Reply.TheVariants.{Added, Quoted, Lis
 use Rattle.muni_msg.specs.declared.refusal.Refusal.TheVariants.{UnknownIssue, UnknownTrade}
 use Rattle.muni_msg.specs.declared.version.Version.{Version}
 use Rattle.muni_keep.specs.Tables.{Tables, issue_at, last_at, page_at}
-use Rattle.muni_book_step.specs.Step.{Pricing, Entry, IsStepOver}
+use Rattle.muni_book_step.specs.Step.{Pricing, Rules, Entry, IsStepOver}
 
 -- the last version of a trade with its issue; or there is none of them
 abbrev pub ConfirmsLast : Tables → Key → Reply → Type 0
@@ -37,22 +37,22 @@ QuotesFigures Prices tables asked each (Refused why) =
     ⊎ ((issue : IssueRow) × (issue_at tables asked.cusip ≡ Some issue) × Prices issue asked (Err why))
 
 -- a confirmation that is asked for is of the last version, and nothing is kept
-abbrev pub LastsAreConfirmed : Pricing → Type 0
-LastsAreConfirmed Prices =
+abbrev pub LastsAreConfirmed : Rules → Type 0
+LastsAreConfirmed rules =
     (tables : Tables) (key : Key) (reply : Reply) (entry : Option Entry)
-    → IsStepOver Prices tables (command.Confirm key) (record { reply = reply; entry = entry })
+    → IsStepOver rules tables (command.Confirm key) (record { reply = reply; entry = entry })
     → ConfirmsLast tables key reply × (entry ≡ None)
 
 -- a list is the page of the desk, and nothing is kept
-abbrev pub PagesAreListed : Pricing → Type 0
-PagesAreListed Prices =
+abbrev pub PagesAreListed : Rules → Type 0
+PagesAreListed rules =
     (tables : Tables) (desk : List ℕ) (from : Option (List ℕ)) (reply : Reply) (entry : Option Entry)
-    → IsStepOver Prices tables (command.List desk from) (record { reply = reply; entry = entry })
+    → IsStepOver rules tables (command.List desk from) (record { reply = reply; entry = entry })
     → (reply ≡ Listed (record { items = page_at tables desk from })) × (entry ≡ None)
 
 -- a quote has the right figures, and nothing is kept
-abbrev pub FiguresAreQuoted : Pricing → Type 0
-FiguresAreQuoted Prices =
+abbrev pub FiguresAreQuoted : Rules → Type 0
+FiguresAreQuoted rules =
     (tables : Tables) (asked : Asked) (each : Bool) (reply : Reply) (entry : Option Entry)
-    → IsStepOver Prices tables (command.Quote asked each) (record { reply = reply; entry = entry })
-    → QuotesFigures Prices tables asked each reply × (entry ≡ None)
+    → IsStepOver rules tables (command.Quote asked each) (record { reply = reply; entry = entry })
+    → QuotesFigures rules.prices tables asked each reply × (entry ≡ None)

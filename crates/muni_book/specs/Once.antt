@@ -8,7 +8,7 @@ use Rattle.muni_msg.specs.declared.version.Version.{Version}
 use Rattle.muni_keep.specs.Tables.{Tables, issue_at, version_at}
 use Rattle.muni_book_step.specs.Accepted.{AsksToKeep, IsAccepted}
 use Rattle.muni_book_step.specs.Runs.{Runs}
-use Rattle.muni_book_step.specs.Step.{Pricing, Entry, IsStepOver, after}
+use Rattle.muni_book_step.specs.Step.{Rules, Entry, IsStepOver, after}
 
 -- each issue and each version that is kept before is kept after
 pub record Keeps (old new : Tables) : Type 0 where
@@ -18,19 +18,19 @@ pub record Keeps (old new : Tables) : Type 0 where
       → version_at old key number ≡ Some version → version_at new key number ≡ Some version
 
 -- a run changes and removes nothing
-abbrev pub RunsKeep : Pricing → Type 0
-RunsKeep Prices =
+abbrev pub RunsKeep : Rules → Type 0
+RunsKeep rules =
     (old new : Tables) (commands : List Command) (replies : List Reply)
-    → Runs Prices old commands replies new → Keeps old new
+    → Runs rules old commands replies new → Keeps old new
 
 -- A command that asks to keep something and was accepted is sent again after any run: it is answered
 -- by an equal reply, and adds nothing.
-abbrev pub CommandsActOnce : Pricing → Type 0
-CommandsActOnce Prices =
+abbrev pub CommandsActOnce : Rules → Type 0
+CommandsActOnce rules =
     (old new : Tables) (command : Command) (first again : Reply) (entry other : Option Entry)
     (commands : List Command) (replies : List Reply)
     → AsksToKeep command → IsAccepted first
-    → IsStepOver Prices old command (record { reply = first; entry = entry })
-    → Runs Prices (after entry old) commands replies new
-    → IsStepOver Prices new command (record { reply = again; entry = other })
+    → IsStepOver rules old command (record { reply = first; entry = entry })
+    → Runs rules (after entry old) commands replies new
+    → IsStepOver rules new command (record { reply = again; entry = other })
     → (again ≡ first) × (other ≡ None)

@@ -1,5 +1,5 @@
 -- Over sound tables each reply carries figures that are right.
-use Rattle.std.specs.Prelude.{◌≡◌, ℕ, ⊤, List, All, Option, Some, None}
+use Rattle.std.specs.Prelude.{◌≡◌, ◌≤◌, ℕ, ⊤, List, All, Option, Some, None}
 use Rattle.muni_terms.specs.Check.{fault_of}
 use Rattle.muni_terms.specs.declared.row.IssueRow.{IssueRow}
 use Rattle.muni_msg.specs.declared.command.Command.{Command}
@@ -11,7 +11,7 @@ use Rattle.muni_msg.specs.declared.version.Version.{Version}
 use Rattle.muni_keep.specs.Tables.{Tables, issue_at, version_at, last_at, page_at}
 use Rattle.muni_book_step.specs.Runs.{Runs}
 use Rattle.muni_book_step.specs.Sound.{Rightness, IsSound}
-use Rattle.muni_book_step.specs.Step.{Pricing, Entry, IsStepOver, after}
+use Rattle.muni_book_step.specs.Step.{Rules, Entry, IsStepOver, after}
 
 -- The version with this number is kept, and its issue, which passes every test of its terms. The figures of the version
 -- are right.
@@ -33,17 +33,17 @@ IsRightReply AreRight tables (Confirmed issue key number version) =
 IsRightReply AreRight tables (Refused why) = ⊤
 
 -- so is each reply of a step, in the tables after it
-abbrev pub StepsConfirmRight : Pricing → Rightness → Type 0
-StepsConfirmRight Prices AreRight =
-    (old : Tables) (command : Command) (reply : Reply) (entry : Option Entry) → IsSound AreRight old
-    → IsStepOver Prices old command (record { reply = reply; entry = entry })
+abbrev pub StepsConfirmRight : Rules → Rightness → Type 0
+StepsConfirmRight rules AreRight =
+    rules.limit ≤ 100_000_000 → (old : Tables) (command : Command) (reply : Reply) (entry : Option Entry) → IsSound AreRight old
+    → IsStepOver rules old command (record { reply = reply; entry = entry })
     → IsRightReply AreRight (after entry old) reply
 
 -- and each reply of a run, in the tables at its end
-abbrev pub RunsConfirmRight : Pricing → Rightness → Type 0
-RunsConfirmRight Prices AreRight =
-    (old new : Tables) (commands : List Command) (replies : List Reply) → IsSound AreRight old
-    → Runs Prices old commands replies new → All (IsRightReply AreRight new) replies
+abbrev pub RunsConfirmRight : Rules → Rightness → Type 0
+RunsConfirmRight rules AreRight =
+    rules.limit ≤ 100_000_000 → (old new : Tables) (commands : List Command) (replies : List Reply) → IsSound AreRight old
+    → Runs rules old commands replies new → All (IsRightReply AreRight new) replies
 
 -- each version that is kept has right figures
 abbrev pub VersionsAreRight : Rightness → Type 0

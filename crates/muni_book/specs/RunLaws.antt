@@ -1,8 +1,8 @@
--- Laws of the book, for the answers that any ends lead to.
-use Rattle.std.specs.Prelude.{ℤ, Option}
+-- Laws of the book, for any limit of a desk and for the answers that any ends lead to.
+use Rattle.std.specs.Prelude.{ℕ, ℤ, Option}
 use Rattle.muni_rule.specs.Payments.{PaymentSeries}
 use Rattle.muni_rule.specs.WorthEnds.{WorthEnds}
-use Rattle.muni_book.specs.Answers.{IsRightAnswer}
+use Rattle.muni_book.specs.Rules.{book_rules}
 use Rattle.muni_book.specs.RightFigures.{AreRightFigures}
 use Rattle.muni_book.specs.SoundTables.{AreSoundTables}
 use Rattle.muni_msg.specs.declared.command.Command.{Command}
@@ -27,64 +27,64 @@ Ends = PaymentSeries → ℤ → WorthEnds
 -- is right by the exact formulas.
 pub record TablesAreSound : Type 0 where
   pub first : AreSoundTables no_tables
-  pub later : (ends : Ends) → RunsStaySound (IsRightAnswer ends) AreRightFigures
+  pub later : (limit : ℕ) (ends : Ends) → RunsStaySound (book_rules limit ends) AreRightFigures
 
 -- a command that was accepted acts once
 abbrev pub AcceptedCommandsActOnce : Type 0
-AcceptedCommandsActOnce = (ends : Ends) → CommandsActOnce (IsRightAnswer ends)
+AcceptedCommandsActOnce = (limit : ℕ) (ends : Ends) → CommandsActOnce (book_rules limit ends)
 
 -- nothing that is kept is ever changed or removed
 abbrev pub NothingKeptIsLost : Type 0
-NothingKeptIsLost = (ends : Ends) → RunsKeep (IsRightAnswer ends)
+NothingKeptIsLost = (limit : ℕ) (ends : Ends) → RunsKeep (book_rules limit ends)
 
 -- what a desk is answered does not depend on what others keep
 abbrev pub EachDeskIsIsolated : Type 0
-EachDeskIsIsolated = (ends : Ends) → DesksAreIsolated (IsRightAnswer ends)
+EachDeskIsIsolated = (limit : ℕ) (ends : Ends) → DesksAreIsolated (book_rules limit ends)
 
 -- Equal issues and equal trades of the desk give a command one reply and one entry, and so a run over
 -- given tables has one list of replies and one end.
 pub record RepliesAreUnique : Type 0 where
-  pub steps : (ends : Ends) → StepsAreUnique (IsRightAnswer ends)
-  pub runs : (ends : Ends) → RunsAreUnique (IsRightAnswer ends)
+  pub steps : (limit : ℕ) (ends : Ends) → StepsAreUnique (book_rules limit ends)
+  pub runs : (limit : ℕ) (ends : Ends) → RunsAreUnique (book_rules limit ends)
 
 -- Over sound tables what is confirmed has right figures, of a version and an issue that are kept: so has each reply
 -- of a step and of a run, each version and the last one of each trade, and each line of a list.
 pub record ConfirmedFiguresAreRight : Type 0 where
-  pub steps : (ends : Ends) → StepsConfirmRight (IsRightAnswer ends) AreRightFigures
-  pub runs : (ends : Ends) → RunsConfirmRight (IsRightAnswer ends) AreRightFigures
+  pub steps : (limit : ℕ) (ends : Ends) → StepsConfirmRight (book_rules limit ends) AreRightFigures
+  pub runs : (limit : ℕ) (ends : Ends) → RunsConfirmRight (book_rules limit ends) AreRightFigures
   pub versions : VersionsAreRight AreRightFigures
   pub lasts : LastsAreRight AreRightFigures
   pub lists : PagesAreRight AreRightFigures
 
 -- what is kept is answered again
 abbrev pub WhatIsKeptIsAnsweredAgain : Type 0
-WhatIsKeptIsAnsweredAgain = (ends : Ends) → KeptIsAnsweredAgain (IsRightAnswer ends)
+WhatIsKeptIsAnsweredAgain = (limit : ℕ) (ends : Ends) → KeptIsAnsweredAgain (book_rules limit ends)
 
 -- a refusal comes exactly if it has its cause
 pub record EachRefusalHasItsCause : Type 0 where
-  pub only : (ends : Ends) → RefusalsHaveCauses (IsRightAnswer ends)
-  pub always : (ends : Ends) → CausesAreRefused (IsRightAnswer ends)
+  pub only : (limit : ℕ) (ends : Ends) → RefusalsHaveCauses (book_rules limit ends)
+  pub always : (limit : ℕ) (ends : Ends) → CausesAreRefused (book_rules limit ends)
 
 -- an entry has its reason
 abbrev pub EntriesHaveReasons : Type 0
 EntriesHaveReasons =
-    (ends : Ends) (tables : Tables) (asked : Command) (reply : Reply) (entry : Option Entry)
-    → IsStepOver (IsRightAnswer ends) tables asked (record { reply = reply; entry = entry })
-    → IsReasoned (IsRightAnswer ends) tables asked reply entry
+    (limit : ℕ) (ends : Ends) (tables : Tables) (asked : Command) (reply : Reply) (entry : Option Entry)
+    → IsStepOver (book_rules limit ends) tables asked (record { reply = reply; entry = entry })
+    → IsReasoned (book_rules limit ends) tables asked reply entry
 
 -- an entry is made exactly if it has its reason
 pub record EachEntryHasItsReason : Type 0 where
   pub only : EntriesHaveReasons
-  pub answered : (ends : Ends) → AreAcceptedOrRefused (IsRightAnswer ends)
-  pub issues : (ends : Ends) → ReasonedIssuesAreKept (IsRightAnswer ends)
-  pub versions : (ends : Ends) → ReasonedVersionsAreKept (IsRightAnswer ends)
+  pub answered : (limit : ℕ) (ends : Ends) → AreAcceptedOrRefused (book_rules limit ends)
+  pub issues : (limit : ℕ) (ends : Ends) → ReasonedIssuesAreKept (book_rules limit ends)
+  pub versions : (limit : ℕ) (ends : Ends) → ReasonedVersionsAreKept (book_rules limit ends)
 
 -- what a command that keeps nothing is answered
 abbrev pub ConfirmationsAreOfLastVersions : Type 0
-ConfirmationsAreOfLastVersions = (ends : Ends) → LastsAreConfirmed (IsRightAnswer ends)
+ConfirmationsAreOfLastVersions = (limit : ℕ) (ends : Ends) → LastsAreConfirmed (book_rules limit ends)
 
 abbrev pub ListsArePages : Type 0
-ListsArePages = (ends : Ends) → PagesAreListed (IsRightAnswer ends)
+ListsArePages = (limit : ℕ) (ends : Ends) → PagesAreListed (book_rules limit ends)
 
 abbrev pub QuotesAreRightAnswers : Type 0
-QuotesAreRightAnswers = (ends : Ends) → FiguresAreQuoted (IsRightAnswer ends)
+QuotesAreRightAnswers = (limit : ℕ) (ends : Ends) → FiguresAreQuoted (book_rules limit ends)

@@ -11,7 +11,7 @@ use Rattle.muni_keep.specs.Tables.{Tables}
 use Rattle.muni_keep.specs.Trades.{Trades}
 use Rattle.muni_book_step.specs.Plan.{Issues}
 use Rattle.muni_book_step.specs.Runs.{Runs}
-use Rattle.muni_book_step.specs.Step.{Pricing, Outcome, IsStep}
+use Rattle.muni_book_step.specs.Step.{Pricing, Rules, Outcome, IsStep}
 
 -- one answer may be given to what is asked of an issue
 abbrev pub PricesOnce : Pricing → Type 0
@@ -20,15 +20,15 @@ PricesOnce Prices =
     → Prices row asked answer → Prices row asked other → answer ≡ other
 
 -- equal issues and equal trades of the desk that sends a command give one outcome
-abbrev pub StepsAreUnique : Pricing → Type 0
-StepsAreUnique Prices =
+abbrev pub StepsAreUnique : Rules → Type 0
+StepsAreUnique rules =
     (issues : Issues) (own : Trades Version) (command : Command) (outcome other : Outcome)
-    → IsStep Prices issues own command outcome → IsStep Prices issues own command other
+    → IsStep rules issues own command outcome → IsStep rules issues own command other
     → outcome ≡ other
 
 -- commands over given tables have one list of replies, and one end
-abbrev pub RunsAreUnique : Pricing → Type 0
-RunsAreUnique Prices =
+abbrev pub RunsAreUnique : Rules → Type 0
+RunsAreUnique rules =
     (old new other : Tables) (commands : List Command) (replies others : List Reply)
-    → Runs Prices old commands replies new → Runs Prices old commands others other
+    → Runs rules old commands replies new → Runs rules old commands others other
     → (replies ≡ others) × (new ≡ other)

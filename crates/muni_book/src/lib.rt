@@ -2,6 +2,7 @@
 #![tactic(auto)]
 
 mod answers;
+mod book;
 mod each;
 mod fault;
 pub mod laws;
@@ -10,6 +11,7 @@ mod steps;
 mod trade;
 
 pub use answers::figures;
+pub use book::Book;
 pub use each::each_redemption;
 pub use fault::BookFault;
 pub use muni_sched::{Calculator, Workers};

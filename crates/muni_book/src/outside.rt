@@ -3,17 +3,17 @@
 ghost use Rattle.std.specs.Prelude.{◌≡◌, ◌≤◌, IfOk, IfSome, OnErr};
 ghost use Rattle.muni_keep.specs.Keeper.{SameKeeper};
 ghost use Rattle.muni_book_step.specs.Runs.{StepsTo, IsRefusal};
-ghost use Rattle.muni_book.specs.Answers.{IsRightAnswer};
+ghost use Rattle.muni_book.specs.Rules.{book_rules};
 
-use crate::{BookFault, Calculator, Workers, step};
+use crate::{Book, BookFault, Calculator, Workers, step};
 use muni_edge::Gate;
 use muni_keep::Keeper;
-use muni_msg::{Command, Reply};
+use muni_msg::{Command, DeskLimit, Reply};
 use muni_multi::Encloser;
 use std::thread::Threads;
 
 /// Applies one command, as `step` does: answers it, and keeps at most one issue or one version more for
-/// it. Up to `workers` threads, from 1 to 16, look for the yields.
+/// it. Up to `workers` threads, from 1 to 16, look for the yields. A desk may have 100,000 trades.
 pub fn apply<R: Threads + Sync, K: Keeper, E: Encloser + Sync, G: Gate + Sync>(
     rt: &R,
     keeper: &mut K,
@@ -24,7 +24,7 @@ pub fn apply<R: Threads + Sync, K: Keeper, E: Encloser + Sync, G: Gate + Sync>(
 ) -> Result<Reply, BookFault>
     requires { (1 ≤ workers) × (workers ≤ 16) }
     ensures step { IfOk result (λ reply. IfSome (K.tables keeper.old) (λ t.
-        StepsTo (IsRightAnswer (E.ends encloser.now)) t command.now reply (K.tables keeper.new))) }
+        StepsTo (book_rules 100_000 (E.ends encloser.now)) t command.now reply (K.tables keeper.new))) }
     ensures refused { IfOk result (λ reply. IsRefusal reply → K.tables keeper.new ≡ K.tables keeper.old) }
     ensures unchanged { OnErr result (K.tables keeper.new ≡ K.tables keeper.old) }
     ensures same { SameKeeper K.Keeper BookFault.Failed result keeper.old keeper.new }
@@ -35,5 +35,9 @@ pub fn apply<R: Threads + Sync, K: Keeper, E: Encloser + Sync, G: Gate + Sync>(
         encloser,
         gate,
     };
-    step(&calculator, keeper, command)
+    let book = Book {
+        calculator: &calculator,
+        limit: DeskLimit::USUAL,
+    };
+    step(&book, keeper, command)
 }

@@ -8,8 +8,9 @@ ghost use Rattle.muni_book_step.specs.Runs.{StepsTo, IsRefusal};
 ghost use Rattle.muni_book_step.specs.Step.{CanKeep};
 ghost use Rattle.muni_book_step.specs.CarriedOut.{IsCarriedOut, KeepsIssue, KeepsVersion};
 ghost use Rattle.muni_book.specs.Answers.{IsRightAnswer};
+ghost use Rattle.muni_book.specs.Rules.{book_rules};
 
-use crate::{BookFault, figures};
+use crate::{Book, BookFault, figures};
 use muni_book_step::{Plan, plan_of};
 use muni_edge::Gate;
 use muni_keep::{KeepFault, Keeper};
@@ -26,19 +27,19 @@ use std::thread::Threads;
 /// its sync failed. The contract says what is answered for a keeper that exposes its tables. For any
 /// other keeper only the code shows it.
 pub fn step<R: Threads + Sync, K: Keeper, E: Encloser + Sync, G: Gate + Sync>(
-    calculator: &Calculator<'_, R, E, G>,
+    book: &Book<'_, R, E, G>,
     keeper: &mut K,
     command: &Command,
 ) -> Result<Reply, BookFault>
     // If the keeper exposes its tables, a reply and the tables after it are those of one step.
     ensures step { IfOk result (λ reply. IfSome (K.tables keeper.old) (λ t.
-        StepsTo (IsRightAnswer (E.ends calculator.now.encloser.now)) t command.now reply (K.tables keeper.new))) }
+        StepsTo (book_rules book.now.limit (E.ends book.now.calculator.now.encloser.now)) t command.now reply (K.tables keeper.new))) }
     ensures refused { IfOk result (λ reply. IsRefusal reply → K.tables keeper.new ≡ K.tables keeper.old) }
     ensures unchanged { OnErr result (K.tables keeper.new ≡ K.tables keeper.old) }
     ensures same { SameKeeper K.Keeper BookFault.Failed result keeper.old keeper.new }
 {
-    let plan = plan_of(keeper, command)?;
-    Ok(carry_out(calculator, keeper, plan)?)
+    let plan = plan_of(keeper, command, book.limit)?;
+    Ok(carry_out(book.calculator, keeper, plan)?)
 }
 
 fn carry_out<R: Threads + Sync, K: Keeper, E: Encloser + Sync, G: Gate + Sync>(

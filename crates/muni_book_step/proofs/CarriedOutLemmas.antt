@@ -49,8 +49,8 @@ priced-carried P (Some t) new plan issue key number act terms figures answer rep
     )
 
 -- ---- tables that are known after a plan was made, and after it was carried out
-pub still-ready : (old told : Option Tables) (c : Command) (plan : Plan) → told ≡ old → IfSome old (λ t. plan ≡ plan_of t.issues (own_of (desk_of c) t) c) → IfSome told (λ t. CanKeep t plan)
-still-ready old told c plan same planned = subst (λ o. IfSome o (λ t. CanKeep t plan)) (sym same) (ready old c plan planned)
+pub still-ready : (limit : ℕ) (old told : Option Tables) (c : Command) (plan : Plan) → told ≡ old → IfSome old (λ t. plan ≡ plan_of limit t.issues (own_of (desk_of c) t) c) → IfSome told (λ t. CanKeep t plan)
+still-ready limit old told c plan same planned = subst (λ o. IfSome o (λ t. CanKeep t plan)) (sym same) (ready limit old c plan planned)
 
 told-none : (told : Option Tables) → is_some told ≡ false → told ≡ None
 told-none None none = refl

@@ -15,31 +15,31 @@ use Rattle.muni_book_step.specs.declared.plan.Plan.TheVariants.{Answer, Quote, K
 use Rattle.muni_book_step.specs.Accepted.{AsksToKeep}
 use Rattle.muni_book_step.specs.Reasons.{IsNewTrade, IsCorrection, IsReasoned}
 use Rattle.muni_book_step.specs.Runs.{IsRefusal}
-use Rattle.muni_book_step.specs.Step.{Pricing, Entry, Outcome, quoted, priced, IsOutcome, IsStepOver}
+use Rattle.muni_book_step.specs.Step.{Pricing, Rules, Entry, Outcome, quoted, priced, IsOutcome, IsStepOver}
 use Rattle.muni_book_step.proofs.PlanLemmas.{HasReason, reason-of}
 
-abbrev HasOutcome : Pricing → Tables → Command → Outcome → Type 0
-HasOutcome P t c outcome = IsReasoned P t c outcome.reply outcome.entry
+abbrev HasOutcome : Rules → Tables → Command → Outcome → Type 0
+HasOutcome R t c outcome = IsReasoned R t c outcome.reply outcome.entry
 
-none-for-quotes : (P : Pricing) (t : Tables) (c : Command) (issue : IssueRow) (asked : Asked) (each : Bool) (answer : Result Figures Refusal) → (AsksToKeep c → ⊥) → HasOutcome P t c (quoted issue asked each answer)
-none-for-quotes P t c issue asked each (Ok figures) none = λ asks accepted. absurd (none asks)
-none-for-quotes P t c issue asked each (Err why) none = λ asks accepted. absurd (none asks)
+none-for-quotes : (R : Rules) (t : Tables) (c : Command) (issue : IssueRow) (asked : Asked) (each : Bool) (answer : Result Figures Refusal) → (AsksToKeep c → ⊥) → HasOutcome R t c (quoted issue asked each answer)
+none-for-quotes R t c issue asked each (Ok figures) none = λ asks accepted. absurd (none asks)
+none-for-quotes R t c issue asked each (Err why) none = λ asks accepted. absurd (none asks)
 
-of-priced : (P : Pricing) (t : Tables) (c : Command) (issue : IssueRow) (key : Key) (number : ℕ) (act : Act) (terms : Terms) (answer : Result Figures Refusal)
-    → (IsNewTrade t c issue key number act terms ⊎ IsCorrection t c issue key number act terms) → P issue terms.asked answer → HasOutcome P t c (priced issue key number act terms answer)
-of-priced P t c issue key number act terms (Ok figures) why prices = (issue, number, refl, inr (why, prices))
-of-priced P t c issue key number act terms (Err refused) why prices = λ asks accepted. absurd accepted
+of-priced : (R : Rules) (t : Tables) (c : Command) (issue : IssueRow) (key : Key) (number : ℕ) (act : Act) (terms : Terms) (answer : Result Figures Refusal)
+    → (IsNewTrade R.limit t c issue key number act terms ⊎ IsCorrection t c issue key number act terms) → R.prices issue terms.asked answer → HasOutcome R t c (priced issue key number act terms answer)
+of-priced R t c issue key number act terms (Ok figures) why prices = (issue, number, refl, inr (why, prices))
+of-priced R t c issue key number act terms (Err refused) why prices = λ asks accepted. absurd accepted
 
-of-plan : (P : Pricing) (t : Tables) (c : Command) (plan : Plan) (outcome : Outcome) → HasReason t c plan → IsOutcome P plan outcome → HasOutcome P t c outcome
-of-plan P t c (Answer reply) outcome why is = subst (HasOutcome P t c) (sym is) why
-of-plan P t c (Quote issue asked each) outcome why is = subst (HasOutcome P t c) (sym is.2) (none-for-quotes P t c issue asked each is.0 (λ asks. subst AsksToKeep why asks))
-of-plan P t c (KeepIssue issue) outcome why is = subst (HasOutcome P t c) (sym is) (why, refl)
-of-plan P t c (KeepVersion issue key number version) outcome why is = subst (HasOutcome P t c) (sym is) (issue, number, refl, inl why)
-of-plan P t c (KeepPriced issue key number act terms) outcome why is =
-    subst (HasOutcome P t c) (sym is.2) (of-priced P t c issue key number act terms is.0 why is.1)
+of-plan : (R : Rules) (t : Tables) (c : Command) (plan : Plan) (outcome : Outcome) → HasReason R.limit t c plan → IsOutcome R.prices plan outcome → HasOutcome R t c outcome
+of-plan R t c (Answer reply) outcome why is = subst (HasOutcome R t c) (sym is) why
+of-plan R t c (Quote issue asked each) outcome why is = subst (HasOutcome R t c) (sym is.2) (none-for-quotes R t c issue asked each is.0 (λ asks. subst AsksToKeep why asks))
+of-plan R t c (KeepIssue issue) outcome why is = subst (HasOutcome R t c) (sym is) (why, refl)
+of-plan R t c (KeepVersion issue key number version) outcome why is = subst (HasOutcome R t c) (sym is) (issue, number, refl, inl why)
+of-plan R t c (KeepPriced issue key number act terms) outcome why is =
+    subst (HasOutcome R t c) (sym is.2) (of-priced R t c issue key number act terms is.0 why is.1)
 
-pub step-reason : (P : Pricing) (t : Tables) (c : Command) (reply : Reply) (entry : Option Entry) → IsStepOver P t c (record { reply = reply; entry = entry }) → IsReasoned P t c reply entry
-step-reason P t c reply entry step = of-plan P t c _ (record { reply = reply; entry = entry }) (reason-of t c) step
+pub step-reason : (R : Rules) (t : Tables) (c : Command) (reply : Reply) (entry : Option Entry) → IsStepOver R t c (record { reply = reply; entry = entry }) → IsReasoned R t c reply entry
+step-reason R t c reply entry step = of-plan R t c _ (record { reply = reply; entry = entry }) (reason-of R.limit t c) step
 
 -- a refused command adds nothing
 refused-priced : (issue : IssueRow) (key : Key) (number : ℕ) (act : Act) (terms : Terms) (answer : Result Figures Refusal) → IsRefusal (priced issue key number act terms answer).reply → (priced issue key number act terms answer).entry ≡ None
@@ -58,5 +58,5 @@ refused-by P (KeepVersion issue key number version) outcome is refusal = absurd 
 refused-by P (KeepPriced issue key number act terms) outcome is refusal =
     rw is.2 (refused-priced issue key number act terms is.0 (subst (λ o. IsRefusal o.reply) is.2 refusal))
 
-pub refused-adds-none : (P : Pricing) (t : Tables) (c : Command) (reply : Reply) (entry : Option Entry) → IsStepOver P t c (record { reply = reply; entry = entry }) → IsRefusal reply → entry ≡ None
-refused-adds-none P t c reply entry step refusal = refused-by P _ (record { reply = reply; entry = entry }) step refusal
+pub refused-adds-none : (R : Rules) (t : Tables) (c : Command) (reply : Reply) (entry : Option Entry) → IsStepOver R t c (record { reply = reply; entry = entry }) → IsRefusal reply → entry ≡ None
+refused-adds-none R t c reply entry step refusal = refused-by R.prices _ (record { reply = reply; entry = entry }) step refusal

@@ -30,64 +30,64 @@ use Rattle.muni_book_step.specs.Reasons.{IsNewIssue, IsNewTrade, IsCorrection, I
 use Rattle.muni_book_step.specs.Step.{desk_of, own_of}
 
 -- an answer that accepts a command says what is kept for it
-abbrev pub HasReason : Tables → Command → Plan → Type 0
-HasReason t c (Answer reply) = AsksToKeep c → IsAccepted reply → IsKept t c reply
-HasReason t c (Quote issue asked each) = c ≡ command.Quote asked each
-HasReason t c (KeepIssue issue) = IsNewIssue t c issue
-HasReason t c (KeepVersion issue key number version) = IsCancel t c issue key number version
-HasReason t c (KeepPriced issue key number act terms) =
-    IsNewTrade t c issue key number act terms ⊎ IsCorrection t c issue key number act terms
+abbrev pub HasReason : ℕ → Tables → Command → Plan → Type 0
+HasReason limit t c (Answer reply) = AsksToKeep c → IsAccepted reply → IsKept t c reply
+HasReason limit t c (Quote issue asked each) = c ≡ command.Quote asked each
+HasReason limit t c (KeepIssue issue) = IsNewIssue t c issue
+HasReason limit t c (KeepVersion issue key number version) = IsCancel t c issue key number version
+HasReason limit t c (KeepPriced issue key number act terms) =
+    IsNewTrade limit t c issue key number act terms ⊎ IsCorrection t c issue key number act terms
 
 -- ---- by the forms of plans
-of-issue : (t : Tables) (c : Command) (planned : IssueRow → Plan) (o : Option IssueRow) → ((issue : IssueRow) → o ≡ Some issue → HasReason t c (planned issue)) → HasReason t c (for_issue planned o)
-of-issue t c planned None f = λ asks accepted. absurd accepted
-of-issue t c planned (Some issue) f = f issue refl
+of-issue : (limit : ℕ) (t : Tables) (c : Command) (planned : IssueRow → Plan) (o : Option IssueRow) → ((issue : IssueRow) → o ≡ Some issue → HasReason limit t c (planned issue)) → HasReason limit t c (for_issue planned o)
+of-issue limit t c planned None f = λ asks accepted. absurd accepted
+of-issue limit t c planned (Some issue) f = f issue refl
 
-of-trade : (t : Tables) (c : Command) (planned : ℕ × Version → Plan) (o : Option (ℕ × Version)) → ((last : ℕ × Version) → o ≡ Some last → HasReason t c (planned last)) → HasReason t c (for_trade planned o)
-of-trade t c planned None f = λ asks accepted. absurd accepted
-of-trade t c planned (Some last) f = f last refl
+of-trade : (limit : ℕ) (t : Tables) (c : Command) (planned : ℕ × Version → Plan) (o : Option (ℕ × Version)) → ((last : ℕ × Version) → o ≡ Some last → HasReason limit t c (planned last)) → HasReason limit t c (for_trade planned o)
+of-trade limit t c planned None f = λ asks accepted. absurd accepted
+of-trade limit t c planned (Some last) f = f last refl
 
-of-unless : (t : Tables) (c : Command) (planned : Plan) (o : Option Refusal) → (o ≡ None → HasReason t c planned) → HasReason t c (unless o planned)
-of-unless t c planned None f = f refl
-of-unless t c planned (Some why) f = λ asks accepted. absurd accepted
+of-unless : (limit : ℕ) (t : Tables) (c : Command) (planned : Plan) (o : Option Refusal) → (o ≡ None → HasReason limit t c planned) → HasReason limit t c (unless o planned)
+of-unless limit t c planned None f = f refl
+of-unless limit t c planned (Some why) f = λ asks accepted. absurd accepted
 
-of-kept : {A : Type 0} (t : Tables) (c : Command) (f : A → Plan) (d : Plan) (o : Option A) → ((x : A) → o ≡ Some x → HasReason t c (f x)) → (o ≡ None → HasReason t c d) → HasReason t c (option_map_or f o d)
-of-kept t c f d None some none = none refl
-of-kept t c f d (Some x) some none = some x refl
+of-kept : {A : Type 0} (limit : ℕ) (t : Tables) (c : Command) (f : A → Plan) (d : Plan) (o : Option A) → ((x : A) → o ≡ Some x → HasReason limit t c (f x)) → (o ≡ None → HasReason limit t c d) → HasReason limit t c (option_map_or f o d)
+of-kept limit t c f d None some none = none refl
+of-kept limit t c f d (Some x) some none = some x refl
 
-of-either : (t : Tables) (c : Command) (b : Bool) (one other : Plan) → (b ≡ true → HasReason t c one) → (b ≡ false → HasReason t c other) → HasReason t c (if b then one else other)
-of-either t c true one other h k = h refl
-of-either t c false one other h k = k refl
+of-either : (limit : ℕ) (t : Tables) (c : Command) (b : Bool) (one other : Plan) → (b ≡ true → HasReason limit t c one) → (b ≡ false → HasReason limit t c other) → HasReason limit t c (if b then one else other)
+of-either limit t c true one other h k = h refl
+of-either limit t c false one other h k = k refl
 
 -- ---- kept versions
-of-confirmed : (t : Tables) (c : Command) (key : Key) (number : ℕ) (version : Version) → version_at t key number ≡ Some version
+of-confirmed : (limit : ℕ) (t : Tables) (c : Command) (key : Key) (number : ℕ) (version : Version) → version_at t key number ≡ Some version
     → ((confirmed : (reply : Reply) × IsConfirmed t key number reply) → confirmed.1.version ≡ version → AsksToKeep c → IsKept t c confirmed.0)
-    → HasReason t c (confirmed t.issues key number version)
-of-confirmed t c key number version kept f =
-    of-issue t c _ (issue_of t.issues version.terms) (λ issue there. λ asks accepted.
+    → HasReason limit t c (confirmed t.issues key number version)
+of-confirmed limit t c key number version kept f =
+    of-issue limit t c _ (issue_of t.issues version.terms) (λ issue there. λ asks accepted.
     f (Confirmed issue key number version, record { issue = issue; version = version; version_kept = kept; issue_kept = there; confirmed = refl }) refl asks)
 
-of-sent_again : (t : Tables) (c : Command) (key : Key) (number : ℕ) (terms : Terms) (version : Version) → version_at t key number ≡ Some version
+of-sent_again : (limit : ℕ) (t : Tables) (c : Command) (key : Key) (number : ℕ) (terms : Terms) (version : Version) → version_at t key number ≡ Some version
     → ((confirmed : (reply : Reply) × IsConfirmed t key number reply) → confirmed.1.version ≡ version → version.terms ≡ terms → AsksToKeep c → IsKept t c confirmed.0)
-    → HasReason t c (sent_again t.issues key number terms version)
-of-sent_again t c key number terms version kept f =
-    of-either t c (terms_eq version.terms terms) _ _
-    (λ equal. of-confirmed t c key number version kept (λ confirmed is asks. f confirmed is ((terms_decides version.terms terms).0 equal) asks))
+    → HasReason limit t c (sent_again t.issues key number terms version)
+of-sent_again limit t c key number terms version kept f =
+    of-either limit t c (terms_eq version.terms terms) _ _
+    (λ equal. of-confirmed limit t c key number version kept (λ confirmed is asks. f confirmed is ((terms_decides version.terms terms).0 equal) asks))
     (λ differ. λ asks accepted. absurd accepted)
 
 -- ---- issues
-of-issue_kept : (t : Tables) (row issue other : IssueRow) → checked row ≡ Ok issue → issue_at t issue.cusip ≡ Some other → HasReason t (command.AddIssue row) (kept_issue_plan issue other)
-of-issue_kept t row issue other passed kept =
-    of-either t (command.AddIssue row) (row_eq other issue) _ _
+of-issue_kept : (limit : ℕ) (t : Tables) (row issue other : IssueRow) → checked row ≡ Ok issue → issue_at t issue.cusip ≡ Some other → HasReason limit t (command.AddIssue row) (kept_issue_plan issue other)
+of-issue_kept limit t row issue other passed kept =
+    of-either limit t (command.AddIssue row) (row_eq other issue) _ _
     (λ equal. λ asks accepted. (issue, passed, kept ∙ ap (λ x. Some x) ((row_decides other issue).0 equal), refl))
     (λ differ. λ asks accepted. absurd accepted)
 
-of-row : (t : Tables) (row : IssueRow) (c : Result IssueRow TermsFault) → checked row ≡ c → HasReason t (command.AddIssue row) (issue_plan t.issues c)
-of-row t row (Ok issue) passed =
-    of-kept t (command.AddIssue row) (kept_issue_plan issue) (KeepIssue issue) (issue_at t issue.cusip)
-    (λ other kept. of-issue_kept t row issue other passed kept)
+of-row : (limit : ℕ) (t : Tables) (row : IssueRow) (c : Result IssueRow TermsFault) → checked row ≡ c → HasReason limit t (command.AddIssue row) (issue_plan t.issues c)
+of-row limit t row (Ok issue) passed =
+    of-kept limit t (command.AddIssue row) (kept_issue_plan issue) (KeepIssue issue) (issue_at t issue.cusip)
+    (λ other kept. of-issue_kept limit t row issue other passed kept)
     (λ none. record { row = row; command = refl; passed = passed; is_new = none })
-of-row t row (Err fault) passed = λ asks accepted. absurd accepted
+of-row limit t row (Err fault) passed = λ asks accepted. absurd accepted
 
 -- ---- trades
 pub is-corrected : (act : Act) → is_corrected act ≡ true → act ≡ Corrected
@@ -111,26 +111,26 @@ pub none-of : {A : Type 0} (b : Bool) (x : A) (o : Option A) → (if b then Some
 none-of true x o none = absurd (let never : Some x ≡ None = none in cc)
 none-of false x o none = (refl, none)
 
-of-entry : (t : Tables) (key : Key) (terms : Terms) → HasReason t (command.Enter key terms) (plan_of t.issues (own key.desk t.desks) (command.Enter key terms))
-of-entry t key terms =
+of-entry : (limit : ℕ) (t : Tables) (key : Key) (terms : Terms) → HasReason limit t (command.Enter key terms) (plan_of limit t.issues (own key.desk t.desks) (command.Enter key terms))
+of-entry limit t key terms =
     let c = command.Enter key terms in
-    of-kept t c _ _ (version_at t key 1)
-    (λ version kept. of-sent_again t c key 1 terms version kept (λ confirmed is equal asks. (confirmed.1, ap (λ v. v.terms) is ∙ equal)))
-    (λ none. of-issue t c _ (issue_at t terms.asked.cusip) (λ issue there.
-    of-either t c (is_full (own key.desk t.desks)) _ _ (λ full. λ asks accepted. absurd accepted)
+    of-kept limit t c _ _ (version_at t key 1)
+    (λ version kept. of-sent_again limit t c key 1 terms version kept (λ confirmed is equal asks. (confirmed.1, ap (λ v. v.terms) is ∙ equal)))
+    (λ none. of-issue limit t c _ (issue_at t terms.asked.cusip) (λ issue there.
+    of-either limit t c (is_full limit (own key.desk t.desks)) _ _ (λ full. λ asks accepted. absurd accepted)
     (λ room. inl (record { command = refl; number_is = refl; act_is = refl; issue_is = there; is_new = none; room = room }))))
 
-of-correction : (t : Tables) (key : Key) (number : ℕ) (terms : Terms) → HasReason t (command.Correct key number terms) (plan_of t.issues (own key.desk t.desks) (command.Correct key number terms))
-of-correction t key number terms =
+of-correction : (limit : ℕ) (t : Tables) (key : Key) (number : ℕ) (terms : Terms) → HasReason limit t (command.Correct key number terms) (plan_of limit t.issues (own key.desk t.desks) (command.Correct key number terms))
+of-correction limit t key number terms =
     let c = command.Correct key number terms in
-    of-trade t c _ (last_at t key) (λ last is. of-kept t c _ _ (version_at t key number)
-    (λ version kept. of-either t c (is_corrected version.act) _ _
-    (λ corrected. of-sent_again t c key number terms version kept (λ confirmed same equal asks. (confirmed.1, ap (λ v. v.terms) same ∙ equal, ap (λ v. v.act) same ∙ is-corrected version.act corrected)))
+    of-trade limit t c _ (last_at t key) (λ last is. of-kept limit t c _ _ (version_at t key number)
+    (λ version kept. of-either limit t c (is_corrected version.act) _ _
+    (λ corrected. of-sent_again limit t c key number terms version kept (λ confirmed same equal asks. (confirmed.1, ap (λ v. v.terms) same ∙ equal, ap (λ v. v.act) same ∙ is-corrected version.act corrected)))
     (λ other. λ asks accepted. absurd accepted))
-    (λ none. of-unless t c _ (correction_refusal last number) (λ taken.
+    (λ none. of-unless limit t c _ (correction_refusal last number) (λ taken.
     let live = none-of (is_canceled last.1.act) _ _ taken in
     let room = none-of (nat_le 99 last.0) _ _ live.1 in
-    of-issue t c _ (issue_at t terms.asked.cusip) (λ issue there.
+    of-issue limit t c _ (issue_at t terms.asked.cusip) (λ issue there.
     inr (record {
       command = refl;
       act_is = refl;
@@ -140,16 +140,16 @@ of-correction t key number terms =
       room = room.0;
     })))))
 
-of-cancel : (t : Tables) (key : Key) (number : ℕ) → HasReason t (command.Cancel key number) (plan_of t.issues (own key.desk t.desks) (command.Cancel key number))
-of-cancel t key number =
+of-cancel : (limit : ℕ) (t : Tables) (key : Key) (number : ℕ) → HasReason limit t (command.Cancel key number) (plan_of limit t.issues (own key.desk t.desks) (command.Cancel key number))
+of-cancel limit t key number =
     let c = command.Cancel key number in
-    of-trade t c _ (last_at t key) (λ last is. of-kept t c _ _ (version_at t key number)
-    (λ version kept. of-either t c (is_canceled version.act) _ _
-    (λ canceled. of-confirmed t c key number version kept (λ confirmed same asks. (confirmed.1, ap (λ v. v.act) same ∙ is-canceled version.act canceled)))
+    of-trade limit t c _ (last_at t key) (λ last is. of-kept limit t c _ _ (version_at t key number)
+    (λ version kept. of-either limit t c (is_canceled version.act) _ _
+    (λ canceled. of-confirmed limit t c key number version kept (λ confirmed same asks. (confirmed.1, ap (λ v. v.act) same ∙ is-canceled version.act canceled)))
     (λ other. λ asks accepted. absurd accepted))
-    (λ none. of-unless t c _ (cancel_refusal last number) (λ taken.
+    (λ none. of-unless limit t c _ (cancel_refusal last number) (λ taken.
     let live = none-of (is_canceled last.1.act) _ _ taken in
-    of-issue t c _ (issue_at t last.1.terms.asked.cusip) (λ issue there.
+    of-issue limit t c _ (issue_at t last.1.terms.asked.cusip) (λ issue there.
     record {
       command = refl;
       last = last;
@@ -158,17 +158,17 @@ of-cancel t key number =
       version_is = refl;
     }))))
 
-of-confirmation : (t : Tables) (key : Key) → HasReason t (command.Confirm key) (plan_of t.issues (own key.desk t.desks) (command.Confirm key))
-of-confirmation t key =
+of-confirmation : (limit : ℕ) (t : Tables) (key : Key) → HasReason limit t (command.Confirm key) (plan_of limit t.issues (own key.desk t.desks) (command.Confirm key))
+of-confirmation limit t key =
     let c = command.Confirm key in
-    of-trade t c _ (last_at t key) (λ last is. of-issue t c _ (issue_of t.issues last.1.terms) (λ issue there. λ asks accepted. absurd asks))
+    of-trade limit t c _ (last_at t key) (λ last is. of-issue limit t c _ (issue_of t.issues last.1.terms) (λ issue there. λ asks accepted. absurd asks))
 
 -- what is to be done for a command has its reason
-pub reason-of : (t : Tables) (c : Command) → HasReason t c (plan_of t.issues (own_of (desk_of c) t) c)
-reason-of t (command.AddIssue row) = of-row t row (checked row) refl
-reason-of t (command.Enter key terms) = of-entry t key terms
-reason-of t (command.Correct key number terms) = of-correction t key number terms
-reason-of t (command.Cancel key number) = of-cancel t key number
-reason-of t (command.Confirm key) = of-confirmation t key
-reason-of t (command.Quote asked each) = of-issue t (command.Quote asked each) _ (issue_at t asked.cusip) (λ issue there. refl)
-reason-of t (command.List desk after) = λ asks accepted. absurd asks
+pub reason-of : (limit : ℕ) (t : Tables) (c : Command) → HasReason limit t c (plan_of limit t.issues (own_of (desk_of c) t) c)
+reason-of limit t (command.AddIssue row) = of-row limit t row (checked row) refl
+reason-of limit t (command.Enter key terms) = of-entry limit t key terms
+reason-of limit t (command.Correct key number terms) = of-correction limit t key number terms
+reason-of limit t (command.Cancel key number) = of-cancel limit t key number
+reason-of limit t (command.Confirm key) = of-confirmation limit t key
+reason-of limit t (command.Quote asked each) = of-issue limit t (command.Quote asked each) _ (issue_at t asked.cusip) (λ issue there. refl)
+reason-of limit t (command.List desk after) = λ asks accepted. absurd asks

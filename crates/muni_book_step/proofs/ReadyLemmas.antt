@@ -34,14 +34,14 @@ live-next t key number last live = live.number_is ∙ last-next _ last live.last
 pub new-next : (t : Tables) (key : Key) (number : ℕ) → number ≡ 1 → version_at t key 1 ≡ None → number ≡ next_number (trade_at t key)
 new-next t key number one new = one ∙ sym (ap next_number (none-kept _ new))
 
-can-keep : (t : Tables) (c : Command) (plan : Plan) → HasReason t c plan → CanKeep t plan
-can-keep t c (Answer reply) why = tt
-can-keep t c (Quote issue asked each) why = tt
-can-keep t c (KeepIssue issue) why = why.is_new
-can-keep t c (KeepVersion issue key number version) why = live-next t key number why.last why.is_live
-can-keep t c (KeepPriced issue key number act terms) (inl why) = new-next t key number why.number_is why.is_new
-can-keep t c (KeepPriced issue key number act terms) (inr why) = live-next t key number why.last why.is_live
+can-keep : (limit : ℕ) (t : Tables) (c : Command) (plan : Plan) → HasReason limit t c plan → CanKeep t plan
+can-keep limit t c (Answer reply) why = tt
+can-keep limit t c (Quote issue asked each) why = tt
+can-keep limit t c (KeepIssue issue) why = why.is_new
+can-keep limit t c (KeepVersion issue key number version) why = live-next t key number why.last why.is_live
+can-keep limit t c (KeepPriced issue key number act terms) (inl why) = new-next t key number why.number_is why.is_new
+can-keep limit t c (KeepPriced issue key number act terms) (inr why) = live-next t key number why.last why.is_live
 
-pub ready : (told : Option Tables) (c : Command) (plan : Plan) → IfSome told (λ t. plan ≡ plan_of t.issues (own_of (desk_of c) t) c) → IfSome told (λ t. CanKeep t plan)
-ready None c plan planned = tt
-ready (Some t) c plan planned = subst (CanKeep t) (sym planned) (can-keep t c _ (reason-of t c))
+pub ready : (limit : ℕ) (told : Option Tables) (c : Command) (plan : Plan) → IfSome told (λ t. plan ≡ plan_of limit t.issues (own_of (desk_of c) t) c) → IfSome told (λ t. CanKeep t plan)
+ready limit None c plan planned = tt
+ready limit (Some t) c plan planned = subst (CanKeep t) (sym planned) (can-keep limit t c _ (reason-of limit t c))

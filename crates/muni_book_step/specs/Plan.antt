@@ -91,20 +91,20 @@ abbrev pub issue_plan : Issues → Result IssueRow TermsFault → Plan
 issue_plan issues (Ok issue) = checked_issue_plan issues issue
 issue_plan issues (Err fault) = refused (refusal.BadTerms fault)
 
--- ---- A trade is entered once, as version 1, if its desk has room.
-abbrev pub is_full : Trades Version → Bool
-is_full own = nat_le 100_000 (len own)
+-- ---- A trade is entered once, as version 1, if its desk has room: fewer trades than the limit.
+abbrev pub is_full : ℕ → Trades Version → Bool
+is_full limit own = nat_le limit (len own)
 
-abbrev pub first_entry_plan : Issues → Trades Version → Key → Terms → Plan
-first_entry_plan issues own key terms =
-    for_issue (λ issue. if is_full own then refused refusal.DeskFull
+abbrev pub first_entry_plan : ℕ → Issues → Trades Version → Key → Terms → Plan
+first_entry_plan limit issues own key terms =
+    for_issue (λ issue. if is_full limit own then refused refusal.DeskFull
     else plan.KeepPriced issue key 1 Entered terms)
     (issue_of issues terms)
 
-abbrev pub entry_plan : Issues → Trades Version → Key → Terms → Plan
-entry_plan issues own key terms =
+abbrev pub entry_plan : ℕ → Issues → Trades Version → Key → Terms → Plan
+entry_plan limit issues own key terms =
     option_map_or (sent_again issues key 1 terms) (version_of own key 1)
-    (first_entry_plan issues own key terms)
+    (first_entry_plan limit issues own key terms)
 
 -- ---- A trade is live until it is canceled, and its next version has the next number.
 abbrev pub is_corrected : Act → Bool
@@ -185,12 +185,12 @@ abbrev pub list_plan : Trades Version → Option (List ℕ) → Plan
 list_plan own after =
     plan.Answer (Listed (record { items = map line (take 50 (trades_past after own)) }))
 
--- what is to be done for a command
-abbrev pub plan_of : Issues → Trades Version → Command → Plan
-plan_of issues own (AddIssue row) = issue_plan issues (checked row)
-plan_of issues own (Enter key terms) = entry_plan issues own key terms
-plan_of issues own (Correct key number terms) = correction_plan issues own key number terms
-plan_of issues own (Cancel key number) = cancel_plan issues own key number
-plan_of issues own (Confirm key) = confirmation_plan issues own key
-plan_of issues own (Quote asked each) = quote_plan issues asked each
-plan_of issues own (ListTrades desk after) = list_plan own after
+-- what is to be done for a command, if a desk may have so many trades
+abbrev pub plan_of : (limit : ℕ) → Issues → Trades Version → Command → Plan
+plan_of limit issues own (AddIssue row) = issue_plan issues (checked row)
+plan_of limit issues own (Enter key terms) = entry_plan limit issues own key terms
+plan_of limit issues own (Correct key number terms) = correction_plan issues own key number terms
+plan_of limit issues own (Cancel key number) = cancel_plan issues own key number
+plan_of limit issues own (Confirm key) = confirmation_plan issues own key
+plan_of limit issues own (Quote asked each) = quote_plan issues asked each
+plan_of limit issues own (ListTrades desk after) = list_plan own after

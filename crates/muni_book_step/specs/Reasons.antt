@@ -15,7 +15,7 @@ use Rattle.muni_keep.specs.Tables.{Tables, issue_at, version_at, last_at}
 use Rattle.muni_keep.specs.Trades.{own}
 use Rattle.muni_book_step.specs.Accepted.{AsksToKeep, IsAccepted, IsKept}
 use Rattle.muni_book_step.specs.Plan.{is_full, is_canceled, cancel_of}
-use Rattle.muni_book_step.specs.Step.{Pricing, Entry, NewIssue, NewVersion}
+use Rattle.muni_book_step.specs.Step.{Rules, Entry, NewIssue, NewVersion}
 
 -- an issue that passes its checks, and is new
 pub record IsNewIssue (tables : Tables) (asked : Command) (issue : IssueRow) : Type 0 where
@@ -26,14 +26,14 @@ pub record IsNewIssue (tables : Tables) (asked : Command) (issue : IssueRow) : T
 
 -- the first version of a trade that is new, of a desk that has room
 pub record IsNewTrade
-    (tables : Tables) (asked : Command) (issue : IssueRow) (key : Key) (number : ℕ) (act : Act)
-    (terms : Terms) : Type 0 where
+    (limit : ℕ) (tables : Tables) (asked : Command) (issue : IssueRow) (key : Key) (number : ℕ)
+    (act : Act) (terms : Terms) : Type 0 where
   pub command : asked ≡ command.Enter key terms
   pub number_is : number ≡ 1
   pub act_is : act ≡ Entered
   pub issue_is : issue_at tables terms.asked.cusip ≡ Some issue
   pub is_new : version_at tables key 1 ≡ None
-  pub room : is_full (own key.desk tables.desks) ≡ false
+  pub room : is_full limit (own key.desk tables.desks) ≡ false
 
 -- a live trade, with the number of its next version
 pub record IsLive (tables : Tables) (key : Key) (number : ℕ) (last : ℕ × Version) : Type 0 where
@@ -63,20 +63,20 @@ pub record IsCancel
   pub version_is : version ≡ cancel_of last.1
 
 -- A version is kept for a cancel, or with the figures of its terms for an entry or a correction.
-abbrev pub IsReasonFor : Pricing → Tables → Command → IssueRow → Key → ℕ → Version → Type 0
-IsReasonFor Prices tables asked issue key number version =
+abbrev pub IsReasonFor : Rules → Tables → Command → IssueRow → Key → ℕ → Version → Type 0
+IsReasonFor rules tables asked issue key number version =
     IsCancel tables asked issue key number version
-    ⊎ ((IsNewTrade tables asked issue key number version.act version.terms
+    ⊎ ((IsNewTrade rules.limit tables asked issue key number version.act version.terms
     ⊎ IsCorrection tables asked issue key number version.act version.terms)
-    × Prices issue version.terms.asked (Ok version.figures))
+    × rules.prices issue version.terms.asked (Ok version.figures))
 
 -- An entry has its reason, and the reply has it. If there is no entry, a command that is accepted has
 -- been kept before.
-abbrev pub IsReasoned : Pricing → Tables → Command → Reply → Option Entry → Type 0
-IsReasoned Prices tables asked reply None =
+abbrev pub IsReasoned : Rules → Tables → Command → Reply → Option Entry → Type 0
+IsReasoned rules tables asked reply None =
     AsksToKeep asked → IsAccepted reply → IsKept tables asked reply
-IsReasoned Prices tables asked reply (Some (NewIssue issue)) =
+IsReasoned rules tables asked reply (Some (NewIssue issue)) =
     IsNewIssue tables asked issue × (reply ≡ Added issue.cusip)
-IsReasoned Prices tables asked reply (Some (NewVersion key version)) =
+IsReasoned rules tables asked reply (Some (NewVersion key version)) =
     (issue : IssueRow) × (number : ℕ) × (reply ≡ Confirmed issue key number version)
-    × IsReasonFor Prices tables asked issue key number version
+    × IsReasonFor rules tables asked issue key number version

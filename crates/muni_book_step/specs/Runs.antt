@@ -4,27 +4,27 @@ use Rattle.muni_msg.specs.declared.command.Command.{Command}
 use Rattle.muni_msg.specs.declared.command.Reply.{Reply}
 use Rattle.muni_msg.specs.declared.command.Reply.TheVariants.{Added, Quoted, Listed, Confirmed, Refused}
 use Rattle.muni_keep.specs.Tables.{Tables}
-use Rattle.muni_book_step.specs.Step.{Pricing, Entry, IsStepOver, after}
+use Rattle.muni_book_step.specs.Step.{Rules, Entry, IsStepOver, after}
 
 -- a step from tables to those that are exposed after it
-abbrev pub StepsTo : Pricing → Tables → Command → Reply → Option Tables → Type 0
-StepsTo Prices old command reply told =
-    (entry : Option Entry) × IsStepOver Prices old command (record { reply = reply; entry = entry })
+abbrev pub StepsTo : Rules → Tables → Command → Reply → Option Tables → Type 0
+StepsTo rules old command reply told =
+    (entry : Option Entry) × IsStepOver rules old command (record { reply = reply; entry = entry })
     × (told ≡ Some (after entry old))
 
 -- commands one after another, each with its reply, from tables to tables
-abbrev pub Runs : Pricing → Tables → List Command → List Reply → Tables → Type 0
-Runs Prices old [] [] new = new ≡ old
-Runs Prices old (command ∷ commands) (reply ∷ replies) new =
-    (entry : Option Entry) × IsStepOver Prices old command (record { reply = reply; entry = entry })
-    × Runs Prices (after entry old) commands replies new
-Runs Prices old [] (reply ∷ replies) new = ⊥
-Runs Prices old (command ∷ commands) [] new = ⊥
+abbrev pub Runs : Rules → Tables → List Command → List Reply → Tables → Type 0
+Runs rules old [] [] new = new ≡ old
+Runs rules old (command ∷ commands) (reply ∷ replies) new =
+    (entry : Option Entry) × IsStepOver rules old command (record { reply = reply; entry = entry })
+    × Runs rules (after entry old) commands replies new
+Runs rules old [] (reply ∷ replies) new = ⊥
+Runs rules old (command ∷ commands) [] new = ⊥
 
 -- a run to the tables that are exposed after it
-abbrev pub RunsTo : Pricing → Tables → List Command → List Reply → Option Tables → Type 0
-RunsTo Prices old commands replies told =
-    (new : Tables) × (told ≡ Some new) × Runs Prices old commands replies new
+abbrev pub RunsTo : Rules → Tables → List Command → List Reply → Option Tables → Type 0
+RunsTo rules old commands replies told =
+    (new : Tables) × (told ≡ Some new) × Runs rules old commands replies new
 
 -- a reply that refuses the command
 abbrev pub IsRefusal : Reply → Type 0

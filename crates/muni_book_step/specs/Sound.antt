@@ -49,10 +49,18 @@ pub record IsSoundIssue (cusip : List ℕ) (issue : IssueRow) : Type 0 where
   pub own_cusip : issue.cusip ≡ cusip
   pub passed : fault_of issue ≡ None
 
--- Each issue and each trade is sound, and a desk has at most 100,000 trades.
+-- a desk has at most so many trades
+abbrev pub HasAtMost : ℕ → List ℕ → Tables → Type 0
+HasAtMost most desk tables = len (own desk tables.desks) ≤ most
+
+-- and so has each
+abbrev pub HaveAtMost : ℕ → Tables → Type 0
+HaveAtMost most tables = (desk : List ℕ) → HasAtMost most desk tables
+
+-- Each issue and each trade is sound, and a desk has at most 100,000,000 trades.
 pub record IsSound (AreRight : Rightness) (tables : Tables) : Type 0 where
   pub issues : (cusip : List ℕ) (issue : IssueRow) → issue_at tables cusip ≡ Some issue
       → IsSoundIssue cusip issue
   pub trades : (key : Key) (history : History Version) → trade_at tables key ≡ Some history
       → IsSoundTrade AreRight tables.issues history
-  pub few : (desk : List ℕ) → len (own desk tables.desks) ≤ 100_000
+  pub few : HaveAtMost 100_000_000 tables

@@ -34,6 +34,11 @@ pub record Outcome : Type 0 where
 abbrev pub Pricing : Type 1
 Pricing = IssueRow → Asked → Result Figures Refusal → Type 0
 
+-- what steps go by: how many trades a desk may have, and what may be answered
+pub record Rules : Type 1 where
+  pub limit : ℕ
+  pub prices : Pricing
+
 -- it is answered, and nothing is kept
 abbrev pub answered : Reply → Outcome
 answered reply = record { reply = reply; entry = None }
@@ -68,8 +73,9 @@ IsOutcome Prices (KeepPriced issue key number act terms) outcome =
     × (outcome ≡ priced issue key number act terms answer)
 
 -- One step: it sees nothing but the issues and the trades of the command's own desk.
-abbrev pub IsStep : Pricing → Issues → Trades Version → Command → Outcome → Type 0
-IsStep Prices issues own command outcome = IsOutcome Prices (plan_of issues own command) outcome
+abbrev pub IsStep : Rules → Issues → Trades Version → Command → Outcome → Type 0
+IsStep rules issues own command outcome =
+    IsOutcome rules.prices (plan_of rules.limit issues own command) outcome
 
 -- the desk that a command names
 abbrev pub desk_of : Command → Option (List ℕ)
@@ -87,9 +93,9 @@ own_of None tables = empty
 own_of (Some desk) tables = own desk tables.desks
 
 -- a step over tables
-abbrev pub IsStepOver : Pricing → Tables → Command → Outcome → Type 0
-IsStepOver Prices tables command outcome =
-    IsStep Prices tables.issues (own_of (desk_of command) tables) command outcome
+abbrev pub IsStepOver : Rules → Tables → Command → Outcome → Type 0
+IsStepOver rules tables command outcome =
+    IsStep rules tables.issues (own_of (desk_of command) tables) command outcome
 
 -- the tables with an entry more
 abbrev pub after : Option Entry → Tables → Tables

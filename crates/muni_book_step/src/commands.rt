@@ -10,18 +10,22 @@ ghost use Rattle.muni_book_step.specs.Step.{own_of, desk_of};
 use crate::Plan;
 use muni_keep::{KeepFault, Keeper};
 use muni_msg::{
-    Act, Asked, Command, DeskName, Kept, Key, Reference, Refusal, Reply, Terms, Version,
+    Act, Asked, Command, DeskLimit, DeskName, Kept, Key, Reference, Refusal, Reply, Terms, Version,
 };
 use muni_terms::{Issue, IssueRow, check};
 
-/// What is to be done for a command. The keeper is only read from.
-pub fn plan_of<K: Keeper>(keeper: &mut K, command: &Command) -> Result<Plan, KeepFault>
+/// What is to be done for a command, if a desk may have so many trades. The keeper is only read from.
+pub fn plan_of<K: Keeper>(
+    keeper: &mut K,
+    command: &Command,
+    limit: DeskLimit,
+) -> Result<Plan, KeepFault>
     ensures plan { Finds K.Keeper keeper.old keeper.new result
-        (λ t. spec.plan_of t.issues (own_of (desk_of command.now) t) command.now) }
+        (λ t. spec.plan_of limit t.issues (own_of (desk_of command.now) t) command.now) }
 {
     match command {
         Command::AddIssue(row) => add_issue(keeper, row),
-        Command::Enter { key, terms } => enter(keeper, key, terms),
+        Command::Enter { key, terms } => enter(keeper, key, terms, limit),
         Command::Correct { key, number, terms } => correct(keeper, key, *number, terms),
         Command::Cancel { key, number } => cancel(keeper, key, *number),
         Command::Confirm { key } => confirm(keeper, key),
@@ -111,24 +115,34 @@ fn kept_issue(issue: &Issue, other: Issue) -> Plan
     }
 }
 
-fn enter<K: Keeper>(keeper: &mut K, key: &Key, terms: &Terms) -> Result<Plan, KeepFault>
+fn enter<K: Keeper>(
+    keeper: &mut K,
+    key: &Key,
+    terms: &Terms,
+    limit: DeskLimit,
+) -> Result<Plan, KeepFault>
     ensures plan { Finds K.Keeper keeper.old keeper.new result
-        (λ t. spec.entry_plan t.issues (own key.now.desk t.desks) key.now terms.now) }
+        (λ t. spec.entry_plan limit t.issues (own key.now.desk t.desks) key.now terms.now) }
 {
     match keeper.version(key, 1)? {
         Some(version) => sent_again(keeper, key, 1, terms, version),
-        None => first_entry(keeper, key, terms),
+        None => first_entry(keeper, key, terms, limit),
     }
 }
 
-fn first_entry<K: Keeper>(keeper: &mut K, key: &Key, terms: &Terms) -> Result<Plan, KeepFault>
+fn first_entry<K: Keeper>(
+    keeper: &mut K,
+    key: &Key,
+    terms: &Terms,
+    limit: DeskLimit,
+) -> Result<Plan, KeepFault>
     ensures plan { Finds K.Keeper keeper.old keeper.new result
-        (λ t. spec.first_entry_plan t.issues (own key.now.desk t.desks) key.now terms.now) }
+        (λ t. spec.first_entry_plan limit t.issues (own key.now.desk t.desks) key.now terms.now) }
 {
     let Some(issue) = keeper.issue(&terms.asked.cusip)? else {
         return Ok(refused(Refusal::UnknownIssue));
     };
-    if is_full(keeper, &key.desk)? {
+    if is_full(keeper, &key.desk, limit)? {
         return Ok(refused(Refusal::DeskFull));
     }
     Ok(Plan::KeepPriced {
@@ -140,11 +154,11 @@ fn first_entry<K: Keeper>(keeper: &mut K, key: &Key, terms: &Terms) -> Result<Pl
     })
 }
 
-fn is_full<K: Keeper>(keeper: &mut K, desk: &DeskName) -> Result<bool, KeepFault>
+fn is_full<K: Keeper>(keeper: &mut K, desk: &DeskName, limit: DeskLimit) -> Result<bool, KeepFault>
     ensures full { Finds K.Keeper keeper.old keeper.new result
-        (λ t. spec.is_full (own desk.now t.desks)) }
+        (λ t. spec.is_full limit (own desk.now t.desks)) }
 {
-    Ok(keeper.trades(desk)? >= 100_000)
+    Ok(keeper.trades(desk)? >= limit.trades())
 }
 
 fn is_corrected(act: Act) -> bool

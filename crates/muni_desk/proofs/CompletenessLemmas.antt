@@ -7,7 +7,7 @@ use Rattle.muni_edge.specs.declared.door.Door as Door
 use Rattle.muni_edge.specs.declared.sink.Sink as Sink
 use Rattle.muni_edge.specs.declared.source.Source as Source
 use Rattle.muni_keep.specs.declared.cabinet.Cabinet as Cabinet
-use Rattle.muni_book_step.specs.Step.{Pricing}
+use Rattle.muni_book_step.specs.Step.{Rules}
 use Rattle.muni_msg.specs.declared.command.Key.{Key}
 use Rattle.muni_desk_io.specs.Lent.{Lent}
 use Rattle.muni_desk_io.specs.declared.fault.Fault.{Fault}
@@ -64,10 +64,10 @@ right-answered ends (QuoteOne request) answer is = quote_one-answered request an
 right-answered ends (Quote request each) answer is = quote-answered ends request each answer.status answer.text.items is
 right-answered ends (Drill request) answer is = drill-answered ends request answer.status answer.text.items is
 right-answered ends Help answer is = help-answered answer.status answer.text.items is
-right-answered ends (Import store listed) answer is = absurd is
-right-answered ends (Load store) answer is = absurd is
+right-answered ends (Import store listed limit) answer is = absurd is
+right-answered ends (Load store limit) answer is = absurd is
 right-answered ends (Confirm store key) answer is = absurd is
-right-answered ends (Serve store port connections) answer is = absurd is
+right-answered ends (Serve store port connections limit) answer is = absurd is
 right-answered ends (Positions store desk) answer is = absurd is
 right-answered ends (Mark store) answer is = absurd is
 right-answered ends (Export store wanted) answer is = absurd is
@@ -93,41 +93,41 @@ neither : {A : Type 0} (counted may_not : Type 0) → counted ⊎ may_not → ¬
 neither counted may_not (inl rose) none can = absurd (none rose)
 neither counted may_not (inr not) none can = absurd (can not)
 
-import-completed : {I O C K : Type 0} (source : Source.Ghosts I) (sink : Sink.Ghosts O) (cabinet : Cabinet.Ghosts C K) (Prices : Pricing) (store : List ℕ) (result : Result (Unit {0}) Fault) (end : Status) (old new : Lent I O C)
-    → end ≡ of_done result → Imported source sink cabinet Prices store result old new → HasAtMost source 4_194_304 old.input
+import-completed : {I O C K : Type 0} (source : Source.Ghosts I) (sink : Sink.Ghosts O) (cabinet : Cabinet.Ghosts C K) (R : Rules) (store : List ℕ) (result : Result (Unit {0}) Fault) (end : Status) (old new : Lent I O C)
+    → end ≡ of_done result → Imported source sink cabinet R store result old new → HasAtMost source 4_194_304 old.input
     → ¬ (Rose (source.faults old.input) (source.faults new.input)) → ¬ (Rose (sink.faults old.output) (sink.faults new.output)) → ¬ (Rose (cabinet.faults old.cabinet) (cabinet.faults new.cabinet)) → EndsWellOverStore end
-import-completed source sink cabinet Prices store (Ok done) end old new is did few input output stored = subst EndsWellOverStore (sym is) tt
-import-completed source sink cabinet Prices store (Err NoMemory) end old new is did few input output stored = subst EndsWellOverStore (sym is) tt
-import-completed source sink cabinet Prices store (Err Store) end old new is did few input output stored = absurd (stored did.2)
-import-completed source sink cabinet Prices store (Err Write) end old new is did few input output stored = absurd (output did.2)
-import-completed source sink cabinet Prices store (Err Read) end old new is did few input output stored = absurd (input did.1)
-import-completed source sink cabinet Prices store (Err TooLarge) end old new is did few input output stored = absurd (not-large source 4_194_304 old.input few did.1)
+import-completed source sink cabinet R store (Ok done) end old new is did few input output stored = subst EndsWellOverStore (sym is) tt
+import-completed source sink cabinet R store (Err NoMemory) end old new is did few input output stored = subst EndsWellOverStore (sym is) tt
+import-completed source sink cabinet R store (Err Store) end old new is did few input output stored = absurd (stored did.2)
+import-completed source sink cabinet R store (Err Write) end old new is did few input output stored = absurd (output did.2)
+import-completed source sink cabinet R store (Err Read) end old new is did few input output stored = absurd (input did.1)
+import-completed source sink cabinet R store (Err TooLarge) end old new is did few input output stored = absurd (not-large source 4_194_304 old.input few did.1)
 
 many-rows : {I : Type 0} (source : Source.Ghosts I) (input : I) → HasRowsAtMost source 4_294_967_295 input → IfSome (source.left input) HasTooManyRows → ⊥
 many-rows source input (text, is, few) large =
     let many = subst (λ left. IfSome left HasTooManyRows) is large in
     absurd (omega (arith, few, many))
 
-load-completed : {I O C K : Type 0} (source : Source.Ghosts I) (sink : Sink.Ghosts O) (cabinet : Cabinet.Ghosts C K) (Prices : Pricing) (store : List ℕ) (result : Result (Unit {0}) Fault) (end : Status) (old new : Lent I O C)
-    → end ≡ of_done result → Loaded source sink cabinet Prices store result old new → HasRowsAtMost source 4_294_967_295 old.input
+load-completed : {I O C K : Type 0} (source : Source.Ghosts I) (sink : Sink.Ghosts O) (cabinet : Cabinet.Ghosts C K) (R : Rules) (store : List ℕ) (result : Result (Unit {0}) Fault) (end : Status) (old new : Lent I O C)
+    → end ≡ of_done result → Loaded source sink cabinet R store result old new → HasRowsAtMost source 4_294_967_295 old.input
     → ¬ (Rose (source.faults old.input) (source.faults new.input)) → ¬ (Rose (sink.faults old.output) (sink.faults new.output)) → ¬ (Rose (cabinet.faults old.cabinet) (cabinet.faults new.cabinet)) → EndsWellOverStore end
-load-completed source sink cabinet Prices store (Ok done) end old new is did few input output stored = subst EndsWellOverStore (sym is) tt
-load-completed source sink cabinet Prices store (Err NoMemory) end old new is did few input output stored = subst EndsWellOverStore (sym is) tt
-load-completed source sink cabinet Prices store (Err Store) end old new is did few input output stored = absurd (stored did.1)
-load-completed source sink cabinet Prices store (Err Write) end old new is did few input output stored = absurd (output did.1)
-load-completed source sink cabinet Prices store (Err Read) end old new is did few input output stored = absurd (input did.1)
-load-completed source sink cabinet Prices store (Err TooLarge) end old new is did few input output stored = absurd (many-rows source old.input few did.1)
+load-completed source sink cabinet R store (Ok done) end old new is did few input output stored = subst EndsWellOverStore (sym is) tt
+load-completed source sink cabinet R store (Err NoMemory) end old new is did few input output stored = subst EndsWellOverStore (sym is) tt
+load-completed source sink cabinet R store (Err Store) end old new is did few input output stored = absurd (stored did.1)
+load-completed source sink cabinet R store (Err Write) end old new is did few input output stored = absurd (output did.1)
+load-completed source sink cabinet R store (Err Read) end old new is did few input output stored = absurd (input did.1)
+load-completed source sink cabinet R store (Err TooLarge) end old new is did few input output stored = absurd (many-rows source old.input few did.1)
 
-listing-completed : {I O C K : Type 0} (source : Source.Ghosts I) (sink : Sink.Ghosts O) (cabinet : Cabinet.Ghosts C K) (Prices : Pricing) (store desk : List ℕ) (result : Result (Unit {0}) Fault) (end : Status) (old new : Lent I O C)
-    → end ≡ of_done result → ImportedWith source sink cabinet Prices store desk result old new → HasAtMost source 4_194_304 old.input → ¬ (MayNotSum desk (cabinet.told old.cabinet store))
+listing-completed : {I O C K : Type 0} (source : Source.Ghosts I) (sink : Sink.Ghosts O) (cabinet : Cabinet.Ghosts C K) (R : Rules) (store desk : List ℕ) (result : Result (Unit {0}) Fault) (end : Status) (old new : Lent I O C)
+    → end ≡ of_done result → ImportedWith source sink cabinet R store desk result old new → HasAtMost source 4_194_304 old.input → ¬ (MayNotSum desk (cabinet.told old.cabinet store))
     → ¬ (Rose (source.faults old.input) (source.faults new.input)) → ¬ (Rose (sink.faults old.output) (sink.faults new.output)) → ¬ (Rose (cabinet.faults old.cabinet) (cabinet.faults new.cabinet)) → EndsWellOverStore end
-listing-completed source sink cabinet Prices store desk (Ok done) end old new is did few can input output stored = subst EndsWellOverStore (sym is) tt
-listing-completed source sink cabinet Prices store desk (Err NoMemory) end old new is did few can input output stored = subst EndsWellOverStore (sym is) tt
-listing-completed source sink cabinet Prices store desk (Err Store) end old new is did few can input output stored =
+listing-completed source sink cabinet R store desk (Ok done) end old new is did few can input output stored = subst EndsWellOverStore (sym is) tt
+listing-completed source sink cabinet R store desk (Err NoMemory) end old new is did few can input output stored = subst EndsWellOverStore (sym is) tt
+listing-completed source sink cabinet R store desk (Err Store) end old new is did few can input output stored =
     neither (Rose (cabinet.faults old.cabinet) (cabinet.faults new.cabinet)) (MayNotSum desk (cabinet.told old.cabinet store)) did.2 stored can
-listing-completed source sink cabinet Prices store desk (Err Write) end old new is did few can input output stored = absurd (output did.2)
-listing-completed source sink cabinet Prices store desk (Err Read) end old new is did few can input output stored = absurd (input did.1)
-listing-completed source sink cabinet Prices store desk (Err TooLarge) end old new is did few can input output stored = absurd (not-large source 4_194_304 old.input few did.1)
+listing-completed source sink cabinet R store desk (Err Write) end old new is did few can input output stored = absurd (output did.2)
+listing-completed source sink cabinet R store desk (Err Read) end old new is did few can input output stored = absurd (input did.1)
+listing-completed source sink cabinet R store desk (Err TooLarge) end old new is did few can input output stored = absurd (not-large source 4_194_304 old.input few did.1)
 
 confirm-completed : {O C K : Type 0} (sink : Sink.Ghosts O) (cabinet : Cabinet.Ghosts C K) (store : List ℕ) (key : Key) (result : Result Answered Fault) (end : Status) (before after : O) (old new : C)
     → end ≡ of_answered result → Confirmed sink cabinet store key result before after old new
@@ -168,28 +168,28 @@ export-completed sink wanted told counted (Err Write) end before after is did ca
 export-completed sink wanted told counted (Err Read) end before after is did can output stored = absurd did
 export-completed sink wanted told counted (Err TooLarge) end before after is did can output stored = absurd did
 
-serve-completed : {C K D L : Type 0} (cabinet : Cabinet.Ghosts C K) (door : Door.Ghosts D L) (Prices : Pricing) (told : L → Traffic) (store : List ℕ) (port most : ℕ) (outcome : Outcome) (end : Status) (old new : C) (before after : D)
-    → end ≡ of_served outcome → ServedStore cabinet door Prices told store port most outcome old new before after
+serve-completed : {C K D L : Type 0} (cabinet : Cabinet.Ghosts C K) (door : Door.Ghosts D L) (R : Rules) (told : L → Traffic) (store : List ℕ) (port most : ℕ) (outcome : Outcome) (end : Status) (old new : C) (before after : D)
+    → end ≡ of_served outcome → ServedStore cabinet door R told store port most outcome old new before after
     → ¬ (Rose (cabinet.faults old) (cabinet.faults new)) → ¬ (Rose (door.faults before) (door.faults after)) → EndsWellOverStore end
-serve-completed cabinet door Prices told store port most (Ok done) end old new before after is did stored served = subst EndsWellOverStore (sym is) tt
-serve-completed cabinet door Prices told store port most (Err serve.NoMemory) end old new before after is did stored served = subst EndsWellOverStore (sym is) tt
-serve-completed cabinet door Prices told store port most (Err serve.Store) end old new before after is did stored served = absurd (stored (did.store_fault refl))
-serve-completed cabinet door Prices told store port most (Err serve.Door) end old new before after is did stored served = absurd (served (did.door_fault refl))
+serve-completed cabinet door R told store port most (Ok done) end old new before after is did stored served = subst EndsWellOverStore (sym is) tt
+serve-completed cabinet door R told store port most (Err serve.NoMemory) end old new before after is did stored served = subst EndsWellOverStore (sym is) tt
+serve-completed cabinet door R told store port most (Err serve.Store) end old new before after is did stored served = absurd (stored (did.store_fault refl))
+serve-completed cabinet door R told store port most (Err serve.Door) end old new before after is did stored served = absurd (served (did.door_fault refl))
 
 pub completed : {I O C K D L : Type 0} (source : Source.Ghosts I) (sink : Sink.Ghosts O) (cabinet : Cabinet.Ghosts C K) (door : Door.Ghosts D L) → CommandsAreCompleted source sink cabinet door
 completed source sink cabinet door ends told (QuoteOne request) end old new before after does none few can = says-answered sink ends (QuoteOne request) end old.output new.output does none.writes
 completed source sink cabinet door ends told (Quote request each) end old new before after does none few can = says-answered sink ends (Quote request each) end old.output new.output does none.writes
 completed source sink cabinet door ends told (Drill request) end old new before after does none few can = says-answered sink ends (Drill request) end old.output new.output does none.writes
 completed source sink cabinet door ends told Help end old new before after does none few can = says-answered sink ends Help end old.output new.output does none.writes
-completed source sink cabinet door ends told (Import store None) end old new before after does none few can =
+completed source sink cabinet door ends told (Import store None limit) end old new before after does none few can =
     import-completed source sink cabinet _ store.items does.0.0 end old new does.0.1 does.0.2.0 few none.reads none.writes none.stores
-completed source sink cabinet door ends told (Import store (Some desk)) end old new before after does none few can =
+completed source sink cabinet door ends told (Import store (Some desk) limit) end old new before after does none few can =
     listing-completed source sink cabinet _ store.items desk does.0.0 end old new does.0.1 does.0.2.0 few can none.reads none.writes none.stores
-completed source sink cabinet door ends told (Load store) end old new before after does none few can =
+completed source sink cabinet door ends told (Load store limit) end old new before after does none few can =
     load-completed source sink cabinet _ store.items does.0.0 end old new does.0.1 does.0.2.0 few none.reads none.writes none.stores
 completed source sink cabinet door ends told (Confirm store key) end old new before after does none few can =
     confirm-completed sink cabinet store.items key does.0.0 end old.output new.output old.cabinet new.cabinet does.0.1 does.0.2.0 none.writes none.stores
-completed source sink cabinet door ends told (Serve store port connections) end old new before after does none few can =
+completed source sink cabinet door ends told (Serve store port connections limit) end old new before after does none few can =
     serve-completed cabinet door _ told store.items port connections does.0.0 end old.cabinet new.cabinet before after does.0.1 does.0.2 none.stores none.serves
 completed source sink cabinet door ends told (Positions store desk) end old new before after does none few can =
     list-completed sink desk _ _ does.0.0 end old.output new.output does.0.1 does.0.2.0 can none.writes none.stores

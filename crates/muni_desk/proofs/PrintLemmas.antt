@@ -1,5 +1,5 @@
 -- What commands over a store print is right.
-use Rattle.std.proofs.Common.{◌≡◌, inl, inr, ℕ, ◌+◌, List, [], ◌∷◌, ◌++◌, length, take, map, Option, Some, None, Result, Ok, Err, IfSome, refl, sym, ap, subst, ◌∙◌, ℤ}
+use Rattle.std.proofs.Common.{◌≡◌, ◌≤◌, inl, inr, ℕ, ◌+◌, List, [], ◌∷◌, ◌++◌, length, take, map, Option, Some, None, Result, Ok, Err, IfSome, refl, sym, ap, subst, ◌∙◌, ℤ}
 use Rattle.std.proofs.Math.Seq.{take-length, take-append-add}
 use Rattle.std.proofs.lemmas.List.{append-nil, append_assoc}
 use Rattle.muni_rule.specs.Payments.{PaymentSeries}
@@ -16,7 +16,7 @@ use Rattle.muni_keep.specs.declared.cabinet.Cabinet as Cabinet
 use Rattle.muni_import.specs.Report.{Said, row_line}
 use Rattle.muni_import.specs.Row.{Row}
 use Rattle.muni_import.specs.Rows.{rows_of}
-use Rattle.muni_book.specs.Answers.{IsRightAnswer}
+use Rattle.muni_book.specs.Rules.{book_rules}
 use Rattle.muni_book.specs.SoundTables.{AreSoundTables}
 use Rattle.muni_desk_io.specs.Lent.{Lent, IfExposed}
 use Rattle.muni_desk_io.specs.declared.fault.Fault.{Fault}
@@ -60,13 +60,13 @@ none-written None has same = tt
 none-written (Some had) has same = (0, same ∙ ap Some (sym (append-nil had)))
 
 -- rows that were done, with the whole of their report
-did-right : (right : ReportsAreRight) (ends : Ends) (rows : List Row) (old : Tables) (now : Option Tables) (had has : Option (List ℕ)) (end : Status) → AreSoundTables old → Did (IsRightAnswer ends) rows old now had has → ReportsRight end now had has
-did-right right ends rows old now had has end sound did = record {
+did-right : (right : ReportsAreRight) (limit : ℕ) (ends : Ends) (rows : List Row) (old : Tables) (now : Option Tables) (had has : Option (List ℕ)) (end : Status) → limit ≤ 100_000_000 → AreSoundTables old → Did (book_rules limit ends) rows old now had has → ReportsRight end now had has
+did-right right limit ends rows old now had has end small sound did = record {
   last = did.new;
   exposed = did.told;
   said = did.said;
   text = report 1 did.said;
-  lines = right ends old did.new rows did.said sound did.imports;
+  lines = right limit ends old did.new rows did.said small sound did.imports;
   part = whole-part had has (report 1 did.said) did.written;
   whole = λ done. did.written;
 }
@@ -91,8 +91,8 @@ cut-part (Some had) has said last (count, is) =
     let cut = sym (take-append-add (report 1 said) line count) ∙ ap (take (length (report 1 said) + count)) (sym (report-then 1 said last)) in
     (length (report 1 said) + count, is ∙ ap Some (append_assoc had (report 1 said) (take count line) ∙ ap (λ t. had ++ t) cut))
 
-part-right : (right : ReportsAreRight) (ends : Ends) (text : List ℕ) (old : Tables) (now : Option Tables) (had has : Option (List ℕ)) (end : Status) → ¬ (end ≡ status.Done) → AreSoundTables old → DidPart (IsRightAnswer ends) text old now had has → ReportsRight end now had has
-part-right right ends text old now had has end early sound rows =
+part-right : (right : ReportsAreRight) (limit : ℕ) (ends : Ends) (text : List ℕ) (old : Tables) (now : Option Tables) (had has : Option (List ℕ)) (end : Status) → ¬ (end ≡ status.Done) → limit ≤ 100_000_000 → AreSoundTables old → DidPart (book_rules limit ends) text old now had has → ReportsRight end now had has
+part-right right limit ends text old now had has end early small sound rows =
     let did = rows.did in
     let said = did.said ++ did.last ∷ [] in
     record {
@@ -100,39 +100,39 @@ part-right right ends text old now had has end early sound rows =
       exposed = did.told;
       said = said;
       text = report 1 said;
-      lines = right ends old did.new (rows.rows ++ rows.row ∷ []) said sound did.imports;
+      lines = right limit ends old did.new (rows.rows ++ rows.row ∷ []) said small sound did.imports;
       part = cut-part had has did.said did.last did.written.part;
       whole = λ done. absurd (early done);
     }
 
-before-right : (right : ReportsAreRight) (ends : Ends) (text : List ℕ) (old : Tables) (now : Option Tables) (had has : Option (List ℕ)) (end : Status) → ¬ (end ≡ status.Done) → AreSoundTables old → DidBeforeOrNone (IsRightAnswer ends) text old now had has → ReportsRight end now had has
-before-right right ends text old now had has end early sound (inl rows) = did-right right ends rows.rows old now had has end sound rows.did
-before-right right ends text old now had has end early sound (inr none) = none-right old now had has end early none.0 none.1
+before-right : (right : ReportsAreRight) (limit : ℕ) (ends : Ends) (text : List ℕ) (old : Tables) (now : Option Tables) (had has : Option (List ℕ)) (end : Status) → ¬ (end ≡ status.Done) → limit ≤ 100_000_000 → AreSoundTables old → DidBeforeOrNone (book_rules limit ends) text old now had has → ReportsRight end now had has
+before-right right limit ends text old now had has end early small sound (inl rows) = did-right right limit ends rows.rows old now had has end small sound rows.did
+before-right right limit ends text old now had has end early small sound (inr none) = none-right old now had has end early none.0 none.1
 
 at-exposed : {I O C K : Type 0} (source : Source.Ghosts I) (cabinet : Cabinet.Ghosts C K) (store : List ℕ) (old : Lent I O C) (Holds : List ℕ → Tables → Type 0) (text : List ℕ) (tables : Tables) → source.left old.input ≡ Some text → cabinet.told old.cabinet store ≡ Some tables → IfExposed source cabinet store old Holds → Holds text tables
 at-exposed source cabinet store old Holds text tables there known holds =
     at-some (Holds text) (cabinet.told old.cabinet store) tables known
     (at-some (λ text. IfSome (cabinet.told old.cabinet store) (Holds text)) (source.left old.input) text there holds)
 
-imported-right : {I O C K : Type 0} (source : Source.Ghosts I) (sink : Sink.Ghosts O) (cabinet : Cabinet.Ghosts C K) (right : ReportsAreRight) (ends : Ends) (store : List ℕ) (result : Result (Unit {0}) Fault) (end : Status) (old new : Lent I O C) (text : List ℕ) (tables : Tables)
-    → end ≡ of_done result → Imported source sink cabinet (IsRightAnswer ends) store result old new → source.left old.input ≡ Some text → cabinet.told old.cabinet store ≡ Some tables → AreSoundTables tables
+imported-right : {I O C K : Type 0} (source : Source.Ghosts I) (sink : Sink.Ghosts O) (cabinet : Cabinet.Ghosts C K) (right : ReportsAreRight) (limit : ℕ) (ends : Ends) (store : List ℕ) (result : Result (Unit {0}) Fault) (end : Status) (old new : Lent I O C) (text : List ℕ) (tables : Tables)
+    → end ≡ of_done result → Imported source sink cabinet (book_rules limit ends) store result old new → source.left old.input ≡ Some text → cabinet.told old.cabinet store ≡ Some tables → limit ≤ 100_000_000 → AreSoundTables tables
     → ReportsRight end (cabinet.told new.cabinet store) (sink.bytes old.output) (sink.bytes new.output)
-imported-right source sink cabinet right ends store (Ok done) end old new text tables is did there known sound =
-    did-right right ends (rows_of text) tables _ _ _ end sound
-    (at-exposed source cabinet store old (λ text tables. Did (IsRightAnswer ends) (rows_of text) tables (cabinet.told new.cabinet store) (sink.bytes old.output) (sink.bytes new.output)) text tables there known did.0)
-imported-right source sink cabinet right ends store (Err Store) end old new text tables is did there known sound =
-    before-right right ends text tables _ _ _ end (λ done. let never : status.StoreFault ≡ status.Done = sym is ∙ done in cc) sound
-    (at-exposed source cabinet store old (λ text tables. DidBeforeOrNone (IsRightAnswer ends) text tables (cabinet.told new.cabinet store) (sink.bytes old.output) (sink.bytes new.output)) text tables there known did.0)
-imported-right source sink cabinet right ends store (Err NoMemory) end old new text tables is did there known sound =
-    let first = at-exposed source cabinet store old (λ text tables. DidFirst (IsRightAnswer ends) text tables (cabinet.told new.cabinet store) (sink.bytes old.output) (sink.bytes new.output)) text tables there known did in
-    did-right right ends first.rows tables _ _ _ end sound first.did
-imported-right source sink cabinet right ends store (Err Write) end old new text tables is did there known sound =
-    part-right right ends text tables _ _ _ end (λ done. let never : status.WriteFault ≡ status.Done = sym is ∙ done in cc) sound
-    (at-exposed source cabinet store old (λ text tables. DidPart (IsRightAnswer ends) text tables (cabinet.told new.cabinet store) (sink.bytes old.output) (sink.bytes new.output)) text tables there known did.0)
-imported-right source sink cabinet right ends store (Err Read) end old new text tables is did there known sound =
+imported-right source sink cabinet right limit ends store (Ok done) end old new text tables is did there known small sound =
+    did-right right limit ends (rows_of text) tables _ _ _ end small sound
+    (at-exposed source cabinet store old (λ text tables. Did (book_rules limit ends) (rows_of text) tables (cabinet.told new.cabinet store) (sink.bytes old.output) (sink.bytes new.output)) text tables there known did.0)
+imported-right source sink cabinet right limit ends store (Err Store) end old new text tables is did there known small sound =
+    before-right right limit ends text tables _ _ _ end (λ done. let never : status.StoreFault ≡ status.Done = sym is ∙ done in cc) small sound
+    (at-exposed source cabinet store old (λ text tables. DidBeforeOrNone (book_rules limit ends) text tables (cabinet.told new.cabinet store) (sink.bytes old.output) (sink.bytes new.output)) text tables there known did.0)
+imported-right source sink cabinet right limit ends store (Err NoMemory) end old new text tables is did there known small sound =
+    let first = at-exposed source cabinet store old (λ text tables. DidFirst (book_rules limit ends) text tables (cabinet.told new.cabinet store) (sink.bytes old.output) (sink.bytes new.output)) text tables there known did in
+    did-right right limit ends first.rows tables _ _ _ end small sound first.did
+imported-right source sink cabinet right limit ends store (Err Write) end old new text tables is did there known small sound =
+    part-right right limit ends text tables _ _ _ end (λ done. let never : status.WriteFault ≡ status.Done = sym is ∙ done in cc) small sound
+    (at-exposed source cabinet store old (λ text tables. DidPart (book_rules limit ends) text tables (cabinet.told new.cabinet store) (sink.bytes old.output) (sink.bytes new.output)) text tables there known did.0)
+imported-right source sink cabinet right limit ends store (Err Read) end old new text tables is did there known small sound =
     none-right tables _ _ _ end (λ done. let never : status.ReadFault ≡ status.Done = sym is ∙ done in cc)
     (ap (λ c. cabinet.told c store) did.0.1 ∙ known) (ap sink.bytes did.0.0)
-imported-right source sink cabinet right ends store (Err TooLarge) end old new text tables is did there known sound =
+imported-right source sink cabinet right limit ends store (Err TooLarge) end old new text tables is did there known small sound =
     none-right tables _ _ _ end (λ done. let never : status.TooLarge ≡ status.Done = sym is ∙ done in cc)
     (ap (λ c. cabinet.told c store) did.0.1 ∙ known) (ap sink.bytes did.0.0)
 
@@ -141,82 +141,82 @@ listed-whole : (now : Option Tables) (reported has : Option (List ℕ)) (desk : 
 listed-whole None reported has desk written = tt
 listed-whole (Some tables) reported has desk written = whole-part reported has (positions_text desk tables) written
 
-all-printed : (right : ReportsAreRight) (ends : Ends) (desk text : List ℕ) (old : Tables) (now : Option Tables) (had has : Option (List ℕ)) (end : Status) → AreSoundTables old → DidAll (IsRightAnswer ends) desk text old now had has → PrintsReport (Some desk) end now had has
-all-printed right ends desk text old now had has end sound all = record {
+all-printed : (right : ReportsAreRight) (limit : ℕ) (ends : Ends) (desk text : List ℕ) (old : Tables) (now : Option Tables) (had has : Option (List ℕ)) (end : Status) → limit ≤ 100_000_000 → AreSoundTables old → DidAll (book_rules limit ends) desk text old now had has → PrintsReport (Some desk) end now had has
+all-printed right limit ends desk text old now had has end small sound all = record {
   reported = all.reported;
-  right = did-right right ends (rows_of text) old now had all.reported end sound all.did;
+  right = did-right right limit ends (rows_of text) old now had all.reported end small sound all.did;
   behind = inr (listed-whole now all.reported has desk all.listed);
 }
 
-some-printed : (right : ReportsAreRight) (ends : Ends) (desk text : List ℕ) (old : Tables) (now : Option Tables) (had has : Option (List ℕ)) (end : Status) → ¬ (end ≡ status.Done) → AreSoundTables old → DidSome (IsRightAnswer ends) desk text old now had has → PrintsReport (Some desk) end now had has
-some-printed right ends desk text old now had has end early sound (inl part) = record {
+some-printed : (right : ReportsAreRight) (limit : ℕ) (ends : Ends) (desk text : List ℕ) (old : Tables) (now : Option Tables) (had has : Option (List ℕ)) (end : Status) → ¬ (end ≡ status.Done) → limit ≤ 100_000_000 → AreSoundTables old → DidSome (book_rules limit ends) desk text old now had has → PrintsReport (Some desk) end now had has
+some-printed right limit ends desk text old now had has end early small sound (inl part) = record {
   reported = has;
-  right = part-right right ends text old now had has end early sound part;
+  right = part-right right limit ends text old now had has end early small sound part;
   behind = inl refl;
 }
-some-printed right ends desk text old now had has end early sound (inr all) = record {
+some-printed right limit ends desk text old now had has end early small sound (inr all) = record {
   reported = all.reported;
-  right = did-right right ends (rows_of text) old now had all.reported end sound all.did;
+  right = did-right right limit ends (rows_of text) old now had all.reported end small sound all.did;
   behind = inr all.listed;
 }
 
 none-listed : (desk : List ℕ) (end : Status) (now : Option Tables) (had has : Option (List ℕ)) → ReportsRight end now had has → PrintsReport (Some desk) end now had has
 none-listed desk end now had has right = record { reported = has; right = right; behind = inl refl }
 
-listing-right : {I O C K : Type 0} (source : Source.Ghosts I) (sink : Sink.Ghosts O) (cabinet : Cabinet.Ghosts C K) (right : ReportsAreRight) (ends : Ends) (store desk : List ℕ) (result : Result (Unit {0}) Fault) (end : Status) (old new : Lent I O C) (text : List ℕ) (tables : Tables)
-    → end ≡ of_done result → ImportedWith source sink cabinet (IsRightAnswer ends) store desk result old new → source.left old.input ≡ Some text → cabinet.told old.cabinet store ≡ Some tables → AreSoundTables tables
+listing-right : {I O C K : Type 0} (source : Source.Ghosts I) (sink : Sink.Ghosts O) (cabinet : Cabinet.Ghosts C K) (right : ReportsAreRight) (limit : ℕ) (ends : Ends) (store desk : List ℕ) (result : Result (Unit {0}) Fault) (end : Status) (old new : Lent I O C) (text : List ℕ) (tables : Tables)
+    → end ≡ of_done result → ImportedWith source sink cabinet (book_rules limit ends) store desk result old new → source.left old.input ≡ Some text → cabinet.told old.cabinet store ≡ Some tables → limit ≤ 100_000_000 → AreSoundTables tables
     → PrintsReport (Some desk) end (cabinet.told new.cabinet store) (sink.bytes old.output) (sink.bytes new.output)
-listing-right source sink cabinet right ends store desk (Ok done) end old new text tables is did there known sound =
-    all-printed right ends desk text tables _ _ _ end sound
-    (at-exposed source cabinet store old (λ text tables. DidAll (IsRightAnswer ends) desk text tables (cabinet.told new.cabinet store) (sink.bytes old.output) (sink.bytes new.output)) text tables there known did.0)
-listing-right source sink cabinet right ends store desk (Err Write) end old new text tables is did there known sound =
-    some-printed right ends desk text tables _ _ _ end (λ done. let never : status.WriteFault ≡ status.Done = sym is ∙ done in cc) sound
-    (at-exposed source cabinet store old (λ text tables. DidSome (IsRightAnswer ends) desk text tables (cabinet.told new.cabinet store) (sink.bytes old.output) (sink.bytes new.output)) text tables there known did.0)
-listing-right source sink cabinet right ends store desk (Err Store) end old new text tables is did there known sound =
-    let first = at-exposed source cabinet store old (λ text tables. DidFirst (IsRightAnswer ends) text tables (cabinet.told new.cabinet store) (sink.bytes old.output) (sink.bytes new.output)) text tables there known did.0 in
-    none-listed desk end _ _ _ (did-right right ends first.rows tables _ _ _ end sound first.did)
-listing-right source sink cabinet right ends store desk (Err NoMemory) end old new text tables is did there known sound =
-    none-listed desk end _ _ _ (imported-right source sink cabinet right ends store (Err NoMemory) end old new text tables is did there known sound)
-listing-right source sink cabinet right ends store desk (Err Read) end old new text tables is did there known sound =
-    none-listed desk end _ _ _ (imported-right source sink cabinet right ends store (Err Read) end old new text tables is did there known sound)
-listing-right source sink cabinet right ends store desk (Err TooLarge) end old new text tables is did there known sound =
-    none-listed desk end _ _ _ (imported-right source sink cabinet right ends store (Err TooLarge) end old new text tables is did there known sound)
+listing-right source sink cabinet right limit ends store desk (Ok done) end old new text tables is did there known small sound =
+    all-printed right limit ends desk text tables _ _ _ end small sound
+    (at-exposed source cabinet store old (λ text tables. DidAll (book_rules limit ends) desk text tables (cabinet.told new.cabinet store) (sink.bytes old.output) (sink.bytes new.output)) text tables there known did.0)
+listing-right source sink cabinet right limit ends store desk (Err Write) end old new text tables is did there known small sound =
+    some-printed right limit ends desk text tables _ _ _ end (λ done. let never : status.WriteFault ≡ status.Done = sym is ∙ done in cc) small sound
+    (at-exposed source cabinet store old (λ text tables. DidSome (book_rules limit ends) desk text tables (cabinet.told new.cabinet store) (sink.bytes old.output) (sink.bytes new.output)) text tables there known did.0)
+listing-right source sink cabinet right limit ends store desk (Err Store) end old new text tables is did there known small sound =
+    let first = at-exposed source cabinet store old (λ text tables. DidFirst (book_rules limit ends) text tables (cabinet.told new.cabinet store) (sink.bytes old.output) (sink.bytes new.output)) text tables there known did.0 in
+    none-listed desk end _ _ _ (did-right right limit ends first.rows tables _ _ _ end small sound first.did)
+listing-right source sink cabinet right limit ends store desk (Err NoMemory) end old new text tables is did there known small sound =
+    none-listed desk end _ _ _ (imported-right source sink cabinet right limit ends store (Err NoMemory) end old new text tables is did there known small sound)
+listing-right source sink cabinet right limit ends store desk (Err Read) end old new text tables is did there known small sound =
+    none-listed desk end _ _ _ (imported-right source sink cabinet right limit ends store (Err Read) end old new text tables is did there known small sound)
+listing-right source sink cabinet right limit ends store desk (Err TooLarge) end old new text tables is did there known small sound =
+    none-listed desk end _ _ _ (imported-right source sink cabinet right limit ends store (Err TooLarge) end old new text tables is did there known small sound)
 
 pub imports-print : {I O C K D L : Type 0} (source : Source.Ghosts I) (sink : Sink.Ghosts O) (cabinet : Cabinet.Ghosts C K) (door : Door.Ghosts D L) → ReportsAreRight → ImportsPrintRight source sink cabinet door
-imports-print source sink cabinet door right ends told store None end old new before after text tables does there known sound = record {
+imports-print source sink cabinet door right ends told store None limit end old new before after text tables does small there known sound = record {
   reported = sink.bytes new.output;
-  right = imported-right source sink cabinet right ends store.items does.0.0 end old new text tables does.0.1 does.0.2.0 there known sound;
+  right = imported-right source sink cabinet right limit ends store.items does.0.0 end old new text tables does.0.1 does.0.2.0 there known small sound;
   behind = refl;
 }
-imports-print source sink cabinet door right ends told store (Some desk) end old new before after text tables does there known sound =
-    listing-right source sink cabinet right ends store.items desk does.0.0 end old new text tables does.0.1 does.0.2.0 there known sound
+imports-print source sink cabinet door right ends told store (Some desk) limit end old new before after text tables does small there known sound =
+    listing-right source sink cabinet right limit ends store.items desk does.0.0 end old new text tables does.0.1 does.0.2.0 there known small sound
 
 -- ---- loads
-loaded-right : {I O C K : Type 0} (source : Source.Ghosts I) (sink : Sink.Ghosts O) (cabinet : Cabinet.Ghosts C K) (right : ReportsAreRight) (ends : Ends) (store : List ℕ) (result : Result (Unit {0}) Fault) (end : Status) (old new : Lent I O C) (text : List ℕ) (tables : Tables)
-    → end ≡ of_done result → Loaded source sink cabinet (IsRightAnswer ends) store result old new → source.left old.input ≡ Some text → cabinet.told old.cabinet store ≡ Some tables → AreSoundTables tables
+loaded-right : {I O C K : Type 0} (source : Source.Ghosts I) (sink : Sink.Ghosts O) (cabinet : Cabinet.Ghosts C K) (right : ReportsAreRight) (limit : ℕ) (ends : Ends) (store : List ℕ) (result : Result (Unit {0}) Fault) (end : Status) (old new : Lent I O C) (text : List ℕ) (tables : Tables)
+    → end ≡ of_done result → Loaded source sink cabinet (book_rules limit ends) store result old new → source.left old.input ≡ Some text → cabinet.told old.cabinet store ≡ Some tables → limit ≤ 100_000_000 → AreSoundTables tables
     → ReportsRight end (cabinet.told new.cabinet store) (sink.bytes old.output) (sink.bytes new.output)
-loaded-right source sink cabinet right ends store (Ok done) end old new text tables is did there known sound =
-    did-right right ends (rows_of text) tables _ _ _ end sound
-    (at-exposed source cabinet store old (λ text tables. Did (IsRightAnswer ends) (rows_of text) tables (cabinet.told new.cabinet store) (sink.bytes old.output) (sink.bytes new.output)) text tables there known did)
-loaded-right source sink cabinet right ends store (Err Store) end old new text tables is did there known sound =
-    before-right right ends text tables _ _ _ end (λ done. let never : status.StoreFault ≡ status.Done = sym is ∙ done in cc) sound
-    (at-exposed source cabinet store old (λ text tables. DidBeforeOrNone (IsRightAnswer ends) text tables (cabinet.told new.cabinet store) (sink.bytes old.output) (sink.bytes new.output)) text tables there known did.0)
-loaded-right source sink cabinet right ends store (Err NoMemory) end old new text tables is did there known sound =
-    let first = at-exposed source cabinet store old (λ text tables. DidFirst (IsRightAnswer ends) text tables (cabinet.told new.cabinet store) (sink.bytes old.output) (sink.bytes new.output)) text tables there known did in
-    did-right right ends first.rows tables _ _ _ end sound first.did
-loaded-right source sink cabinet right ends store (Err Write) end old new text tables is did there known sound =
-    part-right right ends text tables _ _ _ end (λ done. let never : status.WriteFault ≡ status.Done = sym is ∙ done in cc) sound
-    (at-exposed source cabinet store old (λ text tables. DidPart (IsRightAnswer ends) text tables (cabinet.told new.cabinet store) (sink.bytes old.output) (sink.bytes new.output)) text tables there known did.0)
-loaded-right source sink cabinet right ends store (Err Read) end old new text tables is did there known sound =
-    let came = at-exposed source cabinet store old (λ text tables. DidCame (IsRightAnswer ends) text (source.left new.input) tables (cabinet.told new.cabinet store) (sink.bytes old.output) (sink.bytes new.output)) text tables there known did.0 in
-    did-right right ends came.first.rows tables _ _ _ end sound came.first.did
-loaded-right source sink cabinet right ends store (Err TooLarge) end old new text tables is did there known sound =
-    let most = at-exposed source cabinet store old (λ text tables. DidMost (IsRightAnswer ends) text tables (cabinet.told new.cabinet store) (sink.bytes old.output) (sink.bytes new.output)) text tables there known did.0 in
-    did-right right ends most.first.rows tables _ _ _ end sound most.first.did
+loaded-right source sink cabinet right limit ends store (Ok done) end old new text tables is did there known small sound =
+    did-right right limit ends (rows_of text) tables _ _ _ end small sound
+    (at-exposed source cabinet store old (λ text tables. Did (book_rules limit ends) (rows_of text) tables (cabinet.told new.cabinet store) (sink.bytes old.output) (sink.bytes new.output)) text tables there known did)
+loaded-right source sink cabinet right limit ends store (Err Store) end old new text tables is did there known small sound =
+    before-right right limit ends text tables _ _ _ end (λ done. let never : status.StoreFault ≡ status.Done = sym is ∙ done in cc) small sound
+    (at-exposed source cabinet store old (λ text tables. DidBeforeOrNone (book_rules limit ends) text tables (cabinet.told new.cabinet store) (sink.bytes old.output) (sink.bytes new.output)) text tables there known did.0)
+loaded-right source sink cabinet right limit ends store (Err NoMemory) end old new text tables is did there known small sound =
+    let first = at-exposed source cabinet store old (λ text tables. DidFirst (book_rules limit ends) text tables (cabinet.told new.cabinet store) (sink.bytes old.output) (sink.bytes new.output)) text tables there known did in
+    did-right right limit ends first.rows tables _ _ _ end small sound first.did
+loaded-right source sink cabinet right limit ends store (Err Write) end old new text tables is did there known small sound =
+    part-right right limit ends text tables _ _ _ end (λ done. let never : status.WriteFault ≡ status.Done = sym is ∙ done in cc) small sound
+    (at-exposed source cabinet store old (λ text tables. DidPart (book_rules limit ends) text tables (cabinet.told new.cabinet store) (sink.bytes old.output) (sink.bytes new.output)) text tables there known did.0)
+loaded-right source sink cabinet right limit ends store (Err Read) end old new text tables is did there known small sound =
+    let came = at-exposed source cabinet store old (λ text tables. DidCame (book_rules limit ends) text (source.left new.input) tables (cabinet.told new.cabinet store) (sink.bytes old.output) (sink.bytes new.output)) text tables there known did.0 in
+    did-right right limit ends came.first.rows tables _ _ _ end small sound came.first.did
+loaded-right source sink cabinet right limit ends store (Err TooLarge) end old new text tables is did there known small sound =
+    let most = at-exposed source cabinet store old (λ text tables. DidMost (book_rules limit ends) text tables (cabinet.told new.cabinet store) (sink.bytes old.output) (sink.bytes new.output)) text tables there known did.0 in
+    did-right right limit ends most.first.rows tables _ _ _ end small sound most.first.did
 
 pub loads-print : {I O C K D L : Type 0} (source : Source.Ghosts I) (sink : Sink.Ghosts O) (cabinet : Cabinet.Ghosts C K) (door : Door.Ghosts D L) → ReportsAreRight → LoadsPrintRight source sink cabinet door
-loads-print source sink cabinet door right ends told store end old new before after text tables does there known sound =
-    loaded-right source sink cabinet right ends store.items does.0.0 end old new text tables does.0.1 does.0.2.0 there known sound
+loads-print source sink cabinet door right ends told store limit end old new before after text tables does small there known sound =
+    loaded-right source sink cabinet right limit ends store.items does.0.0 end old new text tables does.0.1 does.0.2.0 there known small sound
 
 -- ---- confirmations
 last-confirmed : (right : ConfirmationsAreRight) (tables : Tables) (key : Key) (had has : Option (List ℕ)) (last : Option (ℕ × Version)) → AreSoundTables tables → last_at tables key ≡ last → answered.Confirmed ≡ (confirmed tables key).answered → HasWritten had has (confirmed tables key).text → ConfirmsRight tables key had has
@@ -252,14 +252,14 @@ confirmations-print source sink cabinet door right ends told store key old new b
     confirmed-right sink cabinet right store.items key does.0.0 old.output new.output old.cabinet new.cabinet tables does.0.1 does.0.2.0 known sound
 
 -- ---- connections
-run-right : {L : Type 0} (right : AnswersAreRight) (ends : Ends) (told : L → Traffic) (port most : ℕ) (door : DoorState L) (state : Option (DoorState L)) (opening closing : Option Tables) (before now : ℕ) (outcome : Outcome) (tables : Tables)
-    → IsRunOver (IsRightAnswer ends) told port most door state opening closing before now outcome → opening ≡ Some tables → AreSoundTables tables → AnswersRight told closing door state
-run-right right ends told port most door state opening closing before now outcome tables over known sound =
+run-right : {L : Type 0} (right : AnswersAreRight) (limit : ℕ) (ends : Ends) (told : L → Traffic) (port most : ℕ) (door : DoorState L) (state : Option (DoorState L)) (opening closing : Option Tables) (before now : ℕ) (outcome : Outcome) (tables : Tables)
+    → IsRunOver (book_rules limit ends) told port most door state opening closing before now outcome → opening ≡ Some tables → limit ≤ 100_000_000 → AreSoundTables tables → AnswersRight told closing door state
+run-right right limit ends told port most door state opening closing before now outcome tables over known small sound =
     let run = over.run in
     let exchanges = map (exchange told) run.connections in
     let first : over.first ≡ Some tables = at-some (λ t. over.first ≡ Some t) opening tables known over.opens in
-    let each = subst (λ t. AreServed (IsRightAnswer ends) t exchanges over.last run.served.faults) first run.served.each in
-    let answers = right ends tables exchanges over.last run.served.faults sound each in
+    let each = subst (λ t. AreServed (book_rules limit ends) t exchanges over.last run.served.faults) first run.served.each in
+    let answers = right limit ends tables exchanges over.last run.served.faults small sound each in
     record {
       last = answers.0;
       exposed = at-some (λ _. closing ≡ over.last) opening tables known over.closes ∙ answers.1;
@@ -271,7 +271,7 @@ run-right right ends told port most door state opening closing before now outcom
     }
 
 pub connections-answered : {I O C K D L : Type 0} (source : Source.Ghosts I) (sink : Sink.Ghosts O) (cabinet : Cabinet.Ghosts C K) (door : Door.Ghosts D L) → AnswersAreRight → ConnectionsAreAnsweredRight source sink cabinet door
-connections-answered source sink cabinet door right ends told store port most end old new before after tables state does known sound is =
-    run-right right ends told port most state (door.state after) (cabinet.told old.cabinet store.items) (cabinet.told new.cabinet store.items) _ _ does.0.0 tables
-    (at-some (λ state. IsRunOver (IsRightAnswer ends) told port most state (door.state after) (cabinet.told old.cabinet store.items) (cabinet.told new.cabinet store.items) (cabinet.faults old.cabinet) (cabinet.faults new.cabinet) does.0.0) (door.state before) state is does.0.2.run)
-    known sound
+connections-answered source sink cabinet door right ends told store port most limit end old new before after tables state does small known sound is =
+    run-right right limit ends told port most state (door.state after) (cabinet.told old.cabinet store.items) (cabinet.told new.cabinet store.items) _ _ does.0.0 tables
+    (at-some (λ state. IsRunOver (book_rules limit ends) told port most state (door.state after) (cabinet.told old.cabinet store.items) (cabinet.told new.cabinet store.items) (cabinet.faults old.cabinet) (cabinet.faults new.cabinet) does.0.0) (door.state before) state is does.0.2.run)
+    known small sound

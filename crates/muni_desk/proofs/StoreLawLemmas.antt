@@ -1,5 +1,5 @@
 -- What the words after the names of the commands over a store and `help` are read as, against the rule of the command line.
-use Rattle.std.proofs.Common.{◌≡◌, ℕ, ◌≤◌, Bool, true, false, List, [], ◌∷◌, Option, Some, None, length, refl, ap, ◌∙◌, subst, arith}
+use Rattle.std.proofs.Common.{◌≡◌, ℕ, ◌≤◌, inl, inr, Bool, true, false, List, [], ◌∷◌, Option, Some, None, length, refl, sym, ap, ◌∙◌, subst, arith}
 use Rattle.std.specs.Prelude.{All, codes, if◌then◌else◌, nat_le, option_map}
 use Rattle.std.specs.Bool.{Decides}
 use Rattle.std.specs.Char.{is_ascii_graphic, is_ascii_alphanumeric}
@@ -12,13 +12,12 @@ use Rattle.muni_dec.specs.Digits.{number_reading}
 use Rattle.muni_msg.specs.NameReading.{name_reading}
 use Rattle.muni_msg.specs.Names.{is_desk_letter}
 use Rattle.muni_msg.specs.declared.command.Key.{Key}
-use Rattle.muni_desk_export.specs.declared.wanted.Wanted.{Wanted}
 use Rattle.muni_desk_export.specs.declared.wanted.Wanted.TheVariants as want
 use Rattle.muni_desk.specs.Words.{◌>>=◌, are_options, are_options_beside, has_word, value_of}
 use Rattle.muni_desk.specs.QuoteOptions.{workers_of}
-use Rattle.muni_desk.specs.StoreOptions.{import_options, confirm_options, serve_options, desk_options, store_options, all_word, issues_word, is_store_name, store_reading, store_of, listed_in, listed_of, import_line, import_of, load_line, load_of, confirm_line, confirm_one_of, confirm_all_line, confirm_all_of, confirm_of, serve_line, serve_of, positions_line, positions_of, mark_line, mark_of, wanted_in, wanted_of, export_line, export_of, list_line, list_of}
+use Rattle.muni_desk.specs.StoreOptions.{import_options, load_options, confirm_options, serve_options, desk_options, store_options, all_word, is_store_name, store_reading, store_of, listed_in, listed_of, limit_in, limit_of, import_line, import_of, load_line, load_of, confirm_line, confirm_one_of, confirm_all_line, confirm_all_of, confirm_of, serve_line, serve_of, positions_line, positions_of, mark_line, mark_of}
 use Rattle.muni_desk.specs.Help.{help_of}
-use Rattle.muni_desk.specs.WordLaws.{AsksFor, Has, IsCommandLine, IsImport, IsConfirm, IsConfirmAll, IsServe, IsPositions, IsStoreAlone, IsExport, IsList, IsSingle, SaysPositions, SaysStore, SaysWanted}
+use Rattle.muni_desk.specs.WordLaws.{IsCommandLine, IsImport, IsLoad, IsConfirm, IsConfirmAll, IsServe, IsPositions, IsStoreAlone, IsSingle, SaysLimit, SaysPositions, SaysStore}
 use Rattle.muni_desk.specs.declared.command.CommandLine.{CommandLine}
 use Rattle.muni_desk.specs.declared.command.DeskCommand.TheVariants.{Import, Load, Confirm, Serve, Positions, Mark, Export, Help}
 use Rattle.muni_desk.proofs.CommandLawLemmas.{read-ok, ok-read, read-option, option-read, read-workers, workers-read}
@@ -32,7 +31,7 @@ byte-decides b = (λ test. (grind (arith, nat_tests), grind (arith, nat_tests)),
 bytes-decide : (text : List ℕ) → Decides (list_all is_ascii_graphic text) (All (λ b. (33 ≤ b) × (b ≤ 126)) text)
 bytes-decide text = Decides-by_and is_ascii_graphic (λ b. (33 ≤ b) × (b ≤ 126)) (list_all is_ascii_graphic) byte-decides refl (λ _ _. refl) text
 
-read-store : (words : List (List ℕ)) (store : ArrayVec ℕ) → store_of words ≡ Some store → SaysStore words store
+pub read-store : (words : List (List ℕ)) (store : ArrayVec ℕ) → store_of words ≡ Some store → SaysStore words store
 read-store words store is =
     let found = bind-some store_reading (value_of (codes "--store=") words) store is in
     let parts = if-some (is_store_name found.0) (Some (record { items = found.0 })) store found.2 in
@@ -41,7 +40,7 @@ read-store words store is =
     subst (SaysStore words) (same_Some (record { items = found.0 }) store parts.1)
     (record { stands = found-says (codes "--store=") found.0 words found.1; few = grind (arith, nat_tests); bytes = (bytes-decide found.0).0 tests.1 })
 
-store-read : (words : List (List ℕ)) (store : ArrayVec ℕ) → IsSingle words (codes "--store=") → SaysStore words store → store_of words ≡ Some store
+pub store-read : (words : List (List ℕ)) (store : ArrayVec ℕ) → IsSingle words (codes "--store=") → SaysStore words store → store_of words ≡ Some store
 store-read words store single said =
     let most = said.few in
     let few : nat_le (length store.items) 200 ≡ true = grind (arith, nat_tests) in
@@ -50,9 +49,18 @@ store-read words store single said =
     some-bind store_reading (value_of (codes "--store=") words) store.items store (says-found (codes "--store=") store.items words single said.stands)
     (when-true (is_store_name store.items) (Some (record { items = store.items })) store test refl)
 
+-- ---- how many trades a desk may have
+read-limit : (words : List (List ℕ)) (limit : ℕ) (found : Option (List ℕ)) → value_of (codes "--desk-limit=") words ≡ found → limit_in found ≡ Some limit → SaysLimit words limit
+read-limit words limit None is read = inr (none-lacks (codes "--desk-limit=") words is, sym (same_Some 100_000 limit read))
+read-limit words limit (Some text) is read = inl (record { text = text; stands = found-says (codes "--desk-limit=") text words is; is_read = read })
+
+limit-read : (words : List (List ℕ)) (limit : ℕ) → IsSingle words (codes "--desk-limit=") → SaysLimit words limit → limit_of words ≡ Some limit
+limit-read words limit single (inl read) = ap limit_in (says-found (codes "--desk-limit=") read.text words single read.stands) ∙ read.is_read
+limit-read words limit single (inr lacks) = ap limit_in (lacks-none (codes "--desk-limit=") words lacks.0) ∙ ap Some (sym lacks.1)
+
 -- ---- `import`
-abbrev import_from : ArrayVec ℕ → Option (List ℕ) → ℕ → CommandLine
-import_from store listed workers = record { command = Import store listed; workers = workers }
+abbrev import_from : ArrayVec ℕ → Option (List ℕ) → (limit workers : ℕ) → CommandLine
+import_from store listed limit workers = record { command = Import store listed limit; workers = workers }
 
 read-listed : (words : List (List ℕ)) (listed : Option (List ℕ)) (found : Option (List ℕ)) → value_of (codes "--positions=") words ≡ found → listed_in found ≡ Some listed → SaysPositions words listed
 read-listed words listed None is read = subst (SaysPositions words) (same_Some None listed read) (none-lacks (codes "--positions=") words is)
@@ -73,25 +81,28 @@ read-import words name line named is =
     let store = bind-some _ (store_of words) line options_read.1 in
     let listed = bind-some _ (listed_of words) line store.2 in
     let workers = bind-some _ (workers_of words) line listed.2 in
-    subst (IsCommandLine (name ∷ words)) (same_Some (import_from store.0 listed.0 workers.0) line workers.2) (
+    let limit = bind-some _ (limit_of words) line workers.2 in
+    subst (IsCommandLine (name ∷ words)) (same_Some (import_from store.0 listed.0 limit.0 workers.0) line limit.2) (
       named,
       record {
         known = stand.0;
         single = stand.1;
         named = read-store words store.0 store.1;
         positions = read-listed words listed.0 (value_of (codes "--positions=") words) refl listed.1;
+        room = read-limit words limit.0 (value_of (codes "--desk-limit=") words) refl limit.1;
         at_once = read-workers words workers.0 (value_of (codes "--workers=") words) refl workers.1;
       },
     )
 
-pub import-read : (words : List (List ℕ)) (store : ArrayVec ℕ) (listed : Option (List ℕ)) (workers : ℕ) → IsImport words store listed workers → import_of words ≡ Some (record { command = Import store listed; workers = workers })
-import-read words store listed workers said =
-    let line = import_from store listed workers in
+pub import-read : (words : List (List ℕ)) (store : ArrayVec ℕ) (listed : Option (List ℕ)) (limit workers : ℕ) → IsImport words store listed limit workers → import_of words ≡ Some (record { command = Import store listed limit; workers = workers })
+import-read words store listed limit workers said =
+    let line = import_from store listed limit workers in
     when-true (are_options import_options import_options words) (import_line words) line (are-options import_options import_options words said.known said.single)
     (some-bind _ (store_of words) store line (store-read words store (said.single 0 [] (omega arith)) said.named)
     (some-bind _ (listed_of words) listed line (listed-read words listed (said.single 2 [] (omega arith)) said.positions)
     (some-bind _ (workers_of words) workers line (workers-read words workers (said.single 1 [] (omega arith)) said.at_once)
-    refl)))
+    (some-bind _ (limit_of words) limit line (limit-read words limit (said.single 3 [] (omega arith)) said.room)
+    refl))))
 
 -- ---- `confirm`
 abbrev confirm_from : ArrayVec ℕ → List ℕ → List ℕ → CommandLine
@@ -170,8 +181,8 @@ confirm_all-read words store desk said =
     refl))
 
 -- ---- `serve`
-abbrev serve_from : ArrayVec ℕ → ℕ → ℕ → ℕ → CommandLine
-serve_from store port connections workers = record { command = Serve store port connections; workers = workers }
+abbrev serve_from : ArrayVec ℕ → (port connections limit workers : ℕ) → CommandLine
+serve_from store port connections limit workers = record { command = Serve store port connections limit; workers = workers }
 
 abbrev port_of : List (List ℕ) → Option ℕ
 port_of words = value_of (codes "--port=") words >>= λ text. number_reading 20 1 65_535 text
@@ -187,7 +198,8 @@ read-serve words name line named is =
     let port = bind-some _ (port_of words) line store.2 in
     let connections = bind-some _ (connections_of words) line port.2 in
     let workers = bind-some _ (workers_of words) line connections.2 in
-    subst (IsCommandLine (name ∷ words)) (same_Some (serve_from store.0 port.0 connections.0 workers.0) line workers.2) (
+    let limit = bind-some _ (limit_of words) line workers.2 in
+    subst (IsCommandLine (name ∷ words)) (same_Some (serve_from store.0 port.0 connections.0 limit.0 workers.0) line limit.2) (
       named,
       record {
         known = stand.0;
@@ -195,19 +207,21 @@ read-serve words name line named is =
         named = read-store words store.0 store.1;
         bound = read-option (number_reading 20 1 65_535) words (codes "--port=") port.0 port.1;
         most = read-option (number_reading 20 1 1_000_000) words (codes "--connections=") connections.0 connections.1;
+        room = read-limit words limit.0 (value_of (codes "--desk-limit=") words) refl limit.1;
         at_once = read-workers words workers.0 (value_of (codes "--workers=") words) refl workers.1;
       },
     )
 
-pub serve-read : (words : List (List ℕ)) (store : ArrayVec ℕ) (port connections workers : ℕ) → IsServe words store port connections workers → serve_of words ≡ Some (record { command = Serve store port connections; workers = workers })
-serve-read words store port connections workers said =
-    let line = serve_from store port connections workers in
+pub serve-read : (words : List (List ℕ)) (store : ArrayVec ℕ) (port connections limit workers : ℕ) → IsServe words store port connections limit workers → serve_of words ≡ Some (record { command = Serve store port connections limit; workers = workers })
+serve-read words store port connections limit workers said =
+    let line = serve_from store port connections limit workers in
     when-true (are_options serve_options serve_options words) (serve_line words) line (are-options serve_options serve_options words said.known said.single)
     (some-bind _ (store_of words) store line (store-read words store (said.single 0 [] (omega arith)) said.named)
     (some-bind _ (port_of words) port line (option-read (number_reading 20 1 65_535) words (codes "--port=") port (said.single 1 [] (omega arith)) said.bound)
     (some-bind _ (connections_of words) connections line (option-read (number_reading 20 1 1_000_000) words (codes "--connections=") connections (said.single 2 [] (omega arith)) said.most)
     (some-bind _ (workers_of words) workers line (workers-read words workers (said.single 3 [] (omega arith)) said.at_once)
-    refl))))
+    (some-bind _ (limit_of words) limit line (limit-read words limit (said.single 4 [] (omega arith)) said.room)
+    refl)))))
 
 -- ---- `positions`
 abbrev positions_from : ArrayVec ℕ → List ℕ → CommandLine
@@ -239,23 +253,33 @@ positions-read words store desk said =
     refl))
 
 -- ---- `load`
-abbrev load_from : ArrayVec ℕ → CommandLine
-load_from store = record { command = Load store; workers = 1 }
+abbrev load_from : ArrayVec ℕ → ℕ → CommandLine
+load_from store limit = record { command = Load store limit; workers = 1 }
 
 pub read-load : (words : List (List ℕ)) (name : List ℕ) (line : CommandLine) → name ≡ codes "load" → load_of words ≡ Some line → IsCommandLine (name ∷ words) line
 read-load words name line named is =
-    let options_read = if-some (are_options store_options store_options words) (load_line words) line is in
-    let stand = options-read store_options store_options words options_read.0 in
+    let options_read = if-some (are_options load_options load_options words) (load_line words) line is in
+    let stand = options-read load_options load_options words options_read.0 in
     let store = bind-some _ (store_of words) line options_read.1 in
-    subst (IsCommandLine (name ∷ words)) (same_Some (load_from store.0) line store.2)
-    (named, record { known = stand.0; single = stand.1; named = read-store words store.0 store.1 }, refl)
+    let limit = bind-some _ (limit_of words) line store.2 in
+    subst (IsCommandLine (name ∷ words)) (same_Some (load_from store.0 limit.0) line limit.2) (
+      named,
+      record {
+        known = stand.0;
+        single = stand.1;
+        named = read-store words store.0 store.1;
+        room = read-limit words limit.0 (value_of (codes "--desk-limit=") words) refl limit.1;
+      },
+      refl,
+    )
 
-pub load-read : (words : List (List ℕ)) (store : ArrayVec ℕ) → IsStoreAlone words store → load_of words ≡ Some (record { command = Load store; workers = 1 })
-load-read words store said =
-    let line = load_from store in
-    when-true (are_options store_options store_options words) (load_line words) line (are-options store_options store_options words said.known said.single)
+pub load-read : (words : List (List ℕ)) (store : ArrayVec ℕ) (limit : ℕ) → IsLoad words store limit → load_of words ≡ Some (record { command = Load store limit; workers = 1 })
+load-read words store limit said =
+    let line = load_from store limit in
+    when-true (are_options load_options load_options words) (load_line words) line (are-options load_options load_options words said.known said.single)
     (some-bind _ (store_of words) store line (store-read words store (said.single 0 [] (omega arith)) said.named)
-    refl)
+    (some-bind _ (limit_of words) limit line (limit-read words limit (said.single 1 [] (omega arith)) said.room)
+    refl))
 
 -- ---- `mark`
 abbrev mark_from : ArrayVec ℕ → CommandLine
@@ -275,92 +299,6 @@ mark-read words store said =
     when-true (are_options store_options store_options words) (mark_line words) line (are-options store_options store_options words said.known said.single)
     (some-bind _ (store_of words) store line (store-read words store (said.single 0 [] (omega arith)) said.named)
     refl)
-
--- ---- `export`
-abbrev export_from : ArrayVec ℕ → Wanted → CommandLine
-export_from store wanted = record { command = Export store wanted; workers = 1 }
-
-read-wanted : (words : List (List ℕ)) (wanted : Wanted) (issues : Bool) (desk : Option (List ℕ)) → has_word issues_word words ≡ issues → value_of (codes "--desk=") words ≡ desk → wanted_in issues desk ≡ Some wanted → SaysWanted words wanted
-read-wanted words wanted true None has is read = subst (SaysWanted words) (same_Some want.Issues wanted read) (has-read issues_word words true has, none-lacks (codes "--desk=") words is)
-read-wanted words wanted true (Some text) has is read = absurd (none-some wanted read)
-read-wanted words wanted false None has is read = subst (SaysWanted words) (same_Some want.Everything wanted read) (has-read issues_word words false has, none-lacks (codes "--desk=") words is)
-read-wanted words wanted false (Some text) has is read =
-    let desk = map-some want.Desk (result_ok (name_reading is_desk_letter 16 text)) wanted read in
-    subst (SaysWanted words) desk.2 (
-      has-read issues_word words false has,
-      record { text = text; stands = found-says (codes "--desk=") text words is; is_read = ok-some (name_reading is_desk_letter 16 text) desk.0 desk.1 },
-    )
-
-wanted-found : (words : List (List ℕ)) (issues : Bool) (desk : Option (List ℕ)) → Has issues_word words issues → value_of (codes "--desk=") words ≡ desk → wanted_of words ≡ wanted_in issues desk
-wanted-found words issues desk has is = ap (λ b. wanted_in b (value_of (codes "--desk=") words)) (read-has issues_word words issues has) ∙ ap (wanted_in issues) is
-
-wanted-read : (words : List (List ℕ)) (wanted : Wanted) → IsSingle words (codes "--desk=") → SaysWanted words wanted → wanted_of words ≡ Some wanted
-wanted-read words want.Everything single said = wanted-found words false None said.0 (lacks-none (codes "--desk=") words said.1)
-wanted-read words want.Issues single said = wanted-found words true None said.0 (lacks-none (codes "--desk=") words said.1)
-wanted-read words (want.Desk desk) single said =
-    let read = said.1 in
-    wanted-found words false (Some read.text) said.0 (says-found (codes "--desk=") read.text words single read.stands)
-    ∙ ap (λ r. option_map want.Desk (result_ok r)) read.is_read
-wanted-read words (want.List desk) single said = absurd said
-wanted-read words (want.Confirmations desk) single said = absurd said
-
-asks-export : (name : List ℕ) (words : List (List ℕ)) (store : ArrayVec ℕ) (wanted : Wanted) → name ≡ codes "export" → IsExport words store wanted → AsksFor name words store wanted
-asks-export name words store want.Everything named said = (named, said)
-asks-export name words store want.Issues named said = (named, said)
-asks-export name words store (want.Desk desk) named said = (named, said)
-asks-export name words store (want.List desk) named said = absurd said.says
-asks-export name words store (want.Confirmations desk) named said = absurd said.says
-
-pub read-export : (words : List (List ℕ)) (name : List ℕ) (line : CommandLine) → name ≡ codes "export" → export_of words ≡ Some line → IsCommandLine (name ∷ words) line
-read-export words name line named is =
-    let options_read = if-some (are_options_beside issues_word desk_options desk_options words) (export_line words) line is in
-    let stand = options-read-beside issues_word desk_options desk_options words options_read.0 in
-    let store = bind-some _ (store_of words) line options_read.1 in
-    let wanted = bind-some _ (wanted_of words) line store.2 in
-    let said : IsExport words store.0 wanted.0 =
-    record {
-      known = stand.0;
-      once = stand.1;
-      single = stand.2;
-      named = read-store words store.0 store.1;
-      says = read-wanted words wanted.0 (has_word issues_word words) (value_of (codes "--desk=") words) refl refl wanted.1;
-    } in
-    subst (IsCommandLine (name ∷ words)) (same_Some (export_from store.0 wanted.0) line wanted.2) (asks-export name words store.0 wanted.0 named said, refl)
-
-pub export-read : (words : List (List ℕ)) (store : ArrayVec ℕ) (wanted : Wanted) → IsExport words store wanted → export_of words ≡ Some (record { command = Export store wanted; workers = 1 })
-export-read words store wanted said =
-    let line = export_from store wanted in
-    when-true (are_options_beside issues_word desk_options desk_options words) (export_line words) line (are-options-beside issues_word desk_options desk_options words said.known said.once said.single)
-    (some-bind _ (store_of words) store line (store-read words store (said.single 0 [] (omega arith)) said.named)
-    (some-bind _ (wanted_of words) wanted line (wanted-read words wanted (said.single 1 [] (omega arith)) said.says)
-    refl))
-
--- ---- `list`
-abbrev list_from : ArrayVec ℕ → List ℕ → CommandLine
-list_from store desk = record { command = Export store (want.List desk); workers = 1 }
-
-pub read-list : (words : List (List ℕ)) (name : List ℕ) (line : CommandLine) → name ≡ codes "list" → list_of words ≡ Some line → IsCommandLine (name ∷ words) line
-read-list words name line named is =
-    let options_read = if-some (are_options desk_options desk_options words) (list_line words) line is in
-    let stand = options-read desk_options desk_options words options_read.0 in
-    let store = bind-some _ (store_of words) line options_read.1 in
-    let desk = bind-some _ (desk_of words) line store.2 in
-    let said : IsList words store.0 desk.0 =
-    record {
-      known = stand.0;
-      single = stand.1;
-      named = read-store words store.0 store.1;
-      desk_named = read-ok (name_reading is_desk_letter 16) words (codes "--desk=") desk.0 desk.1;
-    } in
-    subst (IsCommandLine (name ∷ words)) (same_Some (list_from store.0 desk.0) line desk.2) ((named, said), refl)
-
-pub list-read : (words : List (List ℕ)) (store : ArrayVec ℕ) (desk : List ℕ) → IsList words store desk → list_of words ≡ Some (record { command = Export store (want.List desk); workers = 1 })
-list-read words store desk said =
-    let line = list_from store desk in
-    when-true (are_options desk_options desk_options words) (list_line words) line (are-options desk_options desk_options words said.known said.single)
-    (some-bind _ (store_of words) store line (store-read words store (said.single 0 [] (omega arith)) said.named)
-    (some-bind _ (desk_of words) desk line (ok-read (name_reading is_desk_letter 16) words (codes "--desk=") desk (said.single 1 [] (omega arith)) said.desk_named)
-    refl))
 
 -- ---- `help`
 pub read-help : (words : List (List ℕ)) (name : List ℕ) (line : CommandLine) → name ≡ codes "help" → help_of words ≡ Some line → IsCommandLine (name ∷ words) line

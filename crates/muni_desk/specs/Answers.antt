@@ -69,10 +69,10 @@ IsHelpText status text = ⊥
 abbrev pub IsAnswer : (ends : PaymentSeries → ℤ → WorthEnds) → DeskCommand → Answer → Type 0
 IsAnswer ends (QuoteOne request) answer = IsQuoteOneText request answer.status answer.text.items
 IsAnswer ends (Quote request wanted) answer = IsQuoteText ends request wanted answer.status answer.text.items
-IsAnswer ends (Import store listed) answer = ⊥
-IsAnswer ends (Load store) answer = ⊥
+IsAnswer ends (Import store listed limit) answer = ⊥
+IsAnswer ends (Load store limit) answer = ⊥
 IsAnswer ends (Confirm store key) answer = ⊥
-IsAnswer ends (Serve store port connections) answer = ⊥
+IsAnswer ends (Serve store port connections limit) answer = ⊥
 IsAnswer ends (Positions store desk) answer = ⊥
 IsAnswer ends (Mark store) answer = ⊥
 IsAnswer ends (Export store wanted) answer = ⊥

@@ -1,11 +1,11 @@
 -- What words ask the desk for.
-use Rattle.std.specs.Prelude.{if◌then◌else◌, List, ℕ, [], ◌∷◌, codes, Option, None}
+use Rattle.std.specs.Prelude.{Bool, false, if◌then◌else◌, List, ℕ, [], ◌∷◌, codes, Option, None}
 use Rattle.std.specs.Str.{bytes_eq}
 use Rattle.muni_desk.specs.DrillOptions.{drill_of}
 use Rattle.muni_desk.specs.QuoteOne.{quote_one_of}
 use Rattle.muni_desk.specs.Help.{help_of}
 use Rattle.muni_desk.specs.QuoteOptions.{quote_of}
-use Rattle.muni_desk.specs.StoreOptions.{import_of, load_of, confirm_of, serve_of, positions_of, mark_of, export_of, list_of}
+use Rattle.muni_desk.specs.StoreOptions.{import_of, load_of, confirm_of, serve_of, positions_of, mark_of, export_of, list_of, check_store_of}
 use Rattle.muni_desk.specs.declared.command.CommandLine.{CommandLine}
 
 -- the command over a store of that name, and of the words after it
@@ -18,7 +18,8 @@ over_store_of name words =
     else (if bytes_eq name (codes "mark") then mark_of words
     else (if bytes_eq name (codes "export") then export_of words
     else (if bytes_eq name (codes "list") then list_of words
-    else (if bytes_eq name (codes "load") then load_of words else None)))))))
+    else (if bytes_eq name (codes "load") then load_of words
+    else (if bytes_eq name (codes "check-store") then check_store_of words else None))))))))
 
 -- the command of words: the first is its name, and those after it say what it is asked for
 abbrev pub command_of : List (List ℕ) → Option CommandLine
@@ -28,3 +29,8 @@ command_of (name ∷ words) =
     else (if bytes_eq name (codes "quote") then quote_of words
     else (if bytes_eq name (codes "drill") then drill_of words
     else (if bytes_eq name (codes "help") then help_of words else over_store_of name words)))
+
+-- the words ask for a check of a store
+abbrev pub is_check : List (List ℕ) → Bool
+is_check [] = false
+is_check (name ∷ words) = bytes_eq name (codes "check-store")

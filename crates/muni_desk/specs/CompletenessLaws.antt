@@ -34,15 +34,15 @@ HasRowsAtMost source most input = (text : List ℕ) × (source.left input ≡ So
 
 -- no more than the command reads
 abbrev pub IsWithinLimit : {I : Type 0} → Source.Ghosts I → DeskCommand → I → Type 0
-IsWithinLimit source (Import store listed) input = HasAtMost source 4_194_304 input
-IsWithinLimit source (Load store) input = HasRowsAtMost source 4_294_967_295 input
+IsWithinLimit source (Import store listed limit) input = HasAtMost source 4_194_304 input
+IsWithinLimit source (Load store limit) input = HasRowsAtMost source 4_294_967_295 input
 IsWithinLimit source (Mark store) input = HasAtMost source 1_048_576 input
 IsWithinLimit source command input = ⊤
 
 -- what it lists or exports can be read: the tables of the store are exposed, and a desk whose positions it lists
--- has at most 100,000 trades
+-- has at most 100,000,000 trades
 abbrev pub CanBeRead : {C K : Type 0} → Cabinet.Ghosts C K → DeskCommand → C → Type 0
-CanBeRead cabinet (Import store (Some desk)) old = ¬ (MayNotSum desk (cabinet.told old store.items))
+CanBeRead cabinet (Import store (Some desk) limit) old = ¬ (MayNotSum desk (cabinet.told old store.items))
 CanBeRead cabinet (Positions store desk) old = ¬ (MayNotSum desk (cabinet.told old store.items))
 CanBeRead cabinet (Export store wanted) old = ¬ (cabinet.told old store.items ≡ None)
 CanBeRead cabinet command old = ⊤
@@ -61,10 +61,10 @@ EndsWellOverStore status = EndsWell status
 abbrev pub IsCompleted : DeskCommand → Status → Type 0
 IsCompleted (QuoteOne request) status = EndsWell status
 IsCompleted (Quote request each) status = EndsWell status
-IsCompleted (Import store listed) status = EndsWellOverStore status
-IsCompleted (Load store) status = EndsWellOverStore status
+IsCompleted (Import store listed limit) status = EndsWellOverStore status
+IsCompleted (Load store limit) status = EndsWellOverStore status
 IsCompleted (Confirm store key) status = EndsWellOverStore status
-IsCompleted (Serve store port connections) status = EndsWellOverStore status
+IsCompleted (Serve store port connections limit) status = EndsWellOverStore status
 IsCompleted (Positions store desk) status = EndsWellOverStore status
 IsCompleted (Mark store) status = EndsWellOverStore status
 IsCompleted (Export store wanted) status = EndsWellOverStore status

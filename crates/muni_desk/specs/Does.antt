@@ -8,6 +8,7 @@ use Rattle.muni_edge.specs.declared.sink.Sink as Sink
 use Rattle.muni_edge.specs.declared.source.Source as Source
 use Rattle.muni_keep.specs.declared.cabinet.Cabinet as Cabinet
 use Rattle.muni_book.specs.Answers.{IsRightAnswer}
+use Rattle.muni_book.specs.Rules.{book_rules}
 use Rattle.muni_desk_io.specs.Lent.{Lent}
 use Rattle.muni_desk.specs.Answers.{IsAnswer}
 use Rattle.muni_desk_serve.specs.Serves.{Traffic}
@@ -29,12 +30,12 @@ pub record Says {O : Type 0} (sink : Sink.Ghosts O) (IsRight : Answer → Type 0
 abbrev pub Does : {I O C K D L : Type 0} → Source.Ghosts I → Sink.Ghosts O → Cabinet.Ghosts C K → Door.Ghosts D L → (ends : PaymentSeries → ℤ → WorthEnds) → (told : L → Traffic) → DeskCommand → Status → (old new : Lent I O C) → (before after : D) → Type 0
 Does source sink cabinet door ends told (QuoteOne request) status old new before after = Says sink (IsAnswer ends (QuoteOne request)) status old.output new.output
 Does source sink cabinet door ends told (Quote request each) status old new before after = Says sink (IsAnswer ends (Quote request each)) status old.output new.output
-Does source sink cabinet door ends told (Import store None) status old new before after = ImportsInto source sink cabinet (IsRightAnswer ends) store.items status old new
-Does source sink cabinet door ends told (Import store (Some desk)) status old new before after = ImportsWith source sink cabinet (IsRightAnswer ends) store.items desk status old new
-Does source sink cabinet door ends told (Load store) status old new before after = LoadsInto source sink cabinet (IsRightAnswer ends) store.items status old new
+Does source sink cabinet door ends told (Import store None limit) status old new before after = ImportsInto source sink cabinet (book_rules limit ends) store.items status old new
+Does source sink cabinet door ends told (Import store (Some desk) limit) status old new before after = ImportsWith source sink cabinet (book_rules limit ends) store.items desk status old new
+Does source sink cabinet door ends told (Load store limit) status old new before after = LoadsInto source sink cabinet (book_rules limit ends) store.items status old new
 Does source sink cabinet door ends told (Confirm store key) status old new before after = Confirms sink cabinet store.items key status old new
-Does source sink cabinet door ends told (Serve store port connections) status old new before after =
-    Serves cabinet door (IsRightAnswer ends) told store.items port connections status old.cabinet new.cabinet before after
+Does source sink cabinet door ends told (Serve store port connections limit) status old new before after =
+    Serves cabinet door (book_rules limit ends) told store.items port connections status old.cabinet new.cabinet before after
 Does source sink cabinet door ends told (Positions store desk) status old new before after = Lists sink cabinet store.items desk status old new
 Does source sink cabinet door ends told (Mark store) status old new before after = Marks source sink cabinet (IsRightAnswer ends) store.items status old new
 Does source sink cabinet door ends told (Export store wanted) status old new before after = Exports sink cabinet store.items wanted status old new
@@ -47,15 +48,15 @@ Does source sink cabinet door ends told Help status old new before after = Says 
 abbrev pub Spares : DeskCommand → Status → (input output cabinet door : Type 0) → Type 0
 Spares (QuoteOne request) status input output cabinet door = input × cabinet × door
 Spares (Quote request each) status input output cabinet door = input × cabinet × door
-Spares (Import store listed) ReadFault input output cabinet door = output × cabinet × door
-Spares (Import store listed) TooLarge input output cabinet door = output × cabinet × door
-Spares (Import store listed) status input output cabinet door = door
-Spares (Load store) status input output cabinet door = door
+Spares (Import store listed limit) ReadFault input output cabinet door = output × cabinet × door
+Spares (Import store listed limit) TooLarge input output cabinet door = output × cabinet × door
+Spares (Import store listed limit) status input output cabinet door = door
+Spares (Load store limit) status input output cabinet door = door
 Spares (Confirm store key) StoreFault input output cabinet door = input × output × door
 Spares (Confirm store key) NoMemory input output cabinet door = input × output × door
 Spares (Confirm store key) status input output cabinet door = input × door
-Spares (Serve store port connections) StoreFault input output cabinet door = input × output × door
-Spares (Serve store port connections) status input output cabinet door = input × output
+Spares (Serve store port connections limit) StoreFault input output cabinet door = input × output × door
+Spares (Serve store port connections limit) status input output cabinet door = input × output
 Spares (Positions store desk) StoreFault input output cabinet door = input × output × door
 Spares (Positions store desk) NoMemory input output cabinet door = input × output × door
 Spares (Positions store desk) status input output cabinet door = input × door

@@ -13,13 +13,14 @@ abbrev pub help_text : List ℕ
 help_text =
     codes "quote-one COUPON NEXT SETTLE REDEMPTION YIELD\n"
     ++ (codes "quote --kind --dated --maturity --settle --yield|--price|--rate --first --coupon --call --par --workers --days --each\n"
-    ++ (codes "import --store --workers --positions\n"
+    ++ (codes "import --store --workers --positions --desk-limit\n"
     ++ (codes "confirm --store --desk --ref|--all\n"
-    ++ (codes "serve --store --port --connections --workers\n"
+    ++ (codes "serve --store --port --connections --workers --desk-limit\n"
     ++ (codes "drill --count --seed --workers\n"
     ++ (codes "positions --store --desk\n"
     ++ (codes "mark --store\n"
     ++ (codes "export --store --desk --issues\n"
     ++ (codes "list --store --desk\n"
-    ++ (codes "load --store\n"
-    ++ codes "help\n"))))))))))
+    ++ (codes "load --store --desk-limit\n"
+    ++ (codes "check-store --store\n"
+    ++ codes "help\n")))))))))))

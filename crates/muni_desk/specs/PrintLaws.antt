@@ -1,5 +1,5 @@
 -- A law of what commands over a store print, if its tables are sound.
-use Rattle.std.specs.Prelude.{◌≡◌, ◌⊎◌, ℕ, List, map, All, Option, Some, None, IfSome, ℤ}
+use Rattle.std.specs.Prelude.{◌≡◌, ◌⊎◌, ◌≤◌, ℕ, List, map, All, Option, Some, None, IfSome, ℤ}
 use Rattle.arrayvec.specs.ArrayVec.{ArrayVec}
 use Rattle.muni_rule.specs.Payments.{PaymentSeries}
 use Rattle.muni_rule.specs.WorthEnds.{WorthEnds}
@@ -54,17 +54,17 @@ pub record PrintsReport (listed : Option (List ℕ)) (status : Status) (now : Op
 
 abbrev pub ImportsPrintRight : {I O C K D L : Type 0} → Source.Ghosts I → Sink.Ghosts O → Cabinet.Ghosts C K → Door.Ghosts D L → Type 0
 ImportsPrintRight {I} {O} {C} {K} {D} {L} source sink cabinet door =
-    (ends : PaymentSeries → ℤ → WorthEnds) (told : L → Traffic) (store : ArrayVec ℕ) (listed : Option (List ℕ)) (status : Status) (old new : Lent I O C) (before after : D) (text : List ℕ) (tables : Tables)
-    → Does source sink cabinet door ends told (Import store listed) status old new before after
-    → source.left old.input ≡ Some text → cabinet.told old.cabinet store.items ≡ Some tables → AreSoundTables tables
+    (ends : PaymentSeries → ℤ → WorthEnds) (told : L → Traffic) (store : ArrayVec ℕ) (listed : Option (List ℕ)) (limit : ℕ) (status : Status) (old new : Lent I O C) (before after : D) (text : List ℕ) (tables : Tables)
+    → Does source sink cabinet door ends told (Import store listed limit) status old new before after
+    → limit ≤ 100_000_000 → source.left old.input ≡ Some text → cabinet.told old.cabinet store.items ≡ Some tables → AreSoundTables tables
     → PrintsReport listed status (cabinet.told new.cabinet store.items) (sink.bytes old.output) (sink.bytes new.output)
 
 -- a load wrote its report, and nothing else
 abbrev pub LoadsPrintRight : {I O C K D L : Type 0} → Source.Ghosts I → Sink.Ghosts O → Cabinet.Ghosts C K → Door.Ghosts D L → Type 0
 LoadsPrintRight {I} {O} {C} {K} {D} {L} source sink cabinet door =
-    (ends : PaymentSeries → ℤ → WorthEnds) (told : L → Traffic) (store : ArrayVec ℕ) (status : Status) (old new : Lent I O C) (before after : D) (text : List ℕ) (tables : Tables)
-    → Does source sink cabinet door ends told (Load store) status old new before after
-    → source.left old.input ≡ Some text → cabinet.told old.cabinet store.items ≡ Some tables → AreSoundTables tables
+    (ends : PaymentSeries → ℤ → WorthEnds) (told : L → Traffic) (store : ArrayVec ℕ) (limit : ℕ) (status : Status) (old new : Lent I O C) (before after : D) (text : List ℕ) (tables : Tables)
+    → Does source sink cabinet door ends told (Load store limit) status old new before after
+    → limit ≤ 100_000_000 → source.left old.input ≡ Some text → cabinet.told old.cabinet store.items ≡ Some tables → AreSoundTables tables
     → ReportsRight status (cabinet.told new.cabinet store.items) (sink.bytes old.output) (sink.bytes new.output)
 
 -- what was written is the confirmation of the last version of a trade, which is kept with right figures
@@ -95,7 +95,7 @@ pub record AnswersRight {L : Type 0} (told : L → Traffic) (now : Option Tables
 
 abbrev pub ConnectionsAreAnsweredRight : {I O C K D L : Type 0} → Source.Ghosts I → Sink.Ghosts O → Cabinet.Ghosts C K → Door.Ghosts D L → Type 0
 ConnectionsAreAnsweredRight {I} {O} {C} {K} {D} {L} source sink cabinet door =
-    (ends : PaymentSeries → ℤ → WorthEnds) (told : L → Traffic) (store : ArrayVec ℕ) (port most : ℕ) (status : Status) (old new : Lent I O C) (before after : D) (tables : Tables) (state : DoorState L)
-    → Does source sink cabinet door ends told (Serve store port most) status old new before after
-    → cabinet.told old.cabinet store.items ≡ Some tables → AreSoundTables tables → door.state before ≡ Some state
+    (ends : PaymentSeries → ℤ → WorthEnds) (told : L → Traffic) (store : ArrayVec ℕ) (port most limit : ℕ) (status : Status) (old new : Lent I O C) (before after : D) (tables : Tables) (state : DoorState L)
+    → Does source sink cabinet door ends told (Serve store port most limit) status old new before after
+    → limit ≤ 100_000_000 → cabinet.told old.cabinet store.items ≡ Some tables → AreSoundTables tables → door.state before ≡ Some state
     → AnswersRight told (cabinet.told new.cabinet store.items) state (door.state after)

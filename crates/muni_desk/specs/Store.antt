@@ -6,7 +6,7 @@ use Rattle.muni_edge.specs.declared.sink.Sink as Sink
 use Rattle.muni_edge.specs.declared.source.Source as Source
 use Rattle.muni_keep.specs.Cabinet.{LeavesAll, LeavesOthers}
 use Rattle.muni_keep.specs.declared.cabinet.Cabinet as Cabinet
-use Rattle.muni_book_step.specs.Step.{Pricing}
+use Rattle.muni_book_step.specs.Step.{Pricing, Rules}
 use Rattle.muni_msg.specs.declared.command.Key.{Key}
 use Rattle.muni_desk_io.specs.Input.{TakesUpTo}
 use Rattle.muni_desk_io.specs.Lent.{Lent}
@@ -30,25 +30,25 @@ abbrev pub EndsAs : {R : Type 0} → (R → Status) → Status → (R → Type 0
 EndsAs {R} status_of status Holds = (result : R) × (status ≡ status_of result) × Holds result
 
 -- an import into a store, which leaves the other stores alone
-abbrev pub ImportsInto : {I O C K : Type 0} → Source.Ghosts I → Sink.Ghosts O → Cabinet.Ghosts C K → Pricing → List ℕ → Status → (old new : Lent I O C) → Type 0
-ImportsInto source sink cabinet Prices store status old new =
-    EndsAs of_done status (λ result. Imported source sink cabinet Prices store result old new
+abbrev pub ImportsInto : {I O C K : Type 0} → Source.Ghosts I → Sink.Ghosts O → Cabinet.Ghosts C K → Rules → List ℕ → Status → (old new : Lent I O C) → Type 0
+ImportsInto source sink cabinet rules store status old new =
+    EndsAs of_done status (λ result. Imported source sink cabinet rules store result old new
     × IfSome (source.left old.input) (λ text. Reported text result (sink.bytes old.output) (sink.bytes new.output))
     × ReportsReads source result old.input new.input × ReportsWrites sink result old.output new.output)
     × TakesUpTo source 4_194_305 old.input new.input × LeavesOthers cabinet store old.cabinet new.cabinet
 
 -- one with the positions of a desk after its report
-abbrev pub ImportsWith : {I O C K : Type 0} → Source.Ghosts I → Sink.Ghosts O → Cabinet.Ghosts C K → Pricing → (store desk : List ℕ) → Status → (old new : Lent I O C) → Type 0
-ImportsWith source sink cabinet Prices store desk status old new =
-    EndsAs of_done status (λ result. ImportedWith source sink cabinet Prices store desk result old new
+abbrev pub ImportsWith : {I O C K : Type 0} → Source.Ghosts I → Sink.Ghosts O → Cabinet.Ghosts C K → Rules → (store desk : List ℕ) → Status → (old new : Lent I O C) → Type 0
+ImportsWith source sink cabinet rules store desk status old new =
+    EndsAs of_done status (λ result. ImportedWith source sink cabinet rules store desk result old new
     × ReportsReads source result old.input new.input × ReportsWrites sink result old.output new.output)
     × DoesNoneOfTooMany cabinet store desk old new
     × TakesUpTo source 4_194_305 old.input new.input × LeavesOthers cabinet store old.cabinet new.cabinet
 
 -- a load into a store
-abbrev pub LoadsInto : {I O C K : Type 0} → Source.Ghosts I → Sink.Ghosts O → Cabinet.Ghosts C K → Pricing → List ℕ → Status → (old new : Lent I O C) → Type 0
-LoadsInto source sink cabinet Prices store status old new =
-    EndsAs of_done status (λ result. Loaded source sink cabinet Prices store result old new
+abbrev pub LoadsInto : {I O C K : Type 0} → Source.Ghosts I → Sink.Ghosts O → Cabinet.Ghosts C K → Rules → List ℕ → Status → (old new : Lent I O C) → Type 0
+LoadsInto source sink cabinet rules store status old new =
+    EndsAs of_done status (λ result. Loaded source sink cabinet rules store result old new
     × IfSome (source.left old.input) (λ text. LoadReported text result (sink.bytes old.output) (sink.bytes new.output))
     × ReportsReads source result old.input new.input × ReportsWrites sink result old.output new.output)
     × TakesSome source old.input new.input × LeavesOthers cabinet store old.cabinet new.cabinet
@@ -61,9 +61,9 @@ Confirms sink cabinet store key status old new =
     × LeavesAll cabinet old.cabinet new.cabinet
 
 -- connections served over a store
-abbrev pub Serves : {C K D L : Type 0} → Cabinet.Ghosts C K → Door.Ghosts D L → Pricing → (L → Traffic) → List ℕ → (port most : ℕ) → Status → (old new : C) → (before after : D) → Type 0
-Serves cabinet door Prices told store port most status old new before after =
-    EndsAs of_served status (λ outcome. ServedStore cabinet door Prices told store port most outcome old new before after)
+abbrev pub Serves : {C K D L : Type 0} → Cabinet.Ghosts C K → Door.Ghosts D L → Rules → (L → Traffic) → List ℕ → (port most : ℕ) → Status → (old new : C) → (before after : D) → Type 0
+Serves cabinet door rules told store port most status old new before after =
+    EndsAs of_served status (λ outcome. ServedStore cabinet door rules told store port most outcome old new before after)
     × LeavesOthers cabinet store old new
 
 -- a listing of positions

@@ -16,13 +16,17 @@ use Rattle.muni_desk.specs.declared.command.CommandLine.{CommandLine}
 
 -- all options, each at most once
 abbrev pub import_options : List (List ℕ)
-import_options = codes "--store=" ∷ codes "--workers=" ∷ codes "--positions=" ∷ []
+import_options = codes "--store=" ∷ codes "--workers=" ∷ codes "--positions=" ∷ codes "--desk-limit=" ∷ []
+
+abbrev pub load_options : List (List ℕ)
+load_options = codes "--store=" ∷ codes "--desk-limit=" ∷ []
 
 abbrev pub confirm_options : List (List ℕ)
 confirm_options = codes "--store=" ∷ codes "--desk=" ∷ codes "--ref=" ∷ []
 
 abbrev pub serve_options : List (List ℕ)
-serve_options = codes "--store=" ∷ codes "--port=" ∷ codes "--connections=" ∷ codes "--workers=" ∷ []
+serve_options =
+    codes "--store=" ∷ codes "--port=" ∷ codes "--connections=" ∷ codes "--workers=" ∷ codes "--desk-limit=" ∷ []
 
 -- a store and a desk
 abbrev pub desk_options : List (List ℕ)
@@ -71,14 +75,23 @@ listed_in None = Some None
 abbrev pub listed_of : List (List ℕ) → Option (Option (List ℕ))
 listed_of words = listed_in (value_of (codes "--positions=") words)
 
--- an import into a store, with the positions of a desk if they are asked for, and how many workers may
--- compute
+-- how many trades a desk may have: up to 100,000,000, and 100,000 if no number is given
+abbrev pub limit_in : Option (List ℕ) → Option ℕ
+limit_in (Some text) = number_reading 20 1 100_000_000 text
+limit_in None = Some 100_000
+
+abbrev pub limit_of : List (List ℕ) → Option ℕ
+limit_of words = limit_in (value_of (codes "--desk-limit=") words)
+
+-- an import into a store, with the positions of a desk if they are asked for, how many workers may compute,
+-- and how many trades a desk may have
 abbrev pub import_line : List (List ℕ) → Option CommandLine
 import_line words = do
   store ← store_of words
   listed ← listed_of words
   workers ← workers_of words
-  Some (record { command = Import store listed; workers = workers })
+  limit ← limit_of words
+  Some (record { command = Import store listed limit; workers = workers })
 
 -- what words ask for that are options of the command
 abbrev pub import_of : List (List ℕ) → Option CommandLine
@@ -89,11 +102,12 @@ import_of words =
 abbrev pub load_line : List (List ℕ) → Option CommandLine
 load_line words = do
   store ← store_of words
-  Some (record { command = Load store; workers = 1 })
+  limit ← limit_of words
+  Some (record { command = Load store limit; workers = 1 })
 
 abbrev pub load_of : List (List ℕ) → Option CommandLine
 load_of words =
-    if are_options store_options store_options words then load_line words else None
+    if are_options load_options load_options words then load_line words else None
 
 -- the trade of a desk under a reference, in a store
 abbrev pub confirm_line : List (List ℕ) → Option CommandLine
@@ -128,7 +142,8 @@ serve_line words = do
   port ← port_of words
   connections ← connections_of words
   workers ← workers_of words
-  Some (record { command = Serve store port connections; workers = workers })
+  limit ← limit_of words
+  Some (record { command = Serve store port connections limit; workers = workers })
 
 abbrev pub serve_of : List (List ℕ) → Option CommandLine
 serve_of words =
@@ -186,3 +201,13 @@ list_line words = do
 abbrev pub list_of : List (List ℕ) → Option CommandLine
 list_of words =
     if are_options desk_options desk_options words then list_line words else None
+
+-- how much a store keeps, as far as it can be read
+abbrev pub check_store_line : List (List ℕ) → Option CommandLine
+check_store_line words = do
+  store ← store_of words
+  Some (record { command = Export store want.Counts; workers = 1 })
+
+abbrev pub check_store_of : List (List ℕ) → Option CommandLine
+check_store_of words =
+    if are_options store_options store_options words then check_store_line words else None

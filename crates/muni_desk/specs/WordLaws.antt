@@ -26,7 +26,7 @@ use Rattle.muni_desk_export.specs.declared.wanted.Wanted.TheVariants as want
 use Rattle.muni_desk.specs.Words.{word, is_option}
 use Rattle.muni_desk.specs.QuoteOptions.{options, single_options}
 use Rattle.muni_desk.specs.DrillOptions as drill
-use Rattle.muni_desk.specs.StoreOptions.{import_options, confirm_options, serve_options, desk_options, store_options}
+use Rattle.muni_desk.specs.StoreOptions.{import_options, load_options, confirm_options, serve_options, desk_options, store_options}
 use Rattle.muni_desk.specs.Command.{command_of}
 use Rattle.muni_desk.specs.declared.command.DeskCommand.{DeskCommand}
 use Rattle.muni_desk.specs.declared.command.DeskCommand.TheVariants.{QuoteOne, Quote, Import, Load, Confirm, Serve, Positions, Mark, Export, Drill, Help}
@@ -204,13 +204,20 @@ SaysPositions words None = Lacks words (codes "--positions=")
 SaysPositions words (Some desk) =
     Reads words (codes "--positions=") (λ text. name_reading is_desk_letter 16 text ≡ Ok desk)
 
--- words after `import`: a store, the desk whose positions are asked for, if any, and from 1 to 16
--- workers, and one if no number is given
-pub record IsImport (words : List (List ℕ)) (store : ArrayVec ℕ) (listed : Option (List ℕ)) (workers : ℕ) : Type 0 where
+-- how many trades a desk may have: from 1 to 100,000,000, and 100,000 if no number is given
+abbrev pub SaysLimit : List (List ℕ) → ℕ → Type 0
+SaysLimit words limit =
+    ReadsOr words (codes "--desk-limit=") (λ text. number_reading 20 1 100_000_000 text ≡ Some limit)
+    (limit ≡ 100_000)
+
+-- words after `import`: a store, the desk whose positions are asked for, if any, how many trades a desk may
+-- have, and from 1 to 16 workers, and one if no number is given
+pub record IsImport (words : List (List ℕ)) (store : ArrayVec ℕ) (listed : Option (List ℕ)) (limit workers : ℕ) : Type 0 where
   pub known : All (IsKnown import_options) words
   pub single : All (IsSingle words) import_options
   pub named : SaysStore words store
   pub positions : SaysPositions words listed
+  pub room : SaysLimit words limit
   pub at_once :
       ReadsOr words (codes "--workers=") (λ text. number_reading 20 1 16 text ≡ Some workers)
       (workers ≡ 1)
@@ -236,9 +243,16 @@ pub record IsConfirmAll (words : List (List ℕ)) (store : ArrayVec ℕ) (desk :
   pub desk_named :
       Reads words (codes "--desk=") (λ text. name_reading is_desk_letter 16 text ≡ Ok desk)
 
--- words after `serve`: a store, a port from 1 to 65,535, from 1 to 1,000,000 connections, and from 1 to
--- 16 workers, and one if no number is given
-pub record IsServe (words : List (List ℕ)) (store : ArrayVec ℕ) (port connections workers : ℕ) : Type 0 where
+-- words after `load`: a store, and how many trades a desk may have
+pub record IsLoad (words : List (List ℕ)) (store : ArrayVec ℕ) (limit : ℕ) : Type 0 where
+  pub known : All (IsKnown load_options) words
+  pub single : All (IsSingle words) load_options
+  pub named : SaysStore words store
+  pub room : SaysLimit words limit
+
+-- words after `serve`: a store, a port from 1 to 65,535, from 1 to 1,000,000 connections, how many trades a
+-- desk may have, and from 1 to 16 workers, and one if no number is given
+pub record IsServe (words : List (List ℕ)) (store : ArrayVec ℕ) (port connections limit workers : ℕ) : Type 0 where
   pub known : All (IsKnown serve_options) words
   pub single : All (IsSingle words) serve_options
   pub named : SaysStore words store
@@ -247,6 +261,7 @@ pub record IsServe (words : List (List ℕ)) (store : ArrayVec ℕ) (port connec
   pub most :
       Reads words (codes "--connections=")
       (λ text. number_reading 20 1 1_000_000 text ≡ Some connections)
+  pub room : SaysLimit words limit
   pub at_once :
       ReadsOr words (codes "--workers=") (λ text. number_reading 20 1 16 text ≡ Some workers)
       (workers ≡ 1)
@@ -259,7 +274,7 @@ pub record IsPositions (words : List (List ℕ)) (store : ArrayVec ℕ) (desk : 
   pub desk_named :
       Reads words (codes "--desk=") (λ text. name_reading is_desk_letter 16 text ≡ Ok desk)
 
--- words after `load` and after `mark`: a store
+-- words after `mark` or `check-store`: a store
 pub record IsStoreAlone (words : List (List ℕ)) (store : ArrayVec ℕ) : Type 0 where
   pub known : All (IsKnown store_options) words
   pub single : All (IsSingle words) store_options
@@ -317,12 +332,13 @@ pub record IsQuoteOne (words : List (List ℕ)) (request : QuoteOneRequest) : Ty
   pub year_at_least : 1902 ≤ request.next.year
 
 -- ---- the command line
--- a name and the words after it ask for what a store keeps: the list of a desk's trades, their confirmations, or
--- an export
+-- a name and the words after it ask for what a store keeps: the list of a desk's trades, their confirmations, how
+-- much there is, or an export
 abbrev pub AsksFor : List ℕ → List (List ℕ) → ArrayVec ℕ → Wanted → Type 0
 AsksFor name words store (want.List desk) = (name ≡ codes "list") × IsList words store desk
 AsksFor name words store (want.Confirmations desk) =
     (name ≡ codes "confirm") × IsConfirmAll words store desk
+AsksFor name words store want.Counts = (name ≡ codes "check-store") × IsStoreAlone words store
 AsksFor name words store other = (name ≡ codes "export") × IsExport words store other
 
 -- the first word names the command, and those after it say what is asked of it
@@ -332,14 +348,14 @@ IsSaid (name ∷ words) (QuoteOne request) workers =
     (name ≡ codes "quote-one") × IsQuoteOne words request × (workers ≡ 1)
 IsSaid (name ∷ words) (Quote request each) workers =
     (name ≡ codes "quote") × IsQuote words request each workers
-IsSaid (name ∷ words) (Import store listed) workers =
-    (name ≡ codes "import") × IsImport words store listed workers
-IsSaid (name ∷ words) (Load store) workers =
-    (name ≡ codes "load") × IsStoreAlone words store × (workers ≡ 1)
+IsSaid (name ∷ words) (Import store listed limit) workers =
+    (name ≡ codes "import") × IsImport words store listed limit workers
+IsSaid (name ∷ words) (Load store limit) workers =
+    (name ≡ codes "load") × IsLoad words store limit × (workers ≡ 1)
 IsSaid (name ∷ words) (Confirm store key) workers =
     (name ≡ codes "confirm") × IsConfirm words store key × (workers ≡ 1)
-IsSaid (name ∷ words) (Serve store port connections) workers =
-    (name ≡ codes "serve") × IsServe words store port connections workers
+IsSaid (name ∷ words) (Serve store port connections limit) workers =
+    (name ≡ codes "serve") × IsServe words store port connections limit workers
 IsSaid (name ∷ words) (Positions store desk) workers =
     (name ≡ codes "positions") × IsPositions words store desk × (workers ≡ 1)
 IsSaid (name ∷ words) (Mark store) workers =

@@ -9,13 +9,13 @@ use crate::quote_one::{QuoteOneRequest, read_quote_one};
 use crate::quote_options::read_quote;
 use crate::request::QuoteRequest;
 use crate::store_options::{
-    read_confirm, read_export, read_import, read_list, read_load, read_mark, read_positions,
-    read_serve,
+    read_check_store, read_confirm, read_export, read_import, read_list, read_load, read_mark,
+    read_positions, read_serve,
 };
 use arrayvec::ArrayVec;
 use muni_book::Workers;
 use muni_desk_export::Wanted;
-use muni_msg::{DeskName, Key};
+use muni_msg::{DeskLimit, DeskName, Key};
 
 /// What the desk can be asked for.
 #[derive(Drop)]
@@ -32,10 +32,12 @@ pub enum DeskCommand {
     Import {
         store: ArrayVec<u8, 200>,
         listed: Option<DeskName>,
+        limit: DeskLimit,
     },
     /// To apply the rows of an input of any length to the tables of a store.
     Load {
         store: ArrayVec<u8, 200>,
+        limit: DeskLimit,
     },
     /// The confirmation of a trade that a store keeps.
     Confirm {
@@ -61,6 +63,7 @@ pub enum DeskCommand {
         store: ArrayVec<u8, 200>,
         port: u16,
         connections: u32,
+        limit: DeskLimit,
     },
     /// The sums over a generated book of trades.
     Drill(DrillRequest),
@@ -101,6 +104,17 @@ fn read_over_store(name: &str, options: &[String]) -> Option<CommandLine>
         "export" => read_export(options),
         "list" => read_list(options),
         "load" => read_load(options),
+        "check-store" => read_check_store(options),
         _ => None,
+    }
+}
+
+/// Whether words ask for a check of a store, whatever its options are.
+pub fn is_check(words: &[String]) -> bool
+    ensures { result ≡ spec.is_check (map string_bytes words.now) }
+{
+    match words.first() {
+        Some(name) => name.as_str() == "check-store",
+        None => false,
     }
 }

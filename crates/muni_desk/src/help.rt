@@ -10,15 +10,16 @@ use muni_dec::text::push;
 
 const TEXT: &[u8] = b"quote-one COUPON NEXT SETTLE REDEMPTION YIELD\n\
 quote --kind --dated --maturity --settle --yield|--price|--rate --first --coupon --call --par --workers --days --each\n\
-import --store --workers --positions\n\
+import --store --workers --positions --desk-limit\n\
 confirm --store --desk --ref|--all\n\
-serve --store --port --connections --workers\n\
+serve --store --port --connections --workers --desk-limit\n\
 drill --count --seed --workers\n\
 positions --store --desk\n\
 mark --store\n\
 export --store --desk --issues\n\
 list --store --desk\n\
-load --store\n\
+load --store --desk-limit\n\
+check-store --store\n\
 help\n";
 
 /// What is asked for if there are no words.

@@ -26,7 +26,7 @@ pub fn the_workers_do_not_show()
 
 /// A law of the definitions: a command is done or refused by the rule, or over a store finds no memory, if
 /// no count of faults rose, its input is exposed and within its limit, and what it lists or exports can be
-/// read: its tables are exposed, and a desk whose positions it lists has at most 100,000 trades.
+/// read: its tables are exposed, and a desk whose positions it lists has at most 100,000,000 trades.
 pub fn commands_are_completed<I: Source, O: Sink, C: Cabinet, D: Door>()
     ensures { CommandsAreCompleted I.Source O.Sink C.Cabinet D.Door }
 {}

@@ -15,7 +15,7 @@ mod status;
 mod store_options;
 mod words;
 
-pub use command::{CommandLine, DeskCommand, read};
+pub use command::{CommandLine, DeskCommand, is_check, read};
 pub use drill::{DrillCount, DrillRequest};
 pub use next_interest_date::NextInterestDate;
 pub use output::desk;

@@ -11,7 +11,7 @@ ghost use Rattle.muni_desk.specs.Written.{TellsFaults};
 use crate::answers::{drill_answer, help_answer, quote_answer, quote_one_answer};
 use crate::command::read;
 use crate::{Answer, CommandLine, DeskCommand, Status};
-use muni_book::Calculator;
+use muni_book::{Book, Calculator};
 use muni_desk_export::write_kept;
 use muni_desk_import::{confirm, import, load};
 use muni_desk_positions::{import_with_positions, positions};
@@ -120,14 +120,22 @@ fn carry_out<
         DeskCommand::Quote { request, each } => {
             say(&quote_answer(calculator, request, each), output)
         }
-        DeskCommand::Import { store, listed } => match listed {
-            Some(desk) => Status::of_done(import_with_positions(
-                calculator, alloc, &store, &desk, input, output, cabinet,
-            )),
-            None => Status::of_done(import(calculator, alloc, &store, input, output, cabinet)),
-        },
-        DeskCommand::Load { store } => {
-            Status::of_done(load(calculator, alloc, &store, input, output, cabinet))
+        DeskCommand::Import {
+            store,
+            listed,
+            limit,
+        } => {
+            let book = Book { calculator, limit };
+            match listed {
+                Some(desk) => Status::of_done(import_with_positions(
+                    &book, alloc, &store, &desk, input, output, cabinet,
+                )),
+                None => Status::of_done(import(&book, alloc, &store, input, output, cabinet)),
+            }
+        }
+        DeskCommand::Load { store, limit } => {
+            let book = Book { calculator, limit };
+            Status::of_done(load(&book, alloc, &store, input, output, cabinet))
         }
         DeskCommand::Confirm { store, key } => Status::of_answered(confirm(
             &store, &key, output, cabinet,
@@ -136,7 +144,11 @@ fn carry_out<
             store,
             port,
             connections,
-        } => Status::of_served(serve(calculator, alloc, &store, port, connections, cabinet, door)),
+            limit,
+        } => {
+            let book = Book { calculator, limit };
+            Status::of_served(serve(&book, alloc, &store, port, connections, cabinet, door))
+        }
         DeskCommand::Positions { store, desk } => {
             Status::of_done(positions(alloc, &store, &desk, output, cabinet))
         }

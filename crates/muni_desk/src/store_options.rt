@@ -12,7 +12,7 @@ use arrayvec::ArrayVec;
 use muni_book::Workers;
 use muni_dec::digits::read_number;
 use muni_desk_export::Wanted;
-use muni_msg::{DeskName, Key, Reference};
+use muni_msg::{DeskLimit, DeskName, Key, Reference};
 
 const STORE: &[u8] = b"--store=";
 
@@ -26,7 +26,11 @@ const CONNECTIONS: &[u8] = b"--connections=";
 
 const POSITIONS_OF: &[u8] = b"--positions=";
 
-const IMPORT: [&[u8]; 3] = [STORE, WORKERS, POSITIONS_OF];
+const DESK_LIMIT: &[u8] = b"--desk-limit=";
+
+const IMPORT: [&[u8]; 4] = [STORE, WORKERS, POSITIONS_OF, DESK_LIMIT];
+
+const LOAD: [&[u8]; 2] = [STORE, DESK_LIMIT];
 
 const CONFIRM: [&[u8]; 3] = [STORE, DESK, REF];
 
@@ -38,7 +42,7 @@ const ALL: &[u8] = b"--all";
 
 const ISSUES: &[u8] = b"--issues";
 
-const SERVE: [&[u8]; 4] = [STORE, PORT, CONNECTIONS, WORKERS];
+const SERVE: [&[u8]; 5] = [STORE, PORT, CONNECTIONS, WORKERS, DESK_LIMIT];
 
 /// What words ask for, where they are options of `import`, in any order.
 pub fn read_import(words: &[String]) -> Option<CommandLine>
@@ -50,8 +54,13 @@ pub fn read_import(words: &[String]) -> Option<CommandLine>
     let store = read_store(words)?;
     let listed = read_listed(words)?;
     let workers = read_workers(words)?;
+    let limit = read_limit(words)?;
     Some(CommandLine {
-        command: DeskCommand::Import { store, listed },
+        command: DeskCommand::Import {
+            store,
+            listed,
+            limit,
+        },
         workers,
     })
 }
@@ -119,11 +128,13 @@ pub fn read_serve(words: &[String]) -> Option<CommandLine>
     let port = read_port(words)?;
     let connections = read_connections(words)?;
     let workers = read_workers(words)?;
+    let limit = read_limit(words)?;
     Some(CommandLine {
         command: DeskCommand::Serve {
             store,
             port,
             connections,
+            limit,
         },
         workers,
     })
@@ -144,16 +155,17 @@ pub fn read_positions(words: &[String]) -> Option<CommandLine>
     })
 }
 
-/// What words ask for, where they are options of `load`.
+/// What words ask for, where they are options of `load`, in any order.
 pub fn read_load(words: &[String]) -> Option<CommandLine>
     ensures { result ≡ spec.load_of (map string_bytes words.now) }
 {
-    if !are_options(words, &OF_STORE, &OF_STORE) {
+    if !are_options(words, &LOAD, &LOAD) {
         return None;
     }
     let store = read_store(words)?;
+    let limit = read_limit(words)?;
     Some(CommandLine {
-        command: DeskCommand::Load { store },
+        command: DeskCommand::Load { store, limit },
         workers: Workers::ONE,
     })
 }
@@ -209,6 +221,17 @@ pub fn read_list(words: &[String]) -> Option<CommandLine>
     Some(wanted_line(store, Wanted::List(desk)))
 }
 
+/// What words ask for, where they are options of `check-store`.
+pub fn read_check_store(words: &[String]) -> Option<CommandLine>
+    ensures { result ≡ spec.check_store_of (map string_bytes words.now) }
+{
+    if !are_options(words, &OF_STORE, &OF_STORE) {
+        return None;
+    }
+    let store = read_store(words)?;
+    Some(wanted_line(store, Wanted::Counts))
+}
+
 // The line of a command that writes what a store keeps.
 fn wanted_line(store: ArrayVec<u8, 200>, wanted: Wanted) -> CommandLine
     ensures command { result.command ≡ DeskCommand.Export store wanted }
@@ -248,6 +271,16 @@ fn read_connections(words: &[String]) -> Option<u32>
     ensures { result ≡ spec.connections_of (map string_bytes words.now) }
 {
     Some(read_number(value_of(words, CONNECTIONS)?, 20, 1, 1_000_000)? as u32)
+}
+
+// How many trades a desk may have: 100,000 if no number is given.
+fn read_limit(words: &[String]) -> Option<DeskLimit>
+    ensures { result ≡ spec.limit_of (map string_bytes words.now) }
+{
+    match value_of(words, DESK_LIMIT) {
+        Some(text) => Some(DeskLimit::new(read_number(text, 20, 1, 100_000_000)? as u32)),
+        None => Some(DeskLimit::USUAL),
+    }
 }
 
 fn is_graphic(text: &[u8]) -> bool

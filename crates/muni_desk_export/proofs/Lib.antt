@@ -1,4 +1,5 @@
 mod ConfirmLemmas
+mod CountLemmas
 mod DeskLemmas
 mod IssueLemmas
 mod LooksLemmas

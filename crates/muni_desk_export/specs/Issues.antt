@@ -23,3 +23,7 @@ issues_after tables is_wanted after = flat_map (issue_text is_wanted) (past afte
 
 abbrev pub issues_left : Tables → Option (BTreeMap (List ℕ) (Unit {0})) → Option (List ℕ) → List ℕ
 issues_left tables named after = issues_after tables (is_wanted named) after
+
+-- the rows of all issues, in the order of their CUSIPs
+abbrev pub all_issues : Tables → List ℕ
+all_issues tables = issues_after tables (λ cusip. true) None

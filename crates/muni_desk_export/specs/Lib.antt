@@ -1,3 +1,4 @@
+pub mod Counts
 pub mod Issues
 pub mod Kept
 pub mod Looks

@@ -11,6 +11,7 @@ ghost use Rattle.muni_desk_export.specs.Walked.{Walks};
 ghost use Rattle.muni_desk_export.specs.Wanted.{wanted_text};
 
 use crate::Wanted;
+use crate::counts::write_counts;
 use crate::named::named_by;
 use crate::trades::Style;
 use crate::walk::Walk;
@@ -65,6 +66,7 @@ fn write_over<K: Keeper, O: Sink>(
                 output,
             )
         }
+        Wanted::Counts => write_counts(alloc, keeper, output),
     }
 }
 

@@ -1,7 +1,8 @@
-//! What a store keeps, written out: the rows of an export, the list of a desk's trades, and their
-//! confirmations.
+//! What a store keeps, written out: the rows of an export, the list of a desk's trades, their
+//! confirmations, and how many rows there are.
 #![tactic(auto)]
 
+mod counts;
 mod issues;
 mod kept;
 mod named;

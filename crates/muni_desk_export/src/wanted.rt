@@ -15,4 +15,6 @@ pub enum Wanted {
     List(DeskName),
     /// The confirmations of a desk's trades, with an empty line between two.
     Confirmations(DeskName),
+    /// How many issues and how many versions of each desk could be read, and that it is sound.
+    Counts,
 }

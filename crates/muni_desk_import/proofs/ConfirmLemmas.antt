@@ -49,8 +49,8 @@ printed t key (reply.Confirmed issue other number version) is =
 printed t key (reply.Refused why) is = ap (λ a. Some a) (sym (refused-last t key why is))
 
 pub confirmations-steps : ConfirmationsAreOfLastVersions → ConfirmationsAreSteps
-confirmations-steps lasts ends t key told entry step =
-    let is = lasts ends t key told entry step in
+confirmations-steps lasts limit ends t key told entry step =
+    let is = lasts limit ends t key told entry step in
     record { printed = printed t key told is.0; none_added = is.1 }
 
 pub confirmations-right : ConfirmedFiguresAreRight → ConfirmationsAreRight

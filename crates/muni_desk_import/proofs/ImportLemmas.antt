@@ -5,7 +5,7 @@ use Rattle.std.proofs.lemmas.List.{append_assoc, append-nil, length-append}
 use Rattle.std.proofs.lemmas.Slice.Zip.{AllZip-long}
 use Rattle.muni_edge.specs.Sink.{HasWritten, HasWrittenPart}
 use Rattle.muni_keep.specs.Tables.{Tables}
-use Rattle.muni_book_step.specs.Step.{Pricing, after}
+use Rattle.muni_book_step.specs.Step.{Rules, after}
 use Rattle.muni_import.specs.Report.{Said, row_line}
 use Rattle.muni_import.specs.Row.{Row}
 use Rattle.muni_import.specs.Rows.{rows_of, IsNext}
@@ -15,18 +15,18 @@ use Rattle.muni_desk_import.specs.Reported.{IsSaidOf, ReportsRowsAt}
 use Rattle.muni_desk_import.specs.Import.{Came, Imports, report, Did, DidAt, DidNextAt, WroteToAt}
 
 -- ---- rows after rows
-imports-join : (Prices : Pricing) (old : Tables) (rows others : List Row) (said more : List Said) (mid new : Tables) → Imports Prices old rows said mid → Imports Prices mid others more new → Imports Prices old (rows ++ others) (said ++ more) new
-imports-join Prices old [] others [] more mid new first second = subst (λ t. Imports Prices t others more new) first second
-imports-join Prices old [] others (told ∷ said) more mid new first second = absurd first
-imports-join Prices old (row ∷ rows) others [] more mid new first second = absurd first
-imports-join Prices old (row ∷ rows) others (told ∷ said) more mid new (next, here, later) second =
-    (next, here, imports-join Prices next rows others said more mid new later second)
+imports-join : (R : Rules) (old : Tables) (rows others : List Row) (said more : List Said) (mid new : Tables) → Imports R old rows said mid → Imports R mid others more new → Imports R old (rows ++ others) (said ++ more) new
+imports-join R old [] others [] more mid new first second = subst (λ t. Imports R t others more new) first second
+imports-join R old [] others (told ∷ said) more mid new first second = absurd first
+imports-join R old (row ∷ rows) others [] more mid new first second = absurd first
+imports-join R old (row ∷ rows) others (told ∷ said) more mid new (next, here, later) second =
+    (next, here, imports-join R next rows others said more mid new later second)
 
-imports-count : (Prices : Pricing) (old : Tables) (rows : List Row) (said : List Said) (new : Tables) → Imports Prices old rows said new → length said ≡ length rows
-imports-count Prices old [] [] new imports = refl
-imports-count Prices old [] (first ∷ said) new imports = absurd imports
-imports-count Prices old (first ∷ rows) [] new imports = absurd imports
-imports-count Prices old (first ∷ rows) (told ∷ said) new (next, here, later) = omega (arith, imports-count Prices next rows said new later)
+imports-count : (R : Rules) (old : Tables) (rows : List Row) (said : List Said) (new : Tables) → Imports R old rows said new → length said ≡ length rows
+imports-count R old [] [] new imports = refl
+imports-count R old [] (first ∷ said) new imports = absurd imports
+imports-count R old (first ∷ rows) [] new imports = absurd imports
+imports-count R old (first ∷ rows) (told ∷ said) new (next, here, later) = omega (arith, imports-count R next rows said new later)
 
 -- their lines
 report-join : (place : ℕ) (said more : List Said) → report place (said ++ more) ≡ report place said ++ report (place + length said) more
@@ -77,55 +77,55 @@ reports-join place rows others had mid has first second =
     }
 
 -- what they do
-did-join : (place : ℕ) (Prices : Pricing) (rows others : List Row) (old : Tables) (mid now : Option Tables) (had there has : Option (List ℕ)) → DidAt place Prices rows old mid had there → IfSome mid (λ t. DidAt (place + length rows) Prices others t now there has)
-    → DidAt place Prices (rows ++ others) old now had has
-did-join place Prices rows others old mid now had there has first second =
-    let then = subst (λ m. IfSome m (λ t. DidAt (place + length rows) Prices others t now there has)) first.told second in
-    let count = imports-count Prices old rows first.said first.new first.imports in
+did-join : (place : ℕ) (R : Rules) (rows others : List Row) (old : Tables) (mid now : Option Tables) (had there has : Option (List ℕ)) → DidAt place R rows old mid had there → IfSome mid (λ t. DidAt (place + length rows) R others t now there has)
+    → DidAt place R (rows ++ others) old now had has
+did-join place R rows others old mid now had there has first second =
+    let then = subst (λ m. IfSome m (λ t. DidAt (place + length rows) R others t now there has)) first.told second in
+    let count = imports-count R old rows first.said first.new first.imports in
     record {
       said = first.said ++ then.said;
       new = then.new;
-      imports = imports-join Prices old rows others first.said then.said first.new then.new first.imports then.imports;
+      imports = imports-join R old rows others first.said then.said first.new then.new first.imports then.imports;
       told = then.told;
       written =
           written-then had there has (report place first.said) (report (place + length rows) then.said) (report place (first.said ++ then.said)) first.written then.written
           (report-join place first.said then.said ∙ ap (λ n. report place first.said ++ report (place + n) then.said) count);
     }
 
-next-join : (place : ℕ) (Prices : Pricing) (rows others : List Row) (row : Row) (old : Tables) (mid now : Option Tables) (had there has : Option (List ℕ)) → DidAt place Prices rows old mid had there → IfSome mid (λ t. DidNextAt (place + length rows) Prices others row t now there has)
-    → DidNextAt place Prices (rows ++ others) row old now had has
-next-join place Prices rows others row old mid now had there has first second =
-    let then = subst (λ m. IfSome m (λ t. DidNextAt (place + length rows) Prices others row t now there has)) first.told second in
-    let count = imports-count Prices old rows first.said first.new first.imports in
+next-join : (place : ℕ) (R : Rules) (rows others : List Row) (row : Row) (old : Tables) (mid now : Option Tables) (had there has : Option (List ℕ)) → DidAt place R rows old mid had there → IfSome mid (λ t. DidNextAt (place + length rows) R others row t now there has)
+    → DidNextAt place R (rows ++ others) row old now had has
+next-join place R rows others row old mid now had there has first second =
+    let then = subst (λ m. IfSome m (λ t. DidNextAt (place + length rows) R others row t now there has)) first.told second in
+    let count = imports-count R old rows first.said first.new first.imports in
     record {
       said = first.said ++ then.said;
       last = then.last;
       new = then.new;
       imports = rw (append_assoc rows others (row ∷ []), append_assoc first.said then.said (then.last ∷ []))
-          (imports-join Prices old rows (others ++ row ∷ []) first.said (then.said ++ then.last ∷ []) first.new then.new first.imports then.imports);
+          (imports-join R old rows (others ++ row ∷ []) first.said (then.said ++ then.last ∷ []) first.new then.new first.imports then.imports);
       told = then.told;
       written = wrote-join place (length rows) first.said then.said then.last had there has count first.written then.written;
     }
 
-did-known : (place : ℕ) (Prices : Pricing) (rows others : List Row) (old mid now : Option Tables) (had there has : Option (List ℕ)) → IfSome old (λ t. DidAt place Prices rows t mid had there) → IfSome mid (λ t. DidAt (place + length rows) Prices others t now there has)
-    → IfSome old (λ t. DidAt place Prices (rows ++ others) t now had has)
-did-known place Prices rows others None mid now had there has first second = tt
-did-known place Prices rows others (Some t) mid now had there has first second = did-join place Prices rows others t mid now had there has first second
+did-known : (place : ℕ) (R : Rules) (rows others : List Row) (old mid now : Option Tables) (had there has : Option (List ℕ)) → IfSome old (λ t. DidAt place R rows t mid had there) → IfSome mid (λ t. DidAt (place + length rows) R others t now there has)
+    → IfSome old (λ t. DidAt place R (rows ++ others) t now had has)
+did-known place R rows others None mid now had there has first second = tt
+did-known place R rows others (Some t) mid now had there has first second = did-join place R rows others t mid now had there has first second
 
-next-known : (place : ℕ) (Prices : Pricing) (rows others : List Row) (row : Row) (old mid now : Option Tables) (had there has : Option (List ℕ)) → IfSome old (λ t. DidAt place Prices rows t mid had there) → IfSome mid (λ t. DidNextAt (place + length rows) Prices others row t now there has)
-    → IfSome old (λ t. DidNextAt place Prices (rows ++ others) row t now had has)
-next-known place Prices rows others row None mid now had there has first second = tt
-next-known place Prices rows others row (Some t) mid now had there has first second = next-join place Prices rows others row t mid now had there has first second
+next-known : (place : ℕ) (R : Rules) (rows others : List Row) (row : Row) (old mid now : Option Tables) (had there has : Option (List ℕ)) → IfSome old (λ t. DidAt place R rows t mid had there) → IfSome mid (λ t. DidNextAt (place + length rows) R others row t now there has)
+    → IfSome old (λ t. DidNextAt place R (rows ++ others) row t now had has)
+next-known place R rows others row None mid now had there has first second = tt
+next-known place R rows others row (Some t) mid now had there has first second = next-join place R rows others row t mid now had there has first second
 
-pub done-join : (place : ℕ) (Prices : Pricing) (rows others : List Row) (old mid now : Option Tables) (had there has : Option (List ℕ)) → Done place Prices rows old mid had there → Done (place + length rows) Prices others mid now there has → Done place Prices (rows ++ others) old now had has
-done-join place Prices rows others old mid now had there has first second = record {
+pub done-join : (place : ℕ) (R : Rules) (rows others : List Row) (old mid now : Option Tables) (had there has : Option (List ℕ)) → Done place R rows old mid had there → Done (place + length rows) R others mid now there has → Done place R (rows ++ others) old now had has
+done-join place R rows others old mid now had there has first second = record {
   reports = reports-join place rows others had there has first.reports second.reports;
-  did = did-known place Prices rows others old mid now had there has first.did second.did;
+  did = did-known place R rows others old mid now had there has first.did second.did;
 }
 
-pub done-next : (place : ℕ) (Prices : Pricing) (rows others : List Row) (row : Row) (old mid now : Option Tables) (had there has : Option (List ℕ)) → Done place Prices rows old mid had there → DoneNext (place + length rows) Prices others row mid now there has
-    → DoneNext place Prices (rows ++ others) row old now had has
-done-next place Prices rows others row old mid now had there has first second =
+pub done-next : (place : ℕ) (R : Rules) (rows others : List Row) (row : Row) (old mid now : Option Tables) (had there has : Option (List ℕ)) → Done place R rows old mid had there → DoneNext (place + length rows) R others row mid now there has
+    → DoneNext place R (rows ++ others) row old now had has
+done-next place R rows others row old mid now had there has first second =
     let said = first.reports.said in
     let count : length said ≡ length rows = omega (arith, AllZip-long IsSaidOf rows said first.reports.each) in
     record {
@@ -134,7 +134,7 @@ done-next place Prices rows others row old mid now had there has first second =
       each = rw (append_assoc rows others (row ∷ []), append_assoc said second.said (second.last ∷ []))
           (said-join rows (others ++ row ∷ []) said (second.said ++ second.last ∷ []) first.reports.each second.each);
       written = wrote-join place (length rows) said second.said second.last had there has count first.reports.written second.written;
-      did = next-known place Prices rows others row old mid now had there has first.did second.did;
+      did = next-known place R rows others row old mid now had there has first.did second.did;
     }
 
 -- ---- no row, and one
@@ -142,36 +142,36 @@ nothing-written : (had : Option (List ℕ)) → HasWritten had had []
 nothing-written None = tt
 nothing-written (Some text) = ap Some (sym (append-nil text))
 
-none-did : (place : ℕ) (Prices : Pricing) (old : Tables) (had : Option (List ℕ)) → DidAt place Prices [] old (Some old) had had
-none-did place Prices old had = record { said = []; new = old; imports = refl; told = refl; written = nothing-written had }
+none-did : (place : ℕ) (R : Rules) (old : Tables) (had : Option (List ℕ)) → DidAt place R [] old (Some old) had had
+none-did place R old had = record { said = []; new = old; imports = refl; told = refl; written = nothing-written had }
 
-pub did-none : (Prices : Pricing) (old : Tables) (had : Option (List ℕ)) → Did Prices [] old (Some old) had had
-did-none Prices old had = none-did 1 Prices old had
+pub did-none : (R : Rules) (old : Tables) (had : Option (List ℕ)) → Did R [] old (Some old) had had
+did-none R old had = none-did 1 R old had
 
-none-known : (place : ℕ) (Prices : Pricing) (old : Option Tables) (had : Option (List ℕ)) → IfSome old (λ t. DidAt place Prices [] t old had had)
-none-known place Prices None had = tt
-none-known place Prices (Some t) had = none-did place Prices t had
+none-known : (place : ℕ) (R : Rules) (old : Option Tables) (had : Option (List ℕ)) → IfSome old (λ t. DidAt place R [] t old had had)
+none-known place R None had = tt
+none-known place R (Some t) had = none-did place R t had
 
-pub done-none : (place : ℕ) (Prices : Pricing) (old : Option Tables) (had : Option (List ℕ)) → Done place Prices [] old old had had
-done-none place Prices old had = record { reports = record { said = []; each = tt; written = nothing-written had }; did = none-known place Prices old had }
+pub done-none : (place : ℕ) (R : Rules) (old : Option Tables) (had : Option (List ℕ)) → Done place R [] old old had had
+done-none place R old had = record { reports = record { said = []; each = tt; written = nothing-written had }; did = none-known place R old had }
 
 -- tables are known after a row
-came-told : (Prices : Pricing) (old : Tables) (row : Row) (said : Said) (now : Option Tables) → Came Prices old row said now → (new : Tables) × (now ≡ Some new)
-came-told Prices old (Ok command) (Ok reply) now (entry, step, told) = (after entry old, told)
-came-told Prices old (Ok command) (Err fault) now came = absurd came
-came-told Prices old (Err fault) (Ok reply) now came = absurd came
-came-told Prices old (Err fault) (Err told) now (same, is) = (old, is)
+came-told : (R : Rules) (old : Tables) (row : Row) (said : Said) (now : Option Tables) → Came R old row said now → (new : Tables) × (now ≡ Some new)
+came-told R old (Ok command) (Ok reply) now (entry, step, told) = (after entry old, told)
+came-told R old (Ok command) (Err fault) now came = absurd came
+came-told R old (Err fault) (Ok reply) now came = absurd came
+came-told R old (Err fault) (Err told) now (same, is) = (old, is)
 
-one-did : (place : ℕ) (Prices : Pricing) (row : Row) (said : Said) (old now : Option Tables) (had has : Option (List ℕ)) → IfSome old (λ t. Came Prices t row said now) → HasWritten had has (report place (said ∷ [])) → IfSome old (λ t. DidAt place Prices (row ∷ []) t now had has)
-one-did place Prices row said None now had has came written = tt
-one-did place Prices row said (Some t) now had has came written =
-    let told = came-told Prices t row said now came in
-    record { said = said ∷ []; new = told.0; imports = (told.0, subst (λ n. Came Prices t row said n) told.1 came, refl); told = told.1; written = written }
+one-did : (place : ℕ) (R : Rules) (row : Row) (said : Said) (old now : Option Tables) (had has : Option (List ℕ)) → IfSome old (λ t. Came R t row said now) → HasWritten had has (report place (said ∷ [])) → IfSome old (λ t. DidAt place R (row ∷ []) t now had has)
+one-did place R row said None now had has came written = tt
+one-did place R row said (Some t) now had has came written =
+    let told = came-told R t row said now came in
+    record { said = said ∷ []; new = told.0; imports = (told.0, subst (λ n. Came R t row said n) told.1 came, refl); told = told.1; written = written }
 
-done-one : (place : ℕ) (Prices : Pricing) (row : Row) (said : Said) (old now : Option Tables) (had has : Option (List ℕ)) → IsSaidOf row said → IfSome old (λ t. Came Prices t row said now) → HasWritten had has (row_line place said) → Done place Prices (row ∷ []) old now had has
-done-one place Prices row said old now had has of_row came line =
+done-one : (place : ℕ) (R : Rules) (row : Row) (said : Said) (old now : Option Tables) (had has : Option (List ℕ)) → IsSaidOf row said → IfSome old (λ t. Came R t row said now) → HasWritten had has (row_line place said) → Done place R (row ∷ []) old now had has
+done-one place R row said old now had has of_row came line =
     let written = subst (HasWritten had has) (sym (append-nil (row_line place said))) line in
-    record { reports = record { said = said ∷ []; each = (of_row, tt); written = written }; did = one-did place Prices row said old now had has came written }
+    record { reports = record { said = said ∷ []; each = (of_row, tt); written = written }; did = one-did place R row said old now had has came written }
 
 part-one : (place : ℕ) (last : Said) (had has : Option (List ℕ)) → HasWrittenPart had has (row_line place last) → WroteToAt place [] last had has
 part-one place last None has part = record { part = tt }
@@ -179,51 +179,51 @@ part-one place last (Some text) has (count, part) =
     let here : place ≡ place + 0 = omega arith in
     record { part = (count, part ∙ (λ i. Some (sym (append-nil text) i ++ take count (row_line (here i) last)))) }
 
-one-next : (place : ℕ) (Prices : Pricing) (row : Row) (said : Said) (old now : Option Tables) (had has : Option (List ℕ)) → IfSome old (λ t. Came Prices t row said now) → WroteToAt place [] said had has → IfSome old (λ t. DidNextAt place Prices [] row t now had has)
-one-next place Prices row said None now had has came written = tt
-one-next place Prices row said (Some t) now had has came written =
-    let told = came-told Prices t row said now came in
-    record { said = []; last = said; new = told.0; imports = (told.0, subst (λ n. Came Prices t row said n) told.1 came, refl); told = told.1; written = written }
+one-next : (place : ℕ) (R : Rules) (row : Row) (said : Said) (old now : Option Tables) (had has : Option (List ℕ)) → IfSome old (λ t. Came R t row said now) → WroteToAt place [] said had has → IfSome old (λ t. DidNextAt place R [] row t now had has)
+one-next place R row said None now had has came written = tt
+one-next place R row said (Some t) now had has came written =
+    let told = came-told R t row said now came in
+    record { said = []; last = said; new = told.0; imports = (told.0, subst (λ n. Came R t row said n) told.1 came, refl); told = told.1; written = written }
 
-next-one : (place : ℕ) (Prices : Pricing) (row : Row) (said : Said) (old now : Option Tables) (had has : Option (List ℕ)) → IsSaidOf row said → IfSome old (λ t. Came Prices t row said now) → HasWrittenPart had has (row_line place said) → DoneNext place Prices [] row old now had has
-next-one place Prices row said old now had has of_row came line =
+next-one : (place : ℕ) (R : Rules) (row : Row) (said : Said) (old now : Option Tables) (had has : Option (List ℕ)) → IsSaidOf row said → IfSome old (λ t. Came R t row said now) → HasWrittenPart had has (row_line place said) → DoneNext place R [] row old now had has
+next-one place R row said old now had has of_row came line =
     let written = part-one place said had has line in
-    record { said = []; last = said; each = (of_row, tt); written = written; did = one-next place Prices row said old now had has came written }
+    record { said = []; last = said; each = (of_row, tt); written = written; did = one-next place R row said old now had has came written }
 
 -- ---- these rows are done, and the reader is after them
-pub record IsAt (place : ℕ) (Prices : Pricing) (all : List Row) (reader : Option (List Row)) (count : ℕ) (old now : Option Tables) (had has : Option (List ℕ)) : Type 0 where
+pub record IsAt (place : ℕ) (R : Rules) (all : List Row) (reader : Option (List Row)) (count : ℕ) (old now : Option Tables) (had has : Option (List ℕ)) : Type 0 where
   pub rows : List Row
   pub read : HasRead rows reader all
   pub counted : length rows ≡ count
-  pub done : Done place Prices rows old now had has
+  pub done : Done place R rows old now had has
 
-pub at-start : (place : ℕ) (Prices : Pricing) (all : List Row) (old : Option Tables) (had : Option (List ℕ)) → IsAt place Prices all (Some all) 0 old old had had
-at-start place Prices all old had = record { rows = []; read = (all, refl, refl); counted = refl; done = done-none place Prices old had }
+pub at-start : (place : ℕ) (R : Rules) (all : List Row) (old : Option Tables) (had : Option (List ℕ)) → IsAt place R all (Some all) 0 old old had had
+at-start place R all old had = record { rows = []; read = (all, refl, refl); counted = refl; done = done-none place R old had }
 
 -- one row more is done
-pub row-done : (place : ℕ) (Prices : Pricing) (all : List Row) (reader behind : Option (List Row)) (count here : ℕ) (row : Row) (said : Said) (old now later : Option Tables) (had mid has : Option (List ℕ))
-    → IsAt place Prices all reader count old now had mid → IfSome reader (λ left. IsNext left (Some row) behind) → here ≡ place + count → IsSaidOf row said → IfSome now (λ t. Came Prices t row said later)
-    → HasWritten mid has (row_line here said) → IsAt place Prices all behind (count + 1) old later had has
-row-done place Prices all reader behind count here row said old now later had mid has at next is of_row came written =
+pub row-done : (place : ℕ) (R : Rules) (all : List Row) (reader behind : Option (List Row)) (count here : ℕ) (row : Row) (said : Said) (old now later : Option Tables) (had mid has : Option (List ℕ))
+    → IsAt place R all reader count old now had mid → IfSome reader (λ left. IsNext left (Some row) behind) → here ≡ place + count → IsSaidOf row said → IfSome now (λ t. Came R t row said later)
+    → HasWritten mid has (row_line here said) → IsAt place R all behind (count + 1) old later had has
+row-done place R all reader behind count here row said old now later had mid has at next is of_row came written =
     let spot : here ≡ place + length at.rows = omega (arith, is, at.counted) in
     record {
       rows = at.rows ++ row ∷ [];
       read = read-more at.rows row reader behind all at.read next;
       counted = omega (arith, length-append at.rows (row ∷ []), at.counted);
-      done = done-join place Prices at.rows (row ∷ []) old now later had mid has at.done
-          (done-one (place + length at.rows) Prices row said now later mid has of_row came (subst (λ n. HasWritten mid has (row_line n said)) spot written));
+      done = done-join place R at.rows (row ∷ []) old now later had mid has at.done
+          (done-one (place + length at.rows) R row said now later mid has of_row came (subst (λ n. HasWritten mid has (row_line n said)) spot written));
     }
 
 -- all rows are done
-pub all-done : (place : ℕ) (Prices : Pricing) (all : List Row) (reader behind : Option (List Row)) (count : ℕ) (old now : Option Tables) (had has : Option (List ℕ))
-    → IsAt place Prices all reader count old now had has → IfSome reader (λ left. IsNext left None behind) → Done place Prices all old now had has × (count ≡ length all)
-all-done place Prices all reader behind count old now had has at next =
+pub all-done : (place : ℕ) (R : Rules) (all : List Row) (reader behind : Option (List Row)) (count : ℕ) (old now : Option Tables) (had has : Option (List ℕ))
+    → IsAt place R all reader count old now had has → IfSome reader (λ left. IsNext left None behind) → Done place R all old now had has × (count ≡ length all)
+all-done place R all reader behind count old now had has at next =
     let same = read-all at.rows reader behind all at.read next in
-    (subst (λ rows. Done place Prices rows old now had has) same at.done, sym at.counted ∙ ap length same)
+    (subst (λ rows. Done place R rows old now had has) same at.done, sym at.counted ∙ ap length same)
 
 -- the first of them are
-pub first-done : (place : ℕ) (Prices : Pricing) (all : List Row) (reader : Option (List Row)) (count : ℕ) (old now : Option Tables) (had has : Option (List ℕ)) → IsAt place Prices all reader count old now had has → DoneFirst place Prices all old now had has
-first-done place Prices all reader count old now had has at = record { rows = at.rows; left = at.read.0; split = at.read.2; done = at.done }
+pub first-done : (place : ℕ) (R : Rules) (all : List Row) (reader : Option (List Row)) (count : ℕ) (old now : Option Tables) (had has : Option (List ℕ)) → IsAt place R all reader count old now had has → DoneFirst place R all old now had has
+first-done place R all reader count old now had has at = record { rows = at.rows; left = at.read.0; split = at.read.2; done = at.done }
 
 -- and the next one is at hand
 at-hand : (rows : List Row) (row : Row) (reader behind : Option (List Row)) (all : List Row) → HasRead rows reader all → IfSome reader (λ left. IsNext left (Some row) behind) → (left : List Row) × (rows ++ row ∷ left ≡ all)
@@ -231,23 +231,23 @@ at-hand rows row reader behind all read next =
     let more = read-more rows row reader behind all read next in
     (more.0, sym (append_assoc rows (row ∷ []) more.0) ∙ more.2)
 
-pub before-done : (place : ℕ) (Prices : Pricing) (all : List Row) (reader behind : Option (List Row)) (count : ℕ) (row : Row) (old now later : Option Tables) (had has : Option (List ℕ))
-    → IsAt place Prices all reader count old now had has → IfSome reader (λ left. IsNext left (Some row) behind) → later ≡ now → DoneBefore place Prices all old later had has
-before-done place Prices all reader behind count row old now later had has at next same =
+pub before-done : (place : ℕ) (R : Rules) (all : List Row) (reader behind : Option (List Row)) (count : ℕ) (row : Row) (old now later : Option Tables) (had has : Option (List ℕ))
+    → IsAt place R all reader count old now had has → IfSome reader (λ left. IsNext left (Some row) behind) → later ≡ now → DoneBefore place R all old later had has
+before-done place R all reader behind count row old now later had has at next same =
     let hand = at-hand at.rows row reader behind all at.read next in
     rw same record { rows = at.rows; row = row; left = hand.0; split = hand.1; done = at.done }
 
-pub most-done : (before : ℕ) (Prices : Pricing) (all : List Row) (reader behind : Option (List Row)) (count : ℕ) (row : Row) (old now : Option Tables) (had has : Option (List ℕ))
-    → IsAt (before + 1) Prices all reader count old now had has → IfSome reader (λ left. IsNext left (Some row) behind) → before + count ≡ 4_294_967_295 → DoneMost before Prices all old now had has
-most-done before Prices all reader behind count row old now had has at next most =
+pub most-done : (before : ℕ) (R : Rules) (all : List Row) (reader behind : Option (List Row)) (count : ℕ) (row : Row) (old now : Option Tables) (had has : Option (List ℕ))
+    → IsAt (before + 1) R all reader count old now had has → IfSome reader (λ left. IsNext left (Some row) behind) → before + count ≡ 4_294_967_295 → DoneMost before R all old now had has
+most-done before R all reader behind count row old now had has at next most =
     let hand = at-hand at.rows row reader behind all at.read next in
     record { first = record { rows = at.rows; row = row; left = hand.0; split = hand.1; done = at.done }; most = ap (λ n. before + n) at.counted ∙ most }
 
 -- with a part of its line
-pub part-done : (place : ℕ) (Prices : Pricing) (all : List Row) (reader behind : Option (List Row)) (count here : ℕ) (row : Row) (said : Said) (old now later : Option Tables) (had mid has : Option (List ℕ))
-    → IsAt place Prices all reader count old now had mid → IfSome reader (λ left. IsNext left (Some row) behind) → here ≡ place + count → IsSaidOf row said → IfSome now (λ t. Came Prices t row said later)
-    → HasWrittenPart mid has (row_line here said) → DonePart place Prices all old later had has
-part-done place Prices all reader behind count here row said old now later had mid has at next is of_row came written =
+pub part-done : (place : ℕ) (R : Rules) (all : List Row) (reader behind : Option (List Row)) (count here : ℕ) (row : Row) (said : Said) (old now later : Option Tables) (had mid has : Option (List ℕ))
+    → IsAt place R all reader count old now had mid → IfSome reader (λ left. IsNext left (Some row) behind) → here ≡ place + count → IsSaidOf row said → IfSome now (λ t. Came R t row said later)
+    → HasWrittenPart mid has (row_line here said) → DonePart place R all old later had has
+part-done place R all reader behind count here row said old now later had mid has at next is of_row came written =
     let spot : here ≡ place + length at.rows = omega (arith, is, at.counted) in
     let hand = at-hand at.rows row reader behind all at.read next in
     let rows : at.rows ++ [] ≡ at.rows = append-nil at.rows in
@@ -256,12 +256,12 @@ part-done place Prices all reader behind count here row said old now later had m
       row = row;
       left = hand.0;
       split = hand.1;
-      done = subst (λ rows. DoneNext place Prices rows row old later had has) rows
-          (done-next place Prices at.rows [] row old now later had mid has at.done
-          (next-one (place + length at.rows) Prices row said now later mid has of_row came (subst (λ n. HasWrittenPart mid has (row_line n said)) spot written)));
+      done = subst (λ rows. DoneNext place R rows row old later had has) rows
+          (done-next place R at.rows [] row old now later had mid has at.done
+          (next-one (place + length at.rows) R row said now later mid has of_row came (subst (λ n. HasWrittenPart mid has (row_line n said)) spot written)));
     }
 
 -- no more rows than the text has bytes
-pub few-done : (place : ℕ) (Prices : Pricing) (text : List ℕ) (reader : Option (List Row)) (count : ℕ) (old now : Option Tables) (had has : Option (List ℕ)) → IsAt place Prices (rows_of text) reader count old now had has → count ≤ length text
-few-done place Prices text reader count old now had has at =
+pub few-done : (place : ℕ) (R : Rules) (text : List ℕ) (reader : Option (List Row)) (count : ℕ) (old now : Option Tables) (had has : Option (List ℕ)) → IsAt place R (rows_of text) reader count old now had has → count ≤ length text
+few-done place R text reader count old now had has at =
     omega (arith, at.counted, read-few at.rows reader (rows_of text) at.read, few-rows text)

@@ -2,5 +2,5 @@ pub mod ConfirmLemmas
 pub mod FaultLemmas
 pub mod ImportLemmas
 mod LoadLemmas
-mod RunLemmas
+pub mod RunLemmas
 mod LineLemmas

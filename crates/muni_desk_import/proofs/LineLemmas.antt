@@ -51,5 +51,5 @@ lines-of t place (Ok reply ∷ more) all =
 lines-of t place (Err fault ∷ more) all = (row_line place (Err fault), report (place + 1) more, refl, refl, lines-of t (place + 1) more all)
 
 pub reports-right : ConfirmedFiguresAreRight → ReportsAreRight
-reports-right right ends old new rows said sound is =
-    lines-of new 1 said (right.runs ends old new (commands_of rows) (replies_of said) sound (imports-run ends old new rows said is))
+reports-right right limit ends old new rows said few sound is =
+    lines-of new 1 said (right.runs limit ends few old new (commands_of rows) (replies_of said) sound (imports-run limit ends old new rows said is))

@@ -1,5 +1,5 @@
--- Laws of imports, for the answers that any ends lead to.
-use Rattle.std.specs.Prelude.{◌≡◌, ℕ, ℤ, List, [], ◌∷◌, Option, Some, None, Ok, Err}
+-- Laws of imports, for any limit of a desk and for the answers that any ends lead to.
+use Rattle.std.specs.Prelude.{◌≡◌, ◌≤◌, ℕ, ℤ, List, [], ◌∷◌, Option, Some, None, Ok, Err}
 use Rattle.muni_rule.specs.Payments.{PaymentSeries}
 use Rattle.muni_rule.specs.WorthEnds.{WorthEnds}
 use Rattle.muni_terms.specs.declared.row.IssueRow.{IssueRow}
@@ -16,7 +16,7 @@ use Rattle.muni_book_step.specs.Runs.{Runs}
 use Rattle.muni_book_step.specs.Step.{Entry, IsStepOver}
 use Rattle.muni_import.specs.Report.{Said}
 use Rattle.muni_import.specs.Row.{Row}
-use Rattle.muni_book.specs.Answers.{IsRightAnswer}
+use Rattle.muni_book.specs.Rules.{book_rules}
 use Rattle.muni_book.specs.RightFigures.{AreRightFigures}
 use Rattle.muni_book.specs.RightReplies.{IsKeptRight}
 use Rattle.muni_book.specs.SoundTables.{AreSoundTables}
@@ -40,9 +40,9 @@ replies_of (Err fault ∷ said) = replies_of said
 -- an import is a run of the commands among its rows, which gives their replies
 abbrev pub ImportsAreRuns : Type 0
 ImportsAreRuns =
-    (ends : PaymentSeries → ℤ → WorthEnds) (old new : Tables) (rows : List Row) (said : List Said)
-    → Imports (IsRightAnswer ends) old rows said new
-    → Runs (IsRightAnswer ends) old (commands_of rows) (replies_of said) new
+    (limit : ℕ) (ends : PaymentSeries → ℤ → WorthEnds) (old new : Tables) (rows : List Row) (said : List Said)
+    → Imports (book_rules limit ends) old rows said new
+    → Runs (book_rules limit ends) old (commands_of rows) (replies_of said) new
 
 -- two imports of the same rows over the same tables say the same, and lead to the same tables
 pub record AreAlike (said others : List Said) (new other : Tables) : Type 0 where
@@ -52,16 +52,16 @@ pub record AreAlike (said others : List Said) (new other : Tables) : Type 0 wher
 
 abbrev pub ReportsAreUnique : Type 0
 ReportsAreUnique =
-    (ends : PaymentSeries → ℤ → WorthEnds) (old new other : Tables) (rows : List Row) (said others : List Said)
-    → Imports (IsRightAnswer ends) old rows said new
-    → Imports (IsRightAnswer ends) old rows others other
+    (limit : ℕ) (ends : PaymentSeries → ℤ → WorthEnds) (old new other : Tables) (rows : List Row) (said others : List Said)
+    → Imports (book_rules limit ends) old rows said new
+    → Imports (book_rules limit ends) old rows others other
     → AreAlike said others new other
 
 -- Over sound tables the report on an import has a line for each row, and that of a confirmation has figures that are right.
 abbrev pub ReportsAreRight : Type 0
 ReportsAreRight =
-    (ends : PaymentSeries → ℤ → WorthEnds) (old new : Tables) (rows : List Row) (said : List Said)
-    → AreSoundTables old → Imports (IsRightAnswer ends) old rows said new
+    (limit : ℕ) (ends : PaymentSeries → ℤ → WorthEnds) (old new : Tables) (rows : List Row) (said : List Said)
+    → limit ≤ 100_000_000 → AreSoundTables old → Imports (book_rules limit ends) old rows said new
     → HasLinesOf new 1 said (report 1 said)
 
 -- how a reply of the book is written to whom asked for a confirmation
@@ -80,8 +80,8 @@ pub record IsStepOfConfirm (tables : Tables) (key : Key) (told : Reply) (entry :
 
 abbrev pub ConfirmationsAreSteps : Type 0
 ConfirmationsAreSteps =
-    (ends : PaymentSeries → ℤ → WorthEnds) (tables : Tables) (key : Key) (told : Reply) (entry : Option Entry)
-    → IsStepOver (IsRightAnswer ends) tables (Confirm key) (record { reply = told; entry = entry })
+    (limit : ℕ) (ends : PaymentSeries → ℤ → WorthEnds) (tables : Tables) (key : Key) (told : Reply) (entry : Option Entry)
+    → IsStepOver (book_rules limit ends) tables (Confirm key) (record { reply = told; entry = entry })
     → IsStepOfConfirm tables key told entry
 
 -- over sound tables each trade that is kept is confirmed, and what is printed are figures that are right

@@ -7,7 +7,7 @@ use Rattle.muni_edge.specs.declared.source.Source as Source
 use Rattle.muni_keep.specs.Tables.{Tables}
 use Rattle.muni_keep.specs.declared.cabinet.Cabinet as Cabinet
 use Rattle.muni_keep.specs.declared.keeper.Keeper as Keeper
-use Rattle.muni_book_step.specs.Step.{Pricing}
+use Rattle.muni_book_step.specs.Step.{Rules}
 use Rattle.muni_import.specs.Row.{Row}
 use Rattle.muni_import.specs.Rows.{rows_of}
 use Rattle.muni_desk_io.specs.Lent.{Lent, IfExposed}
@@ -18,10 +18,10 @@ use Rattle.muni_desk_import.specs.Reported.{ReportsRows, ReportsFirst, ReportsPa
 
 -- The first rows of a text were done: all that its first bytes tell, but for the last of them, which may go on in
 -- the bytes that did not come.
-pub record DidCame (Prices : Pricing) (text : List ℕ) (left : Option (List ℕ)) (old : Tables) (now : Option Tables) (had has : Option (List ℕ)) : Type 0 where
+pub record DidCame (rules : Rules) (text : List ℕ) (left : Option (List ℕ)) (old : Tables) (now : Option Tables) (had has : Option (List ℕ)) : Type 0 where
   pub came : List ℕ
   pub taken : Consumes (Some text) left came
-  pub first : DidFirst Prices text old now had has
+  pub first : DidFirst rules text old now had has
   pub cut : List Row
   pub told : first.rows ++ cut ≡ rows_of came
   pub one : length cut ≤ 1
@@ -31,46 +31,46 @@ abbrev pub HasTooManyRows : List ℕ → Type 0
 HasTooManyRows text = 4_294_967_295 < length (rows_of text)
 
 -- as many rows of a text were done as there are places, and one is left
-pub record DidMost (Prices : Pricing) (text : List ℕ) (old : Tables) (now : Option Tables) (had has : Option (List ℕ)) : Type 0 where
-  pub first : DidBefore Prices text old now had has
+pub record DidMost (rules : Rules) (text : List ℕ) (old : Tables) (now : Option Tables) (had has : Option (List ℕ)) : Type 0 where
+  pub first : DidBefore rules text old now had has
   pub most : length first.rows ≡ 4_294_967_295
 
 -- The rows of an input applied to a keeper: all, or the first up to the one at which the store failed, memory ran
 -- out, the bytes that came ended or the places did. If the output fails, the row of its line is applied too.
-abbrev pub LoadedRows : {I K O T : Type 0} → Source.Ghosts I → Keeper.Ghosts K → Sink.Ghosts O → Pricing → Result T Fault → (from to : I) (old new : K) (before after : O) → Type 0
-LoadedRows source keeper sink Prices (Ok done) from to old new before after =
-    IfSome (source.left from) (λ text. IfSome (keeper.tables old) (λ tables. Did Prices (rows_of text) tables (keeper.tables new) (sink.bytes before) (sink.bytes after)))
-LoadedRows source keeper sink Prices (Err Store) from to old new before after =
-    IfSome (source.left from) (λ text. IfSome (keeper.tables old) (λ tables. DidBefore Prices text tables (keeper.tables new) (sink.bytes before) (sink.bytes after)))
-LoadedRows source keeper sink Prices (Err NoMemory) from to old new before after =
-    IfSome (source.left from) (λ text. IfSome (keeper.tables old) (λ tables. DidFirst Prices text tables (keeper.tables new) (sink.bytes before) (sink.bytes after)))
-LoadedRows source keeper sink Prices (Err Write) from to old new before after =
-    IfSome (source.left from) (λ text. IfSome (keeper.tables old) (λ tables. DidPart Prices text tables (keeper.tables new) (sink.bytes before) (sink.bytes after)))
+abbrev pub LoadedRows : {I K O T : Type 0} → Source.Ghosts I → Keeper.Ghosts K → Sink.Ghosts O → Rules → Result T Fault → (from to : I) (old new : K) (before after : O) → Type 0
+LoadedRows source keeper sink rules (Ok done) from to old new before after =
+    IfSome (source.left from) (λ text. IfSome (keeper.tables old) (λ tables. Did rules (rows_of text) tables (keeper.tables new) (sink.bytes before) (sink.bytes after)))
+LoadedRows source keeper sink rules (Err Store) from to old new before after =
+    IfSome (source.left from) (λ text. IfSome (keeper.tables old) (λ tables. DidBefore rules text tables (keeper.tables new) (sink.bytes before) (sink.bytes after)))
+LoadedRows source keeper sink rules (Err NoMemory) from to old new before after =
+    IfSome (source.left from) (λ text. IfSome (keeper.tables old) (λ tables. DidFirst rules text tables (keeper.tables new) (sink.bytes before) (sink.bytes after)))
+LoadedRows source keeper sink rules (Err Write) from to old new before after =
+    IfSome (source.left from) (λ text. IfSome (keeper.tables old) (λ tables. DidPart rules text tables (keeper.tables new) (sink.bytes before) (sink.bytes after)))
     × Rose (sink.faults before) (sink.faults after)
-LoadedRows source keeper sink Prices (Err Read) from to old new before after =
-    IfSome (source.left from) (λ text. IfSome (keeper.tables old) (λ tables. DidCame Prices text (source.left to) tables (keeper.tables new) (sink.bytes before) (sink.bytes after)))
+LoadedRows source keeper sink rules (Err Read) from to old new before after =
+    IfSome (source.left from) (λ text. IfSome (keeper.tables old) (λ tables. DidCame rules text (source.left to) tables (keeper.tables new) (sink.bytes before) (sink.bytes after)))
     × Rose (source.faults from) (source.faults to)
-LoadedRows source keeper sink Prices (Err TooLarge) from to old new before after =
-    IfSome (source.left from) (λ text. IfSome (keeper.tables old) (λ tables. DidMost Prices text tables (keeper.tables new) (sink.bytes before) (sink.bytes after)))
+LoadedRows source keeper sink rules (Err TooLarge) from to old new before after =
+    IfSome (source.left from) (λ text. IfSome (keeper.tables old) (λ tables. DidMost rules text tables (keeper.tables new) (sink.bytes before) (sink.bytes after)))
     × IfSome (source.left from) HasTooManyRows
 
 -- A load into a store: its rows likewise, and none of them if the store cannot be fetched.
-abbrev pub Loaded : {I O C K T : Type 0} → Source.Ghosts I → Sink.Ghosts O → Cabinet.Ghosts C K → Pricing → (store : List ℕ) → Result T Fault → (old new : Lent I O C) → Type 0
-Loaded source sink cabinet Prices store (Ok done) old new =
-    IfExposed source cabinet store old (λ text tables. Did Prices (rows_of text) tables (cabinet.told new.cabinet store) (sink.bytes old.output) (sink.bytes new.output))
-Loaded source sink cabinet Prices store (Err Store) old new =
-    IfExposed source cabinet store old (λ text tables. DidBeforeOrNone Prices text tables (cabinet.told new.cabinet store) (sink.bytes old.output) (sink.bytes new.output))
+abbrev pub Loaded : {I O C K T : Type 0} → Source.Ghosts I → Sink.Ghosts O → Cabinet.Ghosts C K → Rules → (store : List ℕ) → Result T Fault → (old new : Lent I O C) → Type 0
+Loaded source sink cabinet rules store (Ok done) old new =
+    IfExposed source cabinet store old (λ text tables. Did rules (rows_of text) tables (cabinet.told new.cabinet store) (sink.bytes old.output) (sink.bytes new.output))
+Loaded source sink cabinet rules store (Err Store) old new =
+    IfExposed source cabinet store old (λ text tables. DidBeforeOrNone rules text tables (cabinet.told new.cabinet store) (sink.bytes old.output) (sink.bytes new.output))
     × Rose (cabinet.faults old.cabinet) (cabinet.faults new.cabinet)
-Loaded source sink cabinet Prices store (Err NoMemory) old new =
-    IfExposed source cabinet store old (λ text tables. DidFirst Prices text tables (cabinet.told new.cabinet store) (sink.bytes old.output) (sink.bytes new.output))
-Loaded source sink cabinet Prices store (Err Write) old new =
-    IfExposed source cabinet store old (λ text tables. DidPart Prices text tables (cabinet.told new.cabinet store) (sink.bytes old.output) (sink.bytes new.output))
+Loaded source sink cabinet rules store (Err NoMemory) old new =
+    IfExposed source cabinet store old (λ text tables. DidFirst rules text tables (cabinet.told new.cabinet store) (sink.bytes old.output) (sink.bytes new.output))
+Loaded source sink cabinet rules store (Err Write) old new =
+    IfExposed source cabinet store old (λ text tables. DidPart rules text tables (cabinet.told new.cabinet store) (sink.bytes old.output) (sink.bytes new.output))
     × Rose (sink.faults old.output) (sink.faults new.output)
-Loaded source sink cabinet Prices store (Err Read) old new =
-    IfExposed source cabinet store old (λ text tables. DidCame Prices text (source.left new.input) tables (cabinet.told new.cabinet store) (sink.bytes old.output) (sink.bytes new.output))
+Loaded source sink cabinet rules store (Err Read) old new =
+    IfExposed source cabinet store old (λ text tables. DidCame rules text (source.left new.input) tables (cabinet.told new.cabinet store) (sink.bytes old.output) (sink.bytes new.output))
     × Rose (source.faults old.input) (source.faults new.input)
-Loaded source sink cabinet Prices store (Err TooLarge) old new =
-    IfExposed source cabinet store old (λ text tables. DidMost Prices text tables (cabinet.told new.cabinet store) (sink.bytes old.output) (sink.bytes new.output))
+Loaded source sink cabinet rules store (Err TooLarge) old new =
+    IfExposed source cabinet store old (λ text tables. DidMost rules text tables (cabinet.told new.cabinet store) (sink.bytes old.output) (sink.bytes new.output))
     × IfSome (source.left old.input) HasTooManyRows
 
 -- what it writes, as far as it hangs on its rows alone

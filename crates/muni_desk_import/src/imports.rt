@@ -1,7 +1,7 @@
 //! The import of a CSV text into a store.
 
 ghost use Rattle.std.specs.Prelude.{◌≡◌, None, IfSome};
-ghost use Rattle.muni_book.specs.Answers.{IsRightAnswer};
+ghost use Rattle.muni_book.specs.Rules.{book_rules};
 ghost use Rattle.muni_keep.specs.Cabinet.{LeavesOthers};
 ghost use Rattle.muni_desk_io.specs.Input.{TakesUpTo};
 ghost use Rattle.muni_desk_io.specs.Lent.{lent};
@@ -10,7 +10,7 @@ ghost use Rattle.muni_desk_import.specs.Imported.{Imported};
 ghost use Rattle.muni_desk_import.specs.Reported.{Reported};
 
 use crate::rows::import_rows;
-use muni_book::Calculator;
+use muni_book::Book;
 use muni_desk_io::{Fault, read_input};
 use muni_edge::{Gate, Sink, Source};
 use muni_keep::Cabinet;
@@ -34,7 +34,7 @@ pub fn import<
     E: Encloser + Sync,
     G: Gate + Sync,
 >(
-    calculator: &Calculator<'_, R, E, G>,
+    book: &Book<'_, R, E, G>,
     alloc: Global,
     store: &[u8],
     input: &mut I,
@@ -42,7 +42,7 @@ pub fn import<
     cabinet: &mut C,
 ) -> Result<(), Fault>
     requires none_out { C.out cabinet.old ≡ None }
-    ensures imported { Imported I.Source O.Sink C.Cabinet (IsRightAnswer (E.ends calculator.now.encloser.now)) store.now result
+    ensures imported { Imported I.Source O.Sink C.Cabinet (book_rules book.now.limit (E.ends book.now.calculator.now.encloser.now)) store.now result
         (lent input.old output.old cabinet.old) (lent input.new output.new cabinet.new) }
     ensures reported { IfSome (I.left input.old) (λ text. Reported text result (O.bytes output.old) (O.bytes output.new)) }
     ensures takes { TakesUpTo I.Source 4_194_305 input.old input.new }
@@ -52,7 +52,7 @@ pub fn import<
 {
     let text = read_input(alloc, input, LIMIT)?;
     let mut keeper = cabinet.fetch(store)?;
-    let done = import_rows(calculator, alloc, &text, &mut keeper, output);
+    let done = import_rows(book, alloc, &text, &mut keeper, output);
     cabinet.give_back(keeper);
     done
 }

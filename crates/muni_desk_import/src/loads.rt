@@ -1,7 +1,7 @@
 //! The load of a CSV text of any length into a store.
 
 ghost use Rattle.std.specs.Prelude.{◌≡◌, ◌<◌, None, length, IfSome};
-ghost use Rattle.muni_book.specs.Answers.{IsRightAnswer};
+ghost use Rattle.muni_book.specs.Rules.{book_rules};
 ghost use Rattle.muni_keep.specs.Cabinet.{LeavesOthers};
 ghost use Rattle.muni_keep.specs.Keeper.{SameKeeper};
 ghost use Rattle.muni_desk_io.specs.Lent.{lent};
@@ -9,7 +9,7 @@ ghost use Rattle.muni_desk_io.specs.Reports.{ReportsReads, ReportsWrites};
 ghost use Rattle.muni_desk_import.specs.Loaded.{Loaded, LoadedRows, LoadReported, TakesPiece, TakesSome};
 
 use crate::rows::rows_after;
-use muni_book::Calculator;
+use muni_book::Book;
 use muni_desk_io::Fault;
 use muni_edge::{Failed, Gate, Sink, Source};
 use muni_import::RowBlocks;
@@ -26,7 +26,7 @@ use std::thread::Threads;
 /// stay applied and their lines written. A text with more than 4,294,967,295 rows is too large: those are
 /// done, and no more.
 pub fn load<R: Threads + Sync, I: Source, O: Sink, C: Cabinet, E: Encloser + Sync, G: Gate + Sync>(
-    calculator: &Calculator<'_, R, E, G>,
+    book: &Book<'_, R, E, G>,
     alloc: Global,
     store: &[u8],
     input: &mut I,
@@ -34,7 +34,7 @@ pub fn load<R: Threads + Sync, I: Source, O: Sink, C: Cabinet, E: Encloser + Syn
     cabinet: &mut C,
 ) -> Result<(), Fault>
     requires none_out { C.out cabinet.old ≡ None }
-    ensures loaded { Loaded I.Source O.Sink C.Cabinet (IsRightAnswer (E.ends calculator.now.encloser.now)) store.now result
+    ensures loaded { Loaded I.Source O.Sink C.Cabinet (book_rules book.now.limit (E.ends book.now.calculator.now.encloser.now)) store.now result
         (lent input.old output.old cabinet.old) (lent input.new output.new cabinet.new) }
     ensures reported { IfSome (I.left input.old) (λ text. LoadReported text result (O.bytes output.old) (O.bytes output.new)) }
     ensures takes { TakesSome I.Source input.old input.new }
@@ -43,20 +43,20 @@ pub fn load<R: Threads + Sync, I: Source, O: Sink, C: Cabinet, E: Encloser + Syn
     ensures leaves { LeavesOthers C.Cabinet store.now cabinet.old cabinet.new }
 {
     let mut keeper = cabinet.fetch(store)?;
-    let done = load_rows(calculator, alloc, input, &mut keeper, output);
+    let done = load_rows(book, alloc, input, &mut keeper, output);
     cabinet.give_back(keeper);
     done
 }
 
 // The rows of an input over a keeper.
 fn load_rows<R: Threads + Sync, I: Source, K: Keeper, O: Sink, E: Encloser + Sync, G: Gate + Sync>(
-    calculator: &Calculator<'_, R, E, G>,
+    book: &Book<'_, R, E, G>,
     alloc: Global,
     input: &mut I,
     keeper: &mut K,
     output: &mut O,
 ) -> Result<(), Fault>
-    ensures loaded { LoadedRows I.Source K.Keeper O.Sink (IsRightAnswer (E.ends calculator.now.encloser.now)) result
+    ensures loaded { LoadedRows I.Source K.Keeper O.Sink (book_rules book.now.limit (E.ends book.now.calculator.now.encloser.now)) result
         input.old input.new keeper.old keeper.new output.old output.new }
     ensures reported { IfSome (I.left input.old) (λ text. LoadReported text result (O.bytes output.old) (O.bytes output.new)) }
     ensures same { SameKeeper K.Keeper Fault.Store result keeper.old keeper.new }
@@ -70,11 +70,11 @@ fn load_rows<R: Threads + Sync, I: Source, K: Keeper, O: Sink, E: Encloser + Syn
     'pieces: for _ in 0..u64::MAX {
         let count = take_piece(input, &mut room)?;
         if count == 0 {
-            rows_after(calculator, alloc, &blocks.rest(), done, keeper, output)?;
+            rows_after(book, alloc, &blocks.rest(), done, keeper, output)?;
             return Ok(());
         }
         let block = blocks.add(&room[..count])?;
-        done = rows_after(calculator, alloc, &block, done, keeper, output)?;
+        done = rows_after(book, alloc, &block, done, keeper, output)?;
     }
     // Pieces without an end are more than any memory holds.
     Err(Fault::NoMemory)

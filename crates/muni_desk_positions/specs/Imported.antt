@@ -5,7 +5,7 @@ use Rattle.muni_edge.specs.declared.sink.Sink as Sink
 use Rattle.muni_edge.specs.declared.source.Source as Source
 use Rattle.muni_keep.specs.declared.cabinet.Cabinet as Cabinet
 use Rattle.muni_keep.specs.declared.keeper.Keeper as Keeper
-use Rattle.muni_book_step.specs.Step.{Pricing}
+use Rattle.muni_book_step.specs.Step.{Rules}
 use Rattle.muni_desk_io.specs.Lent.{Lent, IfExposed}
 use Rattle.muni_desk_io.specs.declared.fault.Fault.{Fault}
 use Rattle.muni_desk_io.specs.declared.fault.Fault.TheVariants.{Read, Write, Store, NoMemory, TooLarge}
@@ -16,35 +16,35 @@ use Rattle.muni_desk_positions.specs.Importing.{DidAll, DidSome}
 use Rattle.muni_desk_positions.specs.Listing.{MayNotSum}
 
 -- rows applied to a keeper, and the positions of a desk listed after them
-abbrev pub AppliedWith : {K O T : Type 0} → Keeper.Ghosts K → Sink.Ghosts O → Pricing → (desk text : List ℕ) → Result T Fault → (old new : K) (before after : O) → Type 0
-AppliedWith keeper sink Prices desk text (Ok done) old new before after =
-    IfSome (keeper.tables old) (λ tables. DidAll Prices desk text tables (keeper.tables new) (sink.bytes before) (sink.bytes after))
-AppliedWith keeper sink Prices desk text (Err Write) old new before after =
-    IfSome (keeper.tables old) (λ tables. DidSome Prices desk text tables (keeper.tables new) (sink.bytes before) (sink.bytes after))
+abbrev pub AppliedWith : {K O T : Type 0} → Keeper.Ghosts K → Sink.Ghosts O → Rules → (desk text : List ℕ) → Result T Fault → (old new : K) (before after : O) → Type 0
+AppliedWith keeper sink rules desk text (Ok done) old new before after =
+    IfSome (keeper.tables old) (λ tables. DidAll rules desk text tables (keeper.tables new) (sink.bytes before) (sink.bytes after))
+AppliedWith keeper sink rules desk text (Err Write) old new before after =
+    IfSome (keeper.tables old) (λ tables. DidSome rules desk text tables (keeper.tables new) (sink.bytes before) (sink.bytes after))
     × Rose (sink.faults before) (sink.faults after)
-AppliedWith keeper sink Prices desk text (Err Store) old new before after =
-    IfSome (keeper.tables old) (λ tables. DidFirst Prices text tables (keeper.tables new) (sink.bytes before) (sink.bytes after))
+AppliedWith keeper sink rules desk text (Err Store) old new before after =
+    IfSome (keeper.tables old) (λ tables. DidFirst rules text tables (keeper.tables new) (sink.bytes before) (sink.bytes after))
     × (Rose (keeper.faults old) (keeper.faults new) ⊎ MayNotSum desk (keeper.tables old))
-AppliedWith keeper sink Prices desk text (Err NoMemory) old new before after =
-    IfSome (keeper.tables old) (λ tables. DidFirst Prices text tables (keeper.tables new) (sink.bytes before) (sink.bytes after))
-AppliedWith keeper sink Prices desk text (Err Read) old new before after = ⊥
-AppliedWith keeper sink Prices desk text (Err TooLarge) old new before after = ⊥
+AppliedWith keeper sink rules desk text (Err NoMemory) old new before after =
+    IfSome (keeper.tables old) (λ tables. DidFirst rules text tables (keeper.tables new) (sink.bytes before) (sink.bytes after))
+AppliedWith keeper sink rules desk text (Err Read) old new before after = ⊥
+AppliedWith keeper sink rules desk text (Err TooLarge) old new before after = ⊥
 
 -- The same over a store. If the input is not read whole or memory runs out, it is as for an import without
 -- positions.
-abbrev pub ImportedWith : {I O C K T : Type 0} → Source.Ghosts I → Sink.Ghosts O → Cabinet.Ghosts C K → Pricing → (store desk : List ℕ) → Result T Fault → (old new : Lent I O C) → Type 0
-ImportedWith source sink cabinet Prices store desk (Ok done) old new =
-    IfExposed source cabinet store old (λ text tables. DidAll Prices desk text tables (cabinet.told new.cabinet store) (sink.bytes old.output) (sink.bytes new.output))
+abbrev pub ImportedWith : {I O C K T : Type 0} → Source.Ghosts I → Sink.Ghosts O → Cabinet.Ghosts C K → Rules → (store desk : List ℕ) → Result T Fault → (old new : Lent I O C) → Type 0
+ImportedWith source sink cabinet rules store desk (Ok done) old new =
+    IfExposed source cabinet store old (λ text tables. DidAll rules desk text tables (cabinet.told new.cabinet store) (sink.bytes old.output) (sink.bytes new.output))
     × IfSome (source.left old.input) (λ text. length text ≤ 4_194_304)
-ImportedWith source sink cabinet Prices store desk (Err Write) old new =
-    IfExposed source cabinet store old (λ text tables. DidSome Prices desk text tables (cabinet.told new.cabinet store) (sink.bytes old.output) (sink.bytes new.output))
+ImportedWith source sink cabinet rules store desk (Err Write) old new =
+    IfExposed source cabinet store old (λ text tables. DidSome rules desk text tables (cabinet.told new.cabinet store) (sink.bytes old.output) (sink.bytes new.output))
     × IfSome (source.left old.input) (λ text. length text ≤ 4_194_304)
     × Rose (sink.faults old.output) (sink.faults new.output)
-ImportedWith source sink cabinet Prices store desk (Err Store) old new =
-    IfExposed source cabinet store old (λ text tables. DidFirst Prices text tables (cabinet.told new.cabinet store) (sink.bytes old.output) (sink.bytes new.output))
+ImportedWith source sink cabinet rules store desk (Err Store) old new =
+    IfExposed source cabinet store old (λ text tables. DidFirst rules text tables (cabinet.told new.cabinet store) (sink.bytes old.output) (sink.bytes new.output))
     × IfSome (source.left old.input) (λ text. length text ≤ 4_194_304)
     × (Rose (cabinet.faults old.cabinet) (cabinet.faults new.cabinet) ⊎ MayNotSum desk (cabinet.told old.cabinet store))
-ImportedWith source sink cabinet Prices store desk result old new = Imported source sink cabinet Prices store result old new
+ImportedWith source sink cabinet rules store desk result old new = Imported source sink cabinet rules store result old new
 
 -- if the desk has more trades than can be summed, nothing is applied and nothing written
 abbrev pub DoesNoneOfTooMany : {I O C K : Type 0} → Cabinet.Ghosts C K → (store desk : List ℕ) → (old new : Lent I O C) → Type 0

@@ -16,7 +16,7 @@ use std::alloc::Global;
 
 /// Writes what a desk holds of each security by the trades that a store keeps, a line for each CUSIP.
 ///
-/// A desk with more than 100,000 trades is answered as a fault of the store.
+/// A desk with more than 100,000,000 trades is answered as a fault of the store.
 pub fn positions<O: Sink, C: Cabinet>(
     alloc: Global,
     store: &[u8],

@@ -2,7 +2,7 @@
 use Rattle.std.proofs.Common.{◌≡◌, ◌⊎◌, ◌∙◌, ℕ, List, Option, Some, IfSome, inl, inr, refl, sym, ap, subst}
 use Rattle.muni_edge.specs.Sink.{HasWritten}
 use Rattle.muni_keep.specs.Tables.{Tables}
-use Rattle.muni_book_step.specs.Step.{Pricing}
+use Rattle.muni_book_step.specs.Step.{Rules}
 use Rattle.muni_wire.specs.Reading.{Reading, Whole, Faulty, Short, HeadAsks, Reads}
 use Rattle.muni_wire.specs.declared.look.Request.TheVariants.{Book, Look as LookAt}
 use Rattle.muni_wire.proofs.UniqueLemmas.{heads-once}
@@ -22,34 +22,34 @@ written-whole answer due link after status is same written =
     }
 
 -- an answer to one of the readings of the bytes
-IsAnswerToSome : Pricing → Option Tables → Traffic → Served → Option Tables → Traffic → Type 0
-IsAnswerToSome Prices old link came new after = (reading : Reading) × Asks link reading × IsAnswerTo Prices reading old link came new after
+IsAnswerToSome : Rules → Option Tables → Traffic → Served → Option Tables → Traffic → Type 0
+IsAnswerToSome R old link came new after = (reading : Reading) × Asks link reading × IsAnswerTo R reading old link came new after
 
-due-answered : (Prices : Pricing) (old new : Option Tables) (before now : ℕ) (link after : Traffic) (answer : Answer) (status faults : ℕ)
+due-answered : (R : Rules) (old new : Option Tables) (before now : ℕ) (link after : Traffic) (answer : Answer) (status faults : ℕ)
     → NoneRose before link now after → RoseBy faults before now
-    → status ≡ answer.status → HasWritten link.written after.written answer.bytes → IsDue Prices old link answer new faults
-    → IsAnswerToSome Prices old link (served.Answered status) new after
+    → status ≡ answer.status → HasWritten link.written after.written answer.bytes → IsDue R old link answer new faults
+    → IsAnswerToSome R old link (served.Answered status) new after
 unfolding IsAnswerToSome
-due-answered Prices old new before now link after answer status faults none rose is written (inl due) =
+due-answered R old new before now link after answer status faults none rose is written (inl due) =
     (Whole (Book due.command), due.asks, (due.reply, due.each, due.step, due.beside, written-whole answer (reply_answer due.reply due.each) link after status due.is is written))
-due-answered Prices old new before now link after answer status faults none rose is written (inr (inl due)) =
+due-answered R old new before now link after answer status faults none rose is written (inr (inl due)) =
     (Faulty due.kind, due.asks, (written-whole answer (bad_answer due.kind) link after status due.is is written, due.tables))
-due-answered Prices old new before now link after answer status faults none rose is written (inr (inr (inl due))) =
+due-answered R old new before now link after answer status faults none rose is written (inr (inr (inl due))) =
     absurd (none.keeper (subst (λ n. RoseBy n before now) due.one rose))
-due-answered Prices old new before now link after answer status faults none rose is written (inr (inr (inr due))) =
+due-answered R old new before now link after answer status faults none rose is written (inr (inr (inr due))) =
     (Whole (LookAt due.look), due.asks, (answer, due.is, written-whole answer answer link after status refl is written, due.tables))
 
-answered-by : (Prices : Pricing) (old new : Option Tables) (before now : ℕ) (link after : Traffic) (came : Served) (faults : ℕ)
-    → NoneRose before link now after → RoseBy faults before now → Serves Prices old link came new after faults
-    → (came ≡ served.NoMemory) ⊎ IsAnswerToSome Prices old link came new after
+answered-by : (R : Rules) (old new : Option Tables) (before now : ℕ) (link after : Traffic) (came : Served) (faults : ℕ)
+    → NoneRose before link now after → RoseBy faults before now → Serves R old link came new after faults
+    → (came ≡ served.NoMemory) ⊎ IsAnswerToSome R old link came new after
 unfolding IsAnswerToSome
-answered-by Prices old new before now link after (served.Answered status) faults none rose (answer, due, is, written) =
-    inr (due-answered Prices old new before now link after answer status faults none rose is written due)
-answered-by Prices old new before now link after served.Gone faults none rose (asks, unanswered) =
+answered-by R old new before now link after (served.Answered status) faults none rose (answer, due, is, written) =
+    inr (due-answered R old new before now link after answer status faults none rose is written due)
+answered-by R old new before now link after served.Gone faults none rose (asks, unanswered) =
     inr (Short, asks, (refl, unanswered.written, unanswered.tables))
-answered-by Prices old new before now link after served.LinkFault faults none rose (inl cut) = absurd (none.takes cut.0)
-answered-by Prices old new before now link after served.LinkFault faults none rose (inr cut) = absurd (none.puts cut.0)
-answered-by Prices old new before now link after served.NoMemory faults none rose serves = inl refl
+answered-by R old new before now link after served.LinkFault faults none rose (inl cut) = absurd (none.takes cut.0)
+answered-by R old new before now link after served.LinkFault faults none rose (inr cut) = absurd (none.puts cut.0)
+answered-by R old new before now link after served.NoMemory faults none rose serves = inl refl
 
 -- a reading of the bytes that are exposed
 pub told-reading : (link : Traffic) (bytes : List ℕ) (reading : Reading) → link.left ≡ Some bytes → Asks link reading → Reads bytes reading
@@ -60,17 +60,17 @@ settled : {A B Z : Type 0} → A ⊎ B → (B → Z) → A ⊎ Z
 settled (inl a) then = inl a
 settled (inr b) then = inr (then b)
 
-pub bytes-answered : (Prices : Pricing) (old new : Option Tables) (before now : ℕ) (link after : Traffic) (came : Served) (bytes : List ℕ)
-    → WasServed Prices old before link came new now after → NoneRose before link now after → link.left ≡ Some bytes
-    → (came ≡ served.NoMemory) ⊎ ((reading : Reading) × Reads bytes reading × IsAnswerTo Prices reading old link came new after)
+pub bytes-answered : (R : Rules) (old new : Option Tables) (before now : ℕ) (link after : Traffic) (came : Served) (bytes : List ℕ)
+    → WasServed R old before link came new now after → NoneRose before link now after → link.left ≡ Some bytes
+    → (came ≡ served.NoMemory) ⊎ ((reading : Reading) × Reads bytes reading × IsAnswerTo R reading old link came new after)
 unfolding IsAnswerToSome
-bytes-answered Prices old new before now link after came bytes was none told =
-    settled (answered-by Prices old new before now link after came was.faults none was.rose was.serves)
+bytes-answered R old new before now link after came bytes was none told =
+    settled (answered-by R old new before now link after came was.faults none was.rose was.serves)
     (λ (reading, asks, answer). (reading, told-reading link bytes reading told asks, answer))
 
-pub requests-answered : (Prices : Pricing) (old new : Option Tables) (before now : ℕ) (link after : Traffic) (came : Served) (bytes : List ℕ) (reading : Reading)
-    → WasServed Prices old before link came new now after → NoneRose before link now after → link.left ≡ Some bytes → HeadAsks bytes reading
-    → (came ≡ served.NoMemory) ⊎ IsAnswerTo Prices reading old link came new after
-requests-answered Prices old new before now link after came bytes reading was none told asks =
-    settled (bytes-answered Prices old new before now link after came bytes was none told)
-    (λ (other, reads, answer). subst (λ r. IsAnswerTo Prices r old link came new after) (sym (heads-once bytes reading other asks reads)) answer)
+pub requests-answered : (R : Rules) (old new : Option Tables) (before now : ℕ) (link after : Traffic) (came : Served) (bytes : List ℕ) (reading : Reading)
+    → WasServed R old before link came new now after → NoneRose before link now after → link.left ≡ Some bytes → HeadAsks bytes reading
+    → (came ≡ served.NoMemory) ⊎ IsAnswerTo R reading old link came new after
+requests-answered R old new before now link after came bytes reading was none told asks =
+    settled (bytes-answered R old new before now link after came bytes was none told)
+    (λ (other, reads, answer). subst (λ r. IsAnswerTo R r old link came new after) (sym (heads-once bytes reading other asks reads)) answer)

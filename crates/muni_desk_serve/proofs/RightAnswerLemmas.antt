@@ -8,7 +8,7 @@ use Rattle.muni_msg.specs.declared.command.Reply.TheVariants.{Added, Quoted, Lis
 use Rattle.muni_msg.specs.declared.each.EachRedemption.{EachRedemption}
 use Rattle.muni_keep.specs.Tables.{Tables}
 use Rattle.muni_wire.specs.Answer.{reply_text}
-use Rattle.muni_book.specs.Answers.{IsRightAnswer}
+use Rattle.muni_book.specs.Rules.{book_rules}
 use Rattle.muni_book.specs.RightFigures.{AreRightFigures}
 use Rattle.muni_book.specs.RightReplies.{IsRightReply}
 use Rattle.muni_book.specs.RunLaws.{ConfirmedFiguresAreRight}
@@ -44,10 +44,10 @@ answered-right t (replied first command reply others commands replies has follow
     (answered-right t follow (All-tail (IsRightReply AreRightFigures t) reply replies all))
 
 pub answers-right : ConfirmedFiguresAreRight → AnswersAreRight
-answers-right right ends old exchanges new faults sound served =
-    let run = connections-run (IsRightAnswer ends) old exchanges new faults served in
+answers-right right limit ends old exchanges new faults few sound served =
+    let run = connections-run (book_rules limit ends) old exchanges new faults served in
     let last = run.2.0 in
-    (last, run.2.1, answered-right last run.3 (right.runs ends old last run.0 run.1 sound run.2.2))
+    (last, run.2.1, answered-right last run.3 (right.runs limit ends few old last run.0 run.1 sound run.2.2))
 
 pub versions-shown-right : ConfirmedFiguresAreRight → VersionsAreShownRight
 versions-shown-right right t key number version sound there =

@@ -20,7 +20,7 @@ use Rattle.muni_book.specs.Each.{AreEach}
 use Rattle.muni_book.proofs.EachLemmas.{each-right}
 use Rattle.muni_book.proofs.RightReplyLemmas.{step-quoted}
 use Rattle.muni_book_step.specs.Runs.{StepsTo}
-use Rattle.muni_book_step.specs.Step.{Pricing}
+use Rattle.muni_book_step.specs.Step.{Rules}
 use Rattle.muni_wire.specs.Answers.{Answers}
 use Rattle.muni_wire.specs.HttpStatus.{code}
 use Rattle.muni_wire.specs.Reading.{Whole, Faulty, Short}
@@ -51,15 +51,15 @@ wrote takes puts status bytes (Ok answered) old new a = (ap code a.told, a.puts.
 wrote takes puts status bytes (Err failed) old new a = (a.puts.failed, a.puts.part)
 
 -- an answer that is due was written, or a part of it
-due-written : (Prices : Pricing) (old new : Option Tables) (link mid after : Traffic) (answer : Answer) (came : Served) (faults : ℕ)
+due-written : (R : Rules) (old new : Option Tables) (link mid after : Traffic) (answer : Answer) (came : Served) (faults : ℕ)
     → IsWritten answer came mid.written after.written mid.put_faults after.put_faults → mid.written ≡ link.written → mid.put_faults ≡ link.put_faults
-    → IsDue Prices old link answer new faults → Serves Prices old link came new after faults
-due-written Prices old new link mid after answer (served.Answered status) faults written same puts due =
+    → IsDue R old link answer new faults → Serves R old link came new after faults
+due-written R old new link mid after answer (served.Answered status) faults written same puts due =
     (answer, due, written.0, rw (← same) written.1)
-due-written Prices old new link mid after answer served.Gone faults written same puts due = absurd written
-due-written Prices old new link mid after answer served.LinkFault faults written same puts due =
+due-written R old new link mid after answer served.Gone faults written same puts due = absurd written
+due-written R old new link mid after answer served.LinkFault faults written same puts due =
     inr (rw (← puts) written.0, answer, due, rw (← same) written.1)
-due-written Prices old new link mid after answer served.NoMemory faults written same puts due = absurd written
+due-written R old new link mid after answer served.NoMemory faults written same puts due = absurd written
 
 -- what is answered of each redemption candidate stands beside a quote for which they are wanted
 pub each-beside : (ends : PaymentSeries → ℤ → WorthEnds) (reply : Reply) (issue : IssueRow) (asked : Asked) (figures : Figures) (wanted : Bool) (each : List EachRedemption) → reply ≡ Quoted issue asked figures wanted → wanted ≡ true
@@ -69,77 +69,77 @@ each-beside ends reply issue asked figures wanted each is true_is shown priced =
     subst (λ r. AreBeside r each) (sym same) (each-right ends issue asked figures each (shown (subst (IsPricedReply (IsRightAnswer ends)) same priced)))
 
 -- a step of the book answers a quote by figures that may be answered
-reply-priced : (Prices : Pricing) (t : Tables) (command : Command) (reply : Reply) (new : Option Tables) → StepsTo Prices t command reply new → IsPricedReply Prices reply
-reply-priced Prices t command (Added cusip) new step = tt
-reply-priced Prices t command (Quoted issue asked figures each) new step = step-quoted Prices t command issue asked figures each step.0 step.1
-reply-priced Prices t command (Listed lines) new step = tt
-reply-priced Prices t command (Confirmed issue key number version) new step = tt
-reply-priced Prices t command (Refused why) new step = tt
+reply-priced : (R : Rules) (t : Tables) (command : Command) (reply : Reply) (new : Option Tables) → StepsTo R t command reply new → IsPricedReply R.prices reply
+reply-priced R t command (Added cusip) new step = tt
+reply-priced R t command (Quoted issue asked figures each) new step = step-quoted R t command issue asked figures each step.0 step.1
+reply-priced R t command (Listed lines) new step = tt
+reply-priced R t command (Confirmed issue key number version) new step = tt
+reply-priced R t command (Refused why) new step = tt
 
-pub beside-step : (Prices : Pricing) (old : Option Tables) (command : Command) (reply : Reply) (each : List EachRedemption) (new : Option Tables) → IfSome old (λ t. StepsTo Prices t command reply new) → (IsPricedReply Prices reply → AreBeside reply each) → IfSome old (λ t. AreBeside reply each)
-beside-step Prices (Some t) command reply each new step shown = shown (reply-priced Prices t command reply new step)
-beside-step Prices None command reply each new step shown = tt
+pub beside-step : (R : Rules) (old : Option Tables) (command : Command) (reply : Reply) (each : List EachRedemption) (new : Option Tables) → IfSome old (λ t. StepsTo R t command reply new) → (IsPricedReply R.prices reply → AreBeside reply each) → IfSome old (λ t. AreBeside reply each)
+beside-step R (Some t) command reply each new step shown = shown (reply-priced R t command reply new step)
+beside-step R None command reply each new step shown = tt
 
-pub replied : (Prices : Pricing) (old new : Option Tables) (before now : ℕ) (link mid after : Traffic) (command : Command) (reply : Reply) (each : List EachRedemption) (came : Served)
-    → before ≤ now → Asks link (Whole (Book command)) → IfSome old (λ t. StepsTo Prices t command reply new) → IfSome old (λ t. AreBeside reply each)
+pub replied : (R : Rules) (old new : Option Tables) (before now : ℕ) (link mid after : Traffic) (command : Command) (reply : Reply) (each : List EachRedemption) (came : Served)
+    → before ≤ now → Asks link (Whole (Book command)) → IfSome old (λ t. StepsTo R t command reply new) → IfSome old (λ t. AreBeside reply each)
     → IsWritten (reply_answer reply each) came mid.written after.written mid.put_faults after.put_faults → mid.written ≡ link.written → mid.put_faults ≡ link.put_faults
-    → WasServed Prices old before link came new now after
-replied Prices old new before now link mid after command reply each came later asks step beside written same puts =
-    let due : IsDue Prices old link (reply_answer reply each) new 0 = inl (record { command = command; reply = reply; asks = asks; step = step; each = each; beside = beside; is = refl; none = refl }) in
+    → WasServed R old before link came new now after
+replied R old new before now link mid after command reply each came later asks step beside written same puts =
+    let due : IsDue R old link (reply_answer reply each) new 0 = inl (record { command = command; reply = reply; asks = asks; step = step; each = each; beside = beside; is = refl; none = refl }) in
     record {
       faults = 0;
-      serves = due-written Prices old new link mid after (reply_answer reply each) came 0 written same puts due;
+      serves = due-written R old new link mid after (reply_answer reply each) came 0 written same puts due;
       rose = omega (arith, later);
     }
 
-pub unavailable : (Prices : Pricing) (old new : Option Tables) (before now : ℕ) (link mid after : Traffic) (request : Request) (came : Served)
+pub unavailable : (R : Rules) (old new : Option Tables) (before now : ℕ) (link mid after : Traffic) (request : Request) (came : Served)
     → Rose before now → Asks link (Whole request) → new ≡ old
     → IsWritten unavailable_answer came mid.written after.written mid.put_faults after.put_faults → mid.written ≡ link.written → mid.put_faults ≡ link.put_faults
-    → WasServed Prices old before link came new now after
-unavailable Prices old new before now link mid after request came rose asks tables written same puts =
-    let due : IsDue Prices old link unavailable_answer new 1 = inr (inr (inl (record { request = request; asks = asks; is = refl; tables = tables; one = refl }))) in
+    → WasServed R old before link came new now after
+unavailable R old new before now link mid after request came rose asks tables written same puts =
+    let due : IsDue R old link unavailable_answer new 1 = inr (inr (inl (record { request = request; asks = asks; is = refl; tables = tables; one = refl }))) in
     record {
       faults = 1;
-      serves = due-written Prices old new link mid after unavailable_answer came 1 written same puts due;
+      serves = due-written R old new link mid after unavailable_answer came 1 written same puts due;
       rose = rose;
     }
 
-pub looked-up : (Prices : Pricing) (old new : Option Tables) (before now : ℕ) (link mid after : Traffic) (look : Look) (answer : Answer) (came : Served)
+pub looked-up : (R : Rules) (old new : Option Tables) (before now : ℕ) (link mid after : Traffic) (look : Look) (answer : Answer) (came : Served)
     → before ≤ now → Asks link (Whole (LookAt look)) → IfSome old (λ t. answer ≡ look_answer t look) → new ≡ old
     → IsWritten answer came mid.written after.written mid.put_faults after.put_faults → mid.written ≡ link.written → mid.put_faults ≡ link.put_faults
-    → WasServed Prices old before link came new now after
-looked-up Prices old new before now link mid after look answer came later asks is tables written same puts =
-    let due : IsDue Prices old link answer new 0 = inr (inr (inr (record { look = look; asks = asks; is = is; tables = tables; none = refl }))) in
+    → WasServed R old before link came new now after
+looked-up R old new before now link mid after look answer came later asks is tables written same puts =
+    let due : IsDue R old link answer new 0 = inr (inr (inr (record { look = look; asks = asks; is = is; tables = tables; none = refl }))) in
     record {
       faults = 0;
-      serves = due-written Prices old new link mid after answer came 0 written same puts due;
+      serves = due-written R old new link mid after answer came 0 written same puts due;
       rose = omega (arith, later);
     }
 
-pub bad : (Prices : Pricing) (old : Option Tables) (before : ℕ) (link mid after : Traffic) (kind : Bad) (came : Served)
+pub bad : (R : Rules) (old : Option Tables) (before : ℕ) (link mid after : Traffic) (kind : Bad) (came : Served)
     → Asks link (Faulty kind)
     → IsWritten (bad_answer kind) came mid.written after.written mid.put_faults after.put_faults → mid.written ≡ link.written → mid.put_faults ≡ link.put_faults
-    → WasServed Prices old before link came old before after
-bad Prices old before link mid after kind came asks written same puts =
-    let due : IsDue Prices old link (bad_answer kind) old 0 = inr (inl (record { kind = kind; asks = asks; is = refl; tables = refl; none = refl })) in
+    → WasServed R old before link came old before after
+bad R old before link mid after kind came asks written same puts =
+    let due : IsDue R old link (bad_answer kind) old 0 = inr (inl (record { kind = kind; asks = asks; is = refl; tables = refl; none = refl })) in
     record {
       faults = 0;
-      serves = due-written Prices old old link mid after (bad_answer kind) came 0 written same puts due;
+      serves = due-written R old old link mid after (bad_answer kind) came 0 written same puts due;
       rose = omega arith;
     }
 
 -- there was no answer
-pub gone : (Prices : Pricing) (old : Option Tables) (before : ℕ) (link after : Traffic) → Asks link Short → after.written ≡ link.written
-    → WasServed Prices old before link served.Gone old before after
-gone Prices old before link after asks same =
+pub gone : (R : Rules) (old : Option Tables) (before : ℕ) (link after : Traffic) → Asks link Short → after.written ≡ link.written
+    → WasServed R old before link served.Gone old before after
+gone R old before link after asks same =
     record { faults = 0; serves = (asks, record { written = same; tables = refl; none = refl }); rose = omega arith }
 
-pub cut-off : (Prices : Pricing) (old : Option Tables) (before : ℕ) (link after : Traffic) → Rose link.take_faults after.take_faults → after.written ≡ link.written
-    → WasServed Prices old before link served.LinkFault old before after
-cut-off Prices old before link after rose same =
+pub cut-off : (R : Rules) (old : Option Tables) (before : ℕ) (link after : Traffic) → Rose link.take_faults after.take_faults → after.written ≡ link.written
+    → WasServed R old before link served.LinkFault old before after
+cut-off R old before link after rose same =
     record { faults = 0; serves = inl (rose, record { written = same; tables = refl; none = refl }); rose = omega arith }
 
-pub wanting : (Prices : Pricing) (old new : Option Tables) (before now : ℕ) (link after : Traffic) → before ≤ now → new ≡ old → after.written ≡ link.written
-    → WasServed Prices old before link served.NoMemory new now after
-wanting Prices old new before now link after later tables same =
+pub wanting : (R : Rules) (old new : Option Tables) (before now : ℕ) (link after : Traffic) → before ≤ now → new ≡ old → after.written ≡ link.written
+    → WasServed R old before link served.NoMemory new now after
+wanting R old new before now link after later tables same =
     record { faults = 0; serves = record { written = same; tables = tables; none = refl }; rose = omega (arith, later) }

@@ -5,7 +5,7 @@ use Rattle.muni_keep.specs.Tables.{Tables}
 use Rattle.muni_msg.specs.declared.command.Command.{Command}
 use Rattle.muni_msg.specs.declared.command.Reply.{Reply}
 use Rattle.muni_msg.specs.declared.each.EachRedemption.{EachRedemption}
-use Rattle.muni_book_step.specs.Step.{Pricing}
+use Rattle.muni_book_step.specs.Step.{Rules}
 use Rattle.muni_wire.specs.Reading.{Whole, Faulty, HeadAsks}
 use Rattle.muni_wire.specs.declared.fault.Bad.{Bad}
 use Rattle.muni_wire.specs.declared.look.Look.{Look}
@@ -80,12 +80,12 @@ IsReplied exchange reply =
     (status : ℕ) → WasAnswered exchange status → status ≢ 503 → HasAnswerOf exchange reply
 
 -- A connection between others has this reply, and leaves the tables as those before it left them.
-pub record RepliesAgain (Prices : Pricing) (old : Option Tables) (earlier : List Exchange) (again : Exchange) (later : List Exchange) (new : Option Tables) (reply : Reply) : Type 0 where
+pub record RepliesAgain (rules : Rules) (old : Option Tables) (earlier : List Exchange) (again : Exchange) (later : List Exchange) (new : Option Tables) (reply : Reply) : Type 0 where
   pub mid : Option Tables
   pub faults : ℕ
   pub one : ℕ
   pub more : ℕ
-  pub before : AreServed Prices old earlier mid faults
-  pub same : Serves Prices mid again.before again.came mid again.after one
-  pub behind : AreServed Prices mid later new more
+  pub before : AreServed rules old earlier mid faults
+  pub same : Serves rules mid again.before again.came mid again.after one
+  pub behind : AreServed rules mid later new more
   pub replied : IsReplied again reply

@@ -1,6 +1,6 @@
 -- What is answered to what has come, and what connections make of the tables.
-use Rattle.std.specs.Prelude.{◌≡◌, ◌≢◌, ◌⊎◌, ℕ, ℤ, List, [], ◌∷◌, ◌++◌, Option, Some, IfSome, All}
-use Rattle.muni_book.specs.Answers.{IsRightAnswer}
+use Rattle.std.specs.Prelude.{◌≡◌, ◌≢◌, ◌⊎◌, ◌≤◌, ℕ, ℤ, List, [], ◌∷◌, ◌++◌, Option, Some, IfSome, All}
+use Rattle.muni_book.specs.Rules.{book_rules}
 use Rattle.muni_book.specs.SoundTables.{AreSoundTables}
 use Rattle.muni_edge.specs.Faults.{Rose}
 use Rattle.muni_keep.specs.Tables.{Tables, version_at}
@@ -17,7 +17,7 @@ use Rattle.muni_rule.specs.Payments.{PaymentSeries}
 use Rattle.muni_rule.specs.WorthEnds.{WorthEnds}
 use Rattle.muni_book_step.specs.Accepted.{AsksToKeep, IsAccepted}
 use Rattle.muni_book_step.specs.Runs.{StepsTo, RunsTo}
-use Rattle.muni_book_step.specs.Step.{Pricing}
+use Rattle.muni_book_step.specs.Step.{Rules}
 use Rattle.muni_wire.specs.Reading.{Reading, Whole, Faulty, Short, HeadAsks, Reads}
 use Rattle.muni_wire.specs.declared.look.Look.TheVariants as look
 use Rattle.muni_wire.specs.declared.look.Request.TheVariants.{Book, Look as LookAt}
@@ -37,57 +37,57 @@ pub record NoneRose (before : ℕ) (link : Traffic) (now : ℕ) (after : Traffic
   pub puts : ¬ (Rose link.put_faults after.put_faults)
 
 -- what is answered to a reading of the bytes, and the tables after it
-abbrev pub IsAnswerTo : Pricing → Reading → Option Tables → Traffic → Served → Option Tables → Traffic → Type 0
-IsAnswerTo Prices (Whole (Book command)) old link came new after =
-    (reply : Reply) × (each : List EachRedemption) × IfSome old (λ t. StepsTo Prices t command reply new)
+abbrev pub IsAnswerTo : Rules → Reading → Option Tables → Traffic → Served → Option Tables → Traffic → Type 0
+IsAnswerTo rules (Whole (Book command)) old link came new after =
+    (reply : Reply) × (each : List EachRedemption) × IfSome old (λ t. StepsTo rules t command reply new)
     × IfSome old (λ t. AreBeside reply each) × IsAnswered (reply_answer reply each) link came after
-IsAnswerTo Prices (Whole (LookAt look)) old link came new after =
+IsAnswerTo rules (Whole (LookAt look)) old link came new after =
     (answer : Answer) × IfSome old (λ t. answer ≡ look_answer t look) × IsAnswered answer link came after × (new ≡ old)
-IsAnswerTo Prices (Faulty kind) old link came new after =
+IsAnswerTo rules (Faulty kind) old link came new after =
     IsAnswered (bad_answer kind) link came after × (new ≡ old)
-IsAnswerTo Prices Short old link came new after =
+IsAnswerTo rules Short old link came new after =
     (came ≡ served.Gone) × (after.written ≡ link.written) × (new ≡ old)
 
 -- If no count rises, bytes that begin with a head within the limits get the answer to what they ask
 -- for, or memory ran out.
-abbrev pub RequestsAreAnswered : Pricing → Type 0
-RequestsAreAnswered Prices =
+abbrev pub RequestsAreAnswered : Rules → Type 0
+RequestsAreAnswered rules =
     (old new : Option Tables) (before now : ℕ) (link after : Traffic) (came : Served) (bytes : List ℕ) (reading : Reading)
-    → WasServed Prices old before link came new now after → NoneRose before link now after
+    → WasServed rules old before link came new now after → NoneRose before link now after
     → link.left ≡ Some bytes → HeadAsks bytes reading
-    → (came ≡ served.NoMemory) ⊎ IsAnswerTo Prices reading old link came new after
+    → (came ≡ served.NoMemory) ⊎ IsAnswerTo rules reading old link came new after
 
 -- So do all bytes get the answer to one of their readings.
-abbrev pub BytesAreAnswered : Pricing → Type 0
-BytesAreAnswered Prices =
+abbrev pub BytesAreAnswered : Rules → Type 0
+BytesAreAnswered rules =
     (old new : Option Tables) (before now : ℕ) (link after : Traffic) (came : Served) (bytes : List ℕ)
-    → WasServed Prices old before link came new now after → NoneRose before link now after
+    → WasServed rules old before link came new now after → NoneRose before link now after
     → link.left ≡ Some bytes
     → (came ≡ served.NoMemory)
-    ⊎ ((reading : Reading) × Reads bytes reading × IsAnswerTo Prices reading old link came new after)
+    ⊎ ((reading : Reading) × Reads bytes reading × IsAnswerTo rules reading old link came new after)
 
 -- Connections that are served run commands of the book from their first tables to their last: what they
 -- asked for, at most one each, with the replies by which they were answered.
-abbrev pub ConnectionsRunTheBook : Pricing → Type 0
-ConnectionsRunTheBook Prices =
+abbrev pub ConnectionsRunTheBook : Rules → Type 0
+ConnectionsRunTheBook rules =
     (old : Tables) (exchanges : List Exchange) (new : Option Tables) (faults : ℕ)
-    → AreServed Prices (Some old) exchanges new faults
-    → (commands : List Command) × (replies : List Reply) × RunsTo Prices old commands replies new
+    → AreServed rules (Some old) exchanges new faults
+    → (commands : List Command) × (replies : List Reply) × RunsTo rules old commands replies new
     × Follow exchanges commands replies
 
 -- Of the connections of a run one asked to keep something, and was answered, and not that the store
 -- failed. A later one that asks for the same has the same reply, if this accepts it, and adds nothing.
-abbrev pub ConnectionsActOnce : Pricing → Type 0
-ConnectionsActOnce Prices =
+abbrev pub ConnectionsActOnce : Rules → Type 0
+ConnectionsActOnce rules =
     (old : Tables) (earlier : List Exchange) (first : Exchange) (between : List Exchange)
     (again : Exchange) (later : List Exchange) (new : Option Tables) (faults : ℕ)
     (command : Command) (status : ℕ)
-    → AreServed Prices (Some old) (earlier ++ (first ∷ (between ++ again ∷ later))) new faults
+    → AreServed rules (Some old) (earlier ++ (first ∷ (between ++ again ∷ later))) new faults
     → AsksToKeep command → HasCome first command → HasCome again command
     → WasAnswered first status → status ≢ 503
     → (reply : Reply) × HasAnswerOf first reply
     × (IsAccepted reply
-    → RepliesAgain Prices (Some old) (earlier ++ first ∷ between) again later new reply)
+    → RepliesAgain rules (Some old) (earlier ++ first ∷ between) again later new reply)
 
 -- the ends that an encloser gives to payments and a yield
 abbrev pub Ends : Type 0
@@ -95,14 +95,14 @@ Ends = PaymentSeries → ℤ → WorthEnds
 
 -- whatever computes the figures
 pub record WhatHasComeIsAnswered : Type 0 where
-  pub requests : (ends : Ends) → RequestsAreAnswered (IsRightAnswer ends)
-  pub all : (ends : Ends) → BytesAreAnswered (IsRightAnswer ends)
+  pub requests : (limit : ℕ) (ends : Ends) → RequestsAreAnswered (book_rules limit ends)
+  pub all : (limit : ℕ) (ends : Ends) → BytesAreAnswered (book_rules limit ends)
 
 -- Connections that are served over sound tables have right answers.
 abbrev pub AnswersAreRight : Type 0
 AnswersAreRight =
-    (ends : Ends) (old : Tables) (exchanges : List Exchange) (new : Option Tables) (faults : ℕ)
-    → AreSoundTables old → AreServed (IsRightAnswer ends) (Some old) exchanges new faults
+    (limit : ℕ) (ends : Ends) (old : Tables) (exchanges : List Exchange) (new : Option Tables) (faults : ℕ)
+    → limit ≤ 100_000_000 → AreSoundTables old → AreServed (book_rules limit ends) (Some old) exchanges new faults
     → (last : Tables) × (new ≡ Some last) × All (IsAnsweredRight last) exchanges
 
 -- A look at a version that sound tables keep is answered by its confirmation, with figures that are right.
@@ -118,7 +118,7 @@ VersionsAreShownRight =
     → version_at tables key number ≡ Some version → IsShownRight tables key number version
 
 abbrev pub ServingRunsTheBook : Type 0
-ServingRunsTheBook = (ends : Ends) → ConnectionsRunTheBook (IsRightAnswer ends)
+ServingRunsTheBook = (limit : ℕ) (ends : Ends) → ConnectionsRunTheBook (book_rules limit ends)
 
 abbrev pub WhatIsSentAgainActsOnce : Type 0
-WhatIsSentAgainActsOnce = (ends : Ends) → ConnectionsActOnce (IsRightAnswer ends)
+WhatIsSentAgainActsOnce = (limit : ℕ) (ends : Ends) → ConnectionsActOnce (book_rules limit ends)

@@ -11,7 +11,7 @@ use Rattle.muni_msg.specs.declared.command.Command.{Command}
 use Rattle.muni_msg.specs.declared.command.Reply.{Reply}
 use Rattle.muni_msg.specs.declared.each.EachRedemption.{EachRedemption}
 use Rattle.muni_book_step.specs.Runs.{StepsTo}
-use Rattle.muni_book_step.specs.Step.{Pricing}
+use Rattle.muni_book_step.specs.Step.{Rules}
 use Rattle.muni_wire.specs.Extent.{AwaitsMore, TakesOnlyWhile}
 use Rattle.muni_wire.specs.Reading.{Reading, Whole, Faulty, Short, Reads}
 use Rattle.muni_wire.specs.declared.fault.Bad.{Bad}
@@ -46,11 +46,11 @@ abbrev pub Asks : Traffic → Reading → Type 0
 Asks link reading = IfSome link.left (λ bytes. Reads bytes reading)
 
 -- the bytes are a command, to which one step of the book gives the reply and the tables after it
-pub record IsReply (Prices : Pricing) (old : Option Tables) (link : Traffic) (answer : Answer) (new : Option Tables) (faults : ℕ) : Type 0 where
+pub record IsReply (rules : Rules) (old : Option Tables) (link : Traffic) (answer : Answer) (new : Option Tables) (faults : ℕ) : Type 0 where
   pub command : Command
   pub reply : Reply
   pub asks : Asks link (Whole (Book command))
-  pub step : IfSome old (λ t. StepsTo Prices t command reply new)
+  pub step : IfSome old (λ t. StepsTo rules t command reply new)
   pub each : List EachRedemption
   pub beside : IfSome old (λ t. AreBeside reply each)
   pub is : answer ≡ reply_answer reply each
@@ -81,9 +81,9 @@ pub record IsUnavailable (old : Option Tables) (link : Traffic) (answer : Answer
   pub one : faults ≡ 1
 
 -- an answer that is due, with the tables after it; and how many faults of the keeper it reports
-abbrev pub IsDue : Pricing → Option Tables → Traffic → Answer → Option Tables → ℕ → Type 0
-IsDue Prices old link answer new faults =
-    IsReply Prices old link answer new faults
+abbrev pub IsDue : Rules → Option Tables → Traffic → Answer → Option Tables → ℕ → Type 0
+IsDue rules old link answer new faults =
+    IsReply rules old link answer new faults
     ⊎ IsBad old link answer new faults
     ⊎ IsUnavailable old link answer new faults
     ⊎ IsLookedUp old link answer new faults
@@ -95,31 +95,31 @@ pub record IsUnanswered (old : Option Tables) (link : Traffic) (new : Option Tab
   pub none : faults ≡ 0
 
 -- a take failed before there was an answer, or a put of an answer that is due
-abbrev pub IsCutOff : Pricing → Option Tables → Traffic → Option Tables → Traffic → ℕ → Type 0
-IsCutOff Prices old link new after faults =
+abbrev pub IsCutOff : Rules → Option Tables → Traffic → Option Tables → Traffic → ℕ → Type 0
+IsCutOff rules old link new after faults =
     (Rose link.take_faults after.take_faults × IsUnanswered old link new after faults)
-    ⊎ (Rose link.put_faults after.put_faults × (answer : Answer) × IsDue Prices old link answer new faults
+    ⊎ (Rose link.put_faults after.put_faults × (answer : Answer) × IsDue rules old link answer new faults
     × HasWrittenPart link.written after.written answer.bytes)
 
 -- One connection: the tables and the connection before it, what came of it, and both after it. The
 -- number says how many faults of the keeper its answer reports, one or none.
-abbrev pub Serves : Pricing → Option Tables → Traffic → Served → Option Tables → Traffic → ℕ → Type 0
-Serves Prices old link (served.Answered status) new after faults =
-    (answer : Answer) × IsDue Prices old link answer new faults × (status ≡ answer.status)
+abbrev pub Serves : Rules → Option Tables → Traffic → Served → Option Tables → Traffic → ℕ → Type 0
+Serves rules old link (served.Answered status) new after faults =
+    (answer : Answer) × IsDue rules old link answer new faults × (status ≡ answer.status)
     × HasWritten link.written after.written answer.bytes
-Serves Prices old link served.Gone new after faults =
+Serves rules old link served.Gone new after faults =
     Asks link Short × IsUnanswered old link new after faults
-Serves Prices old link served.LinkFault new after faults = IsCutOff Prices old link new after faults
-Serves Prices old link served.NoMemory new after faults = IsUnanswered old link new after faults
+Serves rules old link served.LinkFault new after faults = IsCutOff rules old link new after faults
+Serves rules old link served.NoMemory new after faults = IsUnanswered old link new after faults
 
 -- a count rose by so much, or is at the last value of its type
 abbrev pub RoseBy : ℕ → ℕ → ℕ → Type 0
 RoseBy rise before now = min (before + rise) (2 ^ 64 - 1) ≤ now
 
 -- a connection was served, and the keeper counted the faults that its answer reports
-pub record WasServed (Prices : Pricing) (old : Option Tables) (before : ℕ) (link : Traffic) (answer : Served) (new : Option Tables) (now : ℕ) (after : Traffic) : Type 0 where
+pub record WasServed (rules : Rules) (old : Option Tables) (before : ℕ) (link : Traffic) (answer : Served) (new : Option Tables) (now : ℕ) (after : Traffic) : Type 0 where
   pub faults : ℕ
-  pub serves : Serves Prices old link answer new after faults
+  pub serves : Serves rules old link answer new after faults
   pub rose : RoseBy faults before now
 
 -- Bytes of a connection are taken only while more of its request is awaited, and none after it.

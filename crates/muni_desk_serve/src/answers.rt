@@ -2,13 +2,14 @@
 
 ghost use Rattle.std.specs.Prelude.{◌≡◌};
 ghost use Rattle.muni_book.specs.Answers.{IsRightAnswer};
+ghost use Rattle.muni_book.specs.Rules.{book_rules};
 ghost use Rattle.muni_desk_serve.specs.Answer as spec;
 ghost use Rattle.muni_desk_serve.specs.Serves.{LeavesCounted, TakesRequest, WasServed, traffic};
 
 use crate::looks::{look_up, write_seen};
 use crate::served::Served;
 use arrayvec::ArrayVec;
-use muni_book::{BookFault, Calculator, each_redemption, step};
+use muni_book::{Book, BookFault, Calculator, each_redemption, step};
 use muni_edge::{Failed, Gate, Link};
 use muni_keep::{KeepFault, Keeper};
 use muni_msg::{EachRedemption, Reply};
@@ -26,13 +27,13 @@ use std::thread::Threads;
 /// request that ends too early gets no answer, nor does one for which no memory is left; then the
 /// tables stay as they are.
 pub fn answer_one<R: Threads + Sync, L: Link, K: Keeper, E: Encloser + Sync, G: Gate + Sync>(
-    calculator: &Calculator<'_, R, E, G>,
+    book: &Book<'_, R, E, G>,
     alloc: Global,
     link: &mut L,
     keeper: &mut K,
 ) -> Served
     // What was answered, if the connection exposes its bytes and the keeper its tables.
-    ensures served { WasServed (IsRightAnswer (E.ends calculator.now.encloser.now))
+    ensures served { WasServed (book_rules book.now.limit (E.ends book.now.calculator.now.encloser.now))
         (K.tables keeper.old) (K.faults keeper.old)
         (traffic L.left L.bytes L.Source.faults L.Sink.faults link.old) result
         (K.tables keeper.new) (K.faults keeper.new)
@@ -49,8 +50,8 @@ pub fn answer_one<R: Threads + Sync, L: Link, K: Keeper, E: Encloser + Sync, G: 
         Err(WireFault::NoMemory) => return Served::NoMemory,
     };
     match request {
-        Request::Book(command) => match step(calculator, keeper, &command) {
-            Ok(reply) => came_of(write_reply(link, &reply, &wanted(calculator, &reply))),
+        Request::Book(command) => match step(book, keeper, &command) {
+            Ok(reply) => came_of(write_reply(link, &reply, &wanted(book.calculator, &reply))),
             Err(BookFault::Failed) => came_of(write_unavailable(link)),
             Err(BookFault::NoMemory) => Served::NoMemory,
         },

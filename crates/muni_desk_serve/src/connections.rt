@@ -1,7 +1,7 @@
 //! Connections, served one after another.
 
 ghost use Rattle.std.specs.Prelude.{◌≡◌, ◌≢◌, ◌≤◌, ℕ, List, [], Some, None, Err, is_some, IfSome, IsSome, IsErrOf, OnOk, OnErr};
-ghost use Rattle.muni_book.specs.Answers.{IsRightAnswer};
+ghost use Rattle.muni_book.specs.Rules.{book_rules};
 ghost use Rattle.muni_edge.specs.Faults.{Rose};
 ghost use Rattle.muni_keep.specs.Cabinet.{LeavesOthers};
 ghost use Rattle.muni_desk_serve.specs.Connections.{AsksDoor, IsRun, KeepsServing};
@@ -11,7 +11,7 @@ ghost use Rattle.muni_desk_serve.specs.Serving.{ServedStore};
 use crate::answers::answer_one;
 use crate::fault::{ServeFault, after};
 use crate::served::Served;
-use muni_book::Calculator;
+use muni_book::Book;
 use muni_edge::{Door, Failed, Gate};
 use muni_keep::{Cabinet, Keeper};
 use muni_multi::Encloser;
@@ -24,7 +24,7 @@ use std::thread::Threads;
 /// The store is fetched first, and given back at the end; then the door is bound to the port. What a
 /// connection does or suffers ends that connection alone.
 pub fn serve<R: Threads + Sync, C: Cabinet, D: Door, E: Encloser + Sync, G: Gate + Sync>(
-    calculator: &Calculator<'_, R, E, G>,
+    book: &Book<'_, R, E, G>,
     alloc: Global,
     store: &[u8],
     port: u16,
@@ -33,7 +33,7 @@ pub fn serve<R: Threads + Sync, C: Cabinet, D: Door, E: Encloser + Sync, G: Gate
     door: &mut D,
 ) -> Result<(), ServeFault>
     requires none_out { C.out cabinet.old ≡ None }
-    ensures served { ServedStore C.Cabinet D.Door (IsRightAnswer (E.ends calculator.now.encloser.now))
+    ensures served { ServedStore C.Cabinet D.Door (book_rules book.now.limit (E.ends book.now.calculator.now.encloser.now))
         (traffic D.L.left D.L.bytes D.L.Source.faults D.L.Sink.faults) store.now port connections result
         cabinet.old cabinet.new door.old door.new }
     ensures leaves { LeavesOthers C.Cabinet store.now cabinet.old cabinet.new }
@@ -41,21 +41,21 @@ pub fn serve<R: Threads + Sync, C: Cabinet, D: Door, E: Encloser + Sync, G: Gate
     ensures door_later { D.faults door.old ≤ D.faults door.new }
 {
     let mut keeper = cabinet.fetch(store)?;
-    let end = serve_links(calculator, alloc, port, connections, &mut keeper, door);
+    let end = serve_links(book, alloc, port, connections, &mut keeper, door);
     cabinet.give_back(keeper);
     end
 }
 
 // Serves connections over the tables of a keeper.
 fn serve_links<R: Threads + Sync, K: Keeper, D: Door, E: Encloser + Sync, G: Gate + Sync>(
-    calculator: &Calculator<'_, R, E, G>,
+    book: &Book<'_, R, E, G>,
     alloc: Global,
     port: u16,
     connections: u32,
     keeper: &mut K,
     door: &mut D,
 ) -> Result<(), ServeFault>
-    ensures run { IfSome (D.state door.old) (λ d. IsRun (IsRightAnswer (E.ends calculator.now.encloser.now))
+    ensures run { IfSome (D.state door.old) (λ d. IsRun (book_rules book.now.limit (E.ends book.now.calculator.now.encloser.now))
         (traffic D.L.left D.L.bytes D.L.Source.faults D.L.Sink.faults) port connections
         d (D.state door.new) (K.tables keeper.old) (K.tables keeper.new)
         (K.faults keeper.old) (K.faults keeper.new) result) }
@@ -69,7 +69,7 @@ fn serve_links<R: Threads + Sync, K: Keeper, D: Door, E: Encloser + Sync, G: Gat
     }
     let mut end = Ok(());
     for _count in 0..connections {
-        match serve_next(calculator, alloc, keeper, door) {
+        match serve_next(book, alloc, keeper, door) {
             Ok(Some(served)) => end = after(end, served),
             Ok(None) => return end,
             Err(Failed) => return Err(ServeFault::Door),
@@ -80,14 +80,14 @@ fn serve_links<R: Threads + Sync, K: Keeper, D: Door, E: Encloser + Sync, G: Gat
 
 // Serves the first connection that waits, if one does, and hands it back.
 fn serve_next<R: Threads + Sync, K: Keeper, D: Door, E: Encloser + Sync, G: Gate + Sync>(
-    calculator: &Calculator<'_, R, E, G>,
+    book: &Book<'_, R, E, G>,
     alloc: Global,
     keeper: &mut K,
     door: &mut D,
 ) -> Result<Option<Served>, Failed>
     requires bound { IfSome (D.state door.old) (λ d. IsSome d.port) }
 
-    ensures next { AsksDoor K.Keeper D.Door (IsRightAnswer (E.ends calculator.now.encloser.now))
+    ensures next { AsksDoor K.Keeper D.Door (book_rules book.now.limit (E.ends book.now.calculator.now.encloser.now))
         (traffic D.L.left D.L.bytes D.L.Source.faults D.L.Sink.faults) result keeper.old keeper.new door.old door.new }
     ensures failed { OnErr result (Rose (D.faults door.old) (D.faults door.new)) }
     ensures port { (port : ℕ) → IfSome (D.state door.old) (λ d. d.port ≡ Some port)
@@ -97,7 +97,7 @@ fn serve_next<R: Threads + Sync, K: Keeper, D: Door, E: Encloser + Sync, G: Gate
     match door.accept() {
         Ok(Some(link)) => {
             let mut link = link;
-            let served = answer_one(calculator, alloc, &mut link, keeper);
+            let served = answer_one(book, alloc, &mut link, keeper);
             door.hand_back(link);
             Ok(Some(served))
         }

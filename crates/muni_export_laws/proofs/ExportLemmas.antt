@@ -1,5 +1,5 @@
 -- An export, imported into empty tables.
-use Rattle.std.proofs.Common.{◌≡◌, ℕ, List, [], ◌∷◌, map, Option, Some, None, Ok, refl, sym, ap, subst, ◌∙◌, arith}
+use Rattle.std.proofs.Common.{◌≡◌, ◌≤◌, ℕ, List, [], ◌∷◌, map, Option, Some, None, Ok, refl, sym, ap, subst, ◌∙◌, arith}
 use Rattle.std.specs.List.{AllByRecursion, flat_map}
 use Rattle.std.specs.Option.{option_and_then, unwrap_or}
 use Rattle.std.specs.FinMap.{empty, entries, get, get-empty}
@@ -14,17 +14,18 @@ use Rattle.muni_keep.specs.Tables.{Tables, issue_at, no_tables, trade_at, versio
 use Rattle.muni_keep.specs.Trades.{by_bytes, Trades, own}
 use Rattle.muni_book_step.specs.Runs.{Runs}
 use Rattle.muni_book_step.specs.Sound.{IsSound}
-use Rattle.muni_book_step.specs.Step.{Pricing}
+use Rattle.muni_book_step.specs.Step.{Rules}
 use Rattle.muni_import.specs.Report.{Said}
-use Rattle.muni_book.specs.Answers.{IsRightAnswer}
 use Rattle.muni_book.specs.Once.{Keeps}
+use Rattle.muni_book.specs.Rules.{book_rules}
+use Rattle.muni_book.proofs.FewLemmas.{few-run}
 use Rattle.muni_book.proofs.SoundLemmas.{runs-stay-sound}
 use Rattle.muni_desk_import.specs.Import.{Imports}
 use Rattle.muni_export_laws.specs.Export.{desk_commands, export_commands, issue_command, trade_commands}
-use Rattle.muni_export_laws.specs.Laws.{ExportsAreImportedAgain, IsImportedAgain}
+use Rattle.muni_export_laws.specs.Laws.{ExportsAreImportedAgain, IsImportedAgain, OwnLimitIsEnough}
 use Rattle.muni_export_laws.proofs.MapLemmas.{IsFound, at-key, entries-found}
-use Rattle.muni_export_laws.proofs.RunLemmas.{IsRun, all-still, empty-sound, empty-within, imports-of, run-each, run-then, taken-of}
-use Rattle.muni_export_laws.proofs.StepLemmas.{ArePriced, HasIssues, issue-run}
+use Rattle.muni_export_laws.proofs.RunLemmas.{IsRun, all-still, empty-few, empty-sound, empty-within, imports-of, run-each, run-then, taken-of}
+use Rattle.muni_export_laws.proofs.StepLemmas.{ArePriced, Fits, HasIssues, issue-run}
 use Rattle.muni_export_laws.proofs.TableLemmas.{AreFilled, filled-empty, runs-filled, same-tables}
 use Rattle.muni_export_laws.proofs.TradeLemmas.{AreKept, kept-at, still-issues, still-kept, trade-run}
 use Rattle.muni_export_laws.proofs.VersionLemmas.{kept-trade, place-of}
@@ -37,24 +38,24 @@ one-each : (es : List (List ℕ × IssueRow)) → flat_map (λ entry. issue_comm
 one-each [] = refl
 one-each (e ∷ es) = ap (λ l. issue_command e ∷ l) (one-each es)
 
-issues-run : (P : Pricing) (all : Tables) → IsSound (ArePriced P) all → IsRun P all no_tables (map issue_command (entries all.issues)) (λ new. AllByRecursion (λ entry. HasIssue entry new) (entries all.issues))
-issues-run P all sound =
+issues-run : (P : Rules) (all : Tables) → Fits P all → IsRun P all no_tables (map issue_command (entries all.issues)) (λ new. AllByRecursion (λ entry. HasIssue entry new) (entries all.issues))
+issues-run P all fits =
     subst (λ commands. IsRun P all no_tables commands (λ new. AllByRecursion (λ entry. HasIssue entry new) (entries all.issues))) (one-each (entries all.issues))
     (run-each P all (λ entry. issue_command entry ∷ []) (IsFound all.issues) (λ _. Unit {0}) HasIssue
     (record {
       ready = λ old new keeps ready. tt;
       stays = λ entry old new keeps has. keeps.issues entry.1.cusip entry.1 has;
       one = λ entry old found ready within.
-          let is = sound.issues entry.0 entry.1 found in
+          let is = fits.sound.issues entry.0 entry.1 found in
           issue-run P all old entry.1 (record { own_cusip = refl; passed = is.passed }) (ap (issue_at all) is.own_cusip ∙ found) within;
     })
     (entries all.issues) no_tables (entries-found all.issues) tt (empty-within all))
 
 -- all issues are there
-all-issues : (P : Pricing) (all new : Tables) → IsSound (ArePriced P) all → AllByRecursion (λ entry. HasIssue entry new) (entries all.issues) → HasIssues all new
-all-issues P all new sound has cusip issue is =
+all-issues : (P : Rules) (all new : Tables) → Fits P all → AllByRecursion (λ entry. HasIssue entry new) (entries all.issues) → HasIssues all new
+all-issues P all new fits has cusip issue is =
     let there = at-key (λ entry. HasIssue entry new) all.issues cusip issue has is in
-    subst (λ q. issue_at new q ≡ Some issue) (sound.issues cusip issue is).own_cusip there
+    subst (λ q. issue_at new q ≡ Some issue) (fits.sound.issues cusip issue is).own_cusip there
 
 -- ---- trades and desks
 abbrev key_in : List ℕ → List ℕ → Key
@@ -77,24 +78,24 @@ trades-found t desk found =
     let is : own desk.0 t.desks ≡ desk.1 = ap (λ o. unwrap_or o empty) found in
     subst (λ (trades : Trades Version). AllByRecursion (λ trade. get trades trade.0 ≡ Some trade.1) (entries desk.1)) (sym is) (entries-found desk.1)
 
-desk-run : (P : Pricing) (all old : Tables) (desk : List ℕ × Trades Version) → IsSound (ArePriced P) all → HasIssues all old → Keeps old all → IsFound all.desks desk → IsRun P all old (desk_commands desk) (HasDesk desk)
-desk-run P all old desk sound issues within found =
+desk-run : (P : Rules) (all old : Tables) (desk : List ℕ × Trades Version) → Fits P all → HasIssues all old → Keeps old all → IsFound all.desks desk → IsRun P all old (desk_commands desk) (HasDesk desk)
+desk-run P all old desk fits issues within found =
     run-each P all (trade_commands desk.0) (λ trade. trade_at all (key_in desk.0 trade.0) ≡ Some trade.1) (HasIssues all) (HasTrade desk.0)
     (record {
       ready = still-issues all;
       stays = λ trade old new keeps. still-kept old new keeps (key_in desk.0 trade.0) 1 (versions trade.1);
-      one = λ trade old is issues within. trade-run P all old (key_in desk.0 trade.0) trade.1 sound issues within is;
+      one = λ trade old is issues within. trade-run P all old (key_in desk.0 trade.0) trade.1 fits issues within is;
     })
     (entries desk.1) old (trades-found all desk found) issues within
 
-desks-run : (P : Pricing) (all old : Tables) → IsSound (ArePriced P) all → HasIssues all old → Keeps old all
+desks-run : (P : Rules) (all old : Tables) → Fits P all → HasIssues all old → Keeps old all
     → IsRun P all old (flat_map desk_commands (entries all.desks)) (λ new. AllByRecursion (λ desk. HasDesk desk new) (entries all.desks))
-desks-run P all old sound issues within =
+desks-run P all old fits issues within =
     run-each P all desk_commands (IsFound all.desks) (HasIssues all) HasDesk
     (record {
       ready = still-issues all;
       stays = desk-stays;
-      one = λ desk old found issues within. desk-run P all old desk sound issues within found;
+      one = λ desk old found issues within. desk-run P all old desk fits issues within found;
     })
     (entries all.desks) old (entries-found all.desks) issues within
 
@@ -114,19 +115,19 @@ all-versions all new has key number version is =
     kept-at new key 1 (versions trade.0) at.0 number version kept at.2 (omega arith)
 
 -- ---- everything
-export-run : (P : Pricing) (all : Tables) → IsSound (ArePriced P) all → IsRun P all no_tables (export_commands all) (Keeps all)
-export-run P all sound =
-    let run = issues-run P all sound in
-    let issues = all-issues P all run.new sound run.has in
+export-run : (P : Rules) (all : Tables) → Fits P all → IsRun P all no_tables (export_commands all) (Keeps all)
+export-run P all fits =
+    let run = issues-run P all fits in
+    let issues = all-issues P all run.new fits run.has in
     run-then P all no_tables (map issue_command (entries all.issues)) (flat_map desk_commands (entries all.desks))
     (λ new. AllByRecursion (λ entry. HasIssue entry new) (entries all.issues)) (λ new. AllByRecursion (λ desk. HasDesk desk new) (entries all.desks)) (Keeps all)
-    run (desks-run P all run.new sound issues run.within)
+    run (desks-run P all run.new fits issues run.within)
     (λ new keeps has. record { issues = still-issues all run.new new keeps issues; versions = all-versions all new has })
 
--- so it is with all tables that are sound and have no desk without a trade
-pub again : (P : Pricing) (all : Tables) → IsSound (ArePriced P) all → AreFilled all → IsImportedAgain P all
-again P all sound filled =
-    let run = export-run P all sound in
+-- so it is with all tables that fit and have no desk without a trade
+pub again : (P : Rules) (all : Tables) → Fits P all → AreFilled all → IsImportedAgain P all
+again P all fits filled =
+    let run = export-run P all fits in
     let also = runs-filled P no_tables run.new (export_commands all) run.replies filled-empty run.run in
     let same : run.new ≡ all = same-tables run.new all run.within run.has also filled in
     let said : List Said = map (λ reply. Ok reply) run.replies in
@@ -138,14 +139,18 @@ again P all sound filled =
     }
 
 -- as those are to which commands lead from empty ones
-pub sound-run : (P : Pricing) (all : Tables) (commands : List Command) (replies : List Reply) → Runs P no_tables commands replies all → IsSound (ArePriced P) all
-sound-run P all commands replies run =
-    runs-stay-sound P (ArePriced P) (λ issue asked figures prices. prices) no_tables all commands replies (empty-sound (ArePriced P)) run
+pub sound-run : (P : Rules) (all : Tables) (commands : List Command) (replies : List Reply) → P.limit ≤ 100_000_000 → Runs P no_tables commands replies all → IsSound (ArePriced P) all
+sound-run P all commands replies small run =
+    runs-stay-sound P (ArePriced P) (λ issue asked figures prices. prices) small no_tables all commands replies (empty-sound (ArePriced P)) run
 
-pub filled-run : (P : Pricing) (all : Tables) (commands : List Command) (replies : List Reply) → Runs P no_tables commands replies all → AreFilled all
+pub filled-run : (P : Rules) (all : Tables) (commands : List Command) (replies : List Reply) → Runs P no_tables commands replies all → AreFilled all
 filled-run P all commands replies run = runs-filled P no_tables all commands replies filled-empty run
 
 pub imported-again : ExportsAreImportedAgain
-imported-again ends tables commands replies run =
-    let P = IsRightAnswer ends in
-    again P tables (sound-run P tables commands replies run) (filled-run P tables commands replies run)
+imported-again limit most ends tables commands replies small run few =
+    let P = book_rules limit ends in
+    again (book_rules most ends) tables (record { sound = sound-run P tables commands replies small run; few = few }) (filled-run P tables commands replies run)
+
+pub own-limit : OwnLimitIsEnough
+own-limit limit ends tables commands replies run = λ desk.
+    few-run (book_rules limit ends) limit (omega arith) desk no_tables tables commands replies run (empty-few limit desk)

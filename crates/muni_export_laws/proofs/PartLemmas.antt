@@ -15,8 +15,8 @@ use Rattle.muni_msg.specs.declared.version.Version.{Version}
 use Rattle.muni_keep.specs.History.{History, versions}
 use Rattle.muni_keep.specs.Tables.{Tables, issue_at, line, trade_at}
 use Rattle.muni_keep.specs.Trades.{by_bytes, Trades, own}
-use Rattle.muni_book_step.specs.Sound.{Rightness, IsRightVersion, IsSound}
-use Rattle.muni_book.specs.Answers.{IsRightAnswer}
+use Rattle.muni_book_step.specs.Sound.{Rightness, IsRightVersion, HasAtMost, IsSound}
+use Rattle.muni_book.specs.Rules.{book_rules}
 use Rattle.muni_book.proofs.PutLemmas.{itself, same-name}
 use Rattle.muni_desk_export.specs.Named.{is_named, is_of, names}
 use Rattle.muni_desk_export.specs.Trades.{kept_versions}
@@ -52,10 +52,10 @@ trade-of t desk key history is =
       | false ↦ λ other there. absurd (none-some history (sym (get-empty by_bytes key.reference) ∙ there))
     ] refl (sym (ap (λ trades. get trades key.reference) (own-one_desk desk key.desk o)) ∙ is)
 
-few-part : (t : Tables) (desk q : List ℕ) → len (own desk t.desks) ≤ 100_000 → len (own q (part_of desk t).desks) ≤ 100_000
-few-part t desk q few =
+few-part : (most : ℕ) (t : Tables) (desk q : List ℕ) → HasAtMost most desk t → HasAtMost most q (part_of desk t)
+few-part most t desk q few =
     rw (own-one_desk desk q (get t.desks desk))
-    (elim (eq_by_cmp by_bytes q desk) as (λ b. len (cond b (own desk t.desks) empty) ≤ 100_000) [
+    (elim (eq_by_cmp by_bytes q desk) as (λ b. len (cond b (own desk t.desks) empty) ≤ most) [
       | true ↦ few
       | false ↦ rw (len-empty by_bytes (History Version)) (omega arith)
     ])
@@ -157,10 +157,12 @@ sound-part R t desk sound = record {
         acts = trade.acts;
         right = right-part R t desk key.reference history (ap (λ d. get (own d t.desks) key.reference) (sym found.0) ∙ found.1) trade.right;
       };
-  few = λ q. few-part t desk q (sound.few desk);
+  few = λ q. few-part 100_000_000 t desk q (sound.few desk);
 }
 
 pub desks-again : DesksAreImportedAgain
-desks-again ends tables desk commands replies run =
-    let P = IsRightAnswer ends in
-    again P (part_of desk tables) (sound-part (ArePriced P) tables desk (sound-run P tables commands replies run)) (filled-part tables desk (filled-run P tables commands replies run))
+desks-again limit most ends tables desk commands replies small run few =
+    let P = book_rules limit ends in
+    again (book_rules most ends) (part_of desk tables)
+    (record { sound = sound-part (ArePriced P) tables desk (sound-run P tables commands replies small run); few = λ q. few-part most tables desk q few })
+    (filled-part tables desk (filled-run P tables commands replies run))

@@ -13,8 +13,8 @@ use Rattle.muni_keep.specs.Tables.{Tables, no_tables, trade_at}
 use Rattle.muni_keep.specs.Trades.{by_bytes, own}
 use Rattle.muni_book_step.specs.Accepted.{IsAccepted}
 use Rattle.muni_book_step.specs.Runs.{Runs}
-use Rattle.muni_book_step.specs.Sound.{Rightness, IsSound}
-use Rattle.muni_book_step.specs.Step.{Pricing, Entry, IsStepOver, after}
+use Rattle.muni_book_step.specs.Sound.{Rightness, HaveAtMost, IsSound}
+use Rattle.muni_book_step.specs.Step.{Rules, Entry, IsStepOver, after}
 use Rattle.muni_book.specs.Once.{Keeps}
 use Rattle.muni_book.proofs.KeepLemmas.{runs-keep}
 use Rattle.muni_desk_import.specs.Import.{Imports}
@@ -34,15 +34,18 @@ empty-within all = record {
       absurd (none-some version (sym (ap (option_and_then (λ history. version_in history number)) (no-trade key)) ∙ kept));
 }
 
+pub empty-few : (most : ℕ) → HaveAtMost most no_tables
+empty-few most desk = rw (no-own desk, len-empty by_bytes (History Version)) (omega arith)
+
 pub empty-sound : (R : Rightness) → IsSound R no_tables
 empty-sound R = record {
   issues = λ cusip issue kept. absurd (none-some issue (sym (get-empty by_bytes cusip) ∙ kept));
   trades = λ key history kept. absurd (none-some history (sym (no-trade key) ∙ kept));
-  few = λ desk. rw (no-own desk, len-empty by_bytes (History Version)) (omega arith);
+  few = empty-few 100_000_000;
 }
 
 -- ---- a run is an import of its commands
-pub imports-of : (P : Pricing) (old new : Tables) (commands : List Command) (replies : List Reply) → Runs P old commands replies new
+pub imports-of : (P : Rules) (old new : Tables) (commands : List Command) (replies : List Reply) → Runs P old commands replies new
     → Imports P old (map (λ command. Ok command) commands) (map (λ reply. Ok reply) replies) new
 imports-of P old new [] [] run = run
 imports-of P old new [] (reply ∷ replies) run = absurd run
@@ -63,7 +66,7 @@ pub all-still : {A : Type 0} (P Q : A → Type 0) (xs : List A) → ((x : A) →
 all-still P Q [] f all = tt
 all-still P Q (x ∷ xs) f all = (f x all.0, all-still P Q xs f all.1)
 
-runs-append : (P : Pricing) (old mid new : Tables) (commands more : List Command) (replies others : List Reply)
+runs-append : (P : Rules) (old mid new : Tables) (commands more : List Command) (replies others : List Reply)
     → Runs P old commands replies mid → Runs P mid more others new → Runs P old (commands ++ more) (replies ++ others) new
 runs-append P old mid new [] more [] others run later = subst (λ t. Runs P t more others new) run later
 runs-append P old mid new [] more (reply ∷ replies) others run later = absurd run
@@ -73,7 +76,7 @@ runs-append P old mid new (c ∷ commands) more (reply ∷ replies) others run l
 
 -- Commands are accepted, one after another. The tables after them have this, and nothing but what the exported tables
 -- have.
-pub record IsRun (P : Pricing) (all old : Tables) (commands : List Command) (Has : Tables → Type 0) : Type 0 where
+pub record IsRun (P : Rules) (all old : Tables) (commands : List Command) (Has : Tables → Type 0) : Type 0 where
   pub replies : List Reply
   pub new : Tables
   pub run : Runs P old commands replies new
@@ -81,10 +84,10 @@ pub record IsRun (P : Pricing) (all old : Tables) (commands : List Command) (Has
   pub within : Keeps new all
   pub has : Has new
 
-pub run-none : (P : Pricing) (all old : Tables) (Has : Tables → Type 0) → Keeps old all → Has old → IsRun P all old [] Has
+pub run-none : (P : Rules) (all old : Tables) (Has : Tables → Type 0) → Keeps old all → Has old → IsRun P all old [] Has
 run-none P all old Has within has = record { replies = []; new = old; run = refl; accepted = tt; within = within; has = has }
 
-pub run-one : (P : Pricing) (all old : Tables) (command : Command) (reply : Reply) (entry : Option Entry) (Has : Tables → Type 0) → IsStepOver P old command (record { reply = reply; entry = entry })
+pub run-one : (P : Rules) (all old : Tables) (command : Command) (reply : Reply) (entry : Option Entry) (Has : Tables → Type 0) → IsStepOver P old command (record { reply = reply; entry = entry })
     → IsAccepted reply → Keeps (after entry old) all → Has (after entry old) → IsRun P all old (command ∷ []) Has
 run-one P all old command reply entry Has step accepted within has = record {
   replies = reply ∷ [];
@@ -96,10 +99,10 @@ run-one P all old command reply entry Has step accepted within has = record {
 }
 
 -- nothing is lost along a run
-pub run-keeps : (P : Pricing) (all old : Tables) (commands : List Command) (Has : Tables → Type 0) (run : IsRun P all old commands Has) → Keeps old run.new
+pub run-keeps : (P : Rules) (all old : Tables) (commands : List Command) (Has : Tables → Type 0) (run : IsRun P all old commands Has) → Keeps old run.new
 run-keeps P all old commands Has run = runs-keep P old run.new commands run.replies run.run
 
-pub run-then : (P : Pricing) (all old : Tables) (commands more : List Command) (Has Later Both : Tables → Type 0) (run : IsRun P all old commands Has) → IsRun P all run.new more Later
+pub run-then : (P : Rules) (all old : Tables) (commands more : List Command) (Has Later Both : Tables → Type 0) (run : IsRun P all old commands Has) → IsRun P all run.new more Later
     → ((new : Tables) → Keeps run.new new → Later new → Both new) → IsRun P all old (commands ++ more) Both
 run-then P all old commands more Has Later Both run later both = record {
   replies = run.replies ++ later.replies;
@@ -112,12 +115,12 @@ run-then P all old commands more Has Later Both run later both = record {
 
 -- ---- runs for each of a list
 -- what each needs of the list and of the tables, and what it brings, which stays
-pub record IsBrought {A : Type 0} (P : Pricing) (all : Tables) (commands : A → List Command) (Needs : A → Type 0) (Ready : Tables → Type 0) (Has : A → Tables → Type 0) : Type 0 where
+pub record IsBrought {A : Type 0} (P : Rules) (all : Tables) (commands : A → List Command) (Needs : A → Type 0) (Ready : Tables → Type 0) (Has : A → Tables → Type 0) : Type 0 where
   pub ready : (old new : Tables) → Keeps old new → Ready old → Ready new
   pub stays : (x : A) (old new : Tables) → Keeps old new → Has x old → Has x new
   pub one : (x : A) (old : Tables) → Needs x → Ready old → Keeps old all → IsRun P all old (commands x) (Has x)
 
-pub run-each : {A : Type 0} (P : Pricing) (all : Tables) (commands : A → List Command) (Needs : A → Type 0) (Ready : Tables → Type 0) (Has : A → Tables → Type 0)
+pub run-each : {A : Type 0} (P : Rules) (all : Tables) (commands : A → List Command) (Needs : A → Type 0) (Ready : Tables → Type 0) (Has : A → Tables → Type 0)
     → IsBrought P all commands Needs Ready Has → (xs : List A) (old : Tables) → AllByRecursion Needs xs → Ready old → Keeps old all
     → IsRun P all old (flat_map commands xs) (λ new. AllByRecursion (λ x. Has x new) xs)
 run-each P all commands Needs Ready Has brought [] old needs ready within = run-none P all old (λ new. AllByRecursion (λ x. Has x new) []) within tt

@@ -23,8 +23,8 @@ use Rattle.muni_keep.specs.Trades.{by_bytes, own}
 use Rattle.muni_book_step.specs.Accepted.{IsConfirmed, IsKept}
 use Rattle.muni_book_step.specs.Plan.{cancel_of, is_canceled, is_full}
 use Rattle.muni_book_step.specs.Reasons.{IsReasonFor}
-use Rattle.muni_book_step.specs.Sound.{Rightness, IsRightVersion, IsSound, IsSoundIssue}
-use Rattle.muni_book_step.specs.Step.{Pricing, NewIssue, NewVersion, Outcome, answered, kept, IsOutcome, IsStepOver}
+use Rattle.muni_book_step.specs.Sound.{Rightness, IsRightVersion, IsSound, IsSoundIssue, HaveAtMost}
+use Rattle.muni_book_step.specs.Step.{Rules, NewIssue, NewVersion, Outcome, answered, kept, IsOutcome, IsStepOver}
 use Rattle.muni_book_step.proofs.ReadyLemmas.{live-next, new-next, none-kept}
 use Rattle.muni_book.specs.Once.{Keeps}
 use Rattle.muni_book.proofs.KeepLemmas.{issue-put}
@@ -64,7 +64,7 @@ version-within t all key version within there = record {
 
 -- ---- issues
 -- an issue is added or confirmed
-pub issue-run : (P : Pricing) (all t : Tables) (issue : IssueRow) → IsSoundIssue issue.cusip issue → issue_at all issue.cusip ≡ Some issue → Keeps t all
+pub issue-run : (P : Rules) (all t : Tables) (issue : IssueRow) → IsSoundIssue issue.cusip issue → issue_at all issue.cusip ≡ Some issue → Keeps t all
     → IsRun P all t (AddIssue issue ∷ []) (λ new. issue_at new issue.cusip ≡ Some issue)
 issue-run P all t issue sound there within =
     let c = AddIssue issue in
@@ -72,32 +72,32 @@ issue-run P all t issue sound there within =
     elim (issue_at t issue.cusip) as (λ o. issue_at t issue.cusip ≡ o → IsRun P all t (c ∷ []) (λ new. issue_at new issue.cusip ≡ Some issue)) [
       | None ↦ λ none.
           let outcome : Outcome = record { reply = Added issue.cusip; entry = Some (NewIssue issue) } in
-          let planned = issue-planned t c issue (record { row = issue; command = refl; passed = passed; is_new = none }) in
+          let planned = issue-planned P.limit t c issue (record { row = issue; command = refl; passed = passed; is_new = none }) in
           run-one P all t c (Added issue.cusip) (Some (NewIssue issue)) (λ new. issue_at new issue.cusip ≡ Some issue)
-          (subst (λ plan. IsOutcome P plan outcome) (sym planned) refl) tt
+          (subst (λ plan. IsOutcome P.prices plan outcome) (sym planned) refl) tt
           (issue-within t all issue within there) (issue-put t.issues issue)
       | Some other ↦ λ is.
           let same : other ≡ issue = same_Some other issue (sym (within.issues issue.cusip other is) ∙ there) in
           let here = is ∙ ap (λ x. Some x) same in
           run-one P all t c (Added issue.cusip) None (λ new. issue_at new issue.cusip ≡ Some issue)
-          (subst (λ plan. IsOutcome P plan (answered (Added issue.cusip))) (sym (answered-again t c (Added issue.cusip) (issue, passed, here, refl))) refl) tt
+          (subst (λ plan. IsOutcome P.prices plan (answered (Added issue.cusip))) (sym (answered-again P.limit t c (Added issue.cusip) (issue, passed, here, refl))) refl) tt
           within here
     ] refl
 
 -- ---- versions
-kept-step : (P : Pricing) (t : Tables) (c : Command) (issue : IssueRow) (key : Key) (number : ℕ) (version : Version) → IsReasonFor P t c issue key number version → IsStepOver P t c (kept issue key number version)
+kept-step : (P : Rules) (t : Tables) (c : Command) (issue : IssueRow) (key : Key) (number : ℕ) (version : Version) → IsReasonFor P t c issue key number version → IsStepOver P t c (kept issue key number version)
 kept-step P t c issue key number version (inl cancel) =
-    subst (λ plan. IsOutcome P plan (kept issue key number version)) (sym (cancel-planned t c issue key number version cancel)) refl
+    subst (λ plan. IsOutcome P.prices plan (kept issue key number version)) (sym (cancel-planned P.limit t c issue key number version cancel)) refl
 kept-step P t c issue key number version (inr (reason, prices)) =
-    subst (λ plan. IsOutcome P plan (kept issue key number version)) (sym (priced-planned t c issue key number version.act version.terms reason)) (Ok version.figures, prices, refl)
+    subst (λ plan. IsOutcome P.prices plan (kept issue key number version)) (sym (priced-planned P.limit t c issue key number version.act version.terms reason)) (Ok version.figures, prices, refl)
 
-next-of : (P : Pricing) (t : Tables) (c : Command) (issue : IssueRow) (key : Key) (number : ℕ) (version : Version) → IsReasonFor P t c issue key number version → number ≡ next_number (trade_at t key)
+next-of : (P : Rules) (t : Tables) (c : Command) (issue : IssueRow) (key : Key) (number : ℕ) (version : Version) → IsReasonFor P t c issue key number version → number ≡ next_number (trade_at t key)
 next-of P t c issue key number version (inl cancel) = live-next t key number cancel.last cancel.is_live
 next-of P t c issue key number version (inr (inl entered, prices)) = new-next t key number entered.number_is entered.is_new
 next-of P t c issue key number version (inr (inr corrected, prices)) = live-next t key number corrected.last corrected.is_live
 
 -- a command that has its reason if its version is missing, and is kept if it is there, is accepted
-version-run : (P : Pricing) (all t : Tables) (c : Command) (issue : IssueRow) (key : Key) (number : ℕ) (version : Version) → Keeps t all → version_at all key number ≡ Some version
+version-run : (P : Rules) (all t : Tables) (c : Command) (issue : IssueRow) (key : Key) (number : ℕ) (version : Version) → Keeps t all → version_at all key number ≡ Some version
     → (version_at t key number ≡ Some version → IsKept t c (Confirmed issue key number version))
     → (version_at t key number ≡ None → IsReasonFor P t c issue key number version)
     → IsRun P all t (c ∷ []) (λ new. version_at new key number ≡ Some version)
@@ -113,7 +113,7 @@ version-run P all t c issue key number version within there again reason =
           let same : other ≡ version = same_Some other version (sym (within.versions key number other is) ∙ there) in
           let here = is ∙ ap (λ v. Some v) same in
           run-one P all t c reply None (λ new. version_at new key number ≡ Some version)
-          (subst (λ plan. IsOutcome P plan (answered reply)) (sym (answered-again t c reply (again here))) refl) tt
+          (subst (λ plan. IsOutcome P.prices plan (answered reply)) (sym (answered-again P.limit t c reply (again here))) refl) tt
           within here
     ] refl
 
@@ -129,8 +129,13 @@ confirmed-kept t issue key number version here there = record {
 
 -- ---- versions that the exported tables keep
 -- the figures of a version are those that may be answered
-abbrev pub ArePriced : Pricing → Rightness
-ArePriced P issue asked figures = P issue asked (Ok figures)
+abbrev pub ArePriced : Rules → Rightness
+ArePriced P issue asked figures = P.prices issue asked (Ok figures)
+
+-- tables are sound, and their desks have no more trades than the limit
+pub record Fits (P : Rules) (all : Tables) : Type 0 where
+  pub sound : IsSound (ArePriced P) all
+  pub few : HaveAtMost P.limit all
 
 all-at : {A : Type 0} (Q : A → Type 0) (xs : List A) (i : ℕ) (x : A) → All Q xs → slice_get xs i ≡ Some x → Q x
 all-at Q [] i x all is = absurd (none-some x is)
@@ -143,30 +148,30 @@ right-version R t key number version sound is =
     let at = place-of trade.0 number version (sym (ap (option_and_then (λ history. version_in history number)) trade.1) ∙ is) in
     all-at (IsRightVersion R t.issues) (versions trade.0) at.0 version (sound.trades key trade.0 trade.1).right at.2
 
-not-full : (n : ℕ) → n < 100_000 → nat_le 100_000 n ≡ false
-not-full n few = grind (arith, nat_tests)
+not-full : (limit n : ℕ) → n < limit → nat_le limit n ≡ false
+not-full limit n few = grind (arith, nat_tests)
 
 -- a desk that is to have a trade more has room
-has-room : (R : Rightness) (t all : Tables) (key : Key) (version : Version) → IsSound R all → Keeps t all → version_at t key 1 ≡ None → version_at all key 1 ≡ Some version → is_full (own key.desk t.desks) ≡ false
-has-room R t all key version sound within none there =
+has-room : (limit : ℕ) (t all : Tables) (key : Key) (version : Version) → HaveAtMost limit all → Keeps t all → version_at t key 1 ≡ None → version_at all key 1 ≡ Some version → is_full limit (own key.desk t.desks) ≡ false
+has-room limit t all key version few within none there =
     let trade = kept-trade (trade_at all key) 1 version there in
     let less = fewer (own key.desk t.desks) (own key.desk all.desks) key.reference trade.0 (λ q history is.
     let other : Key = record { desk = key.desk; reference = q } in
     let first = first-version history in
     kept-trade (trade_at all other) 1 first.0 (within.versions other 1 first.0 (ap (option_and_then (λ history. version_in history 1)) is ∙ first.1)))
     (none-kept (trade_at t key) none) trade.1 in
-    let most = sound.few key.desk in
-    not-full (len (own key.desk t.desks)) (omega arith)
+    let most = few key.desk in
+    not-full limit (len (own key.desk t.desks)) (omega arith)
 
 -- tables keep the issues that the exported tables keep
 abbrev pub HasIssues : Tables → Tables → Type 0
 HasIssues all t = (cusip : List ℕ) (issue : IssueRow) → issue_at all cusip ≡ Some issue → issue_at t cusip ≡ Some issue
 
 -- ---- the commands of versions
-pub enter-run : (P : Pricing) (all t : Tables) (key : Key) (version : Version) → IsSound (ArePriced P) all → HasIssues all t → Keeps t all → version_at all key 1 ≡ Some version → version.act ≡ Entered
+pub enter-run : (P : Rules) (all t : Tables) (key : Key) (version : Version) → Fits P all → HasIssues all t → Keeps t all → version_at all key 1 ≡ Some version → version.act ≡ Entered
     → IsRun P all t (Enter key version.terms ∷ []) (λ new. version_at new key 1 ≡ Some version)
-enter-run P all t key version sound issues within there entered =
-    let right = right-version (ArePriced P) all key 1 version sound there in
+enter-run P all t key version fits issues within there entered =
+    let right = right-version (ArePriced P) all key 1 version fits.sound there in
     let issue = issues version.terms.asked.cusip right.issue right.kept in
     version-run P all t (Enter key version.terms) right.issue key 1 version within there
     (λ here. (confirmed-kept t right.issue key 1 version here issue, refl))
@@ -177,7 +182,7 @@ enter-run P all t key version sound issues within there entered =
         act_is = entered;
         issue_is = issue;
         is_new = none;
-        room = has-room (ArePriced P) t all key version sound within none there;
+        room = has-room P.limit t all key version fits.few within none there;
       }),
       right.right,
     ))
@@ -185,16 +190,16 @@ enter-run P all t key version sound issues within there entered =
 few-before : (n : ℕ) → n + 1 ≤ 99 → nat_le 99 n ≡ false
 few-before n few = grind (arith, nat_tests)
 
-few-enough : (P : Pricing) (all : Tables) (key : Key) (number : ℕ) (version : Version) → IsSound (ArePriced P) all → version_at all key (number + 1) ≡ Some version → version.act ≡ Corrected → nat_le 99 number ≡ false
-few-enough P all key number version sound there corrected =
+few-enough : (P : Rules) (all : Tables) (key : Key) (number : ℕ) (version : Version) → Fits P all → version_at all key (number + 1) ≡ Some version → version.act ≡ Corrected → nat_le 99 number ≡ false
+few-enough P all key number version fits there corrected =
     let trade = kept-trade (trade_at all key) (number + 1) version there in
-    few-before number (few-corrected trade.0 (number + 1) version (sound.trades key trade.0 trade.1).few (sym (ap (option_and_then (λ history. version_in history (number + 1))) trade.1) ∙ there) corrected)
+    few-before number (few-corrected trade.0 (number + 1) version (fits.sound.trades key trade.0 trade.1).few (sym (ap (option_and_then (λ history. version_in history (number + 1))) trade.1) ∙ there) corrected)
 
-pub correct-run : (P : Pricing) (all t : Tables) (key : Key) (number : ℕ) (before version : Version) → IsSound (ArePriced P) all → HasIssues all t → Keeps t all → version_at t key number ≡ Some before
+pub correct-run : (P : Rules) (all t : Tables) (key : Key) (number : ℕ) (before version : Version) → Fits P all → HasIssues all t → Keeps t all → version_at t key number ≡ Some before
     → version_at all key (number + 1) ≡ Some version → is_canceled before.act ≡ false → version.act ≡ Corrected
     → IsRun P all t (Correct key (number + 1) version.terms ∷ []) (λ new. version_at new key (number + 1) ≡ Some version)
-correct-run P all t key number before version sound issues within last there live corrected =
-    let right = right-version (ArePriced P) all key (number + 1) version sound there in
+correct-run P all t key number before version fits issues within last there live corrected =
+    let right = right-version (ArePriced P) all key (number + 1) version fits.sound there in
     let issue = issues version.terms.asked.cusip right.issue right.kept in
     version-run P all t (Correct key (number + 1) version.terms) right.issue key (number + 1) version within there
     (λ here. (confirmed-kept t right.issue key (number + 1) version here issue, refl, corrected))
@@ -205,16 +210,16 @@ correct-run P all t key number before version sound issues within last there liv
         issue_is = issue;
         last = (number, before);
         is_live = record { last_is = last-of (trade_at t key) number before last none; live = live; number_is = refl };
-        room = few-enough P all key number version sound there corrected;
+        room = few-enough P all key number version fits there corrected;
       }),
       right.right,
     ))
 
-pub cancel-run : (P : Pricing) (all t : Tables) (key : Key) (number : ℕ) (before version : Version) → IsSound (ArePriced P) all → HasIssues all t → Keeps t all → version_at t key number ≡ Some before
+pub cancel-run : (P : Rules) (all t : Tables) (key : Key) (number : ℕ) (before version : Version) → Fits P all → HasIssues all t → Keeps t all → version_at t key number ≡ Some before
     → version_at all key (number + 1) ≡ Some version → is_canceled before.act ≡ false → version ≡ cancel_of before
     → IsRun P all t (Cancel key (number + 1) ∷ []) (λ new. version_at new key (number + 1) ≡ Some version)
-cancel-run P all t key number before version sound issues within last there live canceled =
-    let right = right-version (ArePriced P) all key (number + 1) version sound there in
+cancel-run P all t key number before version fits issues within last there live canceled =
+    let right = right-version (ArePriced P) all key (number + 1) version fits.sound there in
     let issue = issues version.terms.asked.cusip right.issue right.kept in
     version-run P all t (Cancel key (number + 1)) right.issue key (number + 1) version within there
     (λ here. (confirmed-kept t right.issue key (number + 1) version here issue, ap (λ (v : Version). v.act) canceled))

@@ -16,7 +16,7 @@ use Rattle.muni_keep.specs.History.{History, grown, version_in, versions}
 use Rattle.muni_keep.specs.Tables.{Tables, issue_at, trade_at, version_at, no_tables, with_version}
 use Rattle.muni_keep.specs.Trades.{by_bytes, Trades, own, put_own}
 use Rattle.muni_book_step.specs.Runs.{Runs}
-use Rattle.muni_book_step.specs.Step.{Pricing, Entry, NewIssue, NewVersion, after}
+use Rattle.muni_book_step.specs.Step.{Rules, Entry, NewIssue, NewVersion, after}
 use Rattle.muni_book_step.proofs.ReadyLemmas.{none-kept}
 use Rattle.muni_book.specs.Once.{Keeps}
 use Rattle.muni_export_laws.proofs.MapLemmas.{get-put}
@@ -104,7 +104,7 @@ filled-after None t filled = filled
 filled-after (Some (NewIssue issue)) t filled = filled
 filled-after (Some (NewVersion key version)) t filled = filled-with t key version filled
 
-pub runs-filled : (P : Pricing) (old new : Tables) (commands : List Command) (replies : List Reply) → AreFilled old → Runs P old commands replies new → AreFilled new
+pub runs-filled : (P : Rules) (old new : Tables) (commands : List Command) (replies : List Reply) → AreFilled old → Runs P old commands replies new → AreFilled new
 runs-filled P old new [] [] filled run = subst AreFilled (sym run) filled
 runs-filled P old new [] (reply ∷ replies) filled run = absurd run
 runs-filled P old new (c ∷ commands) [] filled run = absurd run

@@ -18,10 +18,9 @@ use Rattle.muni_keep.specs.Trades.{Trades, own}
 use Rattle.muni_keep.proofs.EntriesLemmas.{past-all}
 use Rattle.muni_export.specs.Laws.{command_by, rows_text}
 use Rattle.muni_export.specs.Rows.{fields_by, issue_row, row}
-use Rattle.muni_desk_export.specs.Issues.{issue_text}
+use Rattle.muni_desk_export.specs.Issues.{all_issues, issue_text}
 use Rattle.muni_desk_export.specs.Trades.{key_of, kept_versions, rows_of, version_rows}
 use Rattle.muni_desk_export.specs.Walk.{desk_rows, desks_after}
-use Rattle.muni_desk_export.specs.Wanted.{all_issues}
 use Rattle.muni_desk_export.proofs.RowLemmas.{desk-rows}
 use Rattle.muni_export_laws.specs.Export.{desk_commands, fields_of, issue_command, trade_commands, version_commands}
 use Rattle.muni_export_laws.specs.Wanted.{ExportsAreOfCommands}

@@ -1,17 +1,18 @@
 -- What holds of exports.
-use Rattle.std.specs.Prelude.{◌≡◌, ℕ, List, map, Ok, Err}
+use Rattle.std.specs.Prelude.{◌≡◌, ◌≤◌, ℕ, List, map, Ok, Err}
 use Rattle.std.specs.List.{AllByRecursion}
 use Rattle.muni_msg.specs.declared.command.Command.{Command}
 use Rattle.muni_msg.specs.declared.command.Reply.{Reply}
 use Rattle.muni_keep.specs.Tables.{Tables, no_tables}
 use Rattle.muni_book_step.specs.Accepted.{IsAccepted}
 use Rattle.muni_book_step.specs.Runs.{Runs}
-use Rattle.muni_book_step.specs.Step.{Pricing}
+use Rattle.muni_book_step.specs.Sound.{HasAtMost, HaveAtMost}
+use Rattle.muni_book_step.specs.Step.{Rules}
 use Rattle.muni_import.specs.Report.{Said}
 use Rattle.muni_import.specs.Row.{row_of}
 use Rattle.muni_import.specs.Rows.{rows_of}
-use Rattle.muni_book.specs.Answers.{IsRightAnswer}
 use Rattle.muni_book.specs.RunLaws.{Ends}
+use Rattle.muni_book.specs.Rules.{book_rules}
 use Rattle.muni_desk_import.specs.Import.{Imports}
 use Rattle.muni_export_laws.specs.Export.{export_commands, export_text, fields_of}
 use Rattle.muni_export_laws.specs.Part.{part_of}
@@ -22,25 +23,33 @@ IsTaken (Ok reply) = IsAccepted reply
 IsTaken (Err fault) = ⊥
 
 -- The rows of an export, imported into empty tables, give the tables that were exported. Each is taken.
-pub record IsImportedAgain (Prices : Pricing) (tables : Tables) : Type 0 where
+pub record IsImportedAgain (rules : Rules) (tables : Tables) : Type 0 where
   pub said : List Said
-  pub imports : Imports Prices no_tables (map Ok (export_commands tables)) said tables
+  pub imports : Imports rules no_tables (map Ok (export_commands tables)) said tables
   pub taken : AllByRecursion IsTaken said
 
--- so it is with all tables to which commands lead from empty ones
+-- So it is with all tables to which commands lead from empty ones, if the import lets a desk have as many trades
+-- as each of theirs has.
 abbrev pub ExportsAreImportedAgain : Type 0
 ExportsAreImportedAgain =
-    (ends : Ends) (tables : Tables) (commands : List Command) (replies : List Reply)
-    → Runs (IsRightAnswer ends) no_tables commands replies tables
-    → IsImportedAgain (IsRightAnswer ends) tables
+    (limit most : ℕ) (ends : Ends) (tables : Tables) (commands : List Command) (replies : List Reply)
+    → limit ≤ 100_000_000 → Runs (book_rules limit ends) no_tables commands replies tables
+    → HaveAtMost most tables → IsImportedAgain (book_rules most ends) tables
+
+-- the limit of those commands is enough
+abbrev pub OwnLimitIsEnough : Type 0
+OwnLimitIsEnough =
+    (limit : ℕ) (ends : Ends) (tables : Tables) (commands : List Command) (replies : List Reply)
+    → Runs (book_rules limit ends) no_tables commands replies tables → HaveAtMost limit tables
 
 -- The rows of a desk's export, imported into empty tables, give that desk as it was and the issues that it names,
--- and nothing else.
+-- and nothing else, if the import lets a desk have as many trades.
 abbrev pub DesksAreImportedAgain : Type 0
 DesksAreImportedAgain =
-    (ends : Ends) (tables : Tables) (desk : List ℕ) (commands : List Command) (replies : List Reply)
-    → Runs (IsRightAnswer ends) no_tables commands replies tables
-    → IsImportedAgain (IsRightAnswer ends) (part_of desk tables)
+    (limit most : ℕ) (ends : Ends) (tables : Tables) (desk : List ℕ) (commands : List Command)
+    (replies : List Reply)
+    → limit ≤ 100_000_000 → Runs (book_rules limit ends) no_tables commands replies tables
+    → HasAtMost most desk tables → IsImportedAgain (book_rules most ends) (part_of desk tables)
 
 -- a row is read as the command that it is of
 abbrev pub IsReadAgain : Command → Type 0

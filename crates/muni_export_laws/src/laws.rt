@@ -1,20 +1,22 @@
 //! Laws of exports, over all tables to which commands lead from empty ones.
 
-ghost use Rattle.muni_export_laws.specs.Laws.{DesksAreImportedAgain, ExportsAreImportedAgain, ExportsAreReadAgain};
+ghost use Rattle.muni_export_laws.specs.Laws.{DesksAreImportedAgain, ExportsAreImportedAgain, ExportsAreReadAgain, OwnLimitIsEnough};
 ghost use Rattle.muni_export_laws.specs.Wanted.{DesksAreOfCommands, ExportsAreOfCommands};
 
 use muni_export::laws::rows_are_read_again;
 
 /// A law of the definitions: imported into empty tables, an export of everything gives equal tables,
 /// and each of its rows is added or confirmed. So it is with all tables to which commands lead from
-/// empty ones.
+/// empty ones, if the import lets a desk have as many trades as each of theirs has. The limit under
+/// which they were kept is enough.
 pub fn exports_are_imported_again()
-    ensures { ExportsAreImportedAgain }
+    ensures again { ExportsAreImportedAgain }
+    ensures enough { OwnLimitIsEnough }
 {}
 
 /// A law of the definitions: imported into empty tables, an export of a desk gives tables with that desk
 /// as it was and the issues that its trades name, and nothing else, and each of its rows is added or
-/// confirmed.
+/// confirmed, if the import lets a desk have as many trades.
 pub fn desks_are_imported_again()
     ensures { DesksAreImportedAgain }
 {}

@@ -2,7 +2,6 @@ pub mod CauseLemmas
 pub mod Ends
 pub mod GoesOn
 pub mod JournalImages
-pub mod KeptLemmas
 pub mod SlotLaws
 pub mod SlotLemmas
 pub mod StandLemmas

@@ -1,11 +1,13 @@
 -- Finite maps, as the maps of the entries of ordered maps.
-use Rattle.std.proofs.Common.{arith, ◌≡◌, ℕ, length, List, [], ◌∷◌, Option, Some, refl, ap, sym, ◌∙◌, cond}
+use Rattle.std.proofs.Common.{arith, ◌≡◌, ℕ, length, List, [], ◌∷◌, Option, Some, refl, ap, sym, ◌∙◌, cond, true, false}
 use Rattle.std.specs.Map.{lookup, keys_of}
 use Rattle.std.specs.List.{AllByRecursion}
 use Rattle.std.specs.List.Sorted.{IsStrictlySortedBy}
-use Rattle.std.specs.declared.cmp.Ordering.TheVariants.{Less}
+use Rattle.std.specs.declared.cmp.Ordering.TheVariants.{Less, Equal, Greater}
 use Rattle.std.specs.BTreeMap.{is_at}
 use Rattle.std.specs.Cmp.{eq_by_cmp_equiv}
+use Rattle.std.specs.declared.cmp.Ordering.{Ordering}
+use Rattle.std.specs.Ordering.{eq_by_cmp, is_eq}
 use Rattle.std.specs.Cmp.Lexicographic.{nat_list_cmp_total}
 use Rattle.std.specs.FinMap.{FinMap, get, len, insert, empty, entries, from_entries, find, put, get-from_entries, get-insert, same_map, entries-insert, len-entries, len-empty}
 use Rattle.std.specs.FinMap.Entries.{by_order}
@@ -34,6 +36,21 @@ insert_one es fs m key x is one =
     ∙ ap (λ b. cond b (Some x) (lookup (is_at (by_bytes other)) es)) ((eq_by_cmp_equiv nat_list_cmp_total).symm key other)
     ∙ sym (get-insert nat_list_cmp_total (from_entries es) key x other ∙ ap (cond (is_at (by_bytes other) key) (Some x)) (get-lookup es other)))
     ∙ ap (λ m. insert m key x) is
+
+equal_if : (o : Ordering) → is_eq o ≡ true → o ≡ Equal
+equal_if Less same = cc same
+equal_if Equal same = refl
+equal_if Greater same = cc same
+
+-- what a map had at a key, put back there, gives the map
+pub insert_back : {X : Type 0} (m : FinMap by_bytes X) (key : List ℕ) (x had : X) → get m key ≡ Some had → insert (insert m key x) key had ≡ m
+insert_back m key x had is =
+    same_map nat_list_cmp_total exact_bytes _ _ (λ other.
+    get-insert nat_list_cmp_total (insert m key x) key had other
+    ∙ elim (eq_by_cmp by_bytes other key) as (λ b. eq_by_cmp by_bytes other key ≡ b → cond b (Some had) (get (insert m key x) other) ≡ get m other) [
+      | true ↦ λ same. sym is ∙ ap (get m) (sym (exact_bytes other key (equal_if _ same)))
+      | false ↦ λ apart. get-insert nat_list_cmp_total m key x other ∙ ap (λ b. cond b (Some x) (get m other)) apart
+    ] refl)
 
 none_left : {A : Type 0} (xs : List A) → length xs ≡ 0 → xs ≡ []
 none_left [] none = refl

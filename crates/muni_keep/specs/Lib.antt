@@ -7,5 +7,6 @@ pub mod History
 pub mod Keeper
 pub mod MemCabinet
 pub mod MemKeeper
+pub mod Puts
 pub mod Tables
 pub mod Trades

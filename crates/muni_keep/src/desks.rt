@@ -1,9 +1,10 @@
 //! The trades of all desks.
 
-ghost use Rattle.std.specs.Prelude.{◌≡◌, ◌<◌, ◌^◌, OnOk, OnErr, slice_get};
+ghost use Rattle.std.specs.Prelude.{◌≡◌, ◌==◌, slice_get};
 ghost use Rattle.std.specs.Option.{option_map};
 ghost use Rattle.std.specs.FinMap as map;
 ghost use Rattle.muni_keep.specs.History.{next_number};
+ghost use Rattle.muni_keep.specs.Puts.{PutsIf};
 ghost use Rattle.muni_keep.specs.Trades as spec;
 
 use crate::past::bound_past;
@@ -84,24 +85,26 @@ impl<V: Copy + Drop> Desks<V> {
         }
     }
 
-    /// Adds the next version of a trade of a desk.
-    pub(crate) fn put(
+    /// Adds a version of a trade of a desk if its number is the next one, and says whether it was.
+    pub(crate) fn put_next(
         &mut self,
         desk: &DeskName,
         reference: &Reference,
+        number: u32,
         version: V,
-    ) -> Result<(), AllocError>
-        requires { next_number (map.get (spec.own desk.now self.old) reference.now) < 2 ^ 32 }
-        ensures put { OnOk result (self.new ≡ spec.put desk.now reference.now version self.old) }
-        ensures unchanged { OnErr result (self.new ≡ self.old) }
+    ) -> Result<bool, AllocError>
+        ensures { PutsIf (number == next_number (map.get (spec.own desk.now self.old) reference.now))
+            (spec.put desk.now reference.now version self.old) result self.old self.new }
     {
         match self.desks.get_mut(desk) {
-            Some(trades) => trades.put(reference, version),
+            Some(trades) => trades.put_next(reference, number, version),
             None => {
                 let mut trades = Trades::new(self.alloc);
-                trades.put(reference, version)?;
+                if !trades.put_next(reference, number, version)? {
+                    return Ok(false);
+                }
                 self.desks.insert(desk.copy(), trades)?;
-                Ok(())
+                Ok(true)
             }
         }
     }

@@ -1,7 +1,8 @@
 //! The tables of the desk, in memory.
 
-ghost use Rattle.std.specs.Prelude.{◌≡◌, OnOk, OnErr};
+ghost use Rattle.std.specs.Prelude.{◌≡◌, ◌==◌, OnOk, OnErr};
 ghost use Rattle.muni_keep.specs.History.{next_number};
+ghost use Rattle.muni_keep.specs.Puts.{PutsIf};
 ghost use Rattle.muni_keep.specs.Tables.{no_tables, issue_at, trade_at, version_at, last_at, trade_count, page_at, before_latest, issue_past, desk_past, with_issue, with_version};
 
 use crate::desks::Desks;
@@ -91,7 +92,22 @@ impl MemTables {
         ensures put { OnOk result (self.new ≡ with_version key.now version.now self.old) }
         ensures unchanged { OnErr result (self.new ≡ self.old) }
     {
-        self.desks.put(&key.desk, &key.reference, *version)
+        self.put_next(key, number, version)?;
+        Ok(())
+    }
+
+    /// Keeps a version of a trade if its number is the next one, and says whether it was.
+    pub fn put_next(
+        &mut self,
+        key: &Key,
+        number: u32,
+        version: &Version,
+    ) -> Result<bool, AllocError>
+        ensures { PutsIf (number == next_number (trade_at self.old key.now))
+            (with_version key.now version.now self.old) result self.old self.new }
+    {
+        self.desks
+            .put_next(&key.desk, &key.reference, number, *version)
     }
 
     /// How many trades a desk has, or 4,294,967,295 if it has more.

@@ -1,9 +1,10 @@
 //! The trades of one desk.
 
-ghost use Rattle.std.specs.Prelude.{◌≡◌, ◌+◌, ◌<◌, ◌^◌, OnOk, OnErr};
+ghost use Rattle.std.specs.Prelude.{◌≡◌, ◌==◌, is_none};
 ghost use Rattle.std.specs.Option.{option_map};
 ghost use Rattle.std.specs.FinMap as map;
 ghost use Rattle.muni_keep.specs.History.{next_number};
+ghost use Rattle.muni_keep.specs.Puts.{PutsIf};
 ghost use Rattle.muni_keep.specs.Trades as spec;
 
 use crate::past::bound_past;
@@ -65,19 +66,38 @@ impl<V: Copy + Drop> Trades<V> {
         self.trades.range((bound_past(after), Bound::Unbounded))
     }
 
-    /// Adds the next version of a trade.
-    pub(crate) fn put(&mut self, reference: &Reference, version: V) -> Result<(), AllocError>
-        requires { next_number (map.get self.old reference.now) < 2 ^ 32 }
-        ensures put { OnOk result (self.new ≡ spec.put_own reference.now version self.old) }
-        ensures unchanged { OnErr result (self.new ≡ self.old) }
+    /// Adds a version of a trade if its number is the next one, and says whether it was.
+    pub(crate) fn put_next(
+        &mut self,
+        reference: &Reference,
+        number: u32,
+        version: V,
+    ) -> Result<bool, AllocError>
+        ensures { PutsIf (number == next_number (map.get self.old reference.now))
+            (spec.put_own reference.now version self.old) result self.old self.new }
     {
-        match self.trades.get_mut(reference) {
-            Some(trade) => trade.add(version),
-            None => {
-                let trade = Trade::new(self.alloc, version);
-                self.trades.insert(reference.copy(), trade)?;
-                Ok(())
+        if number == 1 {
+            return self.put_first(reference, version);
+        }
+        let Some(trade) = self.trades.get_mut(reference) else {
+            return Ok(false);
+        };
+        trade.add_next(number, version)
+    }
+
+    /// Adds a trade with its first version if there is none of this reference, and says whether there was
+    /// none. This takes one search of the tree, and a second one only to put back a trade that was there.
+    fn put_first(&mut self, reference: &Reference, version: V) -> Result<bool, AllocError>
+        ensures { PutsIf (is_none (map.get self.old reference.now))
+            (spec.put_own reference.now version self.old) result self.old self.new }
+    {
+        let trade = Trade::new(self.alloc, version)?;
+        match self.trades.insert(reference.copy(), trade)? {
+            Some(kept) => {
+                self.trades.insert(reference.copy(), kept)?;
+                Ok(false)
             }
+            None => Ok(true),
         }
     }
 }

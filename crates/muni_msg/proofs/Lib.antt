@@ -2,4 +2,5 @@ pub mod AskedLemmas
 pub mod BlankLemmas
 pub mod CallLemmas
 pub mod KeyLemmas
+pub mod LettersLemmas
 pub mod MarkLemmas

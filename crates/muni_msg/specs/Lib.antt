@@ -4,6 +4,7 @@ pub mod Codes
 pub mod Fields
 pub mod IssueFields
 pub mod Key
+pub mod Letters
 pub mod Names
 pub mod NameReading
 pub mod Refusal

@@ -5,6 +5,7 @@ mod asked;
 mod calls;
 mod codes;
 mod command;
+mod desk_limit;
 mod each;
 mod fields;
 mod figures;
@@ -17,6 +18,7 @@ pub use asked::{Asked, Given, Side, Terms};
 pub use calls::read_calls;
 pub use codes::{basis_code, basis_of_code, kind_code, label_code, label_of_code};
 pub use command::{Command, Key, Line, Reply};
+pub use desk_limit::DeskLimit;
 pub use each::{EachFigure, EachRedemption};
 pub use fields::{
     read_basis, read_basis_field, read_call, read_call_price, read_fee_field, read_given,

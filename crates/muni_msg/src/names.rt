@@ -1,14 +1,14 @@
 //! Names of desks and references of trades.
 
-ghost use Rattle.std.specs.Prelude.{◌≡◌, ◌≤◌, ◌↔◌, ◌||◌, true, not, refl, nat_eq, length, position, Some};
+ghost use Rattle.std.specs.Prelude.{ℕ, ◌≡◌, ◌<◌, ◌≤◌, ◌↔◌, ◌||◌, true, not, refl, nat_eq, length, position, slice_index, Some};
 ghost use Rattle.std.specs.Char.{is_ascii_alphanumeric};
 ghost use Rattle.std.specs.Ordering.{nat_cmp};
 ghost use Rattle.std.specs.Cmp.{partial_equiv_from_equiv};
 ghost use Rattle.std.specs.Cmp.Lexicographic.{pointwise, slice_cmp, nat_list_eq_equiv, nat_list_cmp_total, texts_po, texts_ties};
+ghost use Rattle.muni_msg.specs.Letters.{front};
 ghost use Rattle.muni_msg.specs.Names.{is_desk_letter, IsName};
 ghost use Rattle.muni_msg.specs.NameReading.{fault_number, name_if, name_reading};
 
-use arrayvec::ArrayVec;
 use std::cmp::Ordering;
 use std::marker::Model;
 use thiserror::Error;
@@ -40,23 +40,29 @@ impl NameFault {
     }
 }
 
-/// A limited number of bytes, in the order of lists of bytes.
+/// A limited number of bytes, in the order of lists of bytes. Zeros come after them, so that the first
+/// eight of two names are compared as two numbers.
 #[derive(Debug, Drop)]
 struct Letters<const MOST: usize> {
-    bytes: ArrayVec<u8, MOST>,
+    bytes: [u8; MOST],
+    count: u8,
 }
 
 impl<const MOST: usize> Model for Letters<MOST> {
-    ghost use Rattle.std.specs.Prelude.{ℕ, List};
+    ghost use Rattle.std.specs.Prelude.{ℕ, List, take};
+    ghost use Rattle.muni_msg.specs.Letters.{IsPadded};
 
     ghost Value = { List ℕ };
 
-    ghost view = { λ letters. letters.bytes.items };
+    ghost view = { λ letters. take letters.count letters.bytes };
+
+    ghost invariant = { λ letters. IsPadded MOST letters.bytes letters.count };
 }
 
 impl<const MOST: usize> Letters<MOST> {
     /// The letters of a text, given the first place of a byte that they may not have.
     fn read(text: &[u8], bad_byte: Option<usize>) -> Result<Letters<MOST>, NameFault>
+        requires { (8 ≤ MOST) × (MOST < 256) }
         ensures { result ≡ name_if MOST text.now bad_byte }
     {
         if text.is_empty() {
@@ -72,18 +78,38 @@ impl<const MOST: usize> Letters<MOST> {
     }
 
     fn of(text: &[u8]) -> Letters<MOST>
-        requires { length text.now ≤ MOST }
+        requires { (8 ≤ MOST) × (MOST < 256) × (length text.now ≤ MOST) }
         ensures { result ≡ text.now }
     {
-        let mut bytes = ArrayVec::new();
-        let _ = bytes.try_extend_from_slice(text);
-        Letters { bytes }
+        let mut bytes = [0; MOST];
+        bytes[..text.len()].copy_from_slice(text);
+        Letters {
+            bytes,
+            count: text.len() as u8,
+        }
     }
 
     fn copy(&self) -> Letters<MOST>
         ensures { result ≡ self.now }
     {
-        Letters::of(&self.bytes)
+        Letters {
+            bytes: self.bytes,
+            count: self.count,
+        }
+    }
+
+    fn as_slice(&self) -> &[u8]
+        ensures { result.now ≡ self.now }
+    {
+        &self.bytes[..usize::from(self.count)]
+    }
+
+    /// The first eight bytes as a number, zeros for those that are missing.
+    fn front(&self) -> u64
+        ensures front { result ≡ front 8 self.now }
+        ensures bytes { (place : ℕ) → slice_index self.now place < 256 }
+    {
+        first_eight(&self.bytes)
     }
 }
 
@@ -93,7 +119,7 @@ impl<const MOST: usize> PartialEq for Letters<MOST> {
     ghost laws = { partial_equiv_from_equiv nat_list_eq_equiv };
 
     fn eq(&self, other: &Letters<MOST>) -> bool {
-        self.bytes.as_slice() == other.bytes.as_slice()
+        self.as_slice() == other.as_slice()
     }
 }
 
@@ -121,8 +147,35 @@ impl<const MOST: usize> Ord for Letters<MOST> {
     ghost matches_eq = { texts_ties };
 
     fn cmp(&self, other: &Letters<MOST>) -> Ordering {
-        self.bytes.as_slice().cmp(&other.bytes.as_slice())
+        let (first, second) = (self.front(), other.front());
+        if first != second {
+            return first.cmp(&second);
+        }
+        order(self.as_slice(), other.as_slice())
     }
+}
+
+/// The first eight bytes as a number.
+fn first_eight(bytes: &[u8]) -> u64
+    requires { 8 ≤ length bytes.now }
+    ensures front { result ≡ front 8 bytes.now }
+    ensures bytes { (place : ℕ) → slice_index bytes.now place < 256 }
+{
+    u64::from_be_bytes([
+        bytes[0], bytes[1], bytes[2], bytes[3], bytes[4], bytes[5], bytes[6], bytes[7],
+    ])
+}
+
+/// The order of two names, byte by byte.
+fn order(first: &[u8], second: &[u8]) -> Ordering
+    ensures { result ≡ slice_cmp nat_cmp first.now second.now }
+{
+    for place in 0..first.len().min(second.len()) {
+        if first[place] != second[place] {
+            return first[place].cmp(&second[place]);
+        }
+    }
+    first.len().cmp(&second.len())
 }
 
 fn bad_desk_byte(text: &[u8]) -> Option<usize>
@@ -175,7 +228,7 @@ impl DeskName {
         ensures value { result.now ≡ self.now }
         ensures name { IsName is_desk_letter 16 self.now }
     {
-        self.0.bytes.as_slice()
+        self.0.as_slice()
     }
 }
 
@@ -218,7 +271,7 @@ impl Reference {
         ensures value { result.now ≡ self.now }
         ensures name { IsName is_ascii_alphanumeric 20 self.now }
     {
-        self.0.bytes.as_slice()
+        self.0.as_slice()
     }
 }
 

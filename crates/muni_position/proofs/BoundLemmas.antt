@@ -59,14 +59,14 @@ holding_in cusip (v ∷ vs) all =
     subst IsInProportion (sym (holding_of-cons cusip v vs)) (record { par = omega (arith, one.par, rest.par); money = omega (arith, one.money, rest.money) })
 
 -- so a holding out of its range is one of too many live trades
-pub too_many_live : (cusip : List ℕ) (versions : List Version) → AllByRecursion IsBounded versions → ¬ (IsInRange (holding_of cusip versions)) → 100_000 < (position_of cusip versions).live
+pub too_many_live : (cusip : List ℕ) (versions : List Version) → AllByRecursion IsBounded versions → ¬ (IsInRange (holding_of cusip versions)) → 100_000_000 < (position_of cusip versions).live
 too_many_live cusip versions all out =
     let live = ap (λ (p : Position). p.live) (position_is cusip versions) in
     let sums = holding_in cusip versions all in
-    elim (nat_lt 100_000 (position_of cusip versions).live) as (λ b. nat_lt 100_000 (position_of cusip versions).live ≡ b → 100_000 < (position_of cusip versions).live) [
+    elim (nat_lt 100_000_000 (position_of cusip versions).live) as (λ b. nat_lt 100_000_000 (position_of cusip versions).live ≡ b → 100_000_000 < (position_of cusip versions).live) [
       | true ↦ λ t. grind (arith, nat_tests)
       | false ↦ λ t.
-          let few : (position_of cusip versions).live ≤ 100_000 = grind (arith, nat_tests) in
+          let few : (position_of cusip versions).live ≤ 100_000_000 = grind (arith, nat_tests) in
           absurd (out (record { few = omega (arith, few, live); par = sums.par; money = sums.money }))
     ] refl
 

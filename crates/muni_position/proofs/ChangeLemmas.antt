@@ -124,7 +124,7 @@ after_moved desk holdings key version last told cusip name right found =
 -- so if no holding in its range comes after a put, too many trades would be live
 no_room : (desk : List ℕ) (holdings : Holdings) (key : Key) (version : Version) (last : Option (ℕ × Version)) (told : Tables) (cusip : List ℕ)
     → key.desk ≡ desk → AreOf (last_versions desk told) holdings → IsBounded version → last ≡ last_at told key → HasNoRoom holdings last version cusip
-    → 100_000 < (position_after cusip key version told).live
+    → 100_000_000 < (position_after cusip key version told).live
 no_room desk holdings key version last told cusip name right bounded found none =
     let all = bounded_after key version told (subst (λ d. AllByRecursion IsBounded (last_versions d told)) (sym name) right.bounded) bounded in
     too_many_live cusip (last_versions key.desk (with_version key version told)) all (λ range. none _ range (after_moved desk holdings key version last told cusip name right found))

@@ -139,13 +139,13 @@ told_all desk None after count lines holdings summed are none = tt
 told_all desk (Some t) after count lines holdings summed are none = (all_read desk t after count lines holdings summed are none).0
 
 pub told_few : (desk : List ℕ) (told : Option Tables) (after : Option (List ℕ)) (count : ℕ) (lines : List Line) (holdings : Holdings)
-    → IfSome told (λ t. IsSummed desk t after count holdings) → IfSome told (λ t. lines ≡ page_at t desk after) → length lines ≡ 0 → count ≤ 100_000
+    → IfSome told (λ t. IsSummed desk t after count holdings) → IfSome told (λ t. lines ≡ page_at t desk after) → length lines ≡ 0 → count ≤ 100_000_000
     → IfSome told (λ t. HasFew desk t)
 told_few desk None after count lines holdings summed are none few = tt
 told_few desk (Some t) after count lines holdings summed are none few = let all = (all_read desk t after count lines holdings summed are none).1 in omega arith
 
 pub told_many : (desk : List ℕ) (told : Option Tables) (after : Option (List ℕ)) (count : ℕ) (lines : List Line) (holdings : Holdings)
-    → IfSome told (λ t. IsSummed desk t after count holdings) → IfSome told (λ t. lines ≡ page_at t desk after) → 100_000 < count + length lines
+    → IfSome told (λ t. IsSummed desk t after count holdings) → IfSome told (λ t. lines ≡ page_at t desk after) → 100_000_000 < count + length lines
     → IfSome told (λ t. HasTooMany desk t)
 told_many desk None after count lines holdings summed are many = tt
 told_many desk (Some t) after count lines holdings summed are many = let fits = page_fits desk t after count lines holdings summed are in omega arith

@@ -45,8 +45,8 @@ after_change change holdings cusip =
 abbrev pub position_after : List ℕ → Key → Version → Tables → Position
 position_after cusip key version tables = position_of cusip (last_versions key.desk (with_version key version tables))
 
--- the desk is watched, and after a put more than 100,000 of its trades would be live in some CUSIP
+-- the desk is watched, and after a put more than 100,000,000 of its trades would be live in some CUSIP
 abbrev pub HasNoRoomFor : Option (List ℕ) → Key → Version → Tables → Type 0
 HasNoRoomFor watched key version tables =
     (is_watched watched key.desk ≡ true)
-    × ((cusip : List ℕ) × (100_000 < (position_after cusip key version tables).live))
+    × ((cusip : List ℕ) × (100_000_000 < (position_after cusip key version tables).live))

@@ -58,7 +58,7 @@ pub record IsBounded (version : Version) : Type 0 where
 
 -- as many trades as a desk may have, each of at most the greatest par and the greatest total
 pub record IsInRange (h : Holding) : Type 0 where
-  pub few : h.live ≤ 100_000
+  pub few : h.live ≤ 100_000_000
   pub par : h.bought + h.sold ≤ h.live * 1_000_000_000
   pub money : h.paid + h.received ≤ h.live * 9_223_372_036_854_775_807
 

@@ -49,8 +49,8 @@ bound_past (Some after) = Excluded after
 
 -- a desk has more trades than are summed
 abbrev pub HasTooMany : List ℕ → Tables → Type 0
-HasTooMany desk tables = 100_000 < length (entries (own desk tables.desks))
+HasTooMany desk tables = 100_000_000 < length (entries (own desk tables.desks))
 
 -- and it has no more than that
 abbrev pub HasFew : List ℕ → Tables → Type 0
-HasFew desk tables = length (entries (own desk tables.desks)) ≤ 100_000
+HasFew desk tables = length (entries (own desk tables.desks)) ≤ 100_000_000

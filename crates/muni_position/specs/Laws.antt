@@ -25,7 +25,7 @@ pub record AreThoseHeld (versions : List Version) (positions : List (List ℕ ×
 abbrev pub PositionsAreThoseHeld : Type 0
 PositionsAreThoseHeld = (versions : List Version) → AreThoseHeld versions (positions_of versions)
 
--- a desk that has at most 100,000 trades after a put has room for it
+-- a desk that has at most 100,000,000 trades after a put has room for it
 abbrev pub FewTradesHaveRoom : Type 0
 FewTradesHaveRoom =
     (watched : Option (List ℕ)) (key : Key) (version : Version) (tables : Tables)

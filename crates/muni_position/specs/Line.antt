@@ -23,5 +23,5 @@ position_lines (held ∷ positions) = position_line held.0 held.1 ++ position_li
 -- the lines of the positions of a desk, if it has no more trades than are summed
 abbrev pub summed_text : List ℕ → Tables → Option (List ℕ)
 summed_text desk tables =
-    if nat_lt 100_000 (length (entries (own desk tables.desks))) then None
+    if nat_lt 100_000_000 (length (entries (own desk tables.desks))) then None
     else Some (position_lines (positions_of (last_versions desk tables)))

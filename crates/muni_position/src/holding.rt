@@ -10,7 +10,7 @@ use crate::position::Position;
 use muni_msg::{Act, Side, Version};
 
 /// As many trades as a desk may have.
-pub(crate) const MOST_TRADES: u32 = 100_000;
+pub(crate) const MOST_TRADES: u32 = 100_000_000;
 
 /// The sums of one security over the live trades.
 #[derive(Clone, Copy, Debug)]
@@ -71,7 +71,7 @@ impl Holding {
     pub(crate) fn plus(&self, more: &Holding) -> Holding
         requires range { IsInRange self.now }
         requires more { IsInRange more.now }
-        requires room { self.now.live + more.now.live ≤ 100_000 }
+        requires room { self.now.live + more.now.live ≤ 100_000_000 }
         ensures value { result ≡ plus self.now more.now }
         ensures range { IsInRange result }
     {
@@ -125,7 +125,7 @@ impl Holding {
     ghost use Rattle.std.specs.Prelude.{◌↔◌, true};
 
     fn is_in_range(&self) -> bool
-        requires { (self.now.live ≤ 100_001) × (self.now.bought ≤ 200_000_000_000_000) × (self.now.sold ≤ 200_000_000_000_000) × (self.now.paid ≤ 2_000_000_000_000_000_000_000_000) × (self.now.received ≤ 2_000_000_000_000_000_000_000_000) }
+        requires { (self.now.live ≤ 100_000_001) × (self.now.bought ≤ 200_000_000_000_000_000) × (self.now.sold ≤ 200_000_000_000_000_000) × (self.now.paid ≤ 2_000_000_000_000_000_000_000_000_000) × (self.now.received ≤ 2_000_000_000_000_000_000_000_000_000) }
         ensures { (result ≡ true) ↔ IsInRange self.now }
     {
         let most_par = u64::from(self.live) * 1_000_000_000;

@@ -8,7 +8,7 @@ pub fn positions_are_those_held()
     ensures { PositionsAreThoseHeld }
 {}
 
-/// A desk that has at most 100,000 trades after a put has room for it.
+/// A desk that has at most 100,000,000 trades after a put has room for it.
 pub fn few_trades_have_room()
     ensures { FewTradesHaveRoom }
 {}

@@ -20,7 +20,7 @@ use muni_msg::DeskName;
 use std::alloc::Global;
 use std::ops::Bound;
 
-/// The lines of what a desk holds, in the order of the CUSIPs. `None` if it has more than 100,000 trades.
+/// The lines of what a desk holds, in the order of the CUSIPs. `None` if it has more than 100,000,000 trades.
 pub fn position_text<K: Keeper>(
     alloc: Global,
     keeper: &mut K,

@@ -15,7 +15,7 @@ use muni_msg::{DeskName, Line, Version};
 use std::alloc::{AllocError, Global};
 use std::collections::BTreeMap;
 
-/// The holdings over the trades of a desk. `None` if it has more than 100,000.
+/// The holdings over the trades of a desk. `None` if it has more than 100,000,000.
 pub(crate) fn sum_desk<K: Keeper>(
     alloc: Global,
     keeper: &mut K,
@@ -54,7 +54,7 @@ pub(crate) fn sum_desk<K: Keeper>(
 // What the versions of the lines add, for which there is room.
 fn add_lines(holdings: &mut Holdings, lines: &[Line]) -> Result<(), AllocError>
     requires range { AreInRange holdings.old }
-    requires room { (cusip : List ℕ) → (spec.kept holdings.old cusip).live + length lines.now ≤ 100_000 }
+    requires room { (cusip : List ℕ) → (spec.kept holdings.old cusip).live + length lines.now ≤ 100_000_000 }
     ensures sums { OnOk result ((cusip : List ℕ) → spec.kept holdings.new cusip
         ≡ plus (spec.kept holdings.old cusip) (holding_of cusip (map (λ line. line.version) lines.now))) }
     ensures range { OnOk result (AreInRange holdings.new) }
@@ -71,7 +71,7 @@ fn add_lines(holdings: &mut Holdings, lines: &[Line]) -> Result<(), AllocError>
 // What a version adds to the holding of its CUSIP, for which there is room.
 fn add(holdings: &mut Holdings, version: &Version) -> Result<(), AllocError>
     requires range { AreInRange holdings.old }
-    requires room { (cusip : List ℕ) → (spec.kept holdings.old cusip).live + 1 ≤ 100_000 }
+    requires room { (cusip : List ℕ) → (spec.kept holdings.old cusip).live + 1 ≤ 100_000_000 }
     ensures sums { OnOk result ((cusip : List ℕ) → spec.kept holdings.new cusip
         ≡ plus (spec.kept holdings.old cusip) (share cusip version.now)) }
     ensures range { OnOk result (AreInRange holdings.new) }

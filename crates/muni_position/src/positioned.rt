@@ -59,7 +59,7 @@ impl<K: Keeper> Positioned<K> {
     /// Sums the trades of a desk and watches it, and no other desk from then on. After a refusal it
     /// watches none.
     ///
-    /// A desk with more than 100,000 trades is a fault of its own.
+    /// A desk with more than 100,000,000 trades is a fault of its own.
     pub fn watch(&mut self, desk: &DeskName) -> Result<(), KeepFault>
         ensures watched { OnOk result (self.new.desk ≡ Some desk.now) }
         ensures refused { OnErr result (self.new.desk ≡ None) }

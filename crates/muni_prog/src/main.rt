@@ -2,16 +2,17 @@
 //! journals, a door on this machine, and the encloser.
 #![tactic(auto)]
 
-ghost use Rattle.std.specs.Prelude.{◌≡◌};
+ghost use Rattle.std.specs.Prelude.{◌≡◌, true, false, map, string_bytes};
+ghost use Rattle.muni_desk.specs.Command.{is_check};
 
-use muni_desk::{Status, desk};
+use muni_desk::{Status, desk, is_check};
 use muni_edge::NoGate;
 use muni_host::{Input, LoopbackDoor, NoWords, Output, words};
 use muni_journal::JournalCabinet;
 use muni_journal_file::FileShelf;
 use muni_keep::Either;
 use muni_multi::Doubling;
-use muni_store::SqlCabinet;
+use muni_store::{SqlCabinet, Trust};
 use std::io;
 use std::io::Input as _;
 use std::process::ExitCode;
@@ -22,7 +23,8 @@ fn main(rt: HostRuntime) -> ExitCode {
             let mut input = Input::new(rt.reader());
             let mut output = Output::new(io::writer(&rt));
             let journals = JournalCabinet::new(rt.alloc(), FileShelf::new(&rt));
-            let mut cabinet = Either::new(SqlCabinet::new(&rt), journals);
+            let trust = trust_of(&words);
+            let mut cabinet = Either::new(SqlCabinet::new(&rt, trust), journals);
             let mut door = LoopbackDoor::new(&rt);
             desk(
                 &rt,
@@ -39,6 +41,18 @@ fn main(rt: HostRuntime) -> ExitCode {
         Err(fault) => without_words(fault),
     };
     ExitCode::from(status.number())
+}
+
+/// What the files of stores are trusted by. A check trusts nothing.
+fn trust_of(words: &[String]) -> Trust
+    ensures check { is_check (map string_bytes words.now) ≡ true → result ≡ Trust.Nothing }
+    ensures other { is_check (map string_bytes words.now) ≡ false → result ≡ Trust.Seal }
+{
+    if is_check(words) {
+        Trust::Nothing
+    } else {
+        Trust::Seal
+    }
 }
 
 /// The status if there are no words: a word that is not text is no command.

@@ -1,3 +1,5 @@
+mod BoundLemmas
 mod OpenLemmas
 mod PageLemmas
 pub mod RefusedLemmas
+mod SealLemmas

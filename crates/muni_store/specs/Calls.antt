@@ -4,7 +4,7 @@ use Rattle.sqlite.specs.declared.types.Value.{Value}
 use Rattle.sqlite.specs.Held.{Held}
 use Rattle.sqlite.specs.State.{State}
 use Rattle.muni_keep.specs.declared.fault.KeepFault.{KeepFault}
-use Rattle.muni_store.specs.Counts.{count_of, with_count}
+use Rattle.muni_store_trees.specs.Counts.{count_of, with_count}
 use Rattle.muni_store.specs.Ran.{Ran, NotRun, Asked}
 use Rattle.muni_store.specs.Rows.{Reads, count_in}
 use Rattle.muni_store.specs.Statements.{count_trades, desk_values}

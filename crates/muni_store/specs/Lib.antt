@@ -1,5 +1,6 @@
 pub mod Calls
-pub mod Counts
+pub mod Catalog
+pub mod Keepers
 pub mod Kinds
 pub mod Open
 pub mod Page
@@ -7,3 +8,5 @@ pub mod Ran
 pub mod Rows
 pub mod Statements
 pub mod Faults
+pub mod Seal
+pub mod SealText

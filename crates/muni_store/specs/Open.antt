@@ -1,7 +1,7 @@
 -- What a call does over a file that may be opened anew.
 use Rattle.std.specs.Prelude.{Option, Some, None, Result, IfSome, IsSome, OnOk}
 use Rattle.muni_keep.specs.declared.fault.KeepFault.{KeepFault}
-use Rattle.muni_store.specs.Faults.{CountsFailure}
+use Rattle.muni_store_trees.specs.Calls.{CountsFailure}
 use Rattle.muni_store.specs.declared.file_keeper.FileKeeper.{FileKeeper}
 use Rattle.muni_store.specs.declared.file_keeper.FileState.{FileState}
 use Rattle.muni_store.specs.declared.file_keeper.FileState.TheVariants.{Open, Anew, Shut}

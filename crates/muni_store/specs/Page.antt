@@ -1,5 +1,8 @@
 -- The page of a list: the references of its trades, and the last version of each.
-use Rattle.std.specs.Prelude.{◌≡◌, ℕ, List, [], ◌∷◌, Option, Some}
+use Rattle.std.specs.Prelude.{◌≡◌, ℕ, List, [], ◌∷◌, Option, Some, Result, IfOk}
+use Rattle.sqlite.specs.Held.{Held}
+use Rattle.muni_keep.specs.declared.fault.KeepFault.{KeepFault}
+use Rattle.muni_store.specs.declared.keeper.SqlKeeper.{SqlKeeper}
 use Rattle.sqlite.specs.declared.types.Value.{Value}
 use Rattle.sqlite.specs.State.{State, HasCleanDisk, Shown}
 use Rattle.muni_msg.specs.declared.command.Line.{Line}
@@ -25,3 +28,8 @@ module _ {Database : Type 0} (state : Database → State) (desk : List ℕ) wher
     pub between : Database
     pub shown : HasCleanDisk (state between) → Shown select_references (page_values desk past) (state before) (state between) rows
     pub lines : AreLines between after rows page
+
+-- a page that is answered is read so, and the counts stay
+pub record Pages {S A : Type 0} (Read : A → Held S → Held S → Type 0) (result : Result A KeepFault) (old new : SqlKeeper S) : Type 0 where
+  pub read : IfOk result (λ lines. Read lines old.database new.database)
+  pub counts : new.trades ≡ old.trades

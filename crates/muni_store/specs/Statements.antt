@@ -3,8 +3,8 @@ use Rattle.std.specs.Prelude.{ℕ, pos, List, [], ◌∷◌, ◌++◌, codes, Op
 use Rattle.sqlite.specs.declared.types.Value.{Value}
 use Rattle.sqlite.specs.declared.types.Value.TheVariants.{Int, Text}
 use Rattle.muni_msg.specs.declared.command.Key.{Key}
-use Rattle.muni_store_rows.specs.Issue as issues
-use Rattle.muni_store_rows.specs.Version as versions
+use Rattle.muni_store_trees.specs.Keys.{least_past}
+pub use Rattle.muni_store_trees.specs.Keys.{issue_values, version_values, least_past}
 
 -- finds the issue of a CUSIP
 abbrev pub select_issue : List ℕ
@@ -25,20 +25,6 @@ past_values after = Text (unwrap_or after []) ∷ []
 -- keeps an issue
 abbrev pub insert_issue : List ℕ
 insert_issue = codes "INSERT INTO issues_2 (cusip, name, kind, dated, first, maturity, coupon, calls, basis) VALUES (?1, ?2, ?3, ?4, ?5, ?6, ?7, ?8, ?9)"
-
--- the columns of an issue, in this order
-abbrev pub issue_values : issues.Columns → List Value
-issue_values columns =
-    Text columns.cusip
-    ∷ Text columns.name
-    ∷ Int columns.kind
-    ∷ Text columns.dated
-    ∷ Text columns.first
-    ∷ Text columns.maturity
-    ∷ Int columns.coupon
-    ∷ Text columns.calls
-    ∷ Int columns.basis
-    ∷ []
 
 -- finds a version of a trade by its number
 abbrev pub select_version : List ℕ
@@ -68,10 +54,6 @@ abbrev pub select_desk_past : List ℕ
 select_desk_past = codes "SELECT desk FROM versions_2 WHERE desk >= ?1 ORDER BY desk LIMIT 1"
 
 -- the least text after a name, or nothing if the first desk is asked for
-abbrev pub least_past : Option (List ℕ) → List ℕ
-least_past None = []
-least_past (Some desk) = desk ++ 0 ∷ []
-
 abbrev pub desk_past_values : Option (List ℕ) → List Value
 desk_past_values after = Text (least_past after) ∷ []
 
@@ -90,29 +72,3 @@ select_before_latest = codes "SELECT reference FROM versions_2 WHERE desk = ?1 A
 -- keeps a version of a trade
 abbrev pub insert_version : List ℕ
 insert_version = codes "INSERT INTO versions_2 (desk, reference, number, act, cusip, side, par, settle, basis, value, price, yld, redemption, at_price, label, days, principal, accrued, total, fee, commission) VALUES (?1, ?2, ?3, ?4, ?5, ?6, ?7, ?8, ?9, ?10, ?11, ?12, ?13, ?14, ?15, ?16, ?17, ?18, ?19, ?20, ?21)"
-
--- the columns of a version, in this order
-abbrev pub version_values : versions.Columns → List Value
-version_values columns =
-    Text columns.desk
-    ∷ Text columns.reference
-    ∷ Int columns.number
-    ∷ Int columns.act
-    ∷ Text columns.asked.cusip
-    ∷ Int columns.asked.side
-    ∷ Int columns.asked.par
-    ∷ Text columns.asked.settle
-    ∷ Int columns.asked.basis
-    ∷ Int columns.asked.value
-    ∷ Int columns.figures.price
-    ∷ Int columns.figures.yld
-    ∷ Text columns.figures.redemption
-    ∷ Int columns.figures.at_price
-    ∷ Int columns.figures.label
-    ∷ Int columns.figures.days
-    ∷ Int columns.figures.principal
-    ∷ Int columns.figures.accrued
-    ∷ Int columns.figures.total
-    ∷ Int columns.asked.fee
-    ∷ Int columns.figures.commission
-    ∷ []

@@ -4,7 +4,7 @@ ghost use Rattle.std.specs.Prelude.{◌≡◌, None, option_map};
 
 use crate::faults::counted;
 use crate::file_keeper::FileKeeper;
-use crate::store_file::StoreFile;
+use crate::store_file::{StoreFile, Trust};
 use muni_edge::Faults;
 use muni_keep::{Cabinet, KeepFault};
 use sqlite::{File, FileStore};
@@ -16,18 +16,21 @@ use sqlite::{File, FileStore};
 #[derive(Drop)]
 pub struct SqlCabinet<'a> {
     rt: &'a HostRuntime,
+    trust: Trust,
     lent: Option<Vec<u8>>,
     faults: Faults,
 }
 
 impl<'a> SqlCabinet<'a> {
-    /// A cabinet of the files of this machine, none of which is open.
-    pub fn new(rt: &'a HostRuntime) -> SqlCabinet<'a>
+    /// A cabinet of the files of this machine, none of which is open. A file whose seal is not trusted is
+    /// audited at each fetch.
+    pub fn new(rt: &'a HostRuntime, trust: Trust) -> SqlCabinet<'a>
         ensures none_out { result.lent ≡ None }
         ensures faults { result.faults ≡ 0 }
     {
         SqlCabinet {
             rt,
+            trust,
             lent: None,
             faults: Faults::none(),
         }
@@ -45,7 +48,8 @@ impl<'a> Cabinet for SqlCabinet<'a> {
 
     fn fetch(&mut self, name: &[u8]) -> Result<FileKeeper<FileStore<File>, StoreFile>, KeepFault> {
         let lent = name.to_vec(self.rt.alloc())?;
-        let mut file = StoreFile::new(self.rt.clone()?, name.to_vec(self.rt.alloc())?);
+        let path = name.to_vec(self.rt.alloc())?;
+        let mut file = StoreFile::new(self.rt.clone()?, path, self.trust);
         let keeper = counted(&mut self.faults, file.open())?;
         self.lent = Some(lent);
         Ok(FileKeeper::new(file, keeper))
@@ -55,8 +59,7 @@ impl<'a> Cabinet for SqlCabinet<'a> {
         let (file, keeper, faults) = keeper.into_parts();
         self.faults.add(&faults);
         if let Some(keeper) = keeper {
-            let (database, is_changed) = keeper.into_parts();
-            file.close(database, is_changed);
+            file.close(keeper);
         }
         self.lent = None;
     }

@@ -1,7 +1,8 @@
 //! Which refusals are counted.
 
 ghost use Rattle.std.specs.Prelude.{◌≡◌, Ok, IfOk};
-ghost use Rattle.muni_store.specs.Faults.{CountsFailure, kept};
+ghost use Rattle.muni_store.specs.Faults.{kept};
+ghost use Rattle.muni_store_trees.specs.Calls.{CountsFailure};
 
 use crate::fault::StoreFault;
 use muni_edge::Faults;

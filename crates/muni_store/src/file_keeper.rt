@@ -1,20 +1,17 @@
 //! A keeper over the file of a store.
 
-ghost use Rattle.std.specs.Prelude.{◌≡◌, false, None, Ok, Some, IfOk, IfSome, OnOk, OnErr, is_ok};
+ghost use Rattle.std.specs.Prelude.{◌≡◌, None, Ok, Some, IfOk, IfSome, OnOk, OnErr};
 ghost use Rattle.sqlite.specs.Held.{state};
-ghost use Rattle.muni_store_rows.specs.Issue as issues;
-ghost use Rattle.muni_store_rows.specs.Version as versions;
-ghost use Rattle.muni_store.specs.Calls.{CountsTrades, Looks, Puts};
-ghost use Rattle.muni_store.specs.Counts.{after_put};
-ghost use Rattle.muni_store.specs.Faults.{CountsFailure};
+ghost use Rattle.muni_store_trees.specs.Calls.{CountsFailure, Finds};
+ghost use Rattle.muni_store_trees.specs.Found as found;
+ghost use Rattle.muni_store.specs.Keepers as spec;
+ghost use Rattle.muni_store.specs.Keepers.{IsIdle};
 ghost use Rattle.muni_store.specs.Open.{Ends, WhileOpen, in_hand, ran_on};
-ghost use Rattle.muni_store.specs.Page.{IsPage};
-ghost use Rattle.muni_store.specs.Rows as rows;
-ghost use Rattle.muni_store.specs.Statements as spec;
+ghost use Rattle.muni_store.specs.Page.{IsPage, Pages};
 
 use crate::fault::StoreFault;
 use crate::faults::counted;
-use crate::keeper::SqlKeeper;
+use crate::store_keeper::StoreKeeper;
 use arrayvec::ArrayVec;
 use muni_edge::Faults;
 use muni_keep::{KeepFault, Keeper};
@@ -26,8 +23,8 @@ use std::mem;
 /// What opens the file of a store after a sync has failed.
 pub trait OpensAnew<S: Alter + Drop> {
     /// A keeper over the file, in which no transaction is open.
-    fn open_anew(&mut self) -> Result<SqlKeeper<S>, StoreFault>
-        ensures idle { IfOk result (λ keeper. keeper.database.in_transaction ≡ false) };
+    fn open_anew(&mut self) -> Result<StoreKeeper<S>, StoreFault>
+        ensures idle { IfOk result IsIdle };
 }
 
 /// A file, and its keeper if it is open.
@@ -46,13 +43,13 @@ pub(crate) enum FileState<K> {
 #[derive(Drop)]
 pub struct FileKeeper<S: Alter + Drop, F: OpensAnew<S> + Drop> {
     file: F,
-    state: FileState<SqlKeeper<S>>,
+    state: FileState<StoreKeeper<S>>,
     faults: Faults,
 }
 
 impl<S: Alter + Drop, F: OpensAnew<S> + Drop> FileKeeper<S, F> {
     /// A keeper over the file, which is open.
-    pub(crate) fn new(file: F, keeper: SqlKeeper<S>) -> FileKeeper<S, F>
+    pub(crate) fn new(file: F, keeper: StoreKeeper<S>) -> FileKeeper<S, F>
         ensures open { result.state ≡ FileState.Open keeper }
         ensures faults { result.faults ≡ 0 }
     {
@@ -64,7 +61,7 @@ impl<S: Alter + Drop, F: OpensAnew<S> + Drop> FileKeeper<S, F> {
     }
 
     /// The file, its keeper if it is open, and the count of faults.
-    pub(crate) fn into_parts(self) -> (F, Option<SqlKeeper<S>>, Faults)
+    pub(crate) fn into_parts(self) -> (F, Option<StoreKeeper<S>>, Faults)
         ensures { result ≡ (self.file, in_hand self.state, self.faults) }
     {
         let FileKeeper {
@@ -79,7 +76,7 @@ impl<S: Alter + Drop, F: OpensAnew<S> + Drop> FileKeeper<S, F> {
     }
 
     // The keeper of the open file. If the file is shut it is opened anew, and the call fails.
-    fn take(&mut self) -> Result<SqlKeeper<S>, KeepFault>
+    fn take(&mut self) -> Result<StoreKeeper<S>, KeepFault>
         ensures open { IfOk result (λ keeper. in_hand self.old.state ≡ Some keeper) }
         ensures shut { OnErr result (in_hand self.old.state ≡ None) }
         ensures counted { CountsFailure result self.old.faults self.new.faults }
@@ -97,7 +94,7 @@ impl<S: Alter + Drop, F: OpensAnew<S> + Drop> FileKeeper<S, F> {
     // Puts the keeper back after a call, and gives its answer.
     fn put_back<T>(
         &mut self,
-        keeper: SqlKeeper<S>,
+        keeper: StoreKeeper<S>,
         answer: Result<T, KeepFault>,
     ) -> Result<T, KeepFault>
         ensures same { result ≡ answer }
@@ -118,7 +115,7 @@ impl<S: Alter + Drop, F: OpensAnew<S> + Drop> FileKeeper<S, F> {
     }
 
     // If the call found the database shut, it is let go, since it holds the lock of the file.
-    fn after_failure(&mut self, keeper: SqlKeeper<S>) -> FileState<SqlKeeper<S>>
+    fn after_failure(&mut self, keeper: StoreKeeper<S>) -> FileState<StoreKeeper<S>>
         ensures kept { IfSome (ran_on result) (λ kept. kept ≡ keeper) }
         ensures faults { self.new.faults ≡ self.old.faults }
     {
@@ -141,8 +138,7 @@ impl<S: Alter + Drop, F: OpensAnew<S> + Drop> Keeper for FileKeeper<S, F> {
     ghost lent_as = { λ _. 0 };
 
     fn issue(&mut self, cusip: &[u8; 9]) -> Result<Option<Issue>, KeepFault>
-        ensures looks { WhileOpen self.old.state self.new.state (Looks (state S.Store) rows.issue_in
-            spec.select_issue (spec.cusip_values cusip.now) result) }
+        ensures looks { WhileOpen self.old.state self.new.state (spec.LooksUpIssue S.Store cusip.now result) }
         ensures ends { Ends result self.old self.new }
     {
         let mut keeper = self.take()?;
@@ -151,9 +147,7 @@ impl<S: Alter + Drop, F: OpensAnew<S> + Drop> Keeper for FileKeeper<S, F> {
     }
 
     fn put_issue(&mut self, issue: &Issue) -> Result<(), KeepFault>
-        ensures puts { WhileOpen self.old.state self.new.state (Puts (state S.Store) spec.insert_issue
-            (spec.issue_values (issues.columns_of issue.now)) result) }
-        ensures counts { WhileOpen self.old.state self.new.state (λ was is. is.trades ≡ was.trades) }
+        ensures puts { WhileOpen self.old.state self.new.state (spec.PutsIssue S.Store issue.now result) }
         ensures ends { Ends result self.old self.new }
     {
         let mut keeper = self.take()?;
@@ -162,8 +156,7 @@ impl<S: Alter + Drop, F: OpensAnew<S> + Drop> Keeper for FileKeeper<S, F> {
     }
 
     fn version(&mut self, key: &Key, number: u32) -> Result<Option<Version>, KeepFault>
-        ensures looks { WhileOpen self.old.state self.new.state (Looks (state S.Store) rows.version_in
-            spec.select_version (spec.numbered_key_values key.now number) result) }
+        ensures looks { WhileOpen self.old.state self.new.state (spec.LooksUpVersion S.Store key.now number result) }
         ensures ends { Ends result self.old self.new }
     {
         let mut keeper = self.take()?;
@@ -172,8 +165,7 @@ impl<S: Alter + Drop, F: OpensAnew<S> + Drop> Keeper for FileKeeper<S, F> {
     }
 
     fn last(&mut self, key: &Key) -> Result<Option<(u32, Version)>, KeepFault>
-        ensures looks { WhileOpen self.old.state self.new.state (Looks (state S.Store) rows.last_in
-            spec.select_last (spec.key_values key.now) result) }
+        ensures looks { WhileOpen self.old.state self.new.state (spec.LooksUpLast S.Store key.now result) }
         ensures ends { Ends result self.old self.new }
     {
         let mut keeper = self.take()?;
@@ -182,10 +174,7 @@ impl<S: Alter + Drop, F: OpensAnew<S> + Drop> Keeper for FileKeeper<S, F> {
     }
 
     fn put_version(&mut self, key: &Key, number: u32, version: &Version) -> Result<(), KeepFault>
-        ensures puts { WhileOpen self.old.state self.new.state (Puts (state S.Store) spec.insert_version
-            (spec.version_values (versions.columns_of key.now number version.now)) result) }
-        ensures counts { WhileOpen self.old.state self.new.state (λ was is.
-            is.trades ≡ after_put key.now.desk number (is_ok result) was.trades) }
+        ensures puts { WhileOpen self.old.state self.new.state (spec.PutsVersion S.Store key.now number version.now result) }
         ensures ends { Ends result self.old self.new }
     {
         let mut keeper = self.take()?;
@@ -194,8 +183,7 @@ impl<S: Alter + Drop, F: OpensAnew<S> + Drop> Keeper for FileKeeper<S, F> {
     }
 
     fn trades(&mut self, desk: &DeskName) -> Result<u32, KeepFault>
-        ensures counts { WhileOpen self.old.state self.new.state (CountsTrades (state S.Store) desk.now
-            result) }
+        ensures counts { WhileOpen self.old.state self.new.state (spec.LooksUpCount S.Store desk.now result) }
         ensures ends { Ends result self.old self.new }
     {
         let mut keeper = self.take()?;
@@ -208,9 +196,10 @@ impl<S: Alter + Drop, F: OpensAnew<S> + Drop> Keeper for FileKeeper<S, F> {
         desk: &DeskName,
         after: &Option<Reference>,
     ) -> Result<ArrayVec<Line, 50>, KeepFault>
-        ensures read { IfOk result (λ lines. WhileOpen self.old.state self.new.state (λ was is.
-            IsPage (state S.Store) desk.now after.now was.database is.database lines.items)) }
-        ensures counts { WhileOpen self.old.state self.new.state (λ was is. is.trades ≡ was.trades) }
+        ensures looks { WhileOpen self.old.state self.new.state (spec.OfEither
+            (Pages (λ lines was is. IsPage (state S.Store) desk.now after.now was is lines.items) result)
+            (Finds S.Store.view S.Store.recovers
+            (λ places trees lines. found.IsPage places trees desk.now after.now lines.items) result)) }
         ensures ends { Ends result self.old self.new }
     {
         let mut keeper = self.take()?;
@@ -219,8 +208,7 @@ impl<S: Alter + Drop, F: OpensAnew<S> + Drop> Keeper for FileKeeper<S, F> {
     }
 
     fn before_latest(&mut self, desk: &DeskName) -> Result<Option<Reference>, KeepFault>
-        ensures looks { WhileOpen self.old.state self.new.state (Looks (state S.Store) rows.reference_in
-            spec.select_before_latest (spec.desk_values desk.now) result) }
+        ensures looks { WhileOpen self.old.state self.new.state (spec.LooksUpBeforeLatest S.Store desk.now result) }
         ensures ends { Ends result self.old self.new }
     {
         let mut keeper = self.take()?;
@@ -229,8 +217,7 @@ impl<S: Alter + Drop, F: OpensAnew<S> + Drop> Keeper for FileKeeper<S, F> {
     }
 
     fn issue_past(&mut self, after: &Option<[u8; 9]>) -> Result<Option<([u8; 9], Issue)>, KeepFault>
-        ensures looks { WhileOpen self.old.state self.new.state (Looks (state S.Store) rows.issue_entry_in
-            spec.select_issue_past (spec.past_values after.now) result) }
+        ensures looks { WhileOpen self.old.state self.new.state (spec.LooksUpIssuePast S.Store after.now result) }
         ensures ends { Ends result self.old self.new }
     {
         let mut keeper = self.take()?;
@@ -239,8 +226,7 @@ impl<S: Alter + Drop, F: OpensAnew<S> + Drop> Keeper for FileKeeper<S, F> {
     }
 
     fn desk_past(&mut self, after: &Option<DeskName>) -> Result<Option<DeskName>, KeepFault>
-        ensures looks { WhileOpen self.old.state self.new.state (Looks (state S.Store) rows.desk_in
-            spec.select_desk_past (spec.desk_past_values after.now) result) }
+        ensures looks { WhileOpen self.old.state self.new.state (spec.LooksUpDeskPast S.Store after.now result) }
         ensures ends { Ends result self.old self.new }
     {
         let mut keeper = self.take()?;

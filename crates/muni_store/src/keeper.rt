@@ -4,10 +4,11 @@ ghost use Rattle.std.specs.Prelude.{◌≡◌, [], None, Ok, Some, IfOk, is_ok};
 ghost use Rattle.sqlite.specs.Held.{state};
 ghost use Rattle.muni_store_rows.specs.Issue as issues;
 ghost use Rattle.muni_store_rows.specs.Version as versions;
-ghost use Rattle.muni_store.specs.Calls.{CountsTrades, Looks, Puts};
-ghost use Rattle.muni_store.specs.Counts.{after_put};
-ghost use Rattle.muni_store.specs.Faults.{CountsFailure};
-ghost use Rattle.muni_store.specs.Page.{IsPage};
+ghost use Rattle.muni_store.specs.Calls.{CountsTrades, Looks};
+ghost use Rattle.muni_store_trees.specs.Counts.{after_put};
+ghost use Rattle.muni_store_trees.specs.Calls.{CountsFailure};
+ghost use Rattle.muni_store.specs.Keepers.{PutsCounted};
+ghost use Rattle.muni_store.specs.Page.{IsPage, Pages};
 ghost use Rattle.muni_store.specs.Rows as rows;
 ghost use Rattle.muni_store.specs.Statements as spec;
 
@@ -17,11 +18,11 @@ use crate::statements::{
     count_trades, find_before_latest, find_desk_past, find_issue, find_issue_past, find_last,
     find_version, insert_issue, insert_version,
 };
-use crate::trade_counts::TradeCounts;
 use arrayvec::ArrayVec;
 use muni_edge::Faults;
 use muni_keep::{KeepFault, Keeper};
 use muni_msg::{DeskName, Key, Line, Reference, Version};
+use muni_store_trees::TradeCounts;
 use muni_terms::Issue;
 use sqlite::{Alter, Connection};
 use std::alloc::Global;
@@ -94,9 +95,8 @@ impl<S: Alter + Drop> Keeper for SqlKeeper<S> {
     }
 
     fn put_issue(&mut self, issue: &Issue) -> Result<(), KeepFault>
-        ensures puts { Puts (state S.Store) spec.insert_issue (spec.issue_values (issues.columns_of
-            issue.now)) result self.old self.new }
-        ensures counts { self.new.trades ≡ self.old.trades }
+        ensures puts { PutsCounted (state S.Store) spec.insert_issue (spec.issue_values (issues.columns_of
+            issue.now)) self.old.trades result self.old self.new }
         ensures counted { CountsFailure result self.old.faults self.new.faults }
     {
         self.is_changed = true;
@@ -126,10 +126,9 @@ impl<S: Alter + Drop> Keeper for SqlKeeper<S> {
     }
 
     fn put_version(&mut self, key: &Key, number: u32, version: &Version) -> Result<(), KeepFault>
-        ensures puts { Puts (state S.Store) spec.insert_version (spec.version_values (versions.columns_of
-            key.now number version.now)) result self.old self.new }
-        ensures counts { self.new.trades
-            ≡ after_put key.now.desk number (is_ok result) self.old.trades }
+        ensures puts { PutsCounted (state S.Store) spec.insert_version (spec.version_values
+            (versions.columns_of key.now number version.now))
+            (after_put key.now.desk number (is_ok result) self.old.trades) result self.old self.new }
         ensures counted { CountsFailure result self.old.faults self.new.faults }
     {
         self.is_changed = true;
@@ -158,9 +157,8 @@ impl<S: Alter + Drop> Keeper for SqlKeeper<S> {
         desk: &DeskName,
         after: &Option<Reference>,
     ) -> Result<ArrayVec<Line, 50>, KeepFault>
-        ensures read { IfOk result (λ lines. IsPage (state S.Store) desk.now after.now
-            self.old.database self.new.database lines.items) }
-        ensures counts { self.new.trades ≡ self.old.trades }
+        ensures looks { Pages (λ lines was is. IsPage (state S.Store) desk.now after.now was is lines.items)
+            result self.old self.new }
         ensures counted { CountsFailure result self.old.faults self.new.faults }
     {
         let lines = read_page(&mut self.database, desk, after);

@@ -6,7 +6,8 @@ ghost use Rattle.sqlite_value.specs.Value.{owned};
 ghost use Rattle.muni_store.specs.Kinds as spec;
 
 use crate::fault::StoreFault;
-use crate::new_log::NewLog;
+use crate::marks::Seen;
+use crate::new_log::{EMPTY_LOG, NewLog};
 use sqlite::types::ValueRef;
 use sqlite_disk::{Disk, Files, Memory};
 use sqlite_pager::{Options, Pager};
@@ -86,11 +87,31 @@ impl Place {
     /// Looks once more, under the lock of the file that has this name. It has to be the file that was opened
     /// before, and to pass the same look.
     pub(crate) fn look_again(&self, rt: &HostRuntime) -> Result<(), StoreFault> {
-        if !muni_file::is_at(rt, self.path(), &self.file)? {
+        if !self.is_there(rt)? {
             return Err(StoreFault::Failed);
         }
         let _ = self.look(rt)?;
         Ok(())
+    }
+
+    /// The file, which is open.
+    pub(crate) fn file(&self) -> &File {
+        &self.file
+    }
+
+    /// Whether the path leads to the file that is open.
+    pub(crate) fn is_there(&self, rt: &HostRuntime) -> Result<bool, StoreFault> {
+        Ok(muni_file::is_at(rt, self.path(), &self.file)?)
+    }
+
+    /// What the system says of the file, and of its log if that may hold something.
+    pub(crate) fn seen(&self, rt: &HostRuntime) -> Result<Seen, StoreFault> {
+        match muni_file::open(rt, &self.log) {
+            Ok(log) if log.metadata()?.len() > EMPTY_LOG => Seen::of(&self.file, Some(&log)),
+            Ok(_) => Seen::of(&self.file, None),
+            Err(error) if error.kind() == ErrorKind::NotFound => Seen::of(&self.file, None),
+            Err(error) => Err(error.into()),
+        }
     }
 
     /// Makes the log of a store that has none.
@@ -234,7 +255,7 @@ fn is_own_name(name: ValueRef<'_>) -> bool
         || is_text(name, b"versions")
 }
 
-fn is_text(value: ValueRef<'_>, text: &[u8]) -> bool
+pub(crate) fn is_text(value: ValueRef<'_>, text: &[u8]) -> bool
     ensures { result ≡ spec.is_text (owned value.entry) text.now }
 {
     match value {

@@ -7,7 +7,7 @@ use std::io::{self, ErrorKind};
 use std::os::unix::fs::{MetadataExt, PermissionsExt, fchown};
 
 /// A log of this length holds nothing.
-const EMPTY_LOG: u64 = 41;
+pub(crate) const EMPTY_LOG: u64 = 41;
 
 /// The lock of a store, by what holds it. As long as it is held no other process reads or writes the log.
 #[derive(Drop)]
@@ -15,6 +15,7 @@ pub(crate) enum HeldLock<'a> {
     Files(&'a Files<StoreDisk>),
     Leftover(&'a Leftover<StoreDisk>),
     Database(&'a Connection<FileStore<StoreDisk>>),
+    Store(&'a FileStore<StoreDisk>),
 }
 
 /// A log that this process has made beside the file of a store. It is open, so that no other file can get

@@ -12,7 +12,8 @@ use crate::rows::number_at;
 use sqlite::types::ValueRef;
 use sqlite::{Alter, Connection, Error, Row, params};
 
-const ISSUES: &str = "CREATE TABLE issues_2 (
+/// The statement that makes the table of issues.
+pub(crate) const ISSUES: &str = "CREATE TABLE issues_2 (
   cusip TEXT NOT NULL,
   name TEXT NOT NULL,
   kind INTEGER NOT NULL,
@@ -25,7 +26,8 @@ const ISSUES: &str = "CREATE TABLE issues_2 (
   PRIMARY KEY (cusip)
 ) STRICT";
 
-const VERSIONS: &str = "CREATE TABLE versions_2 (
+/// The statement that makes the table of versions.
+pub(crate) const VERSIONS: &str = "CREATE TABLE versions_2 (
   desk TEXT NOT NULL,
   reference TEXT NOT NULL,
   number INTEGER NOT NULL,
@@ -116,8 +118,21 @@ fn has_columns<S: Alter>(database: &mut Connection<S>, table: Table) -> Result<b
 }
 
 fn lists_any<S: Alter>(database: &mut Connection<S>) -> Result<bool, StoreFault> {
-    let row = first_row(database, "SELECT COUNT(*) FROM sqlite_schema", params![])?;
-    counts_some(row)
+    counts_some(database, "SELECT COUNT(*) FROM sqlite_schema")
+}
+
+/// Whether a database lists nothing but the tables of a store, their indexes and views.
+pub(crate) fn lists_own_alone<S: Alter>(database: &mut Connection<S>) -> Result<bool, StoreFault> {
+    let row = first_row(
+        database,
+        "SELECT COUNT(*) FROM sqlite_schema WHERE type <> 'view' \
+         AND NOT (type = 'table' AND name = 'issues_2' AND sql = ?1) \
+         AND NOT (type = 'table' AND name = 'versions_2' AND sql = ?2) \
+         AND NOT (type = 'index' AND name = 'sqlite_autoindex_issues_2_1') \
+         AND NOT (type = 'index' AND name = 'sqlite_autoindex_versions_2_1')",
+        params![ISSUES, VERSIONS],
+    )?;
+    Ok(!is_above_zero(row)?)
 }
 
 /// Makes the tables if the file has none, and says whether it has made one.
@@ -149,10 +164,19 @@ pub(crate) fn has_table<S: Alter>(
         "SELECT COUNT(*) FROM sqlite_schema WHERE type = 'table' AND name = ?1",
         params![table.name()],
     )?;
-    counts_some(row)
+    is_above_zero(row)
 }
 
-fn counts_some(row: Option<Row>) -> Result<bool, StoreFault> {
+/// Whether the count that a query finds is above 0.
+pub(crate) fn counts_some<S: Alter>(
+    database: &mut Connection<S>,
+    query: &str,
+) -> Result<bool, StoreFault> {
+    let row = first_row(database, query, params![])?;
+    is_above_zero(row)
+}
+
+fn is_above_zero(row: Option<Row>) -> Result<bool, StoreFault> {
     match row {
         Some(row) => Ok(number_at(&row, 0)? > 0),
         None => Ok(false),

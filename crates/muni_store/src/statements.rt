@@ -18,7 +18,8 @@ use crate::schema::{answered, first_row, write};
 use arrayvec::ArrayVec;
 use muni_dec::text::push;
 use muni_msg::{DeskName, Key, Reference, Version};
-use muni_store_rows::{IssueColumns, TradeRow, WrittenVersion, issue_columns};
+use muni_store_rows::{WrittenVersion, issue_columns};
+use muni_store_trees::{issue_values, version_values};
 use muni_terms::Issue;
 use sqlite::types::ValueRef;
 use sqlite::{Alter, Connection, Row};
@@ -62,22 +63,6 @@ pub(crate) fn insert_issue<S: Alter>(
          VALUES (?1, ?2, ?3, ?4, ?5, ?6, ?7, ?8, ?9)",
         &values,
     )
-}
-
-fn issue_values<'a>(columns: &'a IssueColumns) -> [ValueRef<'a>; 9]
-    ensures { bound result ≡ spec.issue_values columns.now }
-{
-    [
-        ValueRef::Text(&columns.cusip),
-        ValueRef::Text(&columns.name),
-        ValueRef::Int(columns.kind),
-        ValueRef::Text(&columns.dated),
-        ValueRef::Text(&columns.first),
-        ValueRef::Text(&columns.maturity),
-        ValueRef::Int(columns.coupon),
-        ValueRef::Text(columns.calls()),
-        ValueRef::Int(columns.basis),
-    ]
 }
 
 fn key_values(key: &Key) -> [ValueRef<'_>; 2]
@@ -174,34 +159,6 @@ pub(crate) fn insert_version<S: Alter>(
          ?19, ?20, ?21)",
         &values,
     )
-}
-
-fn version_values<'a>(row: &'a TradeRow<'a>) -> [ValueRef<'a>; 21]
-    ensures { bound result ≡ spec.version_values row.now }
-{
-    [
-        ValueRef::Text(row.desk),
-        ValueRef::Text(row.reference),
-        ValueRef::Int(row.number),
-        ValueRef::Int(row.act),
-        ValueRef::Text(row.asked.cusip),
-        ValueRef::Int(row.asked.side),
-        ValueRef::Int(row.asked.par),
-        ValueRef::Text(row.asked.settle),
-        ValueRef::Int(row.asked.basis),
-        ValueRef::Int(row.asked.value),
-        ValueRef::Int(row.figures.price),
-        ValueRef::Int(row.figures.yld),
-        ValueRef::Text(row.figures.redemption),
-        ValueRef::Int(row.figures.at_price),
-        ValueRef::Int(row.figures.label),
-        ValueRef::Int(row.figures.days),
-        ValueRef::Int(row.figures.principal),
-        ValueRef::Int(row.figures.accrued),
-        ValueRef::Int(row.figures.total),
-        ValueRef::Int(row.asked.fee),
-        ValueRef::Int(row.figures.commission),
-    ]
 }
 
 /// How many trades of a desk are kept. Each has a first version.

@@ -1,35 +1,137 @@
 //! The file of a store.
 
-ghost use Rattle.std.specs.Prelude.{◌≡◌, false, IfOk, OnOk};
+ghost use Rattle.std.specs.Prelude.{◌≡◌, IfOk, IfSome};
+ghost use Rattle.muni_store.specs.Keepers.{IsIdle, faults_of};
 
+use crate::audited::{keeper_over, settled};
 use crate::fault::StoreFault;
 use crate::file_keeper::OpensAnew;
-use crate::keeper::SqlKeeper;
 use crate::look::{Found, Place};
-use crate::moving::move_old_rows;
 use crate::new_log::{HeldLock, NewLog};
-use crate::schema::{check_tables, make_tables, text};
-use sqlite::{Alter, Connection, File, FileStore, Options, Unknown};
+use crate::opening::known_keeper;
+use crate::schema::{check_tables, text};
+use crate::seal::Seal;
+use crate::store_keeper::StoreKeeper;
+use muni_store_trees::TreeKeeper;
+use sqlite::{Connection, File, FileStore, Files, Options, Unknown};
 use std::hash::{BuildHasher, RandomState};
+
+/// What a file is taken to be sound by, without an audit.
+#[derive(Clone, Copy, Debug, PartialEq, Eq)]
+pub enum Trust {
+    /// A seal of the files as they are.
+    Seal,
+    /// Nothing.
+    Nothing,
+}
 
 /// The file of a store, by its path.
 #[derive(Drop)]
 pub struct StoreFile {
     rt: HostRuntime,
     path: Vec<u8>,
-    // Its log, if the last open has made it.
+    trust: Trust,
+    // The file that the last open has found, and its log, if that open has made it.
+    place: Option<Place>,
     new_log: Option<NewLog>,
+    // Whether the file is as its seal says, as far as it was not changed since.
+    is_sealed: bool,
 }
 
 impl StoreFile {
-    pub(crate) fn new(rt: HostRuntime, path: Vec<u8>) -> StoreFile
-        ensures { result.path ≡ path }
+    pub(crate) fn new(rt: HostRuntime, path: Vec<u8>, trust: Trust) -> StoreFile
+        ensures path { result.path ≡ path }
+        ensures trust { result.trust ≡ trust }
     {
         StoreFile {
             rt,
             path,
+            trust,
+            place: None,
             new_log: None,
+            is_sealed: false,
         }
+    }
+
+    /// A keeper over the file, in which no transaction is open. A file that is no store is left as it was. One
+    /// that is not as its seal says is audited, and so is one whose seal is not trusted.
+    pub(crate) fn open(&mut self) -> Result<StoreKeeper<FileStore<File>>, StoreFault>
+        ensures path { self.new.path ≡ self.old.path }
+        ensures faults { IfOk result (λ keeper. faults_of keeper ≡ 0) }
+        ensures idle { IfOk result IsIdle }
+    {
+        self.is_sealed = false;
+        match self.trusted()? {
+            Some(keeper) => Ok(StoreKeeper::Trees(keeper)),
+            None => self.open_audited(),
+        }
+    }
+
+    // The keeper of a file that needs no audit. A seal that is not trusted is taken away, so that no command
+    // trusts it if the audit refuses the file.
+    fn trusted(&mut self) -> Result<Option<TreeKeeper<FileStore<File>>>, StoreFault>
+        ensures path { self.new.path ≡ self.old.path }
+        ensures faults { IfOk result (λ found. IfSome found (λ keeper. keeper.faults ≡ 0)) }
+    {
+        match self.trust {
+            Trust::Seal => self.open_sealed(),
+            Trust::Nothing => {
+                let place = Place::open(&self.rt, text(&self.path)?)?;
+                Seal::remove(&self.rt, place.path());
+                Ok(None)
+            }
+        }
+    }
+
+    // The keeper of a file that is as its seal says.
+    fn open_sealed(&mut self) -> Result<Option<TreeKeeper<FileStore<File>>>, StoreFault>
+        ensures path { self.new.path ≡ self.old.path }
+        ensures faults { IfOk result (λ found. IfSome found (λ keeper. keeper.faults ≡ 0)) }
+    {
+        let place = Place::open(&self.rt, text(&self.path)?)?;
+        let Some(seal) = Seal::read(&self.rt, place.path())? else {
+            return Ok(None);
+        };
+        if !seal.is_of(&place.seen(&self.rt)?) {
+            return Ok(None);
+        }
+        self.new_log = place.make_log(&self.rt)?;
+        let files = sqlite_std_file::open(&self.rt, place.path(), Unknown)?;
+        if !self.is_still(&place, &seal)? {
+            self.remove_new_log(HeldLock::Files(&files));
+            return Ok(None);
+        }
+        match known_keeper(self.rt.alloc(), files, self.options()?) {
+            Ok(keeper) => {
+                self.is_sealed = true;
+                self.place = Some(place);
+                Ok(Some(keeper))
+            }
+            Err(StoreFault::NoMemory) => Err(StoreFault::NoMemory),
+            Err(_) => {
+                Seal::remove(&self.rt, place.path());
+                Ok(None)
+            }
+        }
+    }
+
+    // Looks once more under the lock, since until then other programs may change or replace the files.
+    fn is_still(&self, place: &Place, seal: &Seal) -> Result<bool, StoreFault> {
+        Ok(place.is_there(&self.rt)? && seal.is_of(&place.seen(&self.rt)?))
+    }
+
+    // The keeper of a file that was audited.
+    fn open_audited(&mut self) -> Result<StoreKeeper<FileStore<File>>, StoreFault>
+        ensures path { self.new.path ≡ self.old.path }
+        ensures faults { IfOk result (λ keeper. faults_of keeper ≡ 0) }
+        ensures idle { IfOk result IsIdle }
+    {
+        let mut database = self.connect()?;
+        if let Err(fault) = check_tables(&mut database) {
+            self.remove_new_log(HeldLock::Database(&database));
+            return Err(fault);
+        }
+        keeper_over(self.rt.alloc(), database, self.trust)
     }
 
     // Until the file is locked other programs may change or replace it. So what was seen before is looked at
@@ -37,7 +139,7 @@ impl StoreFile {
     fn connect(&mut self) -> Result<Connection<FileStore<File>>, StoreFault>
         ensures path { self.new.path ≡ self.old.path }
     {
-        let options = Options::new(RandomState::new(&self.rt)?.hash_one(&0u8));
+        let options = self.options()?;
         let place = Place::open(&self.rt, text(&self.path)?)?;
         self.new_log = match place.look(&self.rt)? {
             Found::Unlogged => place.make_log(&self.rt)?,
@@ -49,12 +151,20 @@ impl StoreFile {
             return Err(fault);
         }
         match Connection::open_files_with(self.rt.alloc(), files, options, false) {
-            Ok(database) => Ok(database),
+            Ok(database) => {
+                self.place = Some(place);
+                Ok(database)
+            }
             Err((error, left)) => {
                 self.remove_new_log(HeldLock::Leftover(&left));
                 Err(error.into())
             }
         }
+    }
+
+    // A log that is begun anew gets another salt each time.
+    fn options(&self) -> Result<Options, StoreFault> {
+        Ok(Options::new(RandomState::new(&self.rt)?.hash_one(&0u8)))
     }
 
     // A log that cannot be removed stays beside the file, and nothing is lost.
@@ -64,49 +174,63 @@ impl StoreFile {
         }
     }
 
-    /// A keeper over the file, in which no transaction is open. A file that is no store is left as it was.
-    pub(crate) fn open(&mut self) -> Result<SqlKeeper<FileStore<File>>, StoreFault>
-        ensures path { self.new.path ≡ self.old.path }
-        ensures faults { IfOk result (λ keeper. keeper.faults ≡ 0) }
-        ensures idle { IfOk result (λ keeper. keeper.database.in_transaction ≡ false) }
-    {
-        let mut database = self.connect()?;
-        if let Err(fault) = check_tables(&mut database) {
-            self.remove_new_log(HeldLock::Database(&database));
-            return Err(fault);
+    /// Closes the file. One that was not changed is left as it is.
+    pub(crate) fn close(&self, keeper: StoreKeeper<FileStore<File>>) {
+        match keeper {
+            StoreKeeper::Sql(keeper) => {
+                let (database, is_changed) = keeper.into_parts();
+                self.close_database(database, is_changed);
+            }
+            StoreKeeper::Trees(keeper) => {
+                let (store, is_changed) = keeper.into_parts();
+                self.close_store(store, is_changed);
+            }
         }
-        let is_changed = prepare_tables(&mut database)?;
-        Ok(SqlKeeper::new(self.rt.alloc(), database, is_changed))
     }
 
-    /// Closes the database. A file that was not changed is left as it is.
-    pub(crate) fn close(&self, database: Connection<FileStore<File>>, is_changed: bool) {
+    // If the log cannot be copied into the file it stays beside it, and nothing is lost.
+    fn close_database(&self, database: Connection<FileStore<File>>, is_changed: bool) {
         if is_changed {
-            // If the log cannot be copied into the file it stays beside it, and nothing is lost.
             let _ = database.close();
         } else {
             self.remove_new_log(HeldLock::Database(&database));
+        }
+    }
+
+    // The same, and the file gets a seal.
+    fn close_store(&self, mut store: FileStore<File>, is_changed: bool) {
+        if is_changed {
+            let _ = store.checkpoint();
+        } else {
+            self.remove_new_log(HeldLock::Store(&store));
+        }
+        let files = store.close();
+        if is_changed || !self.is_sealed {
+            self.seal(&files);
+        }
+    }
+
+    // Seals the file, of which no sync has failed, under its lock.
+    fn seal(&self, files: &Files<File>) {
+        if !files.may_be_used() {
+            return;
+        }
+        if let Some(place) = &self.place {
+            if let Ok(seen) = place.seen(&self.rt) {
+                Seal::write(&self.rt, place.path(), place.file(), &seen);
+            }
         }
     }
 }
 
 impl OpensAnew<FileStore<File>> for StoreFile {
     // What the log holds is written into the file and synced before, since of a sync that failed the system
-    // may count as written what the disk does not have.
-    fn open_anew(&mut self) -> Result<SqlKeeper<FileStore<File>>, StoreFault> {
-        self.connect()?.close()?;
+    // may count as written what the disk does not have. The file was audited then, and gets a seal.
+    fn open_anew(&mut self) -> Result<StoreKeeper<FileStore<File>>, StoreFault> {
+        let database = self.connect()?;
+        let files = settled(database)?;
+        self.seal(&files);
+        drop(files);
         self.open()
     }
-}
-
-// Makes the tables that are missing, and moves what older ones have. It says whether anything changed.
-fn prepare_tables<S: Alter>(database: &mut Connection<S>) -> Result<bool, StoreFault>
-    ensures idle { OnOk result (database.new.in_transaction ≡ false) }
-{
-    let made = make_tables(database)?;
-    let moved = move_old_rows(database)?;
-    if !database.is_autocommit() {
-        return Err(StoreFault::Failed);
-    }
-    Ok(made || moved)
 }

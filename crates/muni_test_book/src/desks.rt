@@ -1,4 +1,4 @@
-//! Trades that are put one after another, and as many as a desk may have.
+//! Trades that are put one after another, and as many as a desk usually may have.
 
 ghost use Rattle.std.specs.Prelude.{◌≡◌};
 
@@ -31,7 +31,7 @@ pub fn trade_of(place: u32) -> Result<Key, Fail> {
     })
 }
 
-/// Puts a version of as many trades as a desk may have.
+/// Puts a version of as many trades as a desk usually may have.
 pub fn fill<K: Keeper>(keeper: &mut K, version: &Version) -> Result<(), Fail> {
     for place in 0..100_000_u32 {
         put(keeper, &trade_of(place)?, version)?;

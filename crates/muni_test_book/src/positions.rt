@@ -243,31 +243,28 @@ fn sale() -> Version {
     )
 }
 
-const FULL: &[u8] = b"123456AA3 100000 0 500000 -500000 -501000.00\n";
+const MANY: &[u8] = b"123456AA3 100001 0 500005 -500005 -501005.01\n";
 
-// Fills ALPHA, which is watched, and puts one trade more while puts are followed. Whether it is put and ends the
-// watch, and the desk cannot be watched again.
-fn ends_the_watch<K: Keeper + Drop>(alloc: Global, inner: K) -> Result<bool, Fail> {
+// Puts more than 100,000 trades of ALPHA, which is watched. Whether it is watched still, with the positions over
+// all of them, and those over its trades are the same.
+fn follows_many<K: Keeper + Drop>(alloc: Global, inner: K) -> Result<bool, Fail> {
     let alpha = desk("ALPHA")?;
     let mut keeper = over(alloc, inner);
     keeper.watch(&alpha)?;
     let mut following = follow(keeper);
     fill(&mut following, &sale())?;
-    let keeper = following.back();
-    let lines = lines(alloc, &keeper)?;
-    let mut following = follow(keeper);
     put(&mut following, &trade_of(100_000)?, &sale())?;
     let mut keeper = following.back();
-    let is_put = keeper.watched().is_none() && keeper.trades(&alpha)? == 100_001;
-    let again = keeper.watch(&alpha);
-    Ok(lines.as_slice() == FULL && is_put && again == Err(KeepFault::Failed))
+    let is_put = keeper.watches(&alpha) && keeper.trades(&alpha)? == 100_001;
+    let followed = lines(alloc, &keeper)?;
+    keeper.watch(&alpha)?;
+    let summed = lines(alloc, &keeper)?;
+    Ok(is_put && followed.as_slice() == MANY && summed.as_slice() == MANY)
 }
 
 #[test]
-fn a_trade_for_which_there_is_no_room_is_put_and_ends_the_watch(
-    rt: HostRuntime,
-) -> Result<(), Fail> {
+fn a_desk_with_more_than_the_usual_trades_is_watched(rt: HostRuntime) -> Result<(), Fail> {
     let inner = MemKeeper::new(rt.alloc(), &[])?;
-    assert!(rt; ends_the_watch(rt.alloc(), inner)?);
+    assert!(rt; follows_many(rt.alloc(), inner)?);
     Ok(())
 }

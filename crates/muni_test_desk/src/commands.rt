@@ -1,6 +1,7 @@
 mod faults;
 mod gates;
 mod kept;
+mod runs;
 mod watch;
 
 ghost use Rattle.std.specs.Prelude.{◌≡◌, None};

@@ -1,4 +1,4 @@
-//! Commands over a store while an object fails, and connections.
+//! Commands over a store while an object fails.
 
 use super::{Failing, NONE, NONE_FAILS, ask_both};
 use muni_desk::Status;
@@ -6,7 +6,7 @@ use std::alloc::Global;
 use std::test::Fail;
 use std::thread::Threads;
 
-const IMPORT: &str = "import --store=S";
+pub(super) const IMPORT: &str = "import --store=S";
 
 const LISTED: &str = "import --store=S --positions=ALPHA";
 
@@ -26,9 +26,9 @@ const LISTING: &str = "list --store=S --desk=ALPHA";
 
 const CONFIRMATIONS: &str = "confirm --store=S --desk=ALPHA --all";
 
-const SERVE: &str = "serve --store=S --port=8080 --connections=2";
+const CHECK: &str = "check-store --store=S";
 
-const ROWS: &[u8] =
+pub(super) const ROWS: &[u8] =
     b"issue,123456AA3,RIVERTON WATER 5S 2025,periodic,2020-01-01,2020-07-01,2025-01-01,5,
 trade,ALPHA,T0001,123456AA3,buy,25000,2024-04-01,yield,4
 trade,ALPHA,T0002,123456AA3,sell,10000,2024-04-01,price,100.725
@@ -42,23 +42,12 @@ const REPORT: &[u8] = b"1,added,123456AA3
 
 const MARKS: &[u8] = b"123456AA3,25000,2024-04-01,4\n";
 
-const REQUEST: &[u8] = b"GET /lists/ALPHA HTTP/1.1\r\nHost: localhost\r\n\r\n";
+pub(super) const FIRST_CALL: &[u64] = &[0];
 
-const LIST: &[u8] = b"HTTP/1.1 200 OK\r
-Content-Type: text/plain\r
-Content-Length: 66\r
-Connection: close\r
-\r
-T0001 1 LIVE 25000 100.725 4.000
-T0002 1 LIVE 10000 100.725 4.001
-";
-
-const FIRST_CALL: &[u64] = &[0];
-
-const SECOND_CALL: &[u64] = &[1];
+pub(super) const SECOND_CALL: &[u64] = &[1];
 
 // How often an import of the rows asks the keeper.
-const CALLS: u64 = 10;
+pub(super) const CALLS: u64 = 10;
 
 // How an import of the rows ends, how many whole lines of its report it writes, if it writes nothing else, and
 // whether a trade is then confirmed.
@@ -155,7 +144,7 @@ fn a_keeper_that_fails_ends_an_import_before_its_row(rt: HostRuntime) -> Result<
 
 // The first command over an empty store, with the calls of its input, its output, the cabinet and the keeper
 // that fail. The last status shows whether it has fetched the store.
-const ENDS: [(&str, [&[u64]; 4], Status, Status); 19] = [
+const ENDS: [(&str, [&[u64]; 4], Status, Status); 21] = [
     (
         IMPORT,
         [FIRST_CALL, NONE, NONE, NONE],
@@ -259,6 +248,18 @@ const ENDS: [(&str, [&[u64]; 4], Status, Status); 19] = [
         Status::Refused,
     ),
     (
+        CHECK,
+        [NONE, NONE, FIRST_CALL, NONE],
+        Status::StoreFault,
+        Status::Refused,
+    ),
+    (
+        CHECK,
+        [NONE, NONE, NONE, FIRST_CALL],
+        Status::StoreFault,
+        Status::Refused,
+    ),
+    (
         LISTING,
         [NONE, FIRST_CALL, NONE, NONE],
         Status::WriteFault,
@@ -334,77 +335,3 @@ fn a_look_up_that_fails_is_not_tried_again(rt: HostRuntime) -> Result<(), Fail> 
 }
 
 const NO_INPUT: &[u8] = b"";
-
-// How connections over the tables of an import end, how many of two clients are served, and how many of these
-// get another answer than the list.
-fn served_with<'a, R: Threads + Sync>(
-    rt: &R,
-    alloc: Global,
-    words: &'a str,
-    failing: [Failing<'a>; 2],
-) -> Result<(Status, usize, usize), Fail> {
-    let (_, outcome) = ask_both(rt, alloc, failing, (IMPORT, ROWS), (words, REQUEST))?;
-    let served = outcome.door.served();
-    let bad = served.iter().filter(|link| link.written() != LIST).count();
-    Ok((outcome.status, served.len(), bad))
-}
-
-#[test]
-fn runs_end_where_they_are_told_to(rt: HostRuntime) -> Result<(), Fail> {
-    for (words, status, count) in [
-        (SERVE, Status::Done, 2),
-        (
-            "serve --store=S --port=8080 --connections=1",
-            Status::Done,
-            1,
-        ),
-        (
-            "serve --workers=16 --connections=01000000 --port=65535 --store=S",
-            Status::Done,
-            2,
-        ),
-    ] {
-        let found = served_with(&rt, rt.alloc(), words, [NONE_FAILS, NONE_FAILS])?;
-        assert_eq!(rt; found, (status, count, 0), "{words}");
-    }
-    Ok(())
-}
-
-#[test]
-fn each_fault_of_a_run_is_told_or_costs_one_client(rt: HostRuntime) -> Result<(), Fail> {
-    for (fetches, calls, accepts, [takes, puts], wanted) in [
-        (
-            SECOND_CALL,
-            NONE,
-            NONE,
-            [NONE, NONE],
-            (Status::StoreFault, 0, 0),
-        ),
-        (NONE, &[CALLS], NONE, [NONE, NONE], (Status::Done, 2, 1)),
-        (
-            NONE,
-            NONE,
-            FIRST_CALL,
-            [NONE, NONE],
-            (Status::DoorFault, 0, 0),
-        ),
-        (NONE, NONE, &[2], [NONE, NONE], (Status::DoorFault, 1, 0)),
-        (NONE, NONE, NONE, [FIRST_CALL, NONE], (Status::Done, 2, 1)),
-        (NONE, NONE, NONE, [NONE, FIRST_CALL], (Status::Done, 2, 1)),
-    ] {
-        let before = Failing {
-            fetches,
-            calls,
-            ..NONE_FAILS
-        };
-        let after = Failing {
-            accepts,
-            client_takes: takes,
-            client_puts: puts,
-            ..NONE_FAILS
-        };
-        let found = served_with(&rt, rt.alloc(), SERVE, [before, after])?;
-        assert_eq!(rt; found, wanted);
-    }
-    Ok(())
-}

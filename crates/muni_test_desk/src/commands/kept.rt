@@ -44,6 +44,8 @@ T0001,2,CANCELED,990081AB7,buy,500000,2024-04-01,yield,3.5450,0.000,100.303,3.54
 T0002,2,LIVE,990034AA8,sell,30000,2024-04-03,price,104.250000,0.375,104.250,3.703,2035-08-01,100.000000,PAR OPTION,62,31275.00,213.13,112.50,31375.63
 ";
 
+const COUNTS: &str = "ISSUES 2\nDESK ALPHA 4\nDESK BETA 1\nSOUND\n";
+
 const EMPTY_LIST: &str =
     "reference,version,state,cusip,side,par,settlement,basis,value,fee,price,yield,redemption,redemption_price,redemption_label,days,principal,accrued,commission,total
 ";
@@ -112,6 +114,7 @@ fn what_a_store_keeps_is_written(rt: HostRuntime) -> Result<(), Fail> {
         ("list --store=S --desk=GAMMA", EMPTY_LIST),
         ("confirm --store=S --all --desk=ALPHA", CONFIRMATIONS),
         ("confirm --desk=GAMMA --store=S --all", ""),
+        ("check-store --store=S", COUNTS),
     ] {
         let outcome = said_over(&rt, rt.alloc(), ROWS, words)?;
         assert_eq!(rt; outcome.status, Status::Done, "{words}");
@@ -147,6 +150,25 @@ fn a_load_does_what_an_import_does(rt: HostRuntime) -> Result<(), Fail> {
 }
 
 #[test]
+fn a_desk_has_as_many_trades_as_the_words_let_it_have(rt: HostRuntime) -> Result<(), Fail> {
+    for (words, is_full) in [
+        ("import --desk-limit=1 --store=S", true),
+        ("import --store=S --desk-limit=2", false),
+        ("load --store=S --desk-limit=1", true),
+        ("load --desk-limit=100000000 --store=S", false),
+        (LOAD, false),
+    ] {
+        let both = [NONE_FAILS, NONE_FAILS];
+        let export = ("export --store=S", b"".as_slice());
+        let (done, _) = ask_both(&rt, rt.alloc(), both, (words, ROWS), export)?;
+        let report = str::from_utf8(done.output.bytes()).ok().ok_or("a text")?;
+        assert_eq!(rt; done.status, Status::Done, "{words}");
+        assert_eq!(rt; report.contains("DeskFull"), is_full, "{words}");
+    }
+    Ok(())
+}
+
+#[test]
 fn other_words_of_these_commands_are_refused(rt: HostRuntime) -> Result<(), Fail> {
     for words in [
         "export",
@@ -162,6 +184,16 @@ fn other_words_of_these_commands_are_refused(rt: HostRuntime) -> Result<(), Fail
         "load",
         "load --store=S --store=S",
         "load --store=S --workers=1",
+        "load --store=S --desk-limit=",
+        "load --store=S --desk-limit=0",
+        "load --store=S --desk-limit=100000001",
+        "load --store=S --desk-limit=+1",
+        "load --desk-limit=1 --store=S --desk-limit=1",
+        "import --store=S --desk-limit=0",
+        "serve --store=S --port=8080 --connections=1 --desk-limit=1e5",
+        "export --store=S --desk-limit=1",
+        "positions --store=S --desk=ALPHA --desk-limit=1",
+        "mark --store=S --desk-limit=1",
         "list --store=S",
         "list --desk=ALPHA",
         "list --store=S --desk=ALPHA --issues",
@@ -172,6 +204,10 @@ fn other_words_of_these_commands_are_refused(rt: HostRuntime) -> Result<(), Fail
         "confirm --store=S --desk=ALPHA --ref=T0001 --all",
         "confirm --store=S --desk=ALPHA --all=1",
         "confirm --store=S --desk=ALPHA --issues",
+        "check-store",
+        "check-store --store=S --store=S",
+        "check-store --store=S --desk=ALPHA",
+        "check-store --store=S --all",
     ] {
         let outcome = said_over(&rt, rt.alloc(), b"", words)?;
         assert_eq!(rt; outcome.status, Status::Usage, "{words}");

@@ -1,5 +1,5 @@
 use Rattle.std.proofs.Common.{rules, refl, subst, sym}
-use Rattle.muni_book.specs.Answers.{IsRightAnswer}
+use Rattle.muni_book.specs.Rules.{book_rules}
 use Rattle.muni_desk_serve.specs.Serves.{traffic}
 use Rattle.muni_wire.specs.Answer.{answer_to_reply, answer_to_bad, unavailable as unavailable_bytes}
 use Rattle.muni_wire.specs.HttpStatus.{status_of_reply, status_of_bad}
@@ -16,12 +16,12 @@ returns-in-Ok-step-clause-served g c =
     let told = traffic g.L.Source.left g.L.Sink.bytes g.L.Source.faults g.L.Sink.faults in
     let read = rw (c.in-Ok.is, c.in-Book.is) at c.read_request.ensures in
     let did = c.in-Ok-step.ensures in
-    let P = IsRightAnswer (g.E.Encloser.ends c.args.calculator.now.encloser.now) in
+    let P = book_rules c.args.book.now.limit (g.E.Encloser.ends c.args.book.now.calculator.now.encloser.now) in
     let each = c.deref.result.now in
-    let shown : IsPricedReply P c.in-Ok-step.reply → AreBeside c.in-Ok-step.reply each = λ priced. subst (AreBeside c.in-Ok-step.reply) (sym c.deref.ensures.0) (c.wanted.ensures priced) in
+    let shown : IsPricedReply P.prices c.in-Ok-step.reply → AreBeside c.in-Ok-step.reply each = λ priced. subst (AreBeside c.in-Ok-step.reply) (sym c.deref.ensures.0) (c.wanted.ensures priced) in
     let beside = beside-step P (g.K.Keeper.tables c.args.keeper.now) c.in-Book.command c.in-Ok-step.reply each (g.K.Keeper.tables c.step.new.keeper) did.step shown in
     rw c.came_of-in-Ok-step.ensures
-    (replied (IsRightAnswer (g.E.Encloser.ends c.args.calculator.now.encloser.now)) (g.K.Keeper.tables c.args.keeper.now) (g.K.Keeper.tables c.step.new.keeper)
+    (replied (book_rules c.args.book.now.limit (g.E.Encloser.ends c.args.book.now.calculator.now.encloser.now)) (g.K.Keeper.tables c.args.keeper.now) (g.K.Keeper.tables c.step.new.keeper)
     (g.K.Keeper.faults c.args.keeper.now) (g.K.Keeper.faults c.step.new.keeper)
     (told c.args.link.now) (told c.read_request.new.link) (told c.write_reply.new.link)
     c.in-Book.command c.in-Ok-step.reply each (came_of c.write_reply.result) did.same.later read.allowed did.step beside (wrote g.L.Source g.L.Sink (status_of_reply c.in-Ok-step.reply) (answer_to_reply c.in-Ok-step.reply each) c.write_reply.result c.read_request.new.link c.write_reply.new.link c.write_reply.ensures) read.takes.only.keeps_bytes read.takes.only.keeps_puts)
@@ -32,7 +32,7 @@ returns-in-Err-Failed-clause-served g c =
     let read = rw (c.in-Ok.is, c.in-Book.is) at c.read_request.ensures in
     let did = rw c.in-Err-Failed.field-0-is at c.in-Err-Failed.ensures in
     rw c.came_of-in-Err-Failed.ensures
-    (unavailable (IsRightAnswer (g.E.Encloser.ends c.args.calculator.now.encloser.now)) (g.K.Keeper.tables c.args.keeper.now) (g.K.Keeper.tables c.step.new.keeper)
+    (unavailable (book_rules c.args.book.now.limit (g.E.Encloser.ends c.args.book.now.calculator.now.encloser.now)) (g.K.Keeper.tables c.args.keeper.now) (g.K.Keeper.tables c.step.new.keeper)
     (g.K.Keeper.faults c.args.keeper.now) (g.K.Keeper.faults c.step.new.keeper)
     (told c.args.link.now) (told c.read_request.new.link) (told c.write_unavailable.new.link)
     (Book c.in-Book.command) (came_of c.write_unavailable.result) (search rules) read.allowed did.unchanged (wrote g.L.Source g.L.Sink Unavailable unavailable_bytes c.write_unavailable.result c.read_request.new.link c.write_unavailable.new.link c.write_unavailable.ensures) read.takes.only.keeps_bytes read.takes.only.keeps_puts)
@@ -71,7 +71,7 @@ returns-in-Ok-look_up-clause-served g c =
     let did = c.in-Ok-look_up.ensures in
     let seen = c.in-Ok-look_up.seen in
     rw c.came_of-in-Ok-look_up.ensures
-    (looked-up (IsRightAnswer (g.E.Encloser.ends c.args.calculator.now.encloser.now)) (g.K.Keeper.tables c.args.keeper.now) (g.K.Keeper.tables c.look_up.new.keeper)
+    (looked-up (book_rules c.args.book.now.limit (g.E.Encloser.ends c.args.book.now.calculator.now.encloser.now)) (g.K.Keeper.tables c.args.keeper.now) (g.K.Keeper.tables c.look_up.new.keeper)
     (g.K.Keeper.faults c.args.keeper.now) (g.K.Keeper.faults c.look_up.new.keeper)
     (told c.args.link.now) (told c.read_request.new.link) (told c.write_seen.new.link)
     c.in-Look.look (seen_answer seen) (came_of c.write_seen.result) did.reads.later read.allowed did.seen did.reads.unchanged
@@ -83,7 +83,7 @@ returns-in-Err-Failed-look_up-clause-served g c =
     let read = rw (c.in-Ok.is, c.in-Look.is) at c.read_request.ensures in
     let did = rw c.in-Err-Failed-look_up.field-0-is at c.in-Err-Failed-look_up.ensures in
     rw c.came_of-in-Err-Failed-look_up.ensures
-    (unavailable (IsRightAnswer (g.E.Encloser.ends c.args.calculator.now.encloser.now)) (g.K.Keeper.tables c.args.keeper.now) (g.K.Keeper.tables c.look_up.new.keeper)
+    (unavailable (book_rules c.args.book.now.limit (g.E.Encloser.ends c.args.book.now.calculator.now.encloser.now)) (g.K.Keeper.tables c.args.keeper.now) (g.K.Keeper.tables c.look_up.new.keeper)
     (g.K.Keeper.faults c.args.keeper.now) (g.K.Keeper.faults c.look_up.new.keeper)
     (told c.args.link.now) (told c.read_request.new.link) (told c.write_unavailable-in-Err-Failed-look_up.new.link)
     (LookAt c.in-Look.look) (came_of c.write_unavailable-in-Err-Failed-look_up.result) (did.reads.failed refl) read.allowed did.reads.unchanged (wrote g.L.Source g.L.Sink Unavailable unavailable_bytes c.write_unavailable-in-Err-Failed-look_up.result c.read_request.new.link c.write_unavailable-in-Err-Failed-look_up.new.link c.write_unavailable-in-Err-Failed-look_up.ensures) read.takes.only.keeps_bytes read.takes.only.keeps_puts)
@@ -93,6 +93,6 @@ returns-in-Err-Bad-clause-served g c =
     let told = traffic g.L.Source.left g.L.Sink.bytes g.L.Source.faults g.L.Sink.faults in
     let read = rw c.in-Err-Bad.field-0-is at c.in-Err-Bad.ensures in
     rw c.came_of.ensures
-    (bad (IsRightAnswer (g.E.Encloser.ends c.args.calculator.now.encloser.now)) (g.K.Keeper.tables c.args.keeper.now) (g.K.Keeper.faults c.args.keeper.now)
+    (bad (book_rules c.args.book.now.limit (g.E.Encloser.ends c.args.book.now.calculator.now.encloser.now)) (g.K.Keeper.tables c.args.keeper.now) (g.K.Keeper.faults c.args.keeper.now)
     (told c.args.link.now) (told c.read_request.new.link) (told c.write_bad.new.link)
     c.in-Err-Bad.bad (came_of c.write_bad.result) read.allowed (wrote g.L.Source g.L.Sink (status_of_bad c.in-Err-Bad.bad) (answer_to_bad c.in-Err-Bad.bad) c.write_bad.result c.read_request.new.link c.write_bad.new.link (rw c.in-Err-Bad.field-0-is at c.write_bad.ensures)) read.takes.only.keeps_bytes read.takes.only.keeps_puts)

@@ -10,7 +10,7 @@ invariant-pages g l = record {
   range : AreInRange l.holdings;
   few : (cusip : List ℕ) → (kept l.holdings cusip).live ≤ l.count;
   turns : l.turn ≤ l.count;
-  count : l.count ≤ 100_000;
+  count : l.count ≤ 100_000_000;
   tables : g.K.Keeper.tables l.keeper ≡ g.K.Keeper.tables l.fn.keeper;
   later : g.K.Keeper.faults l.fn.keeper ≤ g.K.Keeper.faults l.keeper;
   lent_as : g.K.Keeper.lent_as l.keeper ≡ g.K.Keeper.lent_as l.fn.keeper;

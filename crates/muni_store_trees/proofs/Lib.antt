@@ -1,0 +1,5 @@
+mod AddLemmas
+mod CallLemmas
+mod LookLemmas
+mod PageLemmas
+mod ScanLemmas

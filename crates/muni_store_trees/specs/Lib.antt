@@ -1,0 +1,10 @@
+pub mod Adds
+pub mod Calls
+pub mod Counts
+pub mod Entries
+pub mod Faults
+pub mod Found
+pub mod Keys
+pub mod Looks
+pub mod Puts
+pub mod Rows

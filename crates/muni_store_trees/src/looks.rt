@@ -1,0 +1,207 @@
+//! Look-ups of issues and versions.
+
+ghost use Rattle.std.specs.Prelude.{◌≡◌, IsSome, IsTrue, IfOk, OnOk};
+ghost use Rattle.sqlite_value.specs.Value.{owned};
+ghost use Rattle.sqlite_trees.specs.View.{IsClean};
+ghost use Rattle.muni_store_trees.specs.Found as spec;
+ghost use Rattle.muni_store_trees.specs.Looks.{Looks};
+
+use crate::fault::TreeFault;
+use crate::keys::{cusip_key, cusip_key_past, desk_key_past, trade_key, version_key};
+use crate::places::Places;
+use crate::rows::{TableRow, number_in, read_desk, read_issue, read_trade, text_in};
+use crate::scan::{first_from, first_match, is_table};
+use muni_msg::{DeskName, Key, Version};
+use muni_terms::Issue;
+use sqlite_trees::store::{Direction, Store};
+use sqlite_value::row::Row;
+use sqlite_value::value::ValueRef;
+use std::alloc::Global;
+
+/// Reads the row of a table that has the rowid in a value.
+fn read_row<S: Store>(
+    store: &mut S,
+    table: u32,
+    id: ValueRef<'_>,
+    row: &mut Row,
+) -> Result<(), TreeFault>
+    ensures found { OnOk result (IsClean (S.Store.view store.new)
+        → spec.HasRow ((S.Store.view store.old).trees table) (owned id.entry) row.new) }
+    ensures same { OnOk result (IsClean (S.Store.view store.new) → S.Store.view store.new ≡ S.Store.view store.old) }
+    ensures live { OnOk result (IsSome ((S.Store.view store.old).cursors 0) → IsSome ((S.Store.view store.new).cursors 0)) }
+    ensures looks { Looks S.Store.view S.Store.recovers result store.old store.new }
+{
+    let ValueRef::Int(id) = id else {
+        return Err(TreeFault::Failed);
+    };
+    if !is_table(store.shape(table)) {
+        return Err(TreeFault::Failed);
+    }
+    if store.get(table, id, row)? {
+        Ok(())
+    } else {
+        Err(TreeFault::Failed)
+    }
+}
+
+/// The issue to which an entry of the index of CUSIPs leads.
+fn read_issue_at<S: Store>(
+    store: &mut S,
+    places: Places,
+    alloc: Global,
+    entry: &Row,
+) -> Result<Issue, TreeFault>
+    ensures read { IfOk result (λ issue. IsClean (S.Store.view store.new)
+        → spec.ReadsIssue ((S.Store.view store.old).trees places.issues) entry.now issue) }
+    ensures looks { Looks S.Store.view S.Store.recovers result store.old store.new }
+{
+    let mut row = Row::new(alloc);
+    read_row(store, places.issues, entry.get(1), &mut row)?;
+    let issue = read_issue(&TableRow(&row)).ok_or(TreeFault::Failed)?;
+    if text_in(entry, 0) == issue.row().cusip.as_slice() {
+        Ok(issue)
+    } else {
+        Err(TreeFault::Failed)
+    }
+}
+
+/// The issue of a CUSIP, if it is kept.
+pub(crate) fn find_issue<S: Store>(
+    store: &mut S,
+    places: Places,
+    alloc: Global,
+    cusip: &[u8; 9],
+) -> Result<Option<Issue>, TreeFault>
+    ensures found { IfOk result (λ found. IsClean (S.Store.view store.new)
+        → spec.IsIssue places (S.Store.view store.old).trees cusip.now found) }
+    ensures looks { Looks S.Store.view S.Store.recovers result store.old store.new }
+{
+    let key = cusip_key(alloc, cusip)?;
+    let mut entry = Row::new(alloc);
+    if !first_match(store, places.cusips, &key, Direction::Forward, &mut entry)? {
+        return Ok(None);
+    }
+    Ok(Some(read_issue_at(store, places, alloc, &entry)?))
+}
+
+/// The first issue after a CUSIP, or the first of all if none is given.
+pub(crate) fn find_issue_past<S: Store>(
+    store: &mut S,
+    places: Places,
+    alloc: Global,
+    after: &Option<[u8; 9]>,
+) -> Result<Option<([u8; 9], Issue)>, TreeFault>
+    ensures found { IfOk result (λ found. IsClean (S.Store.view store.new)
+        → spec.IsIssuePast places (S.Store.view store.old).trees after.now found) }
+    ensures looks { Looks S.Store.view S.Store.recovers result store.old store.new }
+{
+    let key = cusip_key_past(alloc, after)?;
+    let mut entry = Row::new(alloc);
+    if !first_from(store, places.cusips, &key, &mut entry)? {
+        return Ok(None);
+    }
+    let issue = read_issue_at(store, places, alloc, &entry)?;
+    Ok(Some((issue.row().cusip, issue)))
+}
+
+/// The first desk with trades after a desk, or the first of all if none is given.
+pub(crate) fn find_desk_past<S: Store>(
+    store: &mut S,
+    places: Places,
+    alloc: Global,
+    after: &Option<DeskName>,
+) -> Result<Option<DeskName>, TreeFault>
+    ensures found { IfOk result (λ found. IsClean (S.Store.view store.new)
+        → spec.IsDeskPast places (S.Store.view store.old).trees after.now found) }
+    ensures looks { Looks S.Store.view S.Store.recovers result store.old store.new }
+{
+    let key = desk_key_past(alloc, after)?;
+    let mut entry = Row::new(alloc);
+    if !first_from(store, places.keys, &key, &mut entry)? {
+        return Ok(None);
+    }
+    Ok(Some(read_desk(&entry).ok_or(TreeFault::Failed)?))
+}
+
+/// The trade, the number and the version to which an entry of the index of keys leads.
+pub(crate) fn read_version_at<S: Store>(
+    store: &mut S,
+    places: Places,
+    alloc: Global,
+    entry: &Row,
+) -> Result<(Key, u32, Version), TreeFault>
+    ensures read { IfOk result (λ trade. IsClean (S.Store.view store.new)
+        → spec.ReadsVersion ((S.Store.view store.old).trees places.versions) entry.now trade) }
+    ensures same { OnOk result (IsClean (S.Store.view store.new)
+        → S.Store.view store.new ≡ S.Store.view store.old) }
+    ensures live { OnOk result (IsSome ((S.Store.view store.old).cursors 0)
+        → IsSome ((S.Store.view store.new).cursors 0)) }
+    ensures looks { Looks S.Store.view S.Store.recovers result store.old store.new }
+{
+    let mut row = Row::new(alloc);
+    read_row(store, places.versions, entry.get(3), &mut row)?;
+    let (key, number, version) = read_trade(&TableRow(&row)).ok_or(TreeFault::Failed)?;
+    if is_entry_of(entry, &key, number) {
+        Ok((key, number, version))
+    } else {
+        Err(TreeFault::Failed)
+    }
+}
+
+/// Whether an entry of the index of keys has the key of a version.
+fn is_entry_of(entry: &Row, key: &Key, number: u32) -> bool
+    ensures { IsTrue result → spec.HasKey entry.now key.now number }
+{
+    text_in(entry, 0) == key.desk.bytes()
+        && text_in(entry, 1) == key.reference.bytes()
+        && number_in(entry, 2) == i64::from(number)
+}
+
+/// The version of a trade with this number, if it is kept.
+pub(crate) fn find_version<S: Store>(
+    store: &mut S,
+    places: Places,
+    alloc: Global,
+    key: &Key,
+    number: u32,
+) -> Result<Option<Version>, TreeFault>
+    ensures found { IfOk result (λ found. IsClean (S.Store.view store.new)
+        → spec.IsVersion places (S.Store.view store.old).trees key.now number found) }
+    ensures looks { Looks S.Store.view S.Store.recovers result store.old store.new }
+{
+    let wanted = version_key(alloc, key, number)?;
+    let mut entry = Row::new(alloc);
+    if !first_match(store, places.keys, &wanted, Direction::Forward, &mut entry)? {
+        return Ok(None);
+    }
+    let (found, at, version) = read_version_at(store, places, alloc, &entry)?;
+    if found == *key && at == number {
+        Ok(Some(version))
+    } else {
+        Err(TreeFault::Failed)
+    }
+}
+
+/// The last version of a trade with its number, if any is kept.
+pub(crate) fn find_last<S: Store>(
+    store: &mut S,
+    places: Places,
+    alloc: Global,
+    key: &Key,
+) -> Result<Option<(u32, Version)>, TreeFault>
+    ensures found { IfOk result (λ found. IsClean (S.Store.view store.new)
+        → spec.IsLast places (S.Store.view store.old).trees key.now found) }
+    ensures looks { Looks S.Store.view S.Store.recovers result store.old store.new }
+{
+    let wanted = trade_key(alloc, key)?;
+    let mut entry = Row::new(alloc);
+    if !first_match(store, places.keys, &wanted, Direction::Backward, &mut entry)? {
+        return Ok(None);
+    }
+    let (found, number, version) = read_version_at(store, places, alloc, &entry)?;
+    if found == *key {
+        Ok(Some((number, version)))
+    } else {
+        Err(TreeFault::Failed)
+    }
+}

@@ -1,0 +1,14 @@
+//! Which trees the tables are.
+
+/// The trees of the tables and of their keys, by their numbers in a store.
+#[derive(Clone, Copy, Debug, PartialEq, Eq)]
+pub struct Places {
+    /// The table of issues.
+    pub issues: u32,
+    /// The index of CUSIPs.
+    pub cusips: u32,
+    /// The table of versions.
+    pub versions: u32,
+    /// The index of desks, references and numbers.
+    pub keys: u32,
+}
