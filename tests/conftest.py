@@ -3,7 +3,7 @@ from __future__ import annotations
 
 import os
 import pathlib
-from collections.abc import Callable, Iterator
+from collections.abc import Callable, Iterator, Sequence
 
 import pytest
 from hypothesis import HealthCheck, settings
@@ -78,8 +78,8 @@ def serve(muni: Program) -> Iterator[Callable[..., Server]]:
     """Starts servers, which end with the test."""
     servers: list[Server] = []
 
-    def start(store: Store, connections: int = MOST) -> Server:
-        servers.append(Server(muni, store.name, connections))
+    def start(store: Store, connections: int = MOST, more: Sequence[str] = ()) -> Server:
+        servers.append(Server(muni, store.name, connections, more))
         return servers[-1]
 
     yield start

@@ -8,7 +8,8 @@ from typing import NamedTuple
 from calculator.figures import Asked, Choice, Each, Figures, Refusal, Refused, Side, answers, each_of, likely
 from calculator.terms import Issue, fault_of
 
-MOST_TRADES = 100_000
+# How many trades a desk may have if nothing else is said.
+USUAL_LIMIT = 100_000
 MOST_VERSIONS = 99
 LISTED = 50
 
@@ -119,9 +120,11 @@ class Position:
 
 
 class Book:
-    """Issues by their CUSIPs, and the versions of each trade by its desk and its reference."""
+    """Issues by their CUSIPs, and the versions of each trade by its desk and its reference. `limit` is how many trades
+    a desk may have. It is not kept with them: each command over the book sets it."""
 
-    def __init__(self) -> None:
+    def __init__(self, limit: int = USUAL_LIMIT) -> None:
+        self.limit = limit
         self.issues: dict[str, Issue] = {}
         self.desks: dict[str, dict[str, list[Version]]] = {}
 
@@ -183,7 +186,7 @@ class Book:
             return self.again(desk, reference, 1, kept[0].asked == asked)
         if asked.cusip not in self.issues:
             return Refusal(Refused.UNKNOWN_ISSUE)
-        if len(self.desks.get(desk, {})) >= MOST_TRADES:
+        if len(self.desks.get(desk, {})) >= self.limit:
             return Refusal(Refused.DESK_FULL)
         return self.put(desk, reference, Act.ENTERED, asked, choose)
 

@@ -17,15 +17,16 @@ MARKED_MAX = 1_048_576
 HELP = """\
 quote-one COUPON NEXT SETTLE REDEMPTION YIELD
 quote --kind --dated --maturity --settle --yield|--price|--rate --first --coupon --call --par --workers --days --each
-import --store --workers --positions
+import --store --workers --positions --desk-limit
 confirm --store --desk --ref|--all
-serve --store --port --connections --workers
+serve --store --port --connections --workers --desk-limit
 drill --count --seed --workers
 positions --store --desk
 mark --store
 export --store --desk --issues
 list --store --desk
-load --store
+load --store --desk-limit
+check-store --store
 help
 """
 
@@ -71,6 +72,7 @@ def run(words: Sequence[str], books: dict[str, Book] | None = None, data: bytes 
             return quoted(asked, choose)
         case OverStore():
             book = ({} if books is None else books).setdefault(asked.store, Book())
+            book.limit = asked.limit
             return over_store(asked, book, data, choose)
 
 
@@ -95,6 +97,8 @@ def over_store(asked: OverStore, book: Book, data: bytes | Callable[[], bytes], 
             return said(exported.export(book, asked.desk, asked.is_issues))
         case "list":
             return said(exported.listing(book, asked.desk))
+        case "check-store":
+            return said(exported.counted(book))
         case "import":
             text = data if isinstance(data, bytes) else data()
             if len(text) > IMPORTED_MAX:

@@ -1,4 +1,4 @@
-"""The rows of an export, which an import reads, and the lines of a list (docs/FORMATS.md)."""
+"""The rows of an export, which an import reads, and the lines of a list and of a check (docs/FORMATS.md)."""
 from __future__ import annotations
 
 from collections.abc import Iterator, Sequence
@@ -76,3 +76,9 @@ def line(reference: str, number: int, version: Version) -> list[object]:
     return [reference, number, state, *asked(version.asked), shown_figure(figures.price), shown_figure(figures.yield_),
             figures.redemption, shown_price(figures.redemption_price), figures.label, figures.accrued_days,
             *map(shown_money, money)]
+
+
+def counted(book: Book) -> list[str]:
+    """The lines of a check: how many issues are kept, and of each desk with trades how many versions."""
+    desks = [(desk, sum(map(len, trades.values()))) for desk, trades in sorted(book.desks.items()) if trades]
+    return [f"ISSUES {len(book.issues)}", *(f"DESK {desk} {count}" for desk, count in desks), "SOUND"]

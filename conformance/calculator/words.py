@@ -7,6 +7,7 @@ from datetime import date
 from typing import TypeVar
 
 from calculator import fields, numerals
+from calculator.book import USUAL_LIMIT
 from calculator.days import LAST_INTEREST_DAY
 from calculator.figures import Asked, Given
 from calculator.numerals import Unreadable
@@ -17,6 +18,7 @@ Read = TypeVar("Read")
 QUOTED = ("000000000", "QUOTE")
 QUOTED_PAR = 100
 SEEDS = 2**64
+GREATEST_LIMIT = 100_000_000
 # The options without a value.
 PLAIN = ("--each", "--all", "--issues")
 
@@ -49,7 +51,8 @@ class Drill:
 
 @dataclasses.dataclass(frozen=True)
 class OverStore:
-    """A command over a store, with the words that it may have beside: all trades of a desk, or the issues alone."""
+    """A command over a store, with the words that it may have beside: all trades of a desk, or the issues alone, and
+    how many trades a desk may have."""
 
     name: str
     store: str
@@ -57,6 +60,7 @@ class OverStore:
     reference: str = ""
     is_all: bool = False
     is_issues: bool = False
+    limit: int = USUAL_LIMIT
 
 
 @dataclasses.dataclass(frozen=True)
@@ -182,7 +186,8 @@ def over_store(name: str, options: Options) -> OverStore:
     match name:
         case "import":
             options.maybe("workers", number(1, 16), 1)
-            return OverStore(name, store, options.maybe("positions", numerals.desk, ""))
+            desk = options.maybe("positions", numerals.desk, "")
+            return OverStore(name, store, desk, limit=desk_limit(options))
         case "confirm":
             desk = options.one("desk", numerals.desk)
             if options.plain("all"):
@@ -195,6 +200,12 @@ def over_store(name: str, options: Options) -> OverStore:
             if desk and is_issues:
                 raise Usage
             return OverStore(name, store, desk, is_issues=is_issues)
-        case "mark" | "load":
+        case "load":
+            return OverStore(name, store, limit=desk_limit(options))
+        case "mark" | "check-store":
             return OverStore(name, store)
     raise Usage
+
+
+def desk_limit(options: Options) -> int:
+    return options.maybe("desk-limit", number(1, GREATEST_LIMIT), USUAL_LIMIT)

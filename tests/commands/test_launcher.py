@@ -8,6 +8,7 @@ import subprocess
 
 import pytest
 
+from support.books import sql
 from support.launcher import QUOTE, TRACE, Launcher, check
 from support.program import ROOT
 from support.stores import REPORT, ROWS
@@ -58,15 +59,16 @@ ACCRUED 217.71
 TOTAL 25551.96"""),
     "the commands": (("help",), """quote-one COUPON NEXT SETTLE REDEMPTION YIELD
 quote --kind --dated --maturity --settle --yield|--price|--rate --first --coupon --call --par --workers --days --each
-import --store --workers --positions
+import --store --workers --positions --desk-limit
 confirm --store --desk --ref|--all
-serve --store --port --connections --workers
+serve --store --port --connections --workers --desk-limit
 drill --count --seed --workers
 positions --store --desk
 mark --store
 export --store --desk --issues
 list --store --desk
-load --store
+load --store --desk-limit
+check-store --store
 help"""),
 }
 CONFIRMATION = """CONFIRMATION 1
@@ -102,11 +104,16 @@ FAULTS = [
     ("--settle is missing", ("quote", "--kind=zero", "--dated=2020-01-01", "--maturity=2026-07-01", "--yield=4")),
     ("exactly one of --ref and --all is given", ("confirm", "--store=S", "--desk=ALPHA")),
     ("--connections is missing", ("serve", "--store=S", "--port=8080")),
+    ("'--desk-limit=0' does not read", ("load", "--store=S", "--desk-limit=0")),
+    ("'--desk-limit' is no option of list", ("list", "--store=S", "--desk=A", "--desk-limit=1")),
     ("--seed is missing", ("drill", "--count=1", "--workers=1")),
     ("--desk is missing", ("positions", "--store=S")),
     ("--store is missing", ("mark",)),
     ("--store is missing", ("export", "--issues")),
     ("--desk is missing", ("list", "--store=S")),
+    ("--store is missing", ("check-store",)),
+    ("'--desk' is no option of check-store: it takes --store", ("check-store", "--store=S", "--desk=A")),
+    ("'S' is no option with a value", ("check-store", "S")),
     ("--desk is given twice", ("export", "--store=S", "--desk=A", "--desk=A")),
     ("at most one of --desk and --issues is given", ("export", "--store=S", "--desk=A", "--issues")),
     ("'--[x' is no option of quote", ("quote", "--[x=1")),
@@ -253,6 +260,13 @@ def test_why_a_store_fails_is_told_from_its_file(tmp_path, name, why):
     (tmp_path / "folder.journal").mkdir()
     (tmp_path / "link").symlink_to(tmp_path / "folder.journal")
     check(MUNI.run("import", f"--store={name}", folder=tmp_path), 6, "", f"muni: status 6: the store failed: {why}")
+
+
+def test_what_a_check_could_not_read_is_told_of(tmp_path):
+    MUNI.run("import", "--store=S", rows=ROWS, folder=tmp_path)
+    sql(tmp_path / "S", "UPDATE versions_2 SET act = 99")
+    check(MUNI.run("check-store", "--store=S", folder=tmp_path), 6, "ISSUES 1",
+          "muni: status 6: the store failed: what follows the last line does not read: *")
 
 
 def unprivileged() -> dict[str, object]:

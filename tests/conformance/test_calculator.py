@@ -293,10 +293,50 @@ def test_the_book_of_the_examples_is_reported():
         assert said == (0, (EXAMPLES / "book.report").read_bytes())
 
 
+ROWS = (b"issue,123456AA3,RIVERTON WATER 5S 2025,periodic,2020-01-01,2020-07-01,2025-01-01,5,\n"
+        b"trade,ALPHA,T0001,123456AA3,buy,25000,2024-04-01,yield,4\n"
+        b"trade,ALPHA,T0002,123456AA3,buy,25000,2024-04-01,yield,4\n"
+        b"trade,ALPHA,T0001,123456AA3,buy,25000,2024-04-01,yield,4\n"
+        b"correct,ALPHA,T0001,2,123456AA3,buy,30000,2024-04-01,yield,4\n")
+
+
+@pytest.mark.parametrize("command", ["import", "load"])
+@pytest.mark.parametrize(("words", "is_full"), [([], False), (["--desk-limit=1"], True), (["--desk-limit=01"], True),
+                                                (["--desk-limit=2"], False), (["--desk-limit=100000000"], False)])
+def test_a_desk_has_as_many_trades_as_the_command_lets_it(command, words, is_full):
+    lines = commands.run([command, "--store=S", *words], {}, ROWS).output.decode().splitlines()
+    assert ("2,refused,14,DeskFull" in lines, "3,refused,14,DeskFull" in lines) == (False, is_full)
+    assert lines[3:] == ["4,confirmed,T0001,1,100.725,4.000,2025-01-01,25493.75",
+                         "5,confirmed,T0001,2,100.725,4.000,2025-01-01,30592.50"]
+
+
+def test_a_store_does_not_keep_how_many_trades_a_desk_may_have():
+    books: dict[str, Book] = {}
+    said = [commands.run(["import", "--store=S", *words], books, ROWS).output for words in (["--desk-limit=1"], [])]
+    assert [b"DeskFull" in each for each in said] == [True, False]
+
+
+@pytest.mark.parametrize("value", ["", "0", "100000001", "+1", "-1", "1.0", "1e5", "100,000", "0" * 20 + "1"])
+def test_a_number_of_trades_is_in_its_range(value):
+    assert commands.run(["import", "--store=S", f"--desk-limit={value}"]) == (2, b"")
+
+
+@pytest.mark.parametrize("line", ["export --store=S", "list --store=S --desk=A", "positions --store=S --desk=A",
+                                  "mark --store=S", "confirm --store=S --desk=A --ref=T", "drill --count=0 --seed=1"
+                                  " --workers=1", "help", "load --store=S --desk-limit=1", "check-store --store=S"])
+def test_a_number_of_trades_is_given_once_and_to_no_other_command(line):
+    assert commands.run([*line.split(), "--desk-limit=1"]) == (2, b"")
+
+
 @pytest.mark.parametrize("desk", ["INST", "RETAIL", "SHORT"])
 def test_positions_of_the_book_are_listed(book, desk):
     said = commands.run(["positions", "--store=S", f"--desk={desk}"], {"S": book})
     assert said == (0, (EXAMPLES / f"positions.{desk}").read_bytes())
+
+
+def test_what_the_book_has_is_counted(book):
+    said = commands.run(["check-store", "--store=S"], {"S": book})
+    assert said == (0, b"ISSUES 23\nDESK INST 20\nDESK RETAIL 14\nDESK SHORT 12\nSOUND\n")
 
 
 @pytest.mark.parametrize(("desk", "reference"), [("SHORT", "S24A003"), ("RETAIL", "R0002"), ("INST", "I240401012")])

@@ -79,7 +79,10 @@ def marked_row(draw: Draw) -> bytes:
 ENDING = [Step("positions", [f"--desk={desk}"], []) for desk in DESKS]
 
 desks = st.sampled_from(DESKS)
-imports = st.builds(lambda desk, rows: Step("import", [f"--positions={desk}"], rows), desks, many_rows())
+# How many trades a desk may have. A book has up to 30 in each of two desks.
+limits = st.sampled_from([[], [], [], ["--desk-limit=1"], ["--desk-limit=4"], ["--desk-limit=12"]])
+imports = st.builds(lambda desk, limit, rows: Step("import", [f"--positions={desk}", *limit], rows), desks, limits,
+                    many_rows())
 looks = st.one_of(
     st.builds(lambda desk: Step("positions", [f"--desk={desk}"], []), desks),
     st.builds(lambda desk, number: Step("confirm", [f"--desk={desk}", f"--ref=T{number}"], []), desks, whole(1, 6)),

@@ -1,5 +1,5 @@
-"""Books that are drawn at random: what their exports, lists and confirmations have, and that an export moves a book to
-a store of the other kind and back."""
+"""Books that are drawn at random: what their exports, lists, confirmations and checks have, and that an export moves a
+book to a store of the other kind and back."""
 from __future__ import annotations
 
 import pathlib
@@ -19,7 +19,8 @@ from support.stores import KINDS, Store, empty_folder
 NAMES = PLAIN_NAMES * 20 + "\n\r"
 DESKS = ("ALPHA", "ALPHA2", "9Z", "NONE")
 EXPORTS = [("export",), ("export", "--issues"), *(("export", f"--desk={desk}") for desk in DESKS)]
-LOOKS = [words for desk in DESKS for words in (("list", f"--desk={desk}"), ("confirm", f"--desk={desk}", "--all"))]
+LOOKS = [("check-store",), *(words for desk in DESKS for words in (("list", f"--desk={desk}"),
+                                                                   ("confirm", f"--desk={desk}", "--all")))]
 BOOKS = settings(max_examples=max(1, settings.default.max_examples // 4))
 
 

@@ -65,6 +65,9 @@ REQUESTS = {
     "no body": post("/trades", {"desk": "ALPHA"}),
 }
 
+# The requests that are tried over a file that fits its seal too.
+SEALED = ("a trade", "a cancel", "a confirmation", "a list")
+
 
 def commands() -> list[Command]:
     """Every command, over stores of both kinds if it has one."""
@@ -86,11 +89,18 @@ def commands() -> list[Command]:
             Command(f"{kind}list", ("list", store, "--desk=ALPHA"), before=KEPT, is_in_pieces=True),
             Command(f"{kind}confirm all", ("confirm", store, "--desk=ALPHA", "--all"), before=KEPT, is_in_pieces=True),
             Command(f"{kind}mark", ("mark", store), PORTFOLIO, before=KEPT),
+            Command(f"{kind}check-store", ("check-store", store), before=KEPT, is_in_pieces=True),
         ]
         serving = ("serve", store, "--port=0", "--connections=1", "--workers=1")
         found += [Command(f"{kind}serve: {name}", serving, request=request, before=KEPT)
                   for name, request in REQUESTS.items()]
-    return found
+    return found + [each._replace(name=f"{each.name}, sealed", is_sealed=True) for each in found if may_be_sealed(each)]
+
+
+def may_be_sealed(command: Command) -> bool:
+    """Whether a command is tried over a file of sqlite that fits its seal too. Of requests some are."""
+    is_of_sqlite = command.before is not None and command.store == "--store=S"
+    return is_of_sqlite and (command.request is None or command.name.removeprefix("serve: ") in SEALED)
 
 
 COMMANDS = commands()

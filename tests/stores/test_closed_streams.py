@@ -34,8 +34,8 @@ def test_a_closed_input_is_an_input_that_fails(book):
     assert book.has("T0001")
 
 
-@pytest.mark.parametrize("words", [("export",), ("list", "--desk=ALPHA"), ("confirm", "--desk=ALPHA", "--all")],
-                         ids=lambda words: words[0])
+@pytest.mark.parametrize("words", [("export",), ("list", "--desk=ALPHA"), ("confirm", "--desk=ALPHA", "--all"),
+                                   ("check-store",)], ids=lambda words: words[0])
 def test_rows_for_a_closed_output_get_into_no_file(book, words):
     book.report(ROWS)
     before = book.store.file.read_bytes()

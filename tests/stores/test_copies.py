@@ -44,7 +44,7 @@ def killed_after_a_trade(book: Book) -> None:
 
 def test_the_files_after_a_command(database, tmp_path):
     database.report(trades(3))
-    assert sorted(each.name for each in tmp_path.iterdir()) == ["store", "store-wal"]
+    assert sorted(each.name for each in tmp_path.iterdir()) == ["store", "store-seal", "store-wal"]
     assert log_size(database) == EMPTY_LOG
     assert copied(database, tmp_path / "alone", "").held() == 3
 

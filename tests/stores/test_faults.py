@@ -43,18 +43,20 @@ SCENES = {
     "confirm": Scene("confirm", ("--desk=ALPHA", "--ref=T0001"), b"", "kept"),
     "positions": Scene("positions", ("--desk=ALPHA",), b"", "kept"),
     "mark": Scene("mark", (), MARKS, "kept"),
+    "check-store": Scene("check-store", (), b"", "kept"),
     "import-without-a-log": Scene("import", (), ROWS, "bare"),
     "confirm-without-a-log": Scene("confirm", ("--desk=ALPHA", "--ref=T0001"), b"", "bare"),
 }
 READING = "open read write pread pwrite fdatasync fsync"
 CALLS = {
     "sqlite": {"first-import": READING + " ftruncate", "import-again": READING, "confirm": READING,
-               "positions": READING, "mark": READING, "import-without-a-log": READING + " rename unlink",
-               "confirm-without-a-log": READING + " rename unlink",
+               "positions": READING, "mark": READING, "check-store": READING + " unlink",
+               "import-without-a-log": READING + " rename unlink", "confirm-without-a-log": READING + " rename unlink",
                "serve": "open read pread pwrite fdatasync fsync ftruncate socket bind listen accept recv send"},
     "journal": {"first-import": "open read write pread pwrite fdatasync fsync flock",
                 "import-again": "open read write pread fdatasync flock", "confirm": "open write pread fdatasync flock",
                 "positions": "open write pread fdatasync flock", "mark": "open read write pread fdatasync flock",
+                "check-store": "open write pread fdatasync flock",
                 "serve": "open pread pwrite fdatasync fsync flock socket bind listen accept recv send"},
 }
 CASES = [(kind, scene, call) for kind in KINDS for scene, calls in CALLS[kind].items() for call in calls.split()]
@@ -100,10 +102,14 @@ def wanted_status(scene: Scene, fault: Fault) -> int:
     return 4 if fault.call == "read" and fault.at <= 2 and scene.rows else 6
 
 
-def is_harmless(scene: Scene, fault: Fault, has_ended_well: bool) -> bool:
+def is_harmless(kind: str, scene: Scene, fault: Fault, has_ended_well: bool) -> bool:
     """Whether what failed is not needed: an empty log that was made may stay; the open of a log that is not there fails
-    in any case, and that of the folder of one that is removed comes after all else."""
-    return fault.call in ("rename", "unlink") or fault.call == "open" and scene.before == "bare" and has_ended_well
+    in any case, and that of the folder of one that is removed comes after all else; a look at a file for its seal that
+    fails costs the seal alone."""
+    if fault.call in ("rename", "unlink"):
+        return True
+    is_looked_at = kind == "sqlite" and fault.call in ("open", "pread")
+    return has_ended_well and (is_looked_at or fault.call == "open" and scene.before == "bare")
 
 
 @pytest.mark.parametrize("kind", KINDS)
@@ -129,7 +135,7 @@ def test_a_call_that_fails_under_a_command(faults, fresh, pytestconfig, kind, na
         book = fresh(kind, scene.before)
         said = Book(faults.at(book.muni, fault), book.store).said(scene.command, *scene.words, rows=scene.rows)
         # What fails after the last line does not take it back.
-        if fault.at > count.at_answer or is_harmless(scene, fault, said == right):
+        if fault.at > count.at_answer or is_harmless(kind, scene, fault, said == right):
             assert said == right, fault
         else:
             assert said.status == wanted_status(scene, fault), fault

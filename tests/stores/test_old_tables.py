@@ -60,6 +60,12 @@ def test_the_rows_of_old_tables_are_moved(old):
          102_500_000, 2, 90, 2_518_125, 31_250, 2_549_375, 0, 0)]
 
 
+def test_a_check_counts_the_rows_that_were_moved(old):
+    for _ in range(2):
+        assert old.said("check-store") == Said(0, b"ISSUES 1\nDESK ALPHA 1\nSOUND\n")
+    assert old.sql("SELECT (SELECT COUNT(*) FROM issues), (SELECT COUNT(*) FROM versions)") == [(0, 0)]
+
+
 def test_a_spoiled_version_keeps_its_table_where_it_is(old):
     """The store is refused each time, until that row is gone."""
     old.sql("INSERT INTO issues VALUES ('990034AA8', 'Town of Sample', 1, '2020-01-01', '', '2035-01-01', 0, '');\n"

@@ -18,49 +18,57 @@ import pytest
 from support.books import Book, needs_strict_tables, trade
 from support.intruders import INTRUDERS, files, make, make_killed, named, served, sqlite3_that_writes
 from support.program import PATIENCE, needs_trace
-from support.stores import KINDS, Store
+from support.stores import Store
 from support.trace import Call, opening_calls, stopped
 
 # The words of each command that opens a store, and whether it is killed.
 COMMANDS = {"confirm": (("--desk=ALPHA", "--ref=FIRST"), False), "import": ((), True)}
 # Where a trade may be kept, the likely place first.
 PLACES = {"FIRST": "ST", "OTHER": "US", "NEXT": "ST", "OWN": "ST"}
-CASES = [(kind, command, intruder) for kind in KINDS for command in COMMANDS for intruder in INTRUDERS
-         if intruder is not sqlite3_that_writes or kind == "sqlite"]
+# The kind of a store, and whether it fits its seal. A file of sqlite that does not is audited.
+STORES = {"sqlite": ("sqlite", False), "sealed": ("sqlite", True), "journal": ("journal", False)}
+CASES = [(name, command, intruder) for name, (kind, _) in STORES.items() for command in COMMANDS
+         for intruder in INTRUDERS if intruder is not sqlite3_that_writes or kind == "sqlite"]
 MANY = 10_000
 STARTS = 200
 
 
 class Scene(NamedTuple):
-    """A folder with the stores S and U, which each run has a copy of, and the calls of each command over S."""
+    """A folder with the stores S and U, which each run has a copy of, whether S fits its seal there, and the calls of
+    each command over it."""
 
     book: Book
+    is_sealed: bool
     calls: dict[str, list[Call]]
 
 
 @contextlib.contextmanager
-def copied(book: Book) -> Iterator[Book]:
-    """The book over a copy of its folder. Each copy has as many folders above it: there is a call for each of them."""
+def copied(book: Book, is_sealed: bool) -> Iterator[Book]:
+    """The book over a copy of its folder, which fits no seal until a command has audited it. Each copy has as many
+    folders above it: there is a call for each of them."""
     with tempfile.TemporaryDirectory(prefix="muni-races-") as folder:
         shutil.copytree(book.store.path.parent, folder, dirs_exist_ok=True)
-        yield Book(book.muni, Store(book.store.kind, pathlib.Path(folder, "S")))
+        copy = Book(book.muni, Store(book.store.kind, pathlib.Path(folder, "S")))
+        assert not is_sealed or copy.has("FIRST")
+        yield copy
 
 
 @pytest.fixture(scope="module")
 def scene(muni, tmp_path_factory):
-    """The scene of a kind of store."""
+    """The scene of a store."""
     needs_trace()
 
     @functools.cache
-    def of(kind: str) -> Scene:
-        book = Book(muni, Store(kind, tmp_path_factory.mktemp(kind) / "S"))
+    def of(name: str) -> Scene:
+        kind, is_sealed = STORES[name]
+        book = Book(muni, Store(kind, tmp_path_factory.mktemp(name) / "S"))
         make(book, "FIRST")
         make_killed(named(book, "U"), "OTHER")
         calls = {}
         for command, (words, _) in COMMANDS.items():
-            with copied(book) as copy:
+            with copied(book, is_sealed) as copy:
                 calls[command] = opening_calls(copy, command, *words, rows=trade("OWN"))
-        return Scene(book, calls)
+        return Scene(book, is_sealed, calls)
 
     return of
 
@@ -72,10 +80,10 @@ class Run(NamedTuple):
     faults: list[str]
 
 
-def intruded(made: Book, command: str, call: Call, intruder) -> Run:
+def intruded(made: Scene, command: str, call: Call, intruder) -> Run:
     """One command over a copy of what was made, one call after which it stops, and one thing that happens there."""
     words, is_killed = COMMANDS[command]
-    with copied(made) as book:
+    with copied(made.book, made.is_sealed) as book:
         with contextlib.ExitStack() as stack:
             with stopped(book, command, *words, rows=trade("OWN"), call=call, is_killed=is_killed) as stop:
                 came = stack.enter_context(intruder(book))
@@ -89,21 +97,21 @@ def intruded(made: Book, command: str, call: Call, intruder) -> Run:
     return Run(stop.process is not None, faults)
 
 
-@pytest.mark.parametrize("kind", KINDS)
+@pytest.mark.parametrize("name", STORES)
 @pytest.mark.parametrize("command", COMMANDS)
-def test_the_calls_of_a_command_are_seen(scene, kind, command):
-    assert len(scene(kind).calls[command]) > 5
+def test_the_calls_of_a_command_are_seen(scene, name, command):
+    assert len(scene(name).calls[command]) > 5
 
 
-@pytest.mark.parametrize(("kind", "command", "intruder"), CASES,
-                         ids=[f"{kind}-{command}-{intruder.__name__}" for kind, command, intruder in CASES])
-def test_what_is_acknowledged_is_kept_whatever_comes_in(scene, kind, command, intruder):
-    if kind == "sqlite":
+@pytest.mark.parametrize(("name", "command", "intruder"), CASES,
+                         ids=[f"{name}-{command}-{intruder.__name__}" for name, command, intruder in CASES])
+def test_what_is_acknowledged_is_kept_whatever_comes_in(scene, name, command, intruder):
+    if STORES[name][0] == "sqlite":
         needs_strict_tables()
-    made = scene(kind)
+    made = scene(name)
     beside = int(os.environ.get("PYTEST_XDIST_WORKER_COUNT", "1"))
     with concurrent.futures.ThreadPoolExecutor(max(1, (os.cpu_count() or 1) // beside)) as pool:
-        pending = [pool.submit(intruded, made.book, command, call, intruder) for call in made.calls[command]]
+        pending = [pool.submit(intruded, made, command, call, intruder) for call in made.calls[command]]
         runs = [each.result() for each in pending]
     assert [fault for run in runs for fault in run.faults] == []
     assert all(run.has_stopped for run in runs)

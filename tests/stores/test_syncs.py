@@ -28,6 +28,7 @@ def test_the_syncs_of_a_database(database, of_database):
     assert re.fullmatch("[WS]*WSWSLWSLWSLDS[WS]*", of_database("import", rows=ROWS))
     assert re.fullmatch("[WS]*LLL", of_database("import", rows=ROWS))
     assert re.fullmatch("[WS]*L", of_database(*CONFIRM))
+    assert re.fullmatch("[WS]*LLL", of_database("check-store"))
 
 
 @pytest.fixture
@@ -47,3 +48,4 @@ def test_the_syncs_of_a_journal(of_journal):
     assert of_journal(*CONFIRM) == "RFSRL"
     assert of_journal("import", rows=ROWS) == "RFSRPSPSLPSPSLPSPSL"
     assert of_journal("import", rows=ROWS) == "RSRLLL"
+    assert of_journal("check-store") == "RSRLLL"

@@ -5,7 +5,9 @@
    counted from 1, and with FAULT_ONWARDS each later one fails too. With FAULT_WHILE, the path of a file, each one fails
    for as long as that file is there. When the program ends, the file FAULT_COUNTS is written: in the order of the
    table, for each name how many calls there were, and how many when the last answer was written, to the standard
-   output or to a client. */
+   output or to a client.
+
+   The calls over a seal, a file whose name ends in -seal, are not among these. With FAULT_SEALS they alone are. */
 #define _GNU_SOURCE
 #include <errno.h>
 #include <fcntl.h>
@@ -34,6 +36,8 @@ static long fails_at;
 static int fails_onwards;
 static const char *fails_while;
 static const char *counted;
+static int fails_seals;
+static char is_seal[4096];
 
 static long number_of(const char *name)
 {
@@ -49,6 +53,7 @@ __attribute__((constructor)) static void begin(void)
     fails_onwards = getenv("FAULT_ONWARDS") != NULL;
     fails_while = getenv("FAULT_WHILE");
     counted = getenv("FAULT_COUNTS");
+    fails_seals = getenv("FAULT_SEALS") != NULL;
     for (const char *end; text && (end = strchr(text, ',')); text = end + 1)
         for (int call = 0; call < CALLS; call++)
             if (strlen(names[call]) == (size_t)(end - text) && !strncmp(text, names[call], end - text))
@@ -62,8 +67,21 @@ static int is_due(long number)
     return number == fails_at || (fails_onwards && number > fails_at && fails_at > 0);
 }
 
-static int fails(enum call call)
+static int names_seal(const char *path)
 {
+    size_t length = strlen(path);
+    return length >= 5 && !strcmp(path + length - 5, "-seal");
+}
+
+static int is_open_seal(int file)
+{
+    return file >= 0 && file < (int)sizeof is_seal && is_seal[file];
+}
+
+static int fails_over(int seal, enum call call)
+{
+    if (seal != fails_seals)
+        return 0;
     long number = ++counts[call];
     if (!is_faulty[call] || !is_due(number))
         return 0;
@@ -71,6 +89,21 @@ static int fails(enum call call)
         kill(getpid(), SIGKILL);
     errno = error_number;
     return 1;
+}
+
+static int fails(enum call call)
+{
+    return fails_over(0, call);
+}
+
+static int fails_in(int file, enum call call)
+{
+    return fails_over(is_open_seal(file), call);
+}
+
+static int fails_at_path(const char *path, enum call call)
+{
+    return fails_over(names_seal(path), call);
 }
 
 static void keep_counts(void)
@@ -97,17 +130,22 @@ int open(const char *path, int flags, ...)
     va_start(rest, flags);
     int mode = va_arg(rest, int);
     va_end(rest);
-    return fails(OPEN) ? -1 : (int)syscall(SYS_openat, AT_FDCWD, path, flags, mode);
+    if (fails_at_path(path, OPEN))
+        return -1;
+    int file = (int)syscall(SYS_openat, AT_FDCWD, path, flags, mode);
+    if (file >= 0 && file < (int)sizeof is_seal)
+        is_seal[file] = (char)names_seal(path);
+    return file;
 }
 
 ssize_t read(int file, void *room, size_t size)
 {
-    return fails(READ) ? -1 : syscall(SYS_read, file, room, size);
+    return fails_in(file, READ) ? -1 : syscall(SYS_read, file, room, size);
 }
 
 ssize_t write(int file, const void *bytes, size_t size)
 {
-    if (fails(WRITE))
+    if (fails_in(file, WRITE))
         return -1;
     if (file == STDOUT_FILENO)
         keep_counts();
@@ -116,42 +154,42 @@ ssize_t write(int file, const void *bytes, size_t size)
 
 ssize_t pread(int file, void *room, size_t size, off_t place)
 {
-    return fails(PREAD) ? -1 : syscall(SYS_pread64, file, room, size, place);
+    return fails_in(file, PREAD) ? -1 : syscall(SYS_pread64, file, room, size, place);
 }
 
 ssize_t pwrite(int file, const void *bytes, size_t size, off_t place)
 {
-    return fails(PWRITE) ? -1 : syscall(SYS_pwrite64, file, bytes, size, place);
+    return fails_in(file, PWRITE) ? -1 : syscall(SYS_pwrite64, file, bytes, size, place);
 }
 
 int fdatasync(int file)
 {
-    return fails(FDATASYNC) ? -1 : (int)syscall(SYS_fdatasync, file);
+    return fails_in(file, FDATASYNC) ? -1 : (int)syscall(SYS_fdatasync, file);
 }
 
 int fsync(int file)
 {
-    return fails(FSYNC) ? -1 : (int)syscall(SYS_fsync, file);
+    return fails_in(file, FSYNC) ? -1 : (int)syscall(SYS_fsync, file);
 }
 
 int ftruncate(int file, off_t size)
 {
-    return fails(FTRUNCATE) ? -1 : (int)syscall(SYS_ftruncate, file, size);
+    return fails_in(file, FTRUNCATE) ? -1 : (int)syscall(SYS_ftruncate, file, size);
 }
 
 int rename(const char *old, const char *new)
 {
-    return fails(RENAME) ? -1 : (int)syscall(SYS_renameat2, AT_FDCWD, old, AT_FDCWD, new, 0);
+    return fails_at_path(old, RENAME) ? -1 : (int)syscall(SYS_renameat2, AT_FDCWD, old, AT_FDCWD, new, 0);
 }
 
 int unlink(const char *path)
 {
-    return fails(UNLINK) ? -1 : (int)syscall(SYS_unlinkat, AT_FDCWD, path, 0);
+    return fails_at_path(path, UNLINK) ? -1 : (int)syscall(SYS_unlinkat, AT_FDCWD, path, 0);
 }
 
 int link(const char *old, const char *new)
 {
-    return fails(LINK) ? -1 : (int)syscall(SYS_linkat, AT_FDCWD, old, AT_FDCWD, new, 0);
+    return fails_at_path(old, LINK) ? -1 : (int)syscall(SYS_linkat, AT_FDCWD, old, AT_FDCWD, new, 0);
 }
 
 int flock(int file, int how)

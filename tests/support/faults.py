@@ -70,13 +70,18 @@ class Faults(NamedTuple):
         environment = {"FAULT_CALLS": fault.call + ",", "FAULT_AT": str(fault.at), "FAULT_ERROR": str(fault.error)}
         return self.program(muni, environment | ({"FAULT_ONWARDS": "1"} if fault.is_onwards else {}))
 
+    def at_seals(self, muni: Program, fault: Fault) -> FaultyProgram:
+        """The program with a fault of a call over a seal."""
+        faulty = self.at(muni, fault)
+        return FaultyProgram(muni, {**faulty.environment, "FAULT_SEALS": "1"})
+
     def during(self, muni: Program, calls: str, file: pathlib.Path, error: int = errno.EIO) -> FaultyProgram:
         """The program of which calls, each with a comma after it, fail for as long as a file is there."""
         return self.program(muni, {"FAULT_CALLS": calls, "FAULT_WHILE": str(file), "FAULT_ERROR": str(error)})
 
-    def counting(self, muni: Program) -> FaultyProgram:
+    def counting(self, muni: Program, over_seals: bool = False) -> FaultyProgram:
         """The program, which leaves the counts of its calls for `counts`."""
-        return self.program(muni, {"FAULT_COUNTS": str(self.counted)})
+        return self.program(muni, {"FAULT_COUNTS": str(self.counted)} | ({"FAULT_SEALS": "1"} if over_seals else {}))
 
     @property
     def counted(self) -> pathlib.Path:

@@ -18,8 +18,9 @@ Ended = tuple[int, bytes]
 
 
 class Command(NamedTuple):
-    """A command: its words, its input or the request of its one connection, the rows that are kept before it, and
-    whether it may be answered by a part of its lines, as an import, or of its bytes, as what is written in pieces."""
+    """A command: its words, its input or the request of its one connection, the rows that are kept before it, whether
+    it may be answered by a part of its lines, as an import, or of its bytes, as what is written in pieces, and whether
+    the store fits its seal before it. Else there is none, as after a restore, and a file of sqlite is audited."""
 
     name: str
     words: tuple[str, ...]
@@ -28,6 +29,7 @@ class Command(NamedTuple):
     before: bytes | None = None
     is_import: bool = False
     is_in_pieces: bool = False
+    is_sealed: bool = False
 
     @property
     def store(self) -> str | None:
@@ -98,13 +100,18 @@ class Machine:
             ("positions", store, "--desk=ALPHA"), ("confirm", store, "--desk=ALPHA", "--ref=T0002"))]
 
     def files(self) -> dict[str, bytes]:
-        return {each.name: each.read_bytes() for each in self.folder.glob("S*")}
+        """The files of the store but its seal, which no copy fits."""
+        return {each.name: each.read_bytes() for each in self.folder.glob("S*") if not each.name.endswith("-seal")}
 
     def put_back(self, kept: Files) -> None:
         for each in self.folder.glob("S*"):
             each.unlink()
         for name, data in kept.items():
             (self.folder / name).write_bytes(data)
+
+    def seal(self, store: str) -> None:
+        """Has the store audited and sealed, by a command that only reads."""
+        self.run(Command("", ("positions", store, "--desk=ALPHA")))
 
 
 class Trial:
@@ -115,14 +122,21 @@ class Trial:
         if command.before:
             machine.imported(command.store, command.before)
         self.start = machine.files()
+        self.begin()
         self.right, self.count = machine.calls(command)
-        machine.put_back(self.start)
+        self.begin()
         self.steps = self.kept_after_each_row()
-        machine.put_back(self.start)
+        self.begin()
         machine.run(command)
         self.last = machine.kept(command.store)
         self.ends: collections.Counter[str] = collections.Counter()
         self.tried: dict[object, str] = {}
+
+    def begin(self) -> None:
+        """Makes the store as it was before the command."""
+        self.machine.put_back(self.start)
+        if self.command.is_sealed:
+            self.machine.seal(self.command.store)
 
     def kept_after_each_row(self) -> list[list[Ended] | None]:
         """What is kept if so many rows of an import were done."""
@@ -134,7 +148,7 @@ class Trial:
 
     def refuse(self, call: int, is_all: bool) -> None:
         """Refuses memory at a call, or from it on, and holds what comes of it against what must."""
-        self.machine.put_back(self.start)
+        self.begin()
         changes = {"REFUSE": str(call), **({"REFUSE_ALL": "1"} if is_all else {})}
         status, output = self.machine.run(self.command, **changes)
         where = f"refused {'from' if is_all else 'at'} call {call}: "
@@ -145,7 +159,7 @@ class Trial:
         assert self.right[1].startswith(output) and (self.may_stop or not output), f"{where}wrote {output!r}"
         assert not output or self.command.is_in_pieces or output.endswith(b"\n"), f"{where}wrote {output!r}"
         left = self.machine.files()
-        if not output and left == self.start:
+        if not output and compared(left) == compared(self.start):
             self.ends["nothing touched"] += 1
             return
         # What comes of equal files after equal lines is tried once.

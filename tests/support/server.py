@@ -7,6 +7,7 @@ import random
 import socket
 import subprocess
 import time
+from collections.abc import Sequence
 
 from support.program import PATIENCE, Program
 
@@ -75,16 +76,16 @@ def received(link: socket.socket) -> bytes:
 class Server:
     """`serve` over a store, at a port that was free. It is killed with the `with` if it did not end."""
 
-    def __init__(self, program: Program, store: str, connections: int = MOST, workers: int = 2) -> None:
+    def __init__(self, program: Program, store: str, connections: int = MOST, more: Sequence[str] = ()) -> None:
         self.program = program
         self.port = free_port()
-        self.process = self.beside(store, connections, workers)
+        self.process = self.beside(store, connections, more)
         self.is_new = True
 
-    def beside(self, store: str, connections: int = MOST, workers: int = 2) -> subprocess.Popen[bytes]:
-        """Another server at the same port."""
-        return self.program.start("serve", f"--store={store}", f"--port={self.port}", f"--workers={workers}",
-                                  f"--connections={connections}")
+    def beside(self, store: str, connections: int = MOST, more: Sequence[str] = ()) -> subprocess.Popen[bytes]:
+        """Another server at the same port, with more options."""
+        return self.program.start("serve", f"--store={store}", f"--port={self.port}", "--workers=2",
+                                  f"--connections={connections}", *more)
 
     def __enter__(self) -> Server:
         return self

@@ -44,9 +44,15 @@ class Store(NamedTuple):
         """Its first file."""
         return self.path.with_name(self.path.name + ".journal") if self.kind == "journal" else self.path
 
+    @property
+    def seal(self) -> pathlib.Path:
+        """The file that says how its files were left."""
+        return self.path.with_name(self.path.name + "-seal")
+
     def state(self) -> dict[str, bytes]:
-        """The bytes of its file and of each file beside it, by their names."""
-        return {each.name: each.read_bytes() for each in sorted(self.path.parent.glob(self.path.name + "*"))}
+        """The bytes of its file and of each file beside it but its seal, by their names."""
+        files = sorted(self.path.parent.glob(self.path.name + "*"))
+        return {each.name: each.read_bytes() for each in files if each != self.seal}
 
     def remove(self) -> None:
         for each in self.path.parent.glob(self.path.name + "*"):

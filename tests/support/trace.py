@@ -54,17 +54,20 @@ class Call(NamedTuple):
 
 
 def opening_calls(book: Book, command: str, *words: str, rows: str) -> list[Call]:
-    """The calls of a command from the first that names the file of its store on."""
-    traced = subprocess.run(["strace", "-o", "/dev/stderr", book.muni.path, command, book.store.word, *words],
+    """The calls of a command from the first that names the file of its store on. A seal is written again until the
+    clock has moved on, so of the calls over an open seal the first of each name alone is told."""
+    traced = subprocess.run(["strace", "-y", "-o", "/dev/stderr", book.muni.path, command, book.store.word, *words],
                             input=rows.encode(), capture_output=True, timeout=PATIENCE)
-    found, counts, has_begun = [], collections.Counter(), False
+    found, counts, over_seal, has_begun = [], collections.Counter(), set(), False
     for line in traced.stderr.decode(errors="replace").splitlines():
-        name = re.match(r"(\w+)\(", line)
+        name = re.match(r"(\w+)\((\d+<[^>]*-seal>)?", line)
         if name and name[1] not in IN_MEMORY:
             counts[name[1]] += 1
             has_begun = has_begun or str(book.store.file) in line
-            if has_begun:
+            if has_begun and (name[2] is None or name[1] not in over_seal):
                 found.append(Call(name[1], counts[name[1]]))
+            if name[2]:
+                over_seal.add(name[1])
     return found
 
 
