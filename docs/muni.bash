@@ -3,21 +3,22 @@
 # their place; from a clone `. docs/muni.bash` loads them.
 
 # Made of the launcher's tables by tests/documents/made_pages.py.
-_muni_commands='quote-one quote import confirm serve drill positions mark export list load help'
+_muni_commands='quote-one quote import confirm serve drill positions mark export list load check-store help'
 _muni_flags=' --each --all --issues '
 
 _muni_options() {
     case $1 in
     quote) echo --kind --dated --first --maturity --settle --coupon --yield --price --rate --call --days --par --each --workers ;;
-    import) echo --store --workers --positions ;;
+    import) echo --store --workers --positions --desk-limit ;;
     confirm) echo --store --desk --ref --all ;;
-    serve) echo --store --port --connections --workers ;;
+    serve) echo --store --port --connections --workers --desk-limit ;;
     drill) echo --count --seed --workers ;;
     positions) echo --store --desk ;;
     mark) echo --store ;;
     export) echo --store --desk --issues ;;
     list) echo --store --desk ;;
-    load) echo --store ;;
+    load) echo --store --desk-limit ;;
+    check-store) echo --store ;;
     esac
 }
 

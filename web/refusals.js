@@ -14,7 +14,7 @@ export const REFUSALS = {
   11: ["Canceled", "the trade is canceled, and nothing follows a cancel", "enter a new trade under another reference"],
   12: ["WrongNumber", "the number is neither one that is kept nor the next one", "read the last version, which may be another's correction, and send the number that is named"],
   13: ["VersionsFull", "the trade has 99 versions", "cancel it, which is still taken, and enter a new one"],
-  14: ["DeskFull", "the desk has 100,000 trades", "enter the trade under another desk"],
+  14: ["DeskFull", "the desk has as many trades as it may have: 100,000, if it was given no other number", "enter the trade under another desk"],
   15: ["WrongBasis", "a rate for any issue but a discounted note, a yield for one, or a commission beside a yield or a rate", "give a price, or what this kind of issue is asked by"],
 };
 

@@ -45,7 +45,7 @@ __all__ = [
     "YieldBelow", "export", "read_confirmation", "read_figures", "read_issue", "read_list", "read_positions",
 ]
 
-__version__ = "1.5.0"
+__version__ = "1.6.0"
 
 Amount = Union[Decimal, int]
 
@@ -382,7 +382,7 @@ class VersionsFull(Refused):
 
 
 class DeskFull(Refused):
-    """Refusal 14: the desk has 100,000 trades."""
+    """Refusal 14: the desk has as many trades as it may have."""
 
     number = 14
 

@@ -63,7 +63,7 @@ WORDS: dict[int, tuple[str, str]] = {
         "cancel it, which is still taken, and enter a new one",
     ),
     14: (
-        "the desk has 100,000 trades",
+        "the desk has as many trades as it may have: 100,000, if it was given no other number",
         "enter the trade under another desk",
     ),
     15: (
