@@ -20,6 +20,8 @@ PAGES = ["README.md", "docs/TUTORIAL.md", "docs/OPERATING.md", "docs/FORMATS.md"
          "examples/quotes.md", "examples/worked.md", "conformance/calculator/README.md"]
 # What stands in the folder in which a page is followed.
 LINKS = ("muni", "examples", "docs", "deploy", "conformance")
+# How long servers are given to close, in seconds.
+CLOSING = 2
 # Tools of the pages that may be missing.
 OPTIONAL = ("curl", "sqlite3")
 
@@ -50,6 +52,8 @@ class Walk:
         return missing
 
     def run(self, command: str) -> tuple[int, str]:
+        if command.startswith("rm "):
+            self.let_servers_close()
         # The output goes to a file, so that a command that is left in the background does not hold it open.
         path = self.folder.parent / f"output of {self.folder.name}"
         with open(path, "wb") as output:
@@ -62,6 +66,13 @@ class Walk:
             wait_for(int(port[1]))
         return status, path.read_text(errors="replace")
 
+    def let_servers_close(self) -> None:
+        """A server answers its last connection before it closes its store and leaves a seal, which takes no longer than
+        somebody who types."""
+        deadline = time.monotonic() + CLOSING
+        while any(is_there(group, 0) for group in self.groups) and time.monotonic() < deadline:
+            time.sleep(0.02)
+
     def end(self) -> None:
         """Ends what still runs, and waits until it is gone."""
         for group in self.groups:
@@ -71,8 +82,8 @@ class Walk:
         self.groups.clear()
 
 
-def is_there(group: int, sent: signal.Signals) -> bool:
-    """Sends a signal to a group of processes, and tells whether there is one that gets it."""
+def is_there(group: int, sent: int) -> bool:
+    """Sends a signal to a group of processes, or none if it is 0, and tells whether there is one that gets it."""
     try:
         os.killpg(group, sent)
     except ProcessLookupError:
