@@ -28,8 +28,8 @@ LINK = ("recv", "send")
 
 
 class Scene(NamedTuple):
-    """A command, its words and its input, and what the store is before: `none`, `kept`, or `bare`, which is one without
-    its log."""
+    """A command, its words and its input, and what the store is before: `none`, `kept`, `bare`, which is one without
+    its log, or `sealed`, which is one that a command has audited."""
 
     command: str
     words: tuple[str, ...]
@@ -44,14 +44,18 @@ SCENES = {
     "positions": Scene("positions", ("--desk=ALPHA",), b"", "kept"),
     "mark": Scene("mark", (), MARKS, "kept"),
     "check-store": Scene("check-store", (), b"", "kept"),
-    "import-without-a-log": Scene("import", (), ROWS, "bare"),
+    "import-again-without-a-log": Scene("import", (), ROWS, "bare"),
     "confirm-without-a-log": Scene("confirm", ("--desk=ALPHA", "--ref=T0001"), b"", "bare"),
+    "import-again-by-a-seal": Scene("import", (), ROWS, "sealed"),
+    "confirm-by-a-seal": Scene("confirm", ("--desk=ALPHA", "--ref=T0001"), b"", "sealed"),
 }
 READING = "open read write pread pwrite fdatasync fsync"
 CALLS = {
     "sqlite": {"first-import": READING + " ftruncate", "import-again": READING, "confirm": READING,
                "positions": READING, "mark": READING, "check-store": READING + " unlink",
-               "import-without-a-log": READING + " rename unlink", "confirm-without-a-log": READING + " rename unlink",
+               "import-again-without-a-log": READING + " rename unlink",
+               "confirm-without-a-log": READING + " rename unlink",
+               "confirm-by-a-seal": "open write pread pwrite fdatasync fsync",
                "serve": "open read pread pwrite fdatasync fsync ftruncate socket bind listen accept recv send"},
     "journal": {"first-import": "open read write pread pwrite fdatasync fsync flock",
                 "import-again": "open read write pread fdatasync flock", "confirm": "open write pread fdatasync flock",
@@ -79,8 +83,10 @@ def fresh(muni, kept, tmp_path):
         book = Book(muni, Store(kind, tmp_path / "store"))
         book.store.remove()
         for file in kept[kind].store.path.parent.iterdir():
-            if before == "kept" or before == "bare" and not file.name.endswith("-wal"):
+            if before != "none" and not (before == "bare" and file.name.endswith("-wal")):
                 shutil.copy(file, tmp_path)
+        if before == "sealed":
+            assert book.confirmed("T0001").status == 0
         return book
 
     return make
@@ -105,22 +111,23 @@ def wanted_status(scene: Scene, fault: Fault) -> int:
 def is_harmless(kind: str, scene: Scene, fault: Fault, has_ended_well: bool) -> bool:
     """Whether what failed is not needed: an empty log that was made may stay; the open of a log that is not there fails
     in any case, and that of the folder of one that is removed comes after all else; a look at a file for its seal that
-    fails costs the seal alone."""
+    fails costs the seal alone, and a file that cannot be opened by its seal is audited."""
     if fault.call in ("rename", "unlink"):
         return True
     is_looked_at = kind == "sqlite" and fault.call in ("open", "pread")
-    return has_ended_well and (is_looked_at or fault.call == "open" and scene.before == "bare")
+    is_left = fault.call == "open" and scene.before == "bare" or scene.before == "sealed" and not fault.is_onwards
+    return has_ended_well and (is_looked_at or is_left)
 
 
 @pytest.mark.parametrize("kind", KINDS)
 @pytest.mark.parametrize("name", SCENES)
 def test_no_call_of_a_command_is_left_out(faults, fresh, kind, name):
-    """A journal has no log, so without one it is as it was."""
+    """A journal has neither a log nor a seal, so without the one and with the other it is as it was."""
     scene = SCENES[name]
     book = fresh(kind, scene.before)
     said = Book(faults.counting(book.muni), book.store).said(scene.command, *scene.words, rows=scene.rows)
     assert said.status == 0
-    wanted = CALLS[kind].get(name) or CALLS[kind][name.replace("-without-a-log", "").replace("import", "import-again")]
+    wanted = CALLS[kind].get(name) or CALLS[kind][name.removesuffix("-without-a-log").removesuffix("-by-a-seal")]
     assert {call for call, count in faults.counts().items() if count.in_all} == set(wanted.split())
 
 
