@@ -15,6 +15,9 @@ use sqlite_value::row::Row;
 use sqlite_wal::{PageSize, probe_page_size};
 use std::alloc::{AllocError, Global};
 
+/// How many pages are kept in memory of a file that is not read as a whole.
+const PAGES: usize = 256;
+
 /// A keeper over the files of a store that is known to be sound, if it lists nothing but the tables of a desk,
 /// their indexes and views.
 pub(crate) fn known_keeper<D: Disk + Drop>(
@@ -29,6 +32,10 @@ pub(crate) fn known_keeper<D: Disk + Drop>(
 {
     let Some(size) = probe_page_size(&mut files)? else {
         return Err(StoreFault::Failed);
+    };
+    let options = Options {
+        cache_pages: PAGES,
+        ..options
     };
     let mut unopened = unopened(alloc, files, size, options)?;
     let places = list_tables(alloc, &mut unopened)?;

@@ -61,6 +61,20 @@ keeps {S} {T} view recovers answer result old mid new is same undone looks =
           outcomes = λ db left. looks.outcomes db (undone.outcomes db left);
         }
 
+-- something else is answered in place of a value
+pub keeps_answered : {S T A : Type 0} (view : S → View) (recovers : S → Trees → Type 0) (settled : Result T KeepFault) (value : T) (answer : A) (old new : S)
+    → settled ≡ Ok value → Keeps view recovers settled old new → Keeps {T = A} {E = KeepFault} view recovers (Ok answer) old new
+keeps_answered view recovers settled value answer old new is holds =
+    let held = subst (λ r. Keeps view recovers r old new) is holds in
+    record { clean = held.clean; same = held.same; undone = tt; outcomes = held.outcomes }
+
+-- a fault is answered as one of another call
+pub keeps_refused : {S T A : Type 0} (view : S → View) (recovers : S → Trees → Type 0) (settled : Result T KeepFault) (fault told : KeepFault) (old new : S)
+    → settled ≡ Err fault → Keeps view recovers settled old new → Keeps {T = A} {E = KeepFault} view recovers (Err told) old new
+keeps_refused view recovers settled fault told old new is holds =
+    let held = subst (λ r. Keeps view recovers r old new) is holds in
+    record { clean = held.clean; same = tt; undone = held.undone; outcomes = held.outcomes }
+
 -- a put that is rolled back if it fails
 pub record PutsOrUndoes {S T : Type 0} (view : S → View) (recovers : S → Trees → Type 0) (Added : Trees → Trees → Type 0) (result : Result T KeepFault) (old new : S) : Type 0 where
   pub puts : Puts view recovers Added result old new

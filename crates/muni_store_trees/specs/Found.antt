@@ -1,5 +1,5 @@
 -- What is found in the trees of the tables.
-use Rattle.std.specs.Prelude.{◌≡◌, ℕ, ℤ, pos, List, [], ◌∷◌, drop, reverse, take, min, ◌-◌, ◌^◌, length, Bool, true, false, Option, Some, None, slice_get, ⊤, if◌then◌else◌}
+use Rattle.std.specs.Prelude.{◌≡◌, ℕ, ℤ, pos, List, [], ◌∷◌, ◌++◌, drop, reverse, take, min, ◌-◌, ◌^◌, length, Bool, true, false, Option, Some, None, slice_get, ⊤, if◌then◌else◌}
 use Rattle.std.specs.List.{filter}
 use Rattle.std.specs.Ordering.{int_eq}
 use Rattle.std.specs.Str.{bytes_eq}
@@ -59,9 +59,17 @@ last_of_each (entry ∷ []) = entry ∷ []
 last_of_each (entry ∷ following ∷ more) =
     if bytes_eq (text_in entry 1) (text_in following 1) then last_of_each (following ∷ more) else entry ∷ last_of_each (following ∷ more)
 
+-- the trade of a desk in a line, with the number and the version
+abbrev pub traded : List ℕ → Line → Key × ℕ × Version
+traded desk line = (record { desk = desk; reference = line.reference }, line.number, line.version)
+
 -- the line of the trade of a desk to which an entry leads
 abbrev pub IsLineAt : List Row → List ℕ → Row → Line → Type 0
-IsLineAt rows desk entry line = ReadsVersion rows entry (record { desk = desk; reference = line.reference }, line.number, line.version)
+IsLineAt rows desk entry line = ReadsVersion rows entry (traded desk line)
+
+-- this line is added to others
+abbrev pub AddsLine : List Row → List ℕ → Row → (old new : List Line) → Type 0
+AddsLine rows desk entry old new = (line : Line) × (new ≡ old ++ line ∷ []) × IsLineAt rows desk entry line
 
 -- the line of each entry, in their order
 abbrev pub AreLines : List Row → List ℕ → List Row → List Line → Type 0

@@ -1,5 +1,5 @@
 -- What is read from the rows of the tables.
-use Rattle.std.specs.Prelude.{ℕ, Bool, ℤ, pos, List, [], Option, Some, is_some, option_map}
+use Rattle.std.specs.Prelude.{ℕ, Bool, ℤ, pos, List, [], Option, is_some, option_map}
 use Rattle.std.specs.Result.{result_ok}
 use Rattle.std.specs.Char.{is_ascii_alphanumeric}
 use Rattle.sqlite_value.specs.declared.value.Value.{Value}

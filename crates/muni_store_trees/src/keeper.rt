@@ -184,8 +184,17 @@ impl<S: Store + Drop> Keeper for TreeKeeper<S> {
             result self.old self.new }
         ensures counted { CountsFailure result self.old.faults self.new.faults }
     {
-        let found = read_page(&mut self.store, self.places, self.alloc, desk, after);
-        self.settled(found)
+        let mut lines = ArrayVec::new();
+        let read = read_page(
+            &mut self.store,
+            self.places,
+            self.alloc,
+            desk,
+            after,
+            &mut lines,
+        );
+        self.settled(read)?;
+        Ok(lines)
     }
 
     fn before_latest(&mut self, desk: &DeskName) -> Result<Option<Reference>, KeepFault>

@@ -19,7 +19,7 @@ use sqlite_value::value::ValueRef;
 use std::alloc::Global;
 
 /// Reads the row of a table that has the rowid in a value.
-fn read_row<S: Store>(
+pub(crate) fn read_row<S: Store>(
     store: &mut S,
     table: u32,
     id: ValueRef<'_>,
@@ -124,7 +124,7 @@ pub(crate) fn find_desk_past<S: Store>(
 }
 
 /// The trade, the number and the version to which an entry of the index of keys leads.
-pub(crate) fn read_version_at<S: Store>(
+fn read_version_at<S: Store>(
     store: &mut S,
     places: Places,
     alloc: Global,
@@ -149,7 +149,7 @@ pub(crate) fn read_version_at<S: Store>(
 }
 
 /// Whether an entry of the index of keys has the key of a version.
-fn is_entry_of(entry: &Row, key: &Key, number: u32) -> bool
+pub(crate) fn is_entry_of(entry: &Row, key: &Key, number: u32) -> bool
     ensures { IsTrue result → spec.HasKey entry.now key.now number }
 {
     text_in(entry, 0) == key.desk.bytes()

@@ -1,17 +1,19 @@
 //! Scans of the trades of a desk.
 
-ghost use Rattle.std.specs.Prelude.{◌≡◌, ◌∷◌, IsSome, IfOk, OnOk, List};
+ghost use Rattle.std.specs.Prelude.{◌≡◌, ◌+◌, ◌<◌, ◌∷◌, IsSome, Some, IfSome, IfOk, OnOk, List, drop};
+ghost use Rattle.arrayvec.specs.ArrayVec.{array_vec_len};
 ghost use Rattle.sqlite_value.specs.Order.{Row as Entry};
 ghost use Rattle.sqlite_trees.specs.View.{IsClean};
 ghost use Rattle.muni_store_trees.specs.Entries.{Scans};
 ghost use Rattle.muni_store_trees.specs.Found as spec;
 ghost use Rattle.muni_store_trees.specs.Looks.{Looks};
+ghost use Rattle.muni_store_trees.specs.Rows.{trade_in};
 
 use crate::fault::TreeFault;
 use crate::keys::{desk_key, trade_key_past};
-use crate::looks::read_version_at;
+use crate::looks::{is_entry_of, read_row};
 use crate::places::Places;
-use crate::rows::{number_in, read_reference, text_in};
+use crate::rows::{TableRow, number_in, read_reference, read_trade, text_in};
 use crate::scan::{begin, begin_from, next};
 use arrayvec::ArrayVec;
 use muni_msg::{DeskName, Line, Reference};
@@ -109,44 +111,63 @@ fn pass_trade<S: Store>(
     Err(TreeFault::Failed)
 }
 
-/// The line of the trade of a desk to which an entry leads.
-fn line_at<S: Store>(
-    store: &mut S,
-    places: Places,
-    alloc: Global,
-    desk: &DeskName,
-    entry: &Row,
-) -> Result<Line, TreeFault>
-    ensures read { IfOk result (λ line. IsClean (S.Store.view store.new)
-        → spec.IsLineAt ((S.Store.view store.old).trees places.versions) desk.now entry.now line) }
-    ensures same { OnOk result (IsClean (S.Store.view store.new)
-        → S.Store.view store.new ≡ S.Store.view store.old) }
-    ensures live { OnOk result (IsSome ((S.Store.view store.old).cursors 0)
-        → IsSome ((S.Store.view store.new).cursors 0)) }
-    ensures looks { Looks S.Store.view S.Store.recovers result store.old store.new }
+/// The line of the trade of a desk in a row, if an entry has the key of that.
+fn line_in(desk: &DeskName, entry: &Row, row: &Row) -> Option<Line>
+    ensures read { IfSome result (λ line. trade_in (drop 1 row.now) ≡ Some (spec.traded desk.now line)) }
+    ensures same { IfSome result (λ line. spec.HasKey entry.now (spec.traded desk.now line).0 line.number) }
 {
-    let (key, number, version) = read_version_at(store, places, alloc, entry)?;
-    if key.desk != *desk {
-        return Err(TreeFault::Failed);
+    let (key, number, version) = read_trade(&TableRow(row))?;
+    if key.desk != *desk || !is_entry_of(entry, &key, number) {
+        return None;
     }
-    Ok(Line {
+    Some(Line {
         reference: key.reference,
         number,
         version,
     })
 }
 
-/// The first 50 trades of a desk after a reference, or the first of all if none is given, each with its
-/// last version.
+/// Adds the line of the trade of a desk to which an entry leads. The row is where its version is read.
+fn add_line<S: Store>(
+    store: &mut S,
+    places: Places,
+    desk: &DeskName,
+    entry: &Row,
+    row: &mut Row,
+    lines: &mut ArrayVec<Line, 50>,
+) -> Result<(), TreeFault>
+    requires { array_vec_len lines.old < 50 }
+    ensures added { OnOk result (IsClean (S.Store.view store.new)
+        → spec.AddsLine ((S.Store.view store.old).trees places.versions) desk.now entry.now lines.old.items lines.new.items) }
+    ensures len { OnOk result (array_vec_len lines.new ≡ array_vec_len lines.old + 1) }
+    ensures same { OnOk result (IsClean (S.Store.view store.new)
+        → S.Store.view store.new ≡ S.Store.view store.old) }
+    ensures live { OnOk result (IsSome ((S.Store.view store.old).cursors 0)
+        → IsSome ((S.Store.view store.new).cursors 0)) }
+    ensures looks { Looks S.Store.view S.Store.recovers result store.old store.new }
+{
+    read_row(store, places.versions, entry.get(3), row)?;
+    match line_in(desk, entry, row) {
+        Some(line) => {
+            lines.push(line);
+            Ok(())
+        }
+        None => Err(TreeFault::Failed),
+    }
+}
+
+/// Replaces the lines by the first 50 trades of a desk after a reference, or the first of all if none is
+/// given, each with its last version.
 pub(crate) fn read_page<S: Store>(
     store: &mut S,
     places: Places,
     alloc: Global,
     desk: &DeskName,
     after: &Option<Reference>,
-) -> Result<ArrayVec<Line, 50>, TreeFault>
-    ensures found { IfOk result (λ lines. IsClean (S.Store.view store.new)
-        → spec.IsPage places (S.Store.view store.old).trees desk.now after.now lines.items) }
+    lines: &mut ArrayVec<Line, 50>,
+) -> Result<(), TreeFault>
+    ensures found { OnOk result (IsClean (S.Store.view store.new)
+        → spec.IsPage places (S.Store.view store.old).trees desk.now after.now lines.new.items) }
     ensures looks { Looks S.Store.view S.Store.recovers result store.old store.new }
 {
     let key = desk_key(alloc, desk)?;
@@ -154,12 +175,13 @@ pub(crate) fn read_page<S: Store>(
     begin_from(store, places.keys, &key, &start)?;
     let mut entry = Row::new(alloc);
     let mut following = Row::new(alloc);
-    let mut lines = ArrayVec::new();
+    let mut row = Row::new(alloc);
+    lines.clear();
     let mut is_more = next(store, &key, &mut entry)?;
     'page: while is_more && lines.len() < 50 {
         is_more = pass_trade(store, &key, &mut entry, &mut following)?;
-        lines.push(line_at(store, places, alloc, desk, &entry)?);
+        add_line(store, places, desk, &entry, &mut row, lines)?;
         mem::swap(&mut entry, &mut following);
     }
-    Ok(lines)
+    Ok(())
 }

@@ -44,6 +44,16 @@ pub(crate) fn text_at<R: Columns>(row: &R, at: u8) -> Option<&str>
     }
 }
 
+/// The bytes of the text in a column, of which no test says that they are UTF-8.
+fn bytes_at<R: Columns>(row: &R, at: u8) -> Option<&[u8]>
+    ensures { IfSome result (λ bytes. bytes.now ≡ rows.text_in (R.Columns.values row.now) at) }
+{
+    match row.value(at) {
+        ValueRef::Text(bytes) => Some(bytes),
+        _ => None,
+    }
+}
+
 /// The number in a column.
 pub(crate) fn number_at<R: Columns>(row: &R, at: u8) -> Option<i64>
     ensures { IfSome result (λ number. number ≡ rows.number_in (R.Columns.values row.now) at) }
@@ -71,13 +81,13 @@ pub fn read_issue<R: Columns>(row: &R) -> Option<Issue>
     )
 }
 
-/// The columns of a version in a row, with a fee and a commission.
+/// The columns of a version in a row, with a fee and a commission. Names and days are read from ASCII alone.
 fn trade_row<R: Columns>(row: &R, fee: i64, commission: i64) -> Option<TradeRow<'_>>
     ensures { IfSome result (λ columns. columns ≡ rows.trade_columns (R.Columns.values row.now) fee commission) }
 {
     Some(TradeRow {
-        desk: text_at(row, 0)?.as_bytes(),
-        reference: text_at(row, 1)?.as_bytes(),
+        desk: bytes_at(row, 0)?,
+        reference: bytes_at(row, 1)?,
         number: number_at(row, 2)?,
         act: number_at(row, 3)?,
         asked: asked_row(row, fee)?,
@@ -92,7 +102,7 @@ fn asked_row<R: Columns>(row: &R, fee: i64) -> Option<AskedRow<'_>>
         cusip: text_at(row, 4)?.as_bytes(),
         side: number_at(row, 5)?,
         par: number_at(row, 6)?,
-        settle: text_at(row, 7)?.as_bytes(),
+        settle: bytes_at(row, 7)?,
         basis: number_at(row, 8)?,
         value: number_at(row, 9)?,
         fee,
@@ -105,7 +115,7 @@ fn figure_row<R: Columns>(row: &R, commission: i64) -> Option<FigureRow<'_>>
     Some(FigureRow {
         price: number_at(row, 10)?,
         yld: number_at(row, 11)?,
-        redemption: text_at(row, 12)?.as_bytes(),
+        redemption: bytes_at(row, 12)?,
         at_price: number_at(row, 13)?,
         label: number_at(row, 14)?,
         days: number_at(row, 15)?,
