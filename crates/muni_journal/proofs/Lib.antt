@@ -2,6 +2,7 @@ pub mod CauseLemmas
 pub mod Ends
 pub mod GoesOn
 pub mod JournalImages
+pub mod PutLemmas
 pub mod SlotLaws
 pub mod SlotLemmas
 pub mod StandLemmas

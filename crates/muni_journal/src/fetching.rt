@@ -1,16 +1,17 @@
 //! Reads a journal.
 
-ghost use Rattle.std.specs.Prelude.{◌≡◌, ◌==◌, ◌<◌, ◌≤◌, ◌+◌, ◌^◌, ◌≢◌, Err, Some, None, length, IfOk, IfErr, OnOk};
+ghost use Rattle.std.specs.Prelude.{◌≡◌, ◌==◌, ◌<◌, ◌≤◌, ◌+◌, ◌^◌, ◌≢◌, true, false, Ok, Err, Some, None, length, IfOk, IfErr, OnOk};
+ghost use Rattle.std.specs.Option.{option_and_then};
 ghost use Rattle.muni_keep.specs.Tables.{no_tables};
 ghost use Rattle.muni_journal_disk.specs.Bytes.{byte_at, bytes_at};
 ghost use Rattle.muni_journal_disk.specs.Disk.{Found, IfRead};
-ghost use Rattle.muni_journal_record.specs.Body.{put_of as spec_put_of};
+ghost use Rattle.muni_journal_record.specs.Body.{put_of};
+ghost use Rattle.muni_journal.specs.Puts.{put_on};
 ghost use Rattle.muni_journal.specs.Journal as spec;
 ghost use Rattle.muni_journal.specs.Looks.{OnlyReads};
 
-use crate::kept::put_next;
+use crate::kept::put_body;
 use muni_journal_disk::{Disk, DiskFault};
-use muni_journal_record::{Put, put_of};
 use muni_keep::MemTables;
 use thiserror::Error;
 
@@ -61,16 +62,27 @@ fn number_at<D: Disk>(disk: &mut D, place: u64) -> Result<u32, DiskFault>
     Ok(u32::from_be_bytes(room))
 }
 
-/// The put whose body stands at a place.
-fn body_at<D: Disk>(disk: &mut D, place: u64, count: usize) -> Result<Option<Put>, DiskFault>
+/// Puts what the body at a place holds if that meets its condition, and says whether it did.
+fn put_at<D: Disk>(
+    disk: &mut D,
+    place: u64,
+    count: usize,
+    kept: &mut MemTables,
+) -> Result<bool, DiskFault>
     requires room { place + 1_024 < 2 ^ 41 }
     requires length { count ≤ 1_024 }
-    ensures put { Found (D.bytes disk.old) result (λ c. spec_put_of (bytes_at c place count)) }
+    ensures put { result ≡ Ok true → IfRead (D.bytes disk.old) (λ c.
+        option_and_then (put_on kept.old) (put_of (bytes_at c place count)) ≡ Some kept.new) }
+    ensures refused { result ≡ Ok false → IfRead (D.bytes disk.old) (λ c.
+        option_and_then (put_on kept.old) (put_of (bytes_at c place count)) ≡ None) }
     ensures reads { OnlyReads D.Disk DiskFault.Failed result disk.old disk.new }
 {
     let mut room = [0; 1024];
     fill(disk, place, &mut room[..count])?;
-    Ok(put_of(&room[..count]))
+    match put_body(kept, &room[..count]) {
+        Ok(is_put) => Ok(is_put),
+        Err(_) => Err(DiskFault::NoMemory),
+    }
 }
 
 /// Puts what the open slot at a gate holds, and gives the gate after it.
@@ -93,13 +105,9 @@ fn next_gate<D: Disk>(disk: &mut D, gate: u64, kept: &mut MemTables) -> Result<u
     if count < 1 || count > 1_024 {
         return Err(FetchFault::NotAJournal);
     }
-    let put = match body_at(disk, place + 4, count as usize) {
-        Ok(Some(put)) => put,
-        Ok(None) => return Err(FetchFault::NotAJournal),
+    let is_put = match put_at(disk, place + 4, count as usize, kept) {
+        Ok(is_put) => is_put,
         Err(fault) => return Err(FetchFault::Disk(fault)),
-    };
-    let Ok(is_put) = put_next(kept, &put) else {
-        return Err(FetchFault::Disk(DiskFault::NoMemory));
     };
     if !is_put {
         return Err(FetchFault::NotAJournal);

@@ -18,7 +18,6 @@ use Rattle.muni_msg.specs.declared.version.Version.{Version}
 use Rattle.muni_journal_record.specs.Words.{four, eight, signed}
 use Rattle.muni_journal_record.specs.Fields.{day_bytes, text_bytes}
 use Rattle.muni_journal_record.specs.VersionBody.{money_bytes, figures_bytes, money_of, figures_of, asked_bytes, asked_of, version_bytes, version_of, MoneyFits, FiguresFit, GivenFits, AskedFits, VersionFits}
-use Rattle.muni_journal_record.specs.declared.put.Put.TheVariants.{Version as PutVersion}
 use Rattle.muni_journal_record.specs.declared.version_body.Money.{Money}
 use Rattle.muni_journal_record.proofs.WordLaws.{front_back, length-four, length-signed, length-day, four_back, four_last, eight_back, eight_last, signed_back, amount_back, percent_back, printed_yield_back, act_back, side_back, label_back, day_is, day_back, text_back}
 
@@ -119,7 +118,7 @@ name_back is_letter most name is =
     rw (some, few, is.letters) refl
 
 -- versions
-pub version_back : (key : Key) (number : ℕ) (v : Version) → VersionFits key number v → version_of (version_bytes key number v) ≡ Some (PutVersion key number v)
+pub version_back : (key : Key) (number : ℕ) (v : Version) → VersionFits key number v → version_of (version_bytes key number v) ≡ Some (key, number, v)
 unfolding version_of
 version_back key number v fits =
     let tail = asked_bytes v.terms.asked ++ figures_bytes v.figures in

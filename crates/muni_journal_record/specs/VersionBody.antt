@@ -18,11 +18,12 @@ use Rattle.muni_msg.specs.declared.version.Version.{Version}
 use Rattle.muni_journal_record.specs.Words.{four, eight, signed, front, byte_front, four_front, eight_front, signed_front}
 use Rattle.muni_journal_record.specs.Fields.{day_bytes, day_of, text_bytes, text_front}
 use Rattle.muni_journal_record.specs.declared.version_body.Money.{Money}
-use Rattle.muni_journal_record.specs.declared.put.Put.{Put}
-use Rattle.muni_journal_record.specs.declared.put.Put.TheVariants.{Version as PutVersion}
 
 -- the figures of a trade: prices, then label and days, then the amounts of money; and what is read as
 -- such
+abbrev pub amounts_bytes : Money → List ℕ
+amounts_bytes m = eight m.principal ++ (eight m.accrued ++ (eight m.commission ++ eight m.total))
+
 abbrev pub money_bytes : Figures → List ℕ
 money_bytes f = eight f.principal ++ (eight f.accrued ++ (eight f.commission ++ eight f.total))
 
@@ -82,19 +83,21 @@ asked_of bytes =
     }) (if_fee cost.0)) (four_front value.1)) (given_of_code basis.0 value.0)) (signed_front basis.1)) (byte_front day.1))
     (day_of day.0)) (front 4 units.1)) (if_par units.0)) (four_front code.1)) (side_of_code code.0)) (byte_front cusip.1)) (front 9 bytes)
 
--- the version of a trade with a number, and what is read as one
+-- a version with its trade and its number, and what is read as such
 abbrev pub version_bytes : Key → ℕ → Version → List ℕ
 version_bytes key number v =
     text_bytes key.desk ++ (text_bytes key.reference ++ (four number ++ (act_code v.act ∷ (asked_bytes v.terms.asked
     ++ figures_bytes v.figures))))
 
-unfoldable pub version_of : List ℕ → Option Put
+unfoldable pub version_of : List ℕ → Option (Key × ℕ × Version)
 version_of bytes =
     option_and_then (λ desk_text. option_and_then (λ desk. option_and_then (λ reference_text. option_and_then (λ reference.
     option_and_then (λ number. option_and_then (λ code. option_and_then (λ act. option_and_then (λ piece.
-    option_and_then (λ asked. option_map (λ figures.
-    PutVersion (record { desk = desk; reference = reference }) number.0
-    (record { act = act; terms = record { asked = asked }; figures = figures }))
+    option_and_then (λ asked. option_map (λ figures. (
+      record { desk = desk; reference = reference },
+      number.0,
+      record { act = act; terms = record { asked = asked }; figures = figures },
+    ))
     (figures_of piece.1)) (asked_of piece.0)) (front 27 code.1)) (act_of_code code.0)) (byte_front number.1))
     (four_front reference_text.1)) (result_ok (name_reading is_ascii_alphanumeric 20 reference_text.0))) (text_front desk_text.1))
     (result_ok (name_reading is_desk_letter 16 desk_text.0))) (text_front bytes)

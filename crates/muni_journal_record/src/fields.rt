@@ -86,6 +86,7 @@ pub(crate) fn push_text(body: &mut Body, text: &[u8])
 pub(crate) fn front(bytes: &[u8], count: usize) -> Option<(&[u8], &[u8])>
     ensures found { option_map (λ found. (found.0.now, found.1.now)) result ≡ words.front count bytes.now }
     ensures long { IfSome result (λ found. length found.0.now ≡ count) }
+    ensures parts { IfSome result (λ found. bytes.now ≡ found.0.now ++ found.1.now) }
 {
     if count > bytes.len() {
         return None;
@@ -94,7 +95,8 @@ pub(crate) fn front(bytes: &[u8], count: usize) -> Option<(&[u8], &[u8])>
 }
 
 pub(crate) fn byte_front(bytes: &[u8]) -> Option<(u8, &[u8])>
-    ensures { option_map (λ found. (found.0, found.1.now)) result ≡ words.byte_front bytes.now }
+    ensures found { option_map (λ found. (found.0, found.1.now)) result ≡ words.byte_front bytes.now }
+    ensures parts { IfSome result (λ found. bytes.now ≡ found.0 ∷ found.1.now) }
 {
     let [byte, rest @ ..] = bytes else {
         return None;
@@ -102,48 +104,54 @@ pub(crate) fn byte_front(bytes: &[u8]) -> Option<(u8, &[u8])>
     Some((*byte, rest))
 }
 
-#[tactic(auto, unfolding(crate::specs::Words::number_of_4))]
+#[tactic(auto, unfolding(crate::specs::Words::number_of_4, crate::specs::Words::four))]
 pub(crate) fn number_of_4(bytes: &[u8]) -> u32
     requires { length bytes.now ≡ 4 }
-    ensures { result ≡ words.number_of_4 bytes.now }
+    ensures value { result ≡ words.number_of_4 bytes.now }
+    ensures bytes { bytes.now ≡ words.four result }
 {
     u32::from_be_bytes([bytes[0], bytes[1], bytes[2], bytes[3]])
 }
 
-#[tactic(auto, unfolding(crate::specs::Words::number_of_8))]
+#[tactic(auto, unfolding(crate::specs::Words::number_of_8, crate::specs::Words::eight))]
 fn number_of_8(bytes: &[u8]) -> u64
     requires { length bytes.now ≡ 8 }
-    ensures { result ≡ words.number_of_8 bytes.now }
+    ensures value { result ≡ words.number_of_8 bytes.now }
+    ensures bytes { bytes.now ≡ words.eight result }
 {
     u64::from_be_bytes([
         bytes[0], bytes[1], bytes[2], bytes[3], bytes[4], bytes[5], bytes[6], bytes[7],
     ])
 }
 
-#[tactic(auto, unfolding(crate::specs::Words::signed_of))]
+#[tactic(auto, unfolding(crate::specs::Words::signed_of, crate::specs::Words::signed))]
 fn signed_of(bytes: &[u8]) -> i32
     requires { length bytes.now ≡ 4 }
-    ensures { result ≡ words.signed_of bytes.now }
+    ensures value { result ≡ words.signed_of bytes.now }
+    ensures bytes { bytes.now ≡ words.signed result }
 {
     i32::from_be_bytes([bytes[0], bytes[1], bytes[2], bytes[3]])
 }
 
 pub(crate) fn four_front(bytes: &[u8]) -> Option<(u32, &[u8])>
-    ensures { option_map (λ found. (found.0, found.1.now)) result ≡ words.four_front bytes.now }
+    ensures found { option_map (λ found. (found.0, found.1.now)) result ≡ words.four_front bytes.now }
+    ensures parts { IfSome result (λ found. bytes.now ≡ words.four found.0 ++ found.1.now) }
 {
     let (piece, rest) = front(bytes, 4)?;
     Some((number_of_4(piece), rest))
 }
 
 pub(crate) fn eight_front(bytes: &[u8]) -> Option<(u64, &[u8])>
-    ensures { option_map (λ found. (found.0, found.1.now)) result ≡ words.eight_front bytes.now }
+    ensures found { option_map (λ found. (found.0, found.1.now)) result ≡ words.eight_front bytes.now }
+    ensures parts { IfSome result (λ found. bytes.now ≡ words.eight found.0 ++ found.1.now) }
 {
     let (piece, rest) = front(bytes, 8)?;
     Some((number_of_8(piece), rest))
 }
 
 pub(crate) fn signed_front(bytes: &[u8]) -> Option<(i32, &[u8])>
-    ensures { option_map (λ found. (found.0, found.1.now)) result ≡ words.signed_front bytes.now }
+    ensures found { option_map (λ found. (found.0, found.1.now)) result ≡ words.signed_front bytes.now }
+    ensures parts { IfSome result (λ found. bytes.now ≡ words.signed found.0 ++ found.1.now) }
 {
     let (piece, rest) = front(bytes, 4)?;
     Some((signed_of(piece), rest))
@@ -160,10 +168,11 @@ pub(crate) fn cusip_of(bytes: &[u8]) -> [u8; 9]
 }
 
 /// The day of four bytes.
-#[tactic(auto, unfolding(crate::specs::Words::number_of_2))]
+#[tactic(auto, unfolding(crate::specs::Words::number_of_2, crate::specs::Words::two))]
 pub(crate) fn day_of(bytes: &[u8]) -> Option<Day>
     requires { length bytes.now ≡ 4 }
-    ensures { result ≡ spec.day_of bytes.now }
+    ensures value { result ≡ spec.day_of bytes.now }
+    ensures bytes { IfSome result (λ day. bytes.now ≡ spec.day_bytes day) }
 {
     let year = u16::from_be_bytes([bytes[0], bytes[1]]);
     Day::of(u64::from(year), u64::from(bytes[2]), u64::from(bytes[3]))
@@ -171,7 +180,9 @@ pub(crate) fn day_of(bytes: &[u8]) -> Option<Day>
 
 /// A length, and then a text.
 pub(crate) fn text_front(bytes: &[u8]) -> Option<(&[u8], &[u8])>
-    ensures { option_map (λ found. (found.0.now, found.1.now)) result ≡ spec.text_front bytes.now }
+    ensures found { option_map (λ found. (found.0.now, found.1.now)) result ≡ spec.text_front bytes.now }
+    ensures parts { IfSome result (λ found.
+        bytes.now ≡ spec.text_bytes found.0.now ++ found.1.now) }
 {
     let (count, rest) = byte_front(bytes)?;
     front(rest, usize::from(count))

@@ -9,6 +9,6 @@ pub mod laws;
 mod put;
 mod version_body;
 
-pub use body::{body_of, put_of};
+pub use body::{body_of, put_of, version_of_body};
 pub use fields::Body;
 pub use put::Put;

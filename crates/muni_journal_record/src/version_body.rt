@@ -1,6 +1,6 @@
 //! The body of a version.
 
-ghost use Rattle.std.specs.Prelude.{◌≡◌, ◌≤◌, ◌+◌, ◌++◌, ◌∷◌};
+ghost use Rattle.std.specs.Prelude.{◌≡◌, ◌≤◌, ◌+◌, ◌++◌, ◌∷◌, length, IfSome};
 ghost use Rattle.arrayvec.specs.ArrayVec.{array_vec_len};
 ghost use Rattle.muni_msg.specs.Codes.{given_code, given_units};
 ghost use Rattle.muni_journal_record.specs.Words.{signed};
@@ -10,7 +10,6 @@ use crate::fields::{
     Body, byte_front, cusip_of, day_of, eight_front, four_front, front, push_byte, push_day,
     push_eight, push_four, push_signed, push_text, signed_front, text_front,
 };
-use crate::put::Put;
 use muni_dec::text::push;
 use muni_dec::{Cents, Fee, Par, Price, Price3, Yield, Yield3};
 use muni_msg::{
@@ -29,7 +28,9 @@ pub(crate) struct Money {
 
 #[tactic(auto, unfolding(crate::specs::VersionBody::money_of))]
 fn money_of(bytes: &[u8]) -> Option<Money>
-    ensures { result ≡ spec.money_of bytes.now }
+    ensures value { result ≡ spec.money_of bytes.now }
+    ensures bytes { length bytes.now ≡ 32
+        → IfSome result (λ money. bytes.now ≡ spec.amounts_bytes money) }
 {
     let (principal, rest) = eight_front(bytes)?;
     let principal = Cents::of(principal)?;
@@ -38,17 +39,20 @@ fn money_of(bytes: &[u8]) -> Option<Money>
     let (commission, rest) = eight_front(rest)?;
     let commission = Cents::of(commission)?;
     let (total, _) = eight_front(rest)?;
+    let total = Cents::of(total)?;
     Some(Money {
         principal,
         accrued,
         commission,
-        total: Cents::of(total)?,
+        total,
     })
 }
 
 #[tactic(auto, unfolding(crate::specs::VersionBody::figures_of))]
 fn figures_of(bytes: &[u8]) -> Option<Figures>
-    ensures { result ≡ spec.figures_of bytes.now }
+    ensures value { result ≡ spec.figures_of bytes.now }
+    ensures bytes { length bytes.now ≡ 57
+        → IfSome result (λ figures. bytes.now ≡ spec.figures_bytes figures) }
 {
     let (price, rest) = eight_front(bytes)?;
     let price = Price3::of(price)?;
@@ -167,7 +171,10 @@ pub(crate) fn push_version(body: &mut Body, key: &Key, number: u32, version: &Ve
 
 #[tactic(auto, unfolding(crate::specs::VersionBody::asked_of))]
 fn asked_of(bytes: &[u8]) -> Option<Asked>
-    ensures { result ≡ spec.asked_of bytes.now }
+    ensures value { result ≡ spec.asked_of bytes.now }
+    ensures size { IfSome result (λ asked. length (spec.asked_bytes asked) ≡ 27) }
+    ensures bytes { length bytes.now ≡ 27
+        → IfSome result (λ asked. bytes.now ≡ spec.asked_bytes asked) }
 {
     let (cusip, rest) = front(bytes, 9)?;
     let (side, rest) = byte_front(rest)?;
@@ -191,10 +198,15 @@ fn asked_of(bytes: &[u8]) -> Option<Asked>
     })
 }
 
-/// The put of a version whose body begins so.
+/// The version whose body begins so, with its trade and its number.
 #[tactic(auto, unfolding(crate::specs::VersionBody::version_of))]
-pub(crate) fn version_of(bytes: &[u8]) -> Option<Put>
-    ensures { result ≡ spec.version_of bytes.now }
+pub(crate) fn version_of(bytes: &[u8]) -> Option<(Key, u32, Version)>
+    ensures found { result ≡ spec.version_of bytes.now }
+    ensures size { IfSome result (λ found. length (spec.version_bytes found.0 found.1 found.2)
+        ≡ 91 + length found.0.desk + length found.0.reference) }
+    ensures bytes { IfSome result (λ found.
+        length bytes.now ≡ 91 + length found.0.desk + length found.0.reference
+        → bytes.now ≡ spec.version_bytes found.0 found.1 found.2) }
 {
     let (desk, rest) = text_front(bytes)?;
     let desk = DeskName::read(desk).ok()?;
@@ -206,13 +218,10 @@ pub(crate) fn version_of(bytes: &[u8]) -> Option<Put>
     let (asked, rest) = front(rest, 27)?;
     let asked = asked_of(asked)?;
     let figures = figures_of(rest)?;
-    Some(Put::Version {
-        key: Key { desk, reference },
-        number,
-        version: Version {
-            act,
-            terms: Terms { asked },
-            figures,
-        },
-    })
+    let version = Version {
+        act,
+        terms: Terms { asked },
+        figures,
+    };
+    Some((Key { desk, reference }, number, version))
 }

@@ -9,11 +9,11 @@ pub returns-then-not-is_put-clause-none : goal.returns-then-not-is_put-clause-no
 returns-then-not-is_put-clause-none g c _ f reads =
     let right : is_length c.in-Ok.count ≡ true = grind (arith, nat_tests, c.if-count-lt1.false, c.if-count-gt1024.false) in
     let there = subst (λ (o : Option (List ℕ)). ReadsAs o f) (sym c.number_at.ensures.reads.keeps.bytes) reads in
-    slot_is f c.args.gate c.in-Ok.count c.args.kept.now c.in-Ok-Some.put None (c.in-Ok.ensures.number f reads) right (sym c.in-Ok-Some.field-0-is ∙ c.in-Ok-Some.ensures.put f there) (c.put_next.ensures.refused (c.in-Ok-put_next.is ∙ ap (λ (b : Bool). Ok b) c.if-not-is_put.true))
+    slot_is f c.args.gate c.in-Ok.count c.args.kept.now None (c.in-Ok.ensures.number f reads) right (c.put_at.ensures.refused (c.in-Ok-put_at.is ∙ ap (λ (b : Bool). Ok b) c.if-not-is_put.true) f there)
 
 pub returns-clause-next : goal.returns-clause-next
 returns-clause-next g c f reads =
     let right : is_length c.in-Ok.count ≡ true = grind (arith, nat_tests, c.if-count-lt1.false, c.if-count-gt1024.false) in
     let there = subst (λ (o : Option (List ℕ)). ReadsAs o f) (sym c.number_at.ensures.reads.keeps.bytes) reads in
-    slot_is f c.args.gate c.in-Ok.count c.args.kept.now c.in-Ok-Some.put (Some c.put_next.new.kept) (c.in-Ok.ensures.number f reads) right (sym c.in-Ok-Some.field-0-is ∙ c.in-Ok-Some.ensures.put f there) (c.put_next.ensures.put (c.in-Ok-put_next.is ∙ ap (λ (b : Bool). Ok b) c.if-not-is_put.false))
-    ∙ ap (λ (n : ℕ). let p : Place = record { gate = c.args.gate + 5 + n; tables = c.put_next.new.kept } in Some p) (sym c.from.ensures)
+    slot_is f c.args.gate c.in-Ok.count c.args.kept.now (Some c.put_at.new.kept) (c.in-Ok.ensures.number f reads) right (c.put_at.ensures.put (c.in-Ok-put_at.is ∙ ap (λ (b : Bool). Ok b) c.if-not-is_put.false) f there)
+    ∙ ap (λ (n : ℕ). let p : Place = record { gate = c.args.gate + 5 + n; tables = c.put_at.new.kept } in Some p) (sym c.from.ensures)
