@@ -36,7 +36,8 @@ use Rattle.muni_desk.specs.declared.command.CommandLine.{CommandLine}
 use Rattle.muni_desk.specs.declared.drill.options.DrillRequest.{DrillRequest}
 use Rattle.muni_desk.specs.declared.quote_one.QuoteOneRequest.{QuoteOneRequest}
 use Rattle.muni_desk.specs.declared.request.QuoteRequest.{QuoteRequest}
-use Rattle.muni_desk.specs.WordLaws.{IsCall, IsCommandLine, IsDrill, IsQuote, IsQuoteOne, IsSingle, SaysAsked, SaysTerms, Says, Reads, Lacks, ReadsOr, SaysKind, SaysNoteDays, SaysDays, SaysCoupon, SaysCalls, SaysGiven}
+use Rattle.muni_desk.specs.OptionLaws.{IsSingle, Says, Reads, Lacks, ReadsOr}
+use Rattle.muni_desk.specs.WordLaws.{IsCall, IsCommandLine, IsDrill, IsQuote, IsQuoteOne, SaysAsked, SaysTerms, SaysKind, SaysNoteDays, SaysDays, SaysCoupon, SaysCalls, SaysGiven}
 use Rattle.muni_desk.proofs.CallLawLemmas.{read-call, call-read}
 use Rattle.muni_desk.proofs.OptionalLemmas.{bind-some, some-bind, map-some, ok-some, if-some, when-true}
 use Rattle.muni_desk.proofs.WordLawLemmas.{both, option-joined, options-read, are-options, found-says, says-found, none-lacks, lacks-none, options-read-beside, are-options-beside, has-read, read-has}

@@ -1,5 +1,5 @@
 -- A command is completed if nothing failed.
-use Rattle.std.proofs.Common.{Bool, ◌≡◌, ◌<◌, ◌⊎◌, inl, inr, ℕ, List, length, Some, None, Result, Ok, Err, IfSome, refl, sym, subst, arith, ℤ}
+use Rattle.std.proofs.Common.{Bool, ◌≡◌, ◌<◌, ◌≤◌, ◌+◌, ◌^◌, ◌⊎◌, inl, inr, ℕ, List, length, Option, Some, None, Result, Ok, Err, IfSome, refl, sym, subst, arith, ℤ}
 use Rattle.muni_rule.specs.Payments.{PaymentSeries}
 use Rattle.muni_rule.specs.WorthEnds.{WorthEnds}
 use Rattle.muni_edge.specs.Faults.{Rose}
@@ -23,16 +23,19 @@ use Rattle.muni_desk_positions.specs.Imported.{ImportedWith}
 use Rattle.muni_desk_positions.specs.Listed.{Listed}
 use Rattle.muni_desk_positions.specs.Listing.{MayNotSum}
 use Rattle.muni_marks.specs.Marked.{Marked}
+use Rattle.muni_figures.specs.Figured.{WroteFigures}
+use Rattle.muni_figures.specs.Figured as figures
 use Rattle.muni_desk_serve.specs.Fault.{Outcome}
 use Rattle.muni_desk_serve.specs.Serves.{Traffic}
 use Rattle.muni_desk_serve.specs.Serving.{ServedStore}
 use Rattle.muni_desk_serve.specs.declared.fault.ServeFault.TheVariants as serve
 use Rattle.muni_desk.specs.Answers.{IsQuoteOneText, IsQuoteText, IsDrillText, IsHelpText, IsAnswer}
-use Rattle.muni_desk.specs.CompletenessLaws.{HasAtMost, HasRowsAtMost, EndsWell, EndsWellOverStore, CommandsAreCompleted}
+use Rattle.muni_desk.specs.CompletenessLaws.{HasAtMost, HasPlaces, HasRowsAtMost, EndsWell, EndsWellOverStore, CommandsAreCompleted}
 use Rattle.muni_desk.specs.Does.{Says}
+use Rattle.muni_desk.specs.Store.{CountsFaults}
 use Rattle.muni_desk.specs.Status.{of_answered, of_done, of_served}
 use Rattle.muni_desk.specs.declared.command.DeskCommand.{DeskCommand}
-use Rattle.muni_desk.specs.declared.command.DeskCommand.TheVariants.{QuoteOne, Quote, Import, Load, Confirm, Serve, Positions, Mark, Export, Drill, Help}
+use Rattle.muni_desk.specs.declared.command.DeskCommand.TheVariants.{QuoteOne, Quote, Import, Load, Confirm, Serve, Positions, Mark, Figures, Export, Drill, Help}
 use Rattle.muni_desk.specs.declared.drill.options.DrillRequest.{DrillRequest}
 use Rattle.muni_desk.specs.declared.quote_one.QuoteOneRequest.{QuoteOneRequest}
 use Rattle.muni_desk.specs.declared.request.QuoteRequest.{QuoteRequest}
@@ -70,6 +73,7 @@ right-answered ends (Confirm store key) answer is = absurd is
 right-answered ends (Serve store port connections limit) answer is = absurd is
 right-answered ends (Positions store desk) answer is = absurd is
 right-answered ends (Mark store) answer is = absurd is
+right-answered ends (Figures store options) answer is = absurd is
 right-answered ends (Export store wanted) answer is = absurd is
 
 written-or-not : {A B : Type 0} (end right : Status) → EndsWell right → ((end ≡ right) × A) ⊎ ((end ≡ status.WriteFault) × B) → ¬ (end ≡ status.WriteFault) → EndsWell end
@@ -159,6 +163,28 @@ mark-completed source sink cabinet Prices store (Err Write) end old new is did f
 mark-completed source sink cabinet Prices store (Err Read) end old new is did few input output stored = absurd (input did.1)
 mark-completed source sink cabinet Prices store (Err TooLarge) end old new is did few input output stored = absurd (not-large source 1_048_576 old.input few did.1)
 
+placeless : {I : Type 0} (source : Source.Ghosts I) (first : ℕ) (input : I) → HasPlaces source first input → IfSome (source.left input) (figures.HasTooManyRows first) → ⊥
+placeless source first input (text, is, few) large =
+    let many = subst (λ left. IfSome left (figures.HasTooManyRows first)) is large in
+    absurd (omega (arith, few, many))
+
+-- what is said of a text that is exposed
+of-text : {A B : List ℕ → Type 0} (left : Option (List ℕ)) → ((text : List ℕ) → A text → B text) → IfSome left A → IfSome left B
+of-text None then is = tt
+of-text (Some text) then is = then text is
+
+figures-completed : {I O C K : Type 0} (source : Source.Ghosts I) (sink : Sink.Ghosts O) (cabinet : Cabinet.Ghosts C K) (Answers : _) (header : List ℕ) (first : ℕ) (result : Result (Unit {0}) Fault) (end : Status) (old new : Lent I O C)
+    → end ≡ of_done result → IfSome (source.left old.input) (λ text. WroteFigures Answers header first text result (source.left new.input) (sink.bytes old.output) (sink.bytes new.output))
+    → CountsFaults source sink cabinet result old new → HasPlaces source first old.input
+    → ¬ (Rose (source.faults old.input) (source.faults new.input)) → ¬ (Rose (sink.faults old.output) (sink.faults new.output)) → ¬ (Rose (cabinet.faults old.cabinet) (cabinet.faults new.cabinet)) → EndsWellOverStore end
+figures-completed source sink cabinet Answers header first (Ok done) end old new is wrote counts few input output stored = subst EndsWellOverStore (sym is) tt
+figures-completed source sink cabinet Answers header first (Err NoMemory) end old new is wrote counts few input output stored = subst EndsWellOverStore (sym is) tt
+figures-completed source sink cabinet Answers header first (Err Store) end old new is wrote counts few input output stored = absurd (stored (counts.2 refl))
+figures-completed source sink cabinet Answers header first (Err Write) end old new is wrote counts few input output stored = absurd (output (counts.1 refl))
+figures-completed source sink cabinet Answers header first (Err Read) end old new is wrote counts few input output stored = absurd (input (counts.0 refl))
+figures-completed source sink cabinet Answers header first (Err TooLarge) end old new is wrote counts few input output stored =
+    absurd (placeless source first old.input few (of-text (source.left old.input) (λ text many. many.1) wrote))
+
 export-completed : {O : Type 0} (sink : Sink.Ghosts O) (wanted : Wanted) (told : _) (counted : Type 0) (result : Result (Unit {0}) Fault) (end : Status) (before after : O)
     → end ≡ of_done result → WritesKept sink wanted told counted result before after → ¬ (told ≡ None) → ¬ (Rose (sink.faults before) (sink.faults after)) → ¬ counted → EndsWellOverStore end
 export-completed sink wanted told counted (Ok done) end before after is did can output stored = subst EndsWellOverStore (sym is) tt
@@ -195,5 +221,7 @@ completed source sink cabinet door ends told (Positions store desk) end old new 
     list-completed sink desk _ _ does.0.0 end old.output new.output does.0.1 does.0.2.0 can none.writes none.stores
 completed source sink cabinet door ends told (Mark store) end old new before after does none few can =
     mark-completed source sink cabinet _ store.items does.0.0 end old new does.0.1 does.0.2.0 few none.reads none.writes none.stores
+completed source sink cabinet door ends told (Figures store options) end old new before after does none few can =
+    figures-completed source sink cabinet _ _ options.first does.0.0 end old new does.0.1 does.0.2.0 does.0.2.1 few none.reads none.writes none.stores
 completed source sink cabinet door ends told (Export store wanted) end old new before after does none few can =
     export-completed sink wanted _ _ does.0.0 end old.output new.output does.0.1 does.0.2.0 can none.writes none.stores

@@ -10,7 +10,9 @@ use Rattle.muni_desk_export.specs.declared.wanted.Wanted.{Wanted}
 use Rattle.muni_desk_export.specs.declared.wanted.Wanted.TheVariants as want
 use Rattle.muni_desk.specs.Words.{are_options, are_options_beside, has_word, value_of}
 use Rattle.muni_desk.specs.StoreOptions.{desk_options, store_options, issues_word, store_of, desk_of, wanted_in, wanted_of, export_line, export_of, list_line, list_of, check_store_line, check_store_of}
-use Rattle.muni_desk.specs.WordLaws.{AsksFor, Has, IsCommandLine, IsStoreAlone, IsExport, IsList, IsSingle, SaysWanted}
+use Rattle.muni_desk.specs.OptionLaws.{Has, IsSingle}
+use Rattle.muni_desk.specs.StoreWordLaws.{IsStoreAlone, IsExport, IsList, SaysWanted}
+use Rattle.muni_desk.specs.WordLaws.{AsksFor, IsCommandLine}
 use Rattle.muni_desk.specs.declared.command.CommandLine.{CommandLine}
 use Rattle.muni_desk.specs.declared.command.DeskCommand.TheVariants.{Export}
 use Rattle.muni_desk.proofs.CommandLawLemmas.{read-ok, ok-read}

@@ -25,6 +25,7 @@ use Rattle.muni_desk.specs.Request.{IsAnswerOf}
 use Rattle.muni_desk.specs.Sums.{Answered, summary_text}
 use Rattle.muni_desk.specs.declared.command.DeskCommand.{DeskCommand}
 use Rattle.muni_desk.specs.declared.command.DeskCommand.TheVariants.{QuoteOne, Quote, Import, Load, Confirm, Serve, Positions, Mark, Export, Drill, Help}
+use Rattle.muni_desk.specs.declared.command.DeskCommand.TheVariants as asks
 use Rattle.muni_desk.specs.declared.drill.options.DrillRequest.{DrillRequest}
 use Rattle.muni_desk.specs.declared.quote_one.QuoteOneRequest.{QuoteOneRequest}
 use Rattle.muni_desk.specs.declared.request.QuoteRequest.{QuoteRequest}
@@ -133,4 +134,5 @@ answer-unique ends (Confirm store key) answer other fine is also = absurd is
 answer-unique ends (Serve store port connections limit) answer other fine is also = absurd is
 answer-unique ends (Positions store desk) answer other fine is also = absurd is
 answer-unique ends (Mark store) answer other fine is also = absurd is
+answer-unique ends (asks.Figures store options) answer other fine is also = absurd is
 answer-unique ends (Export store wanted) answer other fine is also = absurd is

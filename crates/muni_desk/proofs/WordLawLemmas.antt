@@ -12,7 +12,7 @@ use Rattle.std.proofs.lemmas.Option.{none-some, same_Some}
 use Rattle.std.proofs.lemmas.Slice.Eq.{starts_is, bytes_eq-Decides}
 use Rattle.muni_desk.specs.Words.{word, is_option, are_known, are_known_beside, are_single, are_options, are_options_beside, are_once, count_of, has_word, has_word_once, value_of}
 use Rattle.muni_desk.specs.QuoteOptions.{options}
-use Rattle.muni_desk.specs.WordLaws.{IsOption, IsKnown, IsKnownBeside, IsOnceAtMost, Has, IsSingle, Says, Lacks}
+use Rattle.muni_desk.specs.OptionLaws.{IsOption, IsKnown, IsKnownBeside, IsOnceAtMost, Has, IsSingle, Says, Lacks}
 
 -- ---- tests
 pub both : (a b : Bool) → a && b ≡ true → (a ≡ true) × (b ≡ true)

@@ -5,21 +5,26 @@ use Rattle.muni_desk.specs.DrillOptions.{drill_of}
 use Rattle.muni_desk.specs.QuoteOne.{quote_one_of}
 use Rattle.muni_desk.specs.Help.{help_of}
 use Rattle.muni_desk.specs.QuoteOptions.{quote_of}
-use Rattle.muni_desk.specs.StoreOptions.{import_of, load_of, confirm_of, serve_of, positions_of, mark_of, export_of, list_of, check_store_of}
+use Rattle.muni_desk.specs.StoreOptions.{import_of, load_of, confirm_of, serve_of, positions_of, mark_of, export_of, list_of, check_store_of, figures_of}
 use Rattle.muni_desk.specs.declared.command.CommandLine.{CommandLine}
 
--- the command over a store of that name, and of the words after it
+-- the command of that name, and of the words after it, that only writes what a store keeps
+unfoldable pub of_kept_of : List ℕ → List (List ℕ) → Option CommandLine
+of_kept_of name words =
+    if bytes_eq name (codes "confirm") then confirm_of words
+    else (if bytes_eq name (codes "positions") then positions_of words
+    else (if bytes_eq name (codes "export") then export_of words
+    else (if bytes_eq name (codes "list") then list_of words
+    else (if bytes_eq name (codes "check-store") then check_store_of words else None))))
+
+-- or any over a store
 abbrev pub over_store_of : List ℕ → List (List ℕ) → Option CommandLine
 over_store_of name words =
     if bytes_eq name (codes "import") then import_of words
-    else (if bytes_eq name (codes "confirm") then confirm_of words
-    else (if bytes_eq name (codes "serve") then serve_of words
-    else (if bytes_eq name (codes "positions") then positions_of words
-    else (if bytes_eq name (codes "mark") then mark_of words
-    else (if bytes_eq name (codes "export") then export_of words
-    else (if bytes_eq name (codes "list") then list_of words
     else (if bytes_eq name (codes "load") then load_of words
-    else (if bytes_eq name (codes "check-store") then check_store_of words else None))))))))
+    else (if bytes_eq name (codes "serve") then serve_of words
+    else (if bytes_eq name (codes "mark") then mark_of words
+    else (if bytes_eq name (codes "figures") then figures_of words else of_kept_of name words))))
 
 -- the command of words: the first is its name, and those after it say what it is asked for
 abbrev pub command_of : List (List ℕ) → Option CommandLine

@@ -23,4 +23,5 @@ help_text =
     ++ (codes "list --store --desk\n"
     ++ (codes "load --store --desk-limit\n"
     ++ (codes "check-store --store\n"
-    ++ codes "help\n")))))))))))
+    ++ (codes "figures --store --workers --from --header\n"
+    ++ codes "help\n"))))))))))))

@@ -16,6 +16,8 @@ pub mod Written
 pub mod Store
 pub mod Does
 pub mod AnswerLaws
+pub mod OptionLaws
+pub mod StoreWordLaws
 pub mod WordLaws
 pub mod CompletenessLaws
 pub mod PrintLaws

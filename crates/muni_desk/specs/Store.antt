@@ -1,5 +1,5 @@
 -- What each command over a store does, by its status.
-use Rattle.std.specs.Prelude.{◌≡◌, ℕ, List, IfSome}
+use Rattle.std.specs.Prelude.{◌≡◌, ℕ, List, Result, IfSome, IsErrOf, OnOk}
 use Rattle.muni_edge.specs.Faults.{Rose}
 use Rattle.muni_edge.specs.declared.door.Door as Door
 use Rattle.muni_edge.specs.declared.sink.Sink as Sink
@@ -10,6 +10,8 @@ use Rattle.muni_book_step.specs.Step.{Pricing, Rules}
 use Rattle.muni_msg.specs.declared.command.Key.{Key}
 use Rattle.muni_desk_io.specs.Input.{TakesUpTo}
 use Rattle.muni_desk_io.specs.Lent.{Lent}
+use Rattle.muni_desk_io.specs.declared.fault.Fault.{Fault}
+use Rattle.muni_desk_io.specs.declared.fault.Fault.TheVariants.{Read, Write, Store}
 use Rattle.muni_desk_io.specs.Reports.{ReportsReads, ReportsWrites}
 use Rattle.muni_desk_export.specs.Kept.{WritesKept}
 use Rattle.muni_desk_export.specs.declared.wanted.Wanted.{Wanted}
@@ -20,6 +22,10 @@ use Rattle.muni_desk_import.specs.Reported.{Reported}
 use Rattle.muni_desk_positions.specs.Imported.{ImportedWith, DoesNoneOfTooMany}
 use Rattle.muni_desk_positions.specs.Listed.{Listed}
 use Rattle.muni_marks.specs.Marked.{Marked, MarksReported}
+use Rattle.muni_figures.specs.Figured.{WroteFigures}
+use Rattle.muni_figures.specs.Line.{header}
+use Rattle.muni_figures.specs.Said.{IsToldOf}
+use Rattle.muni_figures.specs.declared.command.FiguresOptions.{FiguresOptions}
 use Rattle.muni_desk_serve.specs.Serves.{Traffic}
 use Rattle.muni_desk_serve.specs.Serving.{ServedStore}
 use Rattle.muni_desk.specs.Status.{of_answered, of_done, of_served}
@@ -80,6 +86,22 @@ Marks source sink cabinet Prices store status old new =
     × IfSome (source.left old.input) (λ text. MarksReported text result (sink.bytes old.output) (sink.bytes new.output))
     × ReportsReads source result old.input new.input × ReportsWrites sink result old.output new.output)
     × TakesUpTo source 1_048_577 old.input new.input × LeavesAll cabinet old.cabinet new.cabinet
+
+-- the faults that end figures are counted
+abbrev pub CountsFaults : {I O C K T : Type 0} → Source.Ghosts I → Sink.Ghosts O → Cabinet.Ghosts C K → Result T Fault → (old new : Lent I O C) → Type 0
+CountsFaults source sink cabinet result old new =
+    (IsErrOf result Read → Rose (source.faults old.input) (source.faults new.input))
+    × (IsErrOf result Write → Rose (sink.faults old.output) (sink.faults new.output))
+    × (IsErrOf result Store → Rose (cabinet.faults old.cabinet) (cabinet.faults new.cabinet))
+
+-- the figures of rows of any number
+abbrev pub WritesFigures : {I O C K : Type 0} → Source.Ghosts I → Sink.Ghosts O → Cabinet.Ghosts C K → Pricing → List ℕ → FiguresOptions → Status → (old new : Lent I O C) → Type 0
+WritesFigures source sink cabinet Prices store options status old new =
+    EndsAs of_done status (λ result. IfSome (source.left old.input) (λ text. WroteFigures (IsToldOf Prices (cabinet.told old.cabinet store))
+    (header options.has_header) options.first text result (source.left new.input) (sink.bytes old.output) (sink.bytes new.output))
+    × CountsFaults source sink cabinet result old new
+    × OnOk result (source.faults new.input ≡ source.faults old.input) × ReportsWrites sink result old.output new.output)
+    × TakesSome source old.input new.input × LeavesAll cabinet old.cabinet new.cabinet
 
 -- what the store keeps, as it is wanted
 abbrev pub Exports : {I O C K : Type 0} → Sink.Ghosts O → Cabinet.Ghosts C K → List ℕ → Wanted → Status → (old new : Lent I O C) → Type 0

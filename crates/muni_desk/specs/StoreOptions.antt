@@ -9,9 +9,10 @@ use Rattle.muni_msg.specs.NameReading.{name_reading}
 use Rattle.muni_msg.specs.Names.{is_desk_letter}
 use Rattle.muni_desk_export.specs.declared.wanted.Wanted.{Wanted}
 use Rattle.muni_desk_export.specs.declared.wanted.Wanted.TheVariants as want
+use Rattle.muni_figures.specs.declared.command.FiguresOptions.{FiguresOptions}
 use Rattle.muni_desk.specs.QuoteOptions.{workers_of}
 use Rattle.muni_desk.specs.Words.{◌>>=◌, are_options, are_options_beside, has_word, value_of}
-use Rattle.muni_desk.specs.declared.command.DeskCommand.TheVariants.{Import, Load, Confirm, Serve, Positions, Mark, Export}
+use Rattle.muni_desk.specs.declared.command.DeskCommand.TheVariants.{Import, Load, Confirm, Serve, Positions, Mark, Figures, Export}
 use Rattle.muni_desk.specs.declared.command.CommandLine.{CommandLine}
 
 -- all options, each at most once
@@ -32,16 +33,24 @@ serve_options =
 abbrev pub desk_options : List (List ℕ)
 desk_options = codes "--store=" ∷ codes "--desk=" ∷ []
 
+-- a store, how many workers may compute, and the place of the first row
+abbrev pub figures_options : List (List ℕ)
+figures_options = codes "--store=" ∷ codes "--workers=" ∷ codes "--from=" ∷ []
+
 -- a store alone
 abbrev pub store_options : List (List ℕ)
 store_options = codes "--store=" ∷ []
 
--- the words that have no value: the confirmations of all trades are wanted, or the issues alone
+-- the words that have no value: the confirmations of all trades are wanted, or the issues alone, or the names of
+-- the columns
 abbrev pub all_word : List ℕ
 all_word = codes "--all"
 
 abbrev pub issues_word : List ℕ
 issues_word = codes "--issues"
+
+abbrev pub header_word : List ℕ
+header_word = codes "--header"
 
 -- a text names a store: at most 200 bytes, which print and are no blank
 abbrev pub is_store_name : List ℕ → Bool
@@ -169,6 +178,26 @@ mark_line words = do
 abbrev pub mark_of : List (List ℕ) → Option CommandLine
 mark_of words =
     if are_options store_options store_options words then mark_line words else None
+
+-- the place of the first row: below 2^63, and 1 if no number is given
+abbrev pub first_in : Option (List ℕ) → Option ℕ
+first_in (Some text) = number_reading 20 1 9_223_372_036_854_775_807 text
+first_in None = Some 1
+
+abbrev pub first_of : List (List ℕ) → Option ℕ
+first_of words = first_in (value_of (codes "--from=") words)
+
+-- the figures of rows, by the issues of a store
+abbrev pub figures_line : List (List ℕ) → Option CommandLine
+figures_line words = do
+  store ← store_of words
+  first ← first_of words
+  workers ← workers_of words
+  Some (record { command = Figures store (record { first = first; has_header = has_word header_word words }); workers = workers })
+
+abbrev pub figures_of : List (List ℕ) → Option CommandLine
+figures_of words =
+    if are_options_beside header_word figures_options figures_options words then figures_line words else None
 
 -- what is wanted: a desk, or the issues alone, or everything if neither is given
 abbrev pub wanted_in : Bool → Option (List ℕ) → Option Wanted

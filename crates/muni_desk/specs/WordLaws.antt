@@ -1,6 +1,5 @@
 -- What the words of a command line say, in the rule's own words.
-use Rattle.std.specs.Prelude.{◌≡◌, ◌≢◌, ◌<◌, ◌≤◌, ◌↔◌, ◌⊎◌, ℕ, Bool, true, false, List, [], ◌∷◌, ◌++◌, length, map, filter, All, Contains, codes, Option, Some, None, Ok}
-use Rattle.std.specs.Char.{is_ascii_alphanumeric}
+use Rattle.std.specs.Prelude.{◌≡◌, ◌≤◌, ◌↔◌, ◌⊎◌, ℕ, Bool, List, [], ◌∷◌, ◌++◌, length, map, filter, All, Contains, codes, Some, None, Ok}
 use Rattle.std.specs.List.{AllZip}
 use Rattle.arrayvec.specs.ArrayVec.{ArrayVec}
 use Rattle.muni_rule.specs.declared.basis.Basis.{Basis}
@@ -18,75 +17,20 @@ use Rattle.muni_msg.specs.declared.asked.Asked.{Asked}
 use Rattle.muni_msg.specs.declared.asked.Given.{Given}
 use Rattle.muni_msg.specs.declared.asked.Given.TheVariants.{AtYield, AtPrice, AtRate}
 use Rattle.muni_msg.specs.declared.asked.Side.TheVariants.{Buy}
-use Rattle.muni_msg.specs.NameReading.{name_reading}
-use Rattle.muni_msg.specs.Names.{is_desk_letter}
-use Rattle.muni_msg.specs.declared.command.Key.{Key}
 use Rattle.muni_desk_export.specs.declared.wanted.Wanted.{Wanted}
 use Rattle.muni_desk_export.specs.declared.wanted.Wanted.TheVariants as want
 use Rattle.muni_desk.specs.Words.{word, is_option}
 use Rattle.muni_desk.specs.QuoteOptions.{options, single_options}
 use Rattle.muni_desk.specs.DrillOptions as drill
-use Rattle.muni_desk.specs.StoreOptions.{import_options, load_options, confirm_options, serve_options, desk_options, store_options}
 use Rattle.muni_desk.specs.Command.{command_of}
 use Rattle.muni_desk.specs.declared.command.DeskCommand.{DeskCommand}
-use Rattle.muni_desk.specs.declared.command.DeskCommand.TheVariants.{QuoteOne, Quote, Import, Load, Confirm, Serve, Positions, Mark, Export, Drill, Help}
+use Rattle.muni_desk.specs.declared.command.DeskCommand.TheVariants.{QuoteOne, Quote, Import, Load, Confirm, Serve, Positions, Mark, Figures, Export, Drill, Help}
 use Rattle.muni_desk.specs.declared.command.CommandLine.{CommandLine}
 use Rattle.muni_desk.specs.declared.drill.options.DrillRequest.{DrillRequest}
 use Rattle.muni_desk.specs.declared.quote_one.QuoteOneRequest.{QuoteOneRequest}
 use Rattle.muni_desk.specs.declared.request.QuoteRequest.{QuoteRequest}
-
--- ---- one option
--- a word is the option of a name: the name, and after it a value that is not empty
-pub record IsOption (name text : List ℕ) : Type 0 where
-  pub value : List ℕ
-  pub joined : text ≡ name ++ value
-  pub not_empty : value ≢ []
-
--- the option of one of these names
-pub record IsKnown (names : List (List ℕ)) (text : List ℕ) : Type 0 where
-  pub name : List ℕ
-  pub listed : Contains names name
-  pub is_its : IsOption name text
-
--- the option of one of these names, or this word, which has no value
-abbrev pub IsKnownBeside : List ℕ → List (List ℕ) → List ℕ → Type 0
-IsKnownBeside plain names text = (text ≡ plain) ⊎ IsKnown names text
-
--- a word is at one place at most
-abbrev pub IsOnceAtMost : List ℕ → List (List ℕ) → Type 0
-IsOnceAtMost plain words =
-    (i j : ℕ) → i < length words → j < length words → word words i ≡ plain → word words j ≡ plain → i ≡ j
-
--- it is among words, or is not
-abbrev pub Has : List ℕ → List (List ℕ) → Bool → Type 0
-Has plain words true = Contains words plain
-Has plain words false = ¬ (Contains words plain)
-
--- the option of a name is at one place at most
-abbrev pub IsSingle : List (List ℕ) → List ℕ → Type 0
-IsSingle words name =
-    (i j : ℕ) → i < length words → j < length words
-    → IsOption name (word words i) → IsOption name (word words j) → i ≡ j
-
--- an option with this value is among words
-pub record Says (words : List (List ℕ)) (name value : List ℕ) : Type 0 where
-  pub among : Contains words (name ++ value)
-  pub not_empty : value ≢ []
-
--- an option is among words, and its value is read so
-pub record Reads (words : List (List ℕ)) (name : List ℕ) (IsRead : List ℕ → Type 0)
-    : Type 0 where
-  pub text : List ℕ
-  pub stands : Says words name text
-  pub is_read : IsRead text
-
--- an option is nowhere among words
-abbrev pub Lacks : List (List ℕ) → List ℕ → Type 0
-Lacks words name = (value : List ℕ) → ¬ (Says words name value)
-
--- if the option is there, its value is read so, and else this holds
-abbrev pub ReadsOr : List (List ℕ) → List ℕ → (List ℕ → Type 0) → Type 0 → Type 0
-ReadsOr words name IsRead IsElse = Reads words name IsRead ⊎ (Lacks words name × IsElse)
+use Rattle.muni_desk.specs.OptionLaws.{IsOption, IsKnown, IsKnownBeside, IsOnceAtMost, Has, IsSingle, Says, Reads, Lacks, ReadsOr}
+use Rattle.muni_desk.specs.StoreWordLaws.{IsImport, IsConfirm, IsConfirmAll, IsLoad, IsServe, IsPositions, IsStoreAlone, IsFigures, IsExport, IsList}
 
 -- ---- the options of `quote`
 -- the kind, and the first interest date exactly if it is `periodic`
@@ -191,120 +135,6 @@ pub record IsQuote (words : List (List ℕ)) (request : QuoteRequest) (each : Bo
       ReadsOr words (codes "--workers=") (λ text. number_reading 20 1 16 text ≡ Some workers)
       (workers ≡ 1)
 
--- ---- the options of the commands over a store
--- the name of a store: at most 200 bytes, each above a blank and at most 126
-pub record SaysStore (words : List (List ℕ)) (store : ArrayVec ℕ) : Type 0 where
-  pub stands : Says words (codes "--store=") store.items
-  pub few : length store.items ≤ 200
-  pub bytes : All (λ b. (33 ≤ b) × (b ≤ 126)) store.items
-
--- the desk whose positions are asked for, if those of any are
-abbrev pub SaysPositions : List (List ℕ) → Option (List ℕ) → Type 0
-SaysPositions words None = Lacks words (codes "--positions=")
-SaysPositions words (Some desk) =
-    Reads words (codes "--positions=") (λ text. name_reading is_desk_letter 16 text ≡ Ok desk)
-
--- how many trades a desk may have: from 1 to 100,000,000, and 100,000 if no number is given
-abbrev pub SaysLimit : List (List ℕ) → ℕ → Type 0
-SaysLimit words limit =
-    ReadsOr words (codes "--desk-limit=") (λ text. number_reading 20 1 100_000_000 text ≡ Some limit)
-    (limit ≡ 100_000)
-
--- words after `import`: a store, the desk whose positions are asked for, if any, how many trades a desk may
--- have, and from 1 to 16 workers, and one if no number is given
-pub record IsImport (words : List (List ℕ)) (store : ArrayVec ℕ) (listed : Option (List ℕ)) (limit workers : ℕ) : Type 0 where
-  pub known : All (IsKnown import_options) words
-  pub single : All (IsSingle words) import_options
-  pub named : SaysStore words store
-  pub positions : SaysPositions words listed
-  pub room : SaysLimit words limit
-  pub at_once :
-      ReadsOr words (codes "--workers=") (λ text. number_reading 20 1 16 text ≡ Some workers)
-      (workers ≡ 1)
-
--- words after `confirm` for one trade: a store, a desk and the reference of the trade
-pub record IsConfirm (words : List (List ℕ)) (store : ArrayVec ℕ) (key : Key) : Type 0 where
-  pub known : All (IsKnown confirm_options) words
-  pub single : All (IsSingle words) confirm_options
-  pub named : SaysStore words store
-  pub desk :
-      Reads words (codes "--desk=") (λ text. name_reading is_desk_letter 16 text ≡ Ok key.desk)
-  pub reference :
-      Reads words (codes "--ref=")
-      (λ text. name_reading is_ascii_alphanumeric 20 text ≡ Ok key.reference)
-
--- words after `confirm` for all trades of a desk: a store, the desk and the word `--all`
-pub record IsConfirmAll (words : List (List ℕ)) (store : ArrayVec ℕ) (desk : List ℕ) : Type 0 where
-  pub known : All (IsKnownBeside (codes "--all") desk_options) words
-  pub once : IsOnceAtMost (codes "--all") words
-  pub single : All (IsSingle words) desk_options
-  pub has_all : Has (codes "--all") words true
-  pub named : SaysStore words store
-  pub desk_named :
-      Reads words (codes "--desk=") (λ text. name_reading is_desk_letter 16 text ≡ Ok desk)
-
--- words after `load`: a store, and how many trades a desk may have
-pub record IsLoad (words : List (List ℕ)) (store : ArrayVec ℕ) (limit : ℕ) : Type 0 where
-  pub known : All (IsKnown load_options) words
-  pub single : All (IsSingle words) load_options
-  pub named : SaysStore words store
-  pub room : SaysLimit words limit
-
--- words after `serve`: a store, a port from 1 to 65,535, from 1 to 1,000,000 connections, how many trades a
--- desk may have, and from 1 to 16 workers, and one if no number is given
-pub record IsServe (words : List (List ℕ)) (store : ArrayVec ℕ) (port connections limit workers : ℕ) : Type 0 where
-  pub known : All (IsKnown serve_options) words
-  pub single : All (IsSingle words) serve_options
-  pub named : SaysStore words store
-  pub bound :
-      Reads words (codes "--port=") (λ text. number_reading 20 1 65_535 text ≡ Some port)
-  pub most :
-      Reads words (codes "--connections=")
-      (λ text. number_reading 20 1 1_000_000 text ≡ Some connections)
-  pub room : SaysLimit words limit
-  pub at_once :
-      ReadsOr words (codes "--workers=") (λ text. number_reading 20 1 16 text ≡ Some workers)
-      (workers ≡ 1)
-
--- words after `positions`: a store and a desk
-pub record IsPositions (words : List (List ℕ)) (store : ArrayVec ℕ) (desk : List ℕ) : Type 0 where
-  pub known : All (IsKnown desk_options) words
-  pub single : All (IsSingle words) desk_options
-  pub named : SaysStore words store
-  pub desk_named :
-      Reads words (codes "--desk=") (λ text. name_reading is_desk_letter 16 text ≡ Ok desk)
-
--- words after `mark` or `check-store`: a store
-pub record IsStoreAlone (words : List (List ℕ)) (store : ArrayVec ℕ) : Type 0 where
-  pub known : All (IsKnown store_options) words
-  pub single : All (IsSingle words) store_options
-  pub named : SaysStore words store
-
--- what is wanted of an export: a desk, or the issues alone by the word `--issues`, or everything by neither
-abbrev pub SaysWanted : List (List ℕ) → Wanted → Type 0
-SaysWanted words want.Everything = Has (codes "--issues") words false × Lacks words (codes "--desk=")
-SaysWanted words want.Issues = Has (codes "--issues") words true × Lacks words (codes "--desk=")
-SaysWanted words (want.Desk desk) =
-    Has (codes "--issues") words false
-    × Reads words (codes "--desk=") (λ text. name_reading is_desk_letter 16 text ≡ Ok desk)
-SaysWanted words other = ⊥
-
--- words after `export`: a store, and what is wanted of it
-pub record IsExport (words : List (List ℕ)) (store : ArrayVec ℕ) (wanted : Wanted) : Type 0 where
-  pub known : All (IsKnownBeside (codes "--issues") desk_options) words
-  pub once : IsOnceAtMost (codes "--issues") words
-  pub single : All (IsSingle words) desk_options
-  pub named : SaysStore words store
-  pub says : SaysWanted words wanted
-
--- words after `list`: a store and a desk
-pub record IsList (words : List (List ℕ)) (store : ArrayVec ℕ) (desk : List ℕ) : Type 0 where
-  pub known : All (IsKnown desk_options) words
-  pub single : All (IsSingle words) desk_options
-  pub named : SaysStore words store
-  pub desk_named :
-      Reads words (codes "--desk=") (λ text. name_reading is_desk_letter 16 text ≡ Ok desk)
-
 -- ---- the options of `drill`
 -- words after `drill`: up to 1,000 trades, a seed below 2^64, and from 1 to 16 workers
 pub record IsDrill (words : List (List ℕ)) (request : DrillRequest) (workers : ℕ) : Type 0 where
@@ -360,6 +190,8 @@ IsSaid (name ∷ words) (Positions store desk) workers =
     (name ≡ codes "positions") × IsPositions words store desk × (workers ≡ 1)
 IsSaid (name ∷ words) (Mark store) workers =
     (name ≡ codes "mark") × IsStoreAlone words store × (workers ≡ 1)
+IsSaid (name ∷ words) (Figures store options) workers =
+    (name ≡ codes "figures") × IsFigures words store options workers
 IsSaid (name ∷ words) (Export store wanted) workers =
     AsksFor name words store wanted × (workers ≡ 1)
 IsSaid (name ∷ words) (Drill request) workers =

@@ -91,7 +91,7 @@ pub fn help_answer() -> Answer
 }
 
 fn said(lines: &[u8]) -> ArrayVec<u8, 10624>
-    requires { length lines.now ≤ 512 }
+    requires { length lines.now ≤ 1_024 }
     ensures { result.items ≡ lines.now }
 {
     let mut text = ArrayVec::new();

@@ -9,12 +9,13 @@ use crate::quote_one::{QuoteOneRequest, read_quote_one};
 use crate::quote_options::read_quote;
 use crate::request::QuoteRequest;
 use crate::store_options::{
-    read_check_store, read_confirm, read_export, read_import, read_list, read_load, read_mark,
-    read_positions, read_serve,
+    read_check_store, read_confirm, read_export, read_figures, read_import, read_list, read_load,
+    read_mark, read_positions, read_serve,
 };
 use arrayvec::ArrayVec;
 use muni_book::Workers;
 use muni_desk_export::Wanted;
+use muni_figures::FiguresOptions;
 use muni_msg::{DeskLimit, DeskName, Key};
 
 /// What the desk can be asked for.
@@ -52,6 +53,11 @@ pub enum DeskCommand {
     /// What the rows of the input are worth, by the issues that a store keeps.
     Mark {
         store: ArrayVec<u8, 200>,
+    },
+    /// The figures of rows of any number, by the issues that a store keeps.
+    Figures {
+        store: ArrayVec<u8, 200>,
+        options: FiguresOptions,
     },
     /// What a store keeps, as it is wanted.
     Export {
@@ -92,18 +98,29 @@ pub fn read(words: &[String]) -> Option<CommandLine>
     }
 }
 
+// A command that reads an input or requests over a store, or one that only writes what it keeps.
 fn read_over_store(name: &str, options: &[String]) -> Option<CommandLine>
     ensures { result ≡ spec.over_store_of name.now (map string_bytes options.now) }
 {
     match name {
         "import" => read_import(options),
-        "confirm" => read_confirm(options),
+        "load" => read_load(options),
         "serve" => read_serve(options),
-        "positions" => read_positions(options),
         "mark" => read_mark(options),
+        "figures" => read_figures(options),
+        other => read_of_kept(other, options),
+    }
+}
+
+#[tactic(auto, unfolding(crate::specs::Command::of_kept_of))]
+fn read_of_kept(name: &str, options: &[String]) -> Option<CommandLine>
+    ensures { result ≡ spec.of_kept_of name.now (map string_bytes options.now) }
+{
+    match name {
+        "confirm" => read_confirm(options),
+        "positions" => read_positions(options),
         "export" => read_export(options),
         "list" => read_list(options),
-        "load" => read_load(options),
         "check-store" => read_check_store(options),
         _ => None,
     }

@@ -20,6 +20,7 @@ export --store --desk --issues\n\
 list --store --desk\n\
 load --store --desk-limit\n\
 check-store --store\n\
+figures --store --workers --from --header\n\
 help\n";
 
 /// What is asked for if there are no words.
@@ -36,7 +37,7 @@ pub fn read_help(words: &[String]) -> Option<CommandLine>
 }
 
 /// A line for each command, with its options.
-pub fn help_text() -> ArrayVec<u8, 512>
+pub fn help_text() -> ArrayVec<u8, 1024>
     ensures { result.items ≡ spec.help_text }
 {
     let mut text = ArrayVec::new();

@@ -17,6 +17,7 @@ use muni_desk_import::{confirm, import, load};
 use muni_desk_positions::{import_with_positions, positions};
 use muni_desk_serve::serve;
 use muni_edge::{Door, Gate, Sink, Source};
+use muni_figures::figures;
 use muni_keep::Cabinet;
 use muni_marks::mark;
 use muni_multi::Encloser;
@@ -32,8 +33,8 @@ use std::thread::Threads;
 /// writes a line on each, and then the positions of a desk if one is named. `load` does so of an input of
 /// any length. `confirm` writes the confirmation of a trade that a store keeps, or with `--all` those of
 /// all trades of a desk. `serve` answers the requests of connections that come in by a door. `positions`
-/// writes what a desk holds of each security, and `mark` what the rows of a portfolio are worth. `export`
-/// writes rows of what a store keeps, which a load reads, and `list` a line on each trade of a desk.
+/// writes what a desk holds of each security, and `mark` what the rows of a portfolio are worth. `figures`
+/// writes the figures of each row of an input of any length. `export` writes rows of what a store keeps, which a load reads, and `list` a line on each trade of a desk.
 /// `help` names the commands.
 /// Only the commands over a store allocate memory.
 // As many threads look for yields as the words name workers, and the gate is called when they begin
@@ -156,6 +157,9 @@ fn carry_out<
             let &Calculator { rt, encloser, .. } = calculator;
             Status::of_done(mark(rt, alloc, &store, input, output, cabinet, encloser))
         }
+        DeskCommand::Figures { store, options } => Status::of_done(figures(
+            calculator, alloc, &store, options, input, output, cabinet,
+        )),
         DeskCommand::Export { store, wanted } => {
             Status::of_done(write_kept(alloc, &store, &wanted, output, cabinet))
         }

@@ -12,6 +12,7 @@ use arrayvec::ArrayVec;
 use muni_book::Workers;
 use muni_dec::digits::read_number;
 use muni_desk_export::Wanted;
+use muni_figures::FiguresOptions;
 use muni_msg::{DeskLimit, DeskName, Key, Reference};
 
 const STORE: &[u8] = b"--store=";
@@ -41,6 +42,12 @@ const OF_STORE: [&[u8]; 1] = [STORE];
 const ALL: &[u8] = b"--all";
 
 const ISSUES: &[u8] = b"--issues";
+
+const FROM: &[u8] = b"--from=";
+
+const HEADER: &[u8] = b"--header";
+
+const FIGURES: [&[u8]; 3] = [STORE, WORKERS, FROM];
 
 const SERVE: [&[u8]; 5] = [STORE, PORT, CONNECTIONS, WORKERS, DESK_LIMIT];
 
@@ -182,6 +189,37 @@ pub fn read_mark(words: &[String]) -> Option<CommandLine>
         command: DeskCommand::Mark { store },
         workers: Workers::ONE,
     })
+}
+
+/// What words ask for, where they are options of `figures` and perhaps `--header`, in any order.
+#[tactic(auto, using(crate::proofs::WordsLemmas::word_strings))]
+pub fn read_figures(words: &[String]) -> Option<CommandLine>
+    ensures { result ≡ spec.figures_of (map string_bytes words.now) }
+{
+    if !are_options_beside(words, HEADER, &FIGURES, &FIGURES) {
+        return None;
+    }
+    let store = read_store(words)?;
+    let first = read_first(words)?;
+    let workers = read_workers(words)?;
+    let options = FiguresOptions {
+        first,
+        has_header: has_word(words, HEADER),
+    };
+    Some(CommandLine {
+        command: DeskCommand::Figures { store, options },
+        workers,
+    })
+}
+
+// The place of the first row: 1 if no number is given.
+fn read_first(words: &[String]) -> Option<u64>
+    ensures { result ≡ spec.first_of (map string_bytes words.now) }
+{
+    match value_of(words, FROM) {
+        Some(text) => read_number(text, 20, 1, 9_223_372_036_854_775_807),
+        None => Some(1),
+    }
 }
 
 /// What words ask for, where they are options of `export` and perhaps `--issues`, in any order.

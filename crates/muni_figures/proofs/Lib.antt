@@ -1,0 +1,12 @@
+pub mod BlockLemmas
+pub mod DidLemmas
+pub mod DoneLemmas
+pub mod FigureLemmas
+pub mod GroupLemmas
+pub mod IssueLemmas
+pub mod RowLemmas
+pub mod SaidLemmas
+pub mod ShareLemmas
+pub mod ToldLemmas
+pub mod UniqueLemmas
+pub mod WriteLemmas

@@ -1,0 +1,98 @@
+-- The parts of a text, and the rows of lines.
+use Rattle.std.proofs.Common.{◌≡◌, ◌≤◌, ◌<◌, ◌+◌, ◌==◌, ◌∙◌, ℕ, zero, suc, Bool, true, false, cond, List, [], ◌∷◌, ◌++◌, length, take, drop, Option, Some, None, refl, sym, ap, subst, arith}
+use Rattle.std.specs.Prelude.{position, nat_lt, unwrap_or, if◌then◌else◌, IfSome}
+use denote.Ref.{Bor}
+use Rattle.std.specs.Option.{option_map}
+use Rattle.std.specs.List.{position_or_len}
+use Rattle.std.proofs.lemmas.Bool.Decides.{nat_tests}
+use Rattle.std.proofs.lemmas.List.{append_assoc, drop-drop, length-append}
+use Rattle.std.proofs.lemmas.List.Sums.{fails_before_first}
+use Rattle.std.proofs.lemmas.List.Splits.{slice_split_first, slice_split_none}
+use Rattle.csv.specs.Records.{field_at}
+use Rattle.muni_figures.specs.Rows.{Row, is_row, parts, parts_left, row_in, row_of, rows_in, rows_of_lines}
+
+found-by : (test : Bool) (n i : ℕ) → cond test (Some n) None ≡ Some i → (test ≡ true) × (n ≡ i)
+found-by true n i is = (refl, cc is)
+found-by false n i is = absurd (cc is)
+
+none-by : (test : Bool) (n : ℕ) → cond test (Some n) None ≡ None → test ≡ false
+none-by true n is = absurd (cc is)
+none-by false n is = refl
+
+below : (a b : ℕ) → nat_lt a b ≡ true → a < b
+below a b is = grind (arith, nat_tests, is)
+
+not-below : (a b : ℕ) → nat_lt a b ≡ false → b ≤ a
+not-below a b is = grind (arith, nat_tests, is)
+
+-- a text that is cut at the first of those bytes
+pub parts-cut : (byte end : ℕ) (text : List ℕ) → position (λ b. b == byte) text ≡ Some end → parts byte text ≡ take end text ∷ parts byte (drop (end + 1) text)
+parts-cut byte end text is =
+    let at = position_or_len (λ b. b == byte) text in
+    let found = found-by (nat_lt at (length text)) at end is in
+    subst (λ n. parts byte text ≡ take n text ∷ parts byte (drop (n + 1) text)) found.1
+    (slice_split_first (λ b. b == byte) text 0 (below at (length text) found.0))
+
+-- a text with none of them
+pub parts-none : (byte : ℕ) (text : List ℕ) → position (λ b. b == byte) text ≡ None → parts byte text ≡ text ∷ []
+parts-none byte text is =
+    let at = position_or_len (λ b. b == byte) text in
+    let past = not-below at (length text) (none-by (nat_lt at (length text)) at is) in
+    slice_split_none (λ b. b == byte) text (λ k d within. fails_before_first (λ b. b == byte) text k d (omega (arith, past, within)))
+
+-- the field at a place, by what is left from there on
+pub field-none : (fields : List (List ℕ)) (n : ℕ) → drop n fields ≡ [] → unwrap_or (field_at fields n) [] ≡ []
+unfolding field_at
+field-none [] n is = refl
+field-none (first ∷ fields) zero is = absurd (cc is)
+field-none (first ∷ fields) (suc n) is = field-none fields n is
+
+pub field-some : (fields : List (List ℕ)) (n : ℕ) (field : List ℕ) (more : List (List ℕ)) → drop n fields ≡ field ∷ more → unwrap_or (field_at fields n) [] ≡ field
+unfolding field_at
+field-some [] zero field more is = absurd (cc is)
+field-some [] (suc n) field more is = absurd (cc is)
+field-some (first ∷ fields) zero field more is = cc is
+field-some (first ∷ fields) (suc n) field more is = field-some fields n field more is
+
+pub drop-next : {X : Type 0} (xs : List X) (n : ℕ) (x : X) (more : List X) → drop n xs ≡ x ∷ more → drop (n + 1) xs ≡ more
+drop-next xs n x more is = sym (drop-drop 1 n xs) ∙ ap (drop 1) is
+
+pub drop-end : {X : Type 0} (xs : List X) (n : ℕ) → drop n xs ≡ [] → drop (n + 1) xs ≡ []
+drop-end xs n is = sym (drop-drop 1 n xs) ∙ ap (drop 1) is
+
+-- ---- the lines of a block one after another
+-- how much is left of it, which each line makes less
+abbrev pub left_size : Option (List ℕ) → ℕ
+left_size None = 0
+left_size (Some text) = length text + 1
+
+-- these rows were read, and the lines that are left have the others
+pub record IsRead (block : List ℕ) (left : Option (List ℕ)) (rows : List Row) : Type 0 where
+  pub all : rows ++ rows_of_lines (parts_left 10 left) ≡ rows_in block
+  pub room : length rows + left_size left ≤ length block + 1
+
+pub read-none : (block : List ℕ) → IsRead block (Some block) []
+unfolding rows_in
+read-none block = record { all = refl; room = omega arith }
+
+row-or-none : (line : List ℕ) (test : Bool) → is_row line ≡ test → row_in line ≡ (if test then row_of line ∷ [] else [])
+row-or-none line test is = ap (λ t. if t then row_of line ∷ [] else []) is
+
+-- one line more, which is a row or none
+pub read-row : (block text line : List ℕ) (left : Option (List ℕ)) (rows : List Row) → IsRead block (Some text) rows → parts 10 text ≡ line ∷ parts_left 10 left
+    → left_size left ≤ length text → is_row line ≡ true → IsRead block left (rows ++ row_of line ∷ [])
+read-row block text line left rows read cut less row = record {
+  all = append_assoc rows (row_of line ∷ []) (rows_of_lines (parts_left 10 left))
+      ∙ ap (λ l. rows ++ (l ++ rows_of_lines (parts_left 10 left))) (sym (row-or-none line true row))
+      ∙ ap (λ l. rows ++ rows_of_lines l) (sym cut) ∙ read.all;
+  room = omega (arith, read.room, less, length-append rows (row_of line ∷ []));
+}
+
+-- and one that is read is among them
+pub read-within : (block line : List ℕ) (left : Option (List ℕ)) (rows : List Row) → IsRead block left (rows ++ row_of line ∷ []) → length rows + 1 ≤ length (rows_in block)
+read-within block line left rows read =
+    omega (arith, ap length (sym read.all), length-append (rows ++ row_of line ∷ []) (rows_of_lines (parts_left 10 left)), length-append rows (row_of line ∷ []))
+
+pub size-shorter : (left : Option (Bor (List ℕ))) (n : ℕ) → IfSome left (λ more. length more.now < n) → left_size (option_map (λ text. text.now) left) ≤ n
+size-shorter None n less = omega arith
+size-shorter (Some more) n less = omega (arith, less)

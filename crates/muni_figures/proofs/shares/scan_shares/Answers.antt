@@ -1,0 +1,13 @@
+use Rattle.std.proofs.Common.{subst, get_or}
+use Rattle.std.specs.BTreeMap as tree
+use Rattle.muni_keep.specs.Trades.{by_bytes}
+use Rattle.muni_figures.specs.Shares.{IsScanned}
+use Rattle.muni_figures.proofs.ShareLemmas.{zip-by-place}
+use Rattle.muni_figures.proofs.shares.scan_shares.Goals as goal
+
+pub returns : goal.returns
+returns g c =
+    let scanned = IsScanned (tree.get by_bytes c.args.issues.now) in
+    zip-by-place scanned c.args.shares.now c.for_each_mut.new.s c.for_each_mut.auto.s
+    (λ i d within. let change = (c.for_each_mut.ensures i d within).1 in
+    subst (λ old. scanned old (get_or c.for_each_mut.new.s i d)) change.argument_is (subst (scanned change.argument.now) change.left change.call))

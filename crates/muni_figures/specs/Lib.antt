@@ -1,0 +1,10 @@
+pub mod Blocks
+pub mod Done
+pub mod Figured
+pub mod Groups
+pub mod Issues
+pub mod Laws
+pub mod Line
+pub mod Rows
+pub mod Said
+pub mod Shares

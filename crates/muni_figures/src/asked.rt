@@ -1,0 +1,143 @@
+//! What a line of an input asks for.
+
+ghost use Rattle.std.specs.Prelude.{◌≡◌, ◌<◌, ◌≤◌, ◌∷◌, ◌==◌, length, count_by, IfSome};
+ghost use Rattle.std.specs.Option.{option_map};
+ghost use Rattle.std.specs.Str.Lines.{strip_carriage_return};
+ghost use Rattle.muni_import.specs.Row.{field, given_in, is_basis};
+ghost use Rattle.muni_figures.specs.Rows as spec;
+
+use muni_days::Day;
+use muni_dec::Par;
+use muni_dec::text::find;
+use muni_import::RowFault;
+use muni_import::columns::in_column;
+use muni_msg::{Asked, Given, Side, read_cusip, read_fee_field, read_given, read_side};
+
+// The greatest number of bytes of a line that may be a row.
+const LONGEST: usize = 4_096;
+
+/// What a line asks for, or why it is no row.
+///
+/// Its fields are `CUSIP,PAR,SETTLE,BASIS,VALUE`, and then a commission, which is 0 if left out, and a
+/// side, which is `buy` if left out. A line has no quotes, and one of more than 4,096 bytes is no row. A
+/// carriage return at its end is no part of its last field.
+#[tactic(auto, unfolding(crate::specs::Rows::row_of))]
+pub fn read_line(line: &[u8]) -> Result<Asked, RowFault>
+    ensures { result ≡ spec.row_of line.now }
+{
+    if line.len() > LONGEST {
+        return Err(RowFault::FieldCount);
+    }
+    read_fields(without_return(line))
+}
+
+/// Whether a line is a row, even a bad one: it is not empty.
+pub(crate) fn is_row(line: &[u8]) -> bool
+    ensures { result ≡ spec.is_row line.now }
+{
+    !without_return(line).is_empty()
+}
+
+/// The first part of a text, up to a byte, and what comes after that byte.
+pub(crate) fn cut(text: &[u8], byte: u8) -> (&[u8], Option<&[u8]>)
+    ensures parts { spec.parts byte text.now
+        ≡ result.0.now ∷ spec.parts_left byte (option_map (λ more. more.now) result.1) }
+    ensures shorter { IfSome result.1 (λ more. length more.now < length text.now) }
+{
+    match find(text, byte) {
+        Some(end) => (&text[..end], Some(&text[end + 1..])),
+        None => (text, None),
+    }
+}
+
+fn without_return(line: &[u8]) -> &[u8]
+    ensures { result.now ≡ strip_carriage_return line.now }
+{
+    match line.split_last() {
+        Some((b'\r', front)) => front,
+        _ => line,
+    }
+}
+
+#[tactic(auto, unfolding(crate::specs::Rows::row_by))]
+fn read_fields(line: &[u8]) -> Result<Asked, RowFault>
+    ensures { result ≡ spec.row_by (spec.parts 44 line.now) }
+{
+    let count = field_count(line);
+    if count < 5 || count > 7 {
+        return Err(RowFault::FieldCount);
+    }
+    read_asked(line)
+}
+
+fn field_count(line: &[u8]) -> usize
+    ensures { result ≡ length (spec.parts 44 line.now) }
+{
+    comma_count(line) + 1
+}
+
+fn comma_count(line: &[u8]) -> usize
+    ensures count { result ≡ count_by (λ b. b == 44) line.now }
+    ensures few { result ≤ length line.now }
+{
+    line.iter().filter(|byte| **byte == b',').count()
+}
+
+#[tactic(auto, unfolding(crate::specs::Rows::asked_in))]
+fn read_asked(line: &[u8]) -> Result<Asked, RowFault>
+    ensures { result ≡ spec.asked_in (spec.parts 44 line.now) }
+{
+    Ok(Asked {
+        cusip: in_column(1, read_cusip(field(line, 1)))?,
+        par: in_column(2, Par::read(field(line, 2)).ok())?,
+        settle: in_column(3, Day::read(field(line, 3)).ok())?,
+        given: given(line)?,
+        fee: in_column(6, read_fee_field(field(line, 6)))?,
+        side: in_column(7, read_side_field(field(line, 7)))?,
+    })
+}
+
+// A basis in the fourth column, and a value in the fifth.
+fn given(line: &[u8]) -> Result<Given, RowFault>
+    ensures { result ≡ given_in 4 (spec.parts 44 line.now) }
+{
+    let basis = field(line, 4);
+    match read_given(basis, field(line, 5)) {
+        Some(given) => Ok(given),
+        None if is_basis(basis) => Err(RowFault::BadField { column: 5 }),
+        None => Err(RowFault::BadField { column: 4 }),
+    }
+}
+
+fn is_basis(text: &[u8]) -> bool
+    ensures { result ≡ is_basis text.now }
+{
+    text == b"yield".as_slice() || text == b"price".as_slice() || text == b"rate".as_slice()
+}
+
+fn read_side_field(text: &[u8]) -> Option<Side>
+    ensures { result ≡ spec.side_field text.now }
+{
+    if text.is_empty() {
+        return Some(Side::Buy);
+    }
+    read_side(text)
+}
+
+// The field of a column. After the last one each is empty.
+fn field(line: &[u8], column: u32) -> &[u8]
+    requires { 1 ≤ column }
+    ensures { result.now ≡ field column (spec.parts 44 line.now) }
+{
+    let mut left = Some(line);
+    for _ in 0..column - 1 {
+        left = match left {
+            Some(text) => cut(text, b',').1,
+            None => None,
+        };
+    }
+    match left {
+        Some(text) => cut(text, b',').0,
+        None => b"",
+    }
+}

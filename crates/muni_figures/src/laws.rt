@@ -1,0 +1,15 @@
+//! Laws of figures, over every input.
+
+ghost use Rattle.muni_figures.specs.Laws.{InputsHaveOneText, LinesGoOn};
+
+/// A law of the definitions: an input over given tables has one text. So what is written does not depend
+/// on how many workers there are, nor on how the input is cut into blocks.
+pub fn inputs_have_one_text()
+    ensures { InputsHaveOneText }
+{}
+
+/// A law of the definitions: an input that is cut at a line end has the lines of its first part and then
+/// those of its second, if the places of the second go on after those of the first. The totals add up.
+pub fn lines_go_on()
+    ensures { LinesGoOn }
+{}

@@ -1,0 +1,86 @@
+//! The lines of the rows of a block.
+
+ghost use Rattle.std.specs.Prelude.{◌≡◌, ◌+◌, ◌<◌, ◌^◌, ◌++◌, [], length, IfOk, OnOk};
+ghost use Rattle.std.specs.BTreeMap as tree;
+ghost use Rattle.muni_book.specs.Answers.{IsRightAnswer};
+ghost use Rattle.muni_keep.specs.Trades.{by_bytes};
+ghost use Rattle.muni_figures.specs.Done.{AreDone, IsSmall, no_tally, tally_of, tally_sum};
+ghost use Rattle.muni_figures.specs.Line.{HasName, said_line};
+ghost use Rattle.muni_figures.specs.Rows.{rows_in};
+ghost use Rattle.muni_figures.specs.Said.{IsSaid};
+
+use crate::asked::{cut, is_row, read_line};
+use crate::line::add_line;
+use crate::said::{FiguresSaid, said_of};
+use crate::tally::Tally;
+use muni_book::Calculator;
+use muni_edge::{Gate, NoMemory};
+use muni_multi::Encloser;
+use muni_sched::Schedule;
+use muni_terms::Issue;
+use std::alloc::Global;
+use std::collections::BTreeMap;
+use std::thread::Threads;
+
+/// The lines of rows, and what they come to.
+#[derive(Drop)]
+pub(crate) struct BlockLines {
+    pub text: Vec<u8>,
+    pub tally: Tally,
+}
+
+impl BlockLines {
+    /// Of no row.
+    pub(crate) fn new(alloc: Global) -> BlockLines
+        ensures text { result.text.items ≡ [] }
+        ensures tally { result.tally ≡ no_tally }
+        ensures small { IsSmall result.tally }
+    {
+        BlockLines {
+            text: Vec::new(alloc),
+            tally: Tally::new(),
+        }
+    }
+
+    // Adds the line of a row, where the first one has this place.
+    fn add(&mut self, first: u64, said: &FiguresSaid) -> Result<(), NoMemory>
+        requires name { HasName said.now }
+        requires room { first + self.old.tally.rows + 1 < 2 ^ 64 }
+        requires small { IsSmall self.old.tally }
+        ensures text { OnOk result (self.new.text.items
+            ≡ self.old.text.items ++ said_line (first + self.old.tally.rows) said.now) }
+        ensures tally { OnOk result (self.new.tally ≡ tally_sum self.old.tally (tally_of said.now)) }
+        ensures small { OnOk result (IsSmall self.new.tally) }
+    {
+        add_line(&mut self.text, first + self.tally.rows, said)?;
+        self.tally.add(said);
+        Ok(())
+    }
+}
+
+/// The lines of the rows of a block, the first of which has this place. Each is priced by the issue that
+/// is had under its CUSIP.
+pub(crate) fn block_lines<R: Threads + Sync, E: Encloser + Sync, G: Gate + Sync>(
+    calculator: &Calculator<'_, R, E, G>,
+    alloc: Global,
+    issues: &BTreeMap<[u8; 9], Issue>,
+    block: &[u8],
+    place: u64,
+) -> Result<BlockLines, NoMemory>
+    requires { place + length (rows_in block.now) < 2 ^ 64 }
+    ensures { IfOk result (λ lines.
+        AreDone (IsSaid (IsRightAnswer (E.ends calculator.now.encloser.now)) (tree.get by_bytes issues.now)) place (rows_in block.now) lines.text.items lines.tally) }
+{
+    let mut lines = BlockLines::new(alloc);
+    let mut schedule = Schedule::new();
+    let mut left = Some(block);
+    while let Some(bytes) = left {
+        let (line, more) = cut(bytes, b'\n');
+        if is_row(line) {
+            let said = said_of(calculator, &read_line(line), issues, &mut schedule);
+            lines.add(place, &said)?;
+        }
+        left = more;
+    }
+    Ok(lines)
+}

@@ -1,0 +1,124 @@
+//! The blocks of a group, which workers share.
+
+ghost use Rattle.std.specs.Prelude.{◌≡◌, ◌+◌, ◌<◌, ◌≤◌, ◌^◌, length, All, IfErr, IsErrOf, OnOk};
+ghost use Rattle.std.specs.BTreeMap as tree;
+ghost use Rattle.std.specs.List.{AllZip};
+ghost use Rattle.muni_book.specs.Answers.{IsRightAnswer};
+ghost use Rattle.muni_keep.specs.Trades.{by_bytes};
+ghost use Rattle.muni_figures.specs.Said.{IsSaid};
+ghost use Rattle.muni_figures.specs.Shares.{AreNumbered, HasPlaces, IsCounted, IsForPlaces, IsPricedShare, IsSameBlock, IsScanned, NextPlace, rows_of_shares};
+
+use crate::pricing::{BlockLines, block_lines};
+use crate::scan::{Scan, scan_block};
+use muni_book::{Calculator, Workers};
+use muni_desk_io::Fault;
+use muni_edge::{Gate, NoMemory};
+use muni_multi::Encloser;
+use muni_terms::Issue;
+use std::alloc::Global;
+use std::collections::BTreeMap;
+use std::thread;
+use std::thread::Threads;
+
+/// A block of whole lines, and what a worker makes of it.
+#[derive(Drop)]
+pub(crate) struct Share {
+    pub block: Vec<u8>,
+    pub scan: Result<Scan, NoMemory>,
+    /// The place of its first row.
+    pub place: u64,
+    pub lines: Result<BlockLines, NoMemory>,
+}
+
+impl Share {
+    /// A block that no worker has had yet.
+    pub(crate) fn new(alloc: Global, block: Vec<u8>) -> Share
+        ensures { result.block ≡ block }
+    {
+        Share {
+            block,
+            scan: Err(NoMemory),
+            place: 1,
+            lines: Err(NoMemory),
+        }
+    }
+}
+
+/// Goes over the rows of each block, by as many workers as are asked for.
+pub(crate) fn scan_shares<R: Threads + Sync, E: Encloser + Sync, G: Gate + Sync>(
+    calculator: &Calculator<'_, R, E, G>,
+    alloc: Global,
+    issues: &BTreeMap<[u8; 9], Issue>,
+    shares: &mut [Share],
+)
+    ensures { AllZip (IsScanned (tree.get by_bytes issues.now)) shares.old shares.new }
+{
+    thread::for_each_mut(
+        calculator.rt,
+        shares,
+        calculator.workers.count() as usize,
+        &|_worker: usize, share: &mut Share|
+            ensures { IsScanned (tree.get by_bytes issues.entry.now) share.entry.now share.exit.now }
+        {
+            share.scan = scan_block(alloc, &share.block, issues);
+        },
+    );
+}
+
+/// Prices the rows of each block and writes their lines, by as many workers as are asked for. A row is
+/// priced by one worker.
+pub(crate) fn price_shares<R: Threads + Sync, E: Encloser + Sync, G: Gate + Sync>(
+    calculator: &Calculator<'_, R, E, G>,
+    alloc: Global,
+    issues: &BTreeMap<[u8; 9], Issue>,
+    shares: &mut [Share],
+)
+    requires { All HasPlaces shares.old }
+    ensures { AllZip (IsPricedShare (IsSaid (IsRightAnswer (E.ends calculator.now.encloser.now)) (tree.get by_bytes issues.now))) shares.old shares.new }
+{
+    let alone = Calculator {
+        workers: Workers::ONE,
+        ..*calculator
+    };
+    thread::for_each_mut(
+        calculator.rt,
+        shares,
+        calculator.workers.count() as usize,
+        &|_worker: usize, share: &mut Share|
+            requires { HasPlaces share.now }
+            ensures { IsPricedShare (IsSaid (IsRightAnswer (E.ends alone.entry.encloser.now)) (tree.get by_bytes issues.entry.now)) share.entry.now share.exit.now }
+        {
+            share.lines = block_lines(&alone, alloc, issues, &share.block, share.place);
+        },
+    );
+}
+
+/// Counts the places of the first rows of blocks on from a place.
+///
+/// A row has a place below 2^64.
+pub(crate) fn number(shares: &mut [Share], first: u64) -> Result<(), Fault>
+    requires { All IsCounted shares.old }
+    ensures numbered { OnOk result (AreNumbered first shares.new) }
+    ensures room { OnOk result (first + length (rows_of_shares shares.old) < 2 ^ 64) }
+    ensures blocks { AllZip IsSameBlock shares.old shares.new }
+    ensures too_many { IsErrOf result Fault.TooLarge → 2 ^ 64 ≤ first + length (rows_of_shares shares.old) }
+    ensures only { IfErr result IsForPlaces }
+{
+    let mut place = first;
+    for i in 0..shares.len() {
+        shares[i].place = place;
+        place = next_place(place, &shares[i].scan)?;
+    }
+    Ok(())
+}
+
+// The place after the rows of a block.
+fn next_place(place: u64, scan: &Result<Scan, NoMemory>) -> Result<u64, Fault>
+    ensures { NextPlace place scan.now result }
+{
+    let rows = match scan {
+        Ok(scan) => scan.rows,
+        Err(NoMemory) => return Err(Fault::NoMemory),
+    };
+    place.checked_add(rows).ok_or(Fault::TooLarge)
+}
