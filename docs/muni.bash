@@ -3,8 +3,8 @@
 # their place; from a clone `. docs/muni.bash` loads them.
 
 # Made of the launcher's tables by tests/documents/made_pages.py.
-_muni_commands='quote-one quote import confirm serve drill positions mark export list load check-store help'
-_muni_flags=' --each --all --issues '
+_muni_commands='quote-one quote import confirm serve drill positions mark export list load check-store figures help'
+_muni_flags=' --each --all --issues --header '
 
 _muni_options() {
     case $1 in
@@ -19,6 +19,7 @@ _muni_options() {
     list) echo --store --desk ;;
     load) echo --store --desk-limit ;;
     check-store) echo --store ;;
+    figures) echo --store --workers --from --header ;;
     esac
 }
 

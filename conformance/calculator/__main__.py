@@ -1,11 +1,11 @@
 """Runs a command with the words of ./muni. A store is kept in memory, and ends with the command."""
 import sys
 
-from calculator.commands import IMPORTED_MAX, run
+from calculator.commands import run
 
 
 def main() -> int:
-    said = run(sys.argv[1:], data=lambda: sys.stdin.buffer.read(IMPORTED_MAX + 1))
+    said = run(sys.argv[1:], data=sys.stdin.buffer.read)
     sys.stdout.buffer.write(said.output)
     return said.status
 

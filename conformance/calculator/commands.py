@@ -5,7 +5,7 @@ import enum
 from collections.abc import Callable, Sequence
 from typing import NamedTuple
 
-from calculator import drill, exported, rows
+from calculator import drill, exported, rows, valued
 from calculator.book import Book, Confirm, refused_terms
 from calculator.figures import Choice, Refusal, answers, each_of, likely, quote_one
 from calculator.numerals import shown_figure
@@ -27,6 +27,7 @@ export --store --desk --issues
 list --store --desk
 load --store --desk-limit
 check-store --store
+figures --store --workers --from --header
 help
 """
 
@@ -106,6 +107,9 @@ def over_store(asked: OverStore, book: Book, data: bytes | Callable[[], bytes], 
             return said(rows.report(book, text, choose) + positions(book, asked.desk))
         case "load":
             return said(rows.report(book, data if isinstance(data, bytes) else data(), choose))
+        case "figures":
+            text = data if isinstance(data, bytes) else data()
+            return said(valued.report(book, text, asked.first, asked.has_header, choose))
         case _:
             text = data if isinstance(data, bytes) else data()
             return Said(Status.TOO_LARGE) if len(text) > MARKED_MAX else said(rows.marks(book, text, choose))

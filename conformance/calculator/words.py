@@ -19,8 +19,9 @@ QUOTED = ("000000000", "QUOTE")
 QUOTED_PAR = 100
 SEEDS = 2**64
 GREATEST_LIMIT = 100_000_000
+GREATEST_PLACE = 2**63 - 1
 # The options without a value.
-PLAIN = ("--each", "--all", "--issues")
+PLAIN = ("--each", "--all", "--issues", "--header")
 
 
 class Usage(Exception):
@@ -51,8 +52,8 @@ class Drill:
 
 @dataclasses.dataclass(frozen=True)
 class OverStore:
-    """A command over a store, with the words that it may have beside: all trades of a desk, or the issues alone, and
-    how many trades a desk may have."""
+    """A command over a store, with the words that it may have beside: all trades of a desk, or the issues alone, how
+    many trades a desk may have, and the place of the first row and whether the names of the columns come first."""
 
     name: str
     store: str
@@ -61,6 +62,8 @@ class OverStore:
     is_all: bool = False
     is_issues: bool = False
     limit: int = USUAL_LIMIT
+    first: int = 1
+    has_header: bool = False
 
 
 @dataclasses.dataclass(frozen=True)
@@ -202,6 +205,10 @@ def over_store(name: str, options: Options) -> OverStore:
             return OverStore(name, store, desk, is_issues=is_issues)
         case "load":
             return OverStore(name, store, limit=desk_limit(options))
+        case "figures":
+            options.maybe("workers", number(1, 16), 1)
+            first = options.maybe("from", number(1, GREATEST_PLACE), 1)
+            return OverStore(name, store, first=first, has_header=options.plain("header"))
         case "mark" | "check-store":
             return OverStore(name, store)
     raise Usage

@@ -69,6 +69,7 @@ export --store --desk --issues
 list --store --desk
 load --store --desk-limit
 check-store --store
+figures --store --workers --from --header
 help"""),
 }
 CONFIRMATION = """CONFIRMATION 1
@@ -114,6 +115,9 @@ FAULTS = [
     ("--store is missing", ("check-store",)),
     ("'--desk' is no option of check-store: it takes --store", ("check-store", "--store=S", "--desk=A")),
     ("'S' is no option with a value", ("check-store", "S")),
+    ("--store is missing", ("figures", "--header")),
+    ("'--from=0' does not read", ("figures", "--store=S", "--from=0")),
+    ("--header is given twice", ("figures", "--store=S", "--header", "--header")),
     ("--desk is given twice", ("export", "--store=S", "--desk=A", "--desk=A")),
     ("at most one of --desk and --issues is given", ("export", "--store=S", "--desk=A", "--issues")),
     ("'--[x' is no option of quote", ("quote", "--[x=1")),
@@ -162,6 +166,7 @@ def test_each_status_is_said_on_standard_error(tmp_path):
     os.close(folder)
     with open("/dev/full", "wb") as full:
         check(MUNI.run(*QUOTE, stdout=full), 5, "", "muni: status 5: *")
+    check(MUNI.run("mark", f"--store={tmp_path}/S", rows=b"x" * 1_048_577), 9, "", "muni: status 9: *muni figures*")
 
 
 def test_the_rows_of_a_report_in_a_file_are_counted(tmp_path):
@@ -170,13 +175,14 @@ def test_the_rows_of_a_report_in_a_file_are_counted(tmp_path):
     counts = []
     for command, rows in [("import", ROWS), ("import", b"x\n" + ROWS + b"cancel,ALPHA,T9,2\n"), ("import", b""),
                           ("mark", b"123456AA3,25000,2024-04-01,4\n123456AA3,25000,2024-04-01,4,x\n"),
-                          ("positions", b"")]:
+                          ("positions", b""), ("figures", b"123456AA3,25000,2024-04-01,yield,4\nx\nx\n")]:
         desk = ["--desk=ALPHA"] if command == "positions" else []
         with report.open("ab") as output:
             counts.append(MUNI.run(command, store, *desk, rows=rows, stdout=output).error.decode())
     kept = len(ROWS.splitlines())
     assert counts == [f"muni: rows: {kept} kept, 0 refused, 0 bad\n", f"muni: rows: {kept} kept, 1 refused, 1 bad\n", "",
-                      "muni: rows: 1 marked, 0 refused, 1 bad\n", ""]
+                      "muni: rows: 1 marked, 0 refused, 1 bad\n", "",
+                      "muni: rows: 1 with figures, 2 refused or bad\n"]
 
 
 def test_it_starts_from_another_folder_and_by_a_link(tmp_path):
@@ -218,6 +224,7 @@ def test_the_help_of_a_command_has_its_words_and_its_example(tmp_path, command, 
 def test_the_example_of_a_command_runs(tmp_path, command, example):
     (tmp_path / "examples").symlink_to(ROOT / "examples")
     (tmp_path / "portfolio.csv").write_text("990034AA8,25000,2024-04-01,3\n")
+    (tmp_path / "holdings.csv").write_text("990034AA8,25000,2024-04-01,yield,3\n")
     if "--store=S" in example and command != "import":
         MUNI.run("import", "--store=S", rows=(ROOT / "examples/book.csv").read_bytes(), folder=tmp_path)
     told = subprocess.run(["sh", "-c", f'"$0" {example}', ROOT / "muni"], cwd=tmp_path, env=MUNI.environment(None),

@@ -52,13 +52,14 @@ def test_a_table_of_command_lines_is_answered(table):
         assert commands.run(words) == (int(status), bytes_of(shown)), f"{table}, line {case.line}"
 
 
-def test_a_table_of_exports_is_answered():
-    for case in cases("exports"):
+@pytest.mark.parametrize("table", ["exports", "figures"])
+def test_a_table_of_commands_over_a_store_is_answered(table):
+    for case in cases(table):
         words, sent, status, shown = case.parts
         books: dict[str, Book] = {}
         commands.run(["import", "--store=S"], books, bytes_of(case.base))
         said = commands.run(words.split(" "), books, bytes_of(sent))
-        assert said == (int(status), bytes_of(shown)), f"exports, line {case.line}"
+        assert said == (int(status), bytes_of(shown)), f"{table}, line {case.line}"
 
 
 # Days, terms and payments, as docs/RULES.md works them out.
@@ -323,7 +324,8 @@ def test_a_number_of_trades_is_in_its_range(value):
 
 @pytest.mark.parametrize("line", ["export --store=S", "list --store=S --desk=A", "positions --store=S --desk=A",
                                   "mark --store=S", "confirm --store=S --desk=A --ref=T", "drill --count=0 --seed=1"
-                                  " --workers=1", "help", "load --store=S --desk-limit=1", "check-store --store=S"])
+                                  " --workers=1", "help", "load --store=S --desk-limit=1", "check-store --store=S",
+                                  "figures --store=S"])
 def test_a_number_of_trades_is_given_once_and_to_no_other_command(line):
     assert commands.run([*line.split(), "--desk-limit=1"]) == (2, b"")
 

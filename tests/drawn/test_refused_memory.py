@@ -30,6 +30,8 @@ LATER = (b"trade,ALPHA,T0003,1234\n"
 KEPT = ISSUE + CALLED + TRADES
 PORTFOLIO = (b"123456AA3,25000,2024-04-01,4\n990021AA5,10000,2024-04-01,4\n000000000,1,2024-04-01,4\n"
              b"123456AA3,0,2024-04-01,4\n")
+HOLDINGS = (b"123456AA3,25000,2024-04-01,yield,4\n990021AA5,10000,2024-04-01,price,104.5,0.125,sell\n"
+            b"000000000,1,2024-04-01,yield,4\n123456AA3,0,2024-04-01,yield,4\n")
 ASKED = {"cusip": "123456AA3", "par": "25000", "settle": "2024-04-01", "basis": "yield", "value": "4"}
 TRADE = {"desk": "ALPHA", "reference": "T0009", "side": "buy", **ASKED}
 QUOTE = ("quote", "--kind=periodic", "--dated=2020-01-01", "--first=2020-07-01", "--maturity=2045-01-01", "--coupon=5",
@@ -89,6 +91,7 @@ def commands() -> list[Command]:
             Command(f"{kind}list", ("list", store, "--desk=ALPHA"), before=KEPT, is_in_pieces=True),
             Command(f"{kind}confirm all", ("confirm", store, "--desk=ALPHA", "--all"), before=KEPT, is_in_pieces=True),
             Command(f"{kind}mark", ("mark", store), PORTFOLIO, before=KEPT),
+            Command(f"{kind}figures", ("figures", store, "--workers=1"), HOLDINGS, before=KEPT, is_in_pieces=True),
             Command(f"{kind}check-store", ("check-store", store), before=KEPT, is_in_pieces=True),
         ]
         serving = ("serve", store, "--port=0", "--connections=1", "--workers=1")

@@ -29,13 +29,13 @@ def test_a_closed_output_takes_no_lines_and_gets_into_no_file(book):
 def test_a_closed_input_is_an_input_that_fails(book):
     book.report(ROWS)
     before = book.store.state()
-    assert closed(book, "<&-", "import") == Said(4, b"")
+    assert closed(book, "<&-", "import") == closed(book, "<&-", "figures") == Said(4, b"")
     assert book.store.state() == before
     assert book.has("T0001")
 
 
 @pytest.mark.parametrize("words", [("export",), ("list", "--desk=ALPHA"), ("confirm", "--desk=ALPHA", "--all"),
-                                   ("check-store",)], ids=lambda words: words[0])
+                                   ("check-store",), ("figures",)], ids=lambda words: words[0])
 def test_rows_for_a_closed_output_get_into_no_file(book, words):
     book.report(ROWS)
     before = book.store.file.read_bytes()

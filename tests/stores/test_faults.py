@@ -18,6 +18,7 @@ from support.stores import KINDS, REPORT, ROWS, Store
 
 TRADES = ("T0001", "T0002")
 MARKS = b"123456AA3,25000,2024-04-01,4\n"
+HOLDINGS = b"123456AA3,25000,2024-04-01,yield,4\n123456AA3,10000,2024-04-01,price,100.725\n"
 # What a call ends with, but for those that end with an error of the disk alone.
 ERRORS = {"open": (errno.EMFILE, errno.EACCES), "write": (errno.ENOSPC, errno.EPIPE),
           "pwrite": (errno.ENOSPC, errno.EIO), "ftruncate": (errno.EIO, errno.ENOSPC),
@@ -43,6 +44,7 @@ SCENES = {
     "confirm": Scene("confirm", ("--desk=ALPHA", "--ref=T0001"), b"", "kept"),
     "positions": Scene("positions", ("--desk=ALPHA",), b"", "kept"),
     "mark": Scene("mark", (), MARKS, "kept"),
+    "figures": Scene("figures", (), HOLDINGS, "kept"),
     "check-store": Scene("check-store", (), b"", "kept"),
     "import-again-without-a-log": Scene("import", (), ROWS, "bare"),
     "confirm-without-a-log": Scene("confirm", ("--desk=ALPHA", "--ref=T0001"), b"", "bare"),
@@ -52,7 +54,7 @@ SCENES = {
 READING = "open read write pread pwrite fdatasync fsync"
 CALLS = {
     "sqlite": {"first-import": READING + " ftruncate", "import-again": READING, "confirm": READING,
-               "positions": READING, "mark": READING, "check-store": READING + " unlink",
+               "positions": READING, "mark": READING, "figures": READING, "check-store": READING + " unlink",
                "import-again-without-a-log": READING + " rename unlink",
                "confirm-without-a-log": READING + " rename unlink",
                "confirm-by-a-seal": "open write pread pwrite fdatasync fsync",
@@ -60,6 +62,7 @@ CALLS = {
     "journal": {"first-import": "open read write pread pwrite fdatasync fsync flock",
                 "import-again": "open read write pread fdatasync flock", "confirm": "open write pread fdatasync flock",
                 "positions": "open write pread fdatasync flock", "mark": "open read write pread fdatasync flock",
+                "figures": "open read write pread fdatasync flock",
                 "check-store": "open write pread fdatasync flock",
                 "serve": "open pread pwrite fdatasync fsync flock socket bind listen accept recv send"},
 }

@@ -127,7 +127,7 @@ def is_read(book) -> None:
     assert book.said("mark", rows="123456AA3,25000,2024-04-01,4\n") == Said(
         0, b"1,marked,123456AA3,100.725,2025-01-01,25493.75\nTOTAL,1,25493.75\n")
     for words in (("export",), ("export", "--issues"), ("export", "--desk=ALPHA"), ("list", "--desk=ALPHA"),
-                  ("confirm", "--desk=ALPHA", "--all"), ("check-store",)):
+                  ("confirm", "--desk=ALPHA", "--all"), ("check-store",), ("figures",)):
         said = book.said(*words)
         assert (said.status, bool(said.output)) == (0, True)
     assert book.store.state() == before

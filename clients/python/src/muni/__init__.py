@@ -45,7 +45,7 @@ __all__ = [
     "YieldBelow", "export", "read_confirmation", "read_figures", "read_issue", "read_list", "read_positions",
 ]
 
-__version__ = "1.6.0"
+__version__ = "1.7.0"
 
 Amount = Union[Decimal, int]
 
