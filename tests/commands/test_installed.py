@@ -21,6 +21,7 @@ from support.stores import KINDS, ROWS, Store
 VERSION = (ROOT / "VERSION").read_text().strip()
 KIT = (ROOT / "dist/muni.sources").read_text().splitlines()[0].removeprefix("kit ")
 DEPLOY = sorted(each.name for each in (ROOT / "deploy").iterdir())
+UNITS = [name for name in DEPLOY if name.endswith(".service")]
 PAGES = ["README.md", "docs/FORMATS.md", "docs/TUTORIAL.md", "clients/python/README.md", "examples/README.md"]
 COMMANDS = ("quote|quote-one|import|confirm|serve|drill|positions|mark|export|list|load|check-store|figures|help|"
             "--help|--version")
@@ -170,9 +171,17 @@ def test_an_install_whose_name_units_can_have_is_whole(whole):
 
 def test_the_units_are_valid(whole):
     needs("systemd-analyze", "haproxy")
-    units = [whole.prefix / "lib/systemd/system" / name for name in ("muni.service", "muni-queue.service")]
+    units = [whole.prefix / "lib/systemd/system" / name.replace("@.", "@second.") for name in UNITS]
     told = subprocess.run(["systemd-analyze", "verify", *units], capture_output=True, text=True)
     assert (told.returncode, told.stdout, told.stderr) == (0, "", "")
+
+
+def test_the_unit_of_a_further_store_has_the_settings_of_the_first():
+    first, further = [(ROOT / "deploy" / name).read_text() for name in ("muni.service", "muni@.service")]
+    of_the_store = r"(#.*|Description|JoinsNamespaceOf|Wants|After|Environment(File)?|ExecStart|StateDirectory)="
+    settings = [[line for line in text.splitlines() if line and not re.match(of_the_store + "|#", line)]
+                for text in (first, further)]
+    assert settings[0] == settings[1] and len(settings[0]) > 30
 
 
 def test_the_unit_of_nginx_is_exposed_less_with_what_is_added(tmp_path):
@@ -261,7 +270,7 @@ def test_the_package_has_each_file_of_a_desk_behind_nginx(packages, name):
 @OF_PACKAGES
 @pytest.mark.parametrize(("script", "act"), [
     ("postinst", "systemctl --system daemon-reload"), ("postinst", "_dh_action=restart"),
-    ("prerm", "deb-systemd-invoke stop 'muni-queue.service' 'muni.service'"),
+    ("prerm", "deb-systemd-invoke stop 'muni-hop.service' 'muni-issues.service' 'muni-queue.service' 'muni.service'"),
     ("postrm", "systemctl --system daemon-reload"),
 ])
 def test_a_script_of_the_package_handles_the_units(packages, script, act):

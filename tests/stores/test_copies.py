@@ -190,6 +190,37 @@ def test_a_log_without_a_name_has_no_backup(database, tmp_path):
     assert not (tmp_path / "nameless").exists()
 
 
+def in_folders(muni: Program, folder: pathlib.Path, *names: str) -> list[str]:
+    """Stores with a trade each, in folders of these names."""
+    books = [Book(muni, Store("sqlite", folder / name / "book")) for name in names]
+    for book in books:
+        book.store.path.parent.mkdir(parents=True)
+        book.report(trades(1))
+    return [str(book.store.path) for book in books]
+
+
+def test_of_several_stores_the_first_is_copied_last(muni, tmp_path):
+    """So its copy has each issue that another copy has."""
+    stores = in_folders(muni, tmp_path, "first", "second", "third")
+    shim = tmp_path / "bin/cp"
+    shim.parent.mkdir()
+    shim.write_text('#!/bin/sh\nPATH=${PATH#*:}\nprintf "%s\\n" "$@" >>"$TOLD"\ncp "$@"\n')
+    shim.chmod(0o755)
+    subprocess.run([ROOT / "deploy/backup", *stores, tmp_path / "all"], check=True, stdin=subprocess.DEVNULL,
+                   env={**os.environ, "PATH": f"{shim.parent}:{os.environ['PATH']}", "TOLD": str(tmp_path / "told")})
+    copied_in_order = [line for line in (tmp_path / "told").read_text().splitlines() if line in stores]
+    assert copied_in_order == stores[::-1]
+    found = sorted(file.relative_to(tmp_path / "all") for file in (tmp_path / "all").rglob("book"))
+    assert found == [pathlib.Path(name, "book") for name in ("first", "second", "third")]
+
+
+def test_two_stores_in_folders_of_one_name_have_no_backup(muni, tmp_path):
+    stores = in_folders(muni, tmp_path, "one/book", "two/book")
+    came = subprocess.run([ROOT / "deploy/backup", *stores, tmp_path / "all"], stderr=subprocess.PIPE, text=True)
+    assert (came.returncode, came.stderr.splitlines()[-1]) == (1, "backup: two stores are in folders of one name")
+    assert not list(tmp_path.glob("all*"))
+
+
 def ends_of_slots(data: bytes):
     """The ends of the open slots of a journal."""
     place = 0

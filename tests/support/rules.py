@@ -36,6 +36,7 @@ def any_desk(route: str) -> tuple[str, ...]:
 
 ALLOWED = "http-request deny deny_status 403 unless { req.hdr(X-Allowed) -m str yes }"
 NGINX, QUEUE, DESK, QUEUE_UNIT = "nginx.conf", "queue.cfg", "muni.service", "muni-queue.service"
+STORES, ISSUES = "stores.cfg", "issues"
 NAMED = 'geo $is_unlimited {\n        default "";'
 UNLIMITED = Edit(NGINX, NAMED, NAMED + "\n        127.0.0.0/8 yes;")
 REFUSED = " {\n            return 403;\n        }"
@@ -247,6 +248,46 @@ RULES: dict[str, Rule] = {
     "body in the log": of(
         "log: a line has the request and the body",
         (NGINX, ',"body":"$request_body"')),
+    "store of a desk": of(
+        "stores: the trades of a desk are in its store alone",
+        (NGINX, "proxy_set_header X-Desk $desk_of_path;")),
+    "store of the desk of a body": of(
+        "stores: the trades of a desk are in its store alone",
+        (NGINX, "proxy_set_header X-Desk $desk_of_body;")),
+    "store of no name": of(
+        "stores: a desk of a store that is none is not kept in the first",
+        (QUEUE, "http-request deny deny_status 503 unless { var(txn.store),nbsrv ge 0 }")),
+    "stores that a client names": of(
+        "stores: a field of the client leads to no other store",
+        (NGINX, "proxy_pass_request_headers off;"), (NGINX, "proxy_set_header X-Desk $desk_of_path;"),
+        (NGINX, "proxy_set_header X-Desk $desk_of_body;")),
+    "store of a health check": of(
+        "stores: each store has a health of its own",
+        (NGINX, "proxy_set_header X-Store $store;")),
+    "another server of quotes": of(
+        "stores: quotes are answered while one of their servers is away",
+        (STORES, "option redispatch 1")),
+    "path of issues": of(
+        "issues_of_stores: the terms that come first are kept everywhere and others are refused",
+        (QUEUE, "path,map(/etc/muni/shards.map,desk)", "str(desk)")),
+    "issues everywhere": of(
+        "issues_of_stores: the terms that come first are kept everywhere and others are refused",
+        (ISSUES, "for name in self.names[1:]:", "for name in ():")),
+    "store that decides": of(
+        "issues_of_stores: without the first store no other one gets an issue",
+        (ISSUES, "self.names[0]", "self.names[-1]"), (ISSUES, "self.names[1:]", "self.names[:-1]")),
+    "store that does not keep an issue": of(
+        "issues_of_stores: sent again an issue is completed that a store did not get",
+        (ISSUES, "return other", "break")),
+    "certificate of the machine of nginx": of(
+        "hop: who shows no certificate or another is not let in",
+        ("hop-in.cfg", "ssl verify required ca-file /etc/muni/door.pem", "ssl verify none")),
+    "address of the machine of nginx": of(
+        "hop: another address is not let in",
+        ("hop-in.cfg", "tcp-request connection reject unless { src 192.0.2.10 }")),
+    "certificate of the other machine": of(
+        "hop: a machine with another certificate is told nothing",
+        ("hop-out.cfg", "ssl verify required", "ssl verify none")),
     "a desk that stands still": of(
         "backups: copies have what was acknowledged and the desk goes on",
         ("backup", 'kill -STOP "${holders[@]}"', "true")),

@@ -53,15 +53,15 @@ def enter(site: Site, entered: Entered, reference: str, **more: str) -> None:
 
 
 @contextlib.contextmanager
-def clients(site: Site, count: int) -> Iterator[Entered]:
-    """So many clients that enter one trade after another as long as this lasts."""
+def clients(site: Site, count: int, desks: tuple[str, ...] = ("ALPHA",)) -> Iterator[Entered]:
+    """So many clients that enter one trade after another as long as this lasts, each for one desk after another."""
     entered, done = Entered(), threading.Event()
 
     def client(place: int) -> None:
         number = 0
         while not done.is_set():
             number += 1
-            enter(site, entered, f"C{place}x{number}")
+            enter(site, entered, f"C{place}x{number}", desk=desks[number % len(desks)])
 
     threads = [beside(functools.partial(client, place)) for place in range(count)]
     try:
@@ -78,23 +78,23 @@ def beside(call: Callable[[], None]) -> threading.Thread:
     return thread
 
 
-def listed(site: Site) -> str:
-    """All pages of the list of ALPHA."""
+def listed(site: Site, desk: str = "ALPHA") -> str:
+    """All pages of the list of a desk of alice."""
     lines, after = "", ""
-    while page := site.ask("GET", f"/lists/ALPHA{after}").text:
+    while page := site.ask("GET", f"/lists/{desk}{after}").text:
         lines += page
         after = "/" + page.splitlines()[-1].split()[0]
     return lines
 
 
-def tell(site: Site, signal_number: int) -> None:
-    """Sends a signal to the desk, which may just be starting again."""
-    until(lambda: has_taken(site, signal_number))
+def tell(site: Site, signal_number: int, unit: str = "muni") -> None:
+    """Sends a signal to the desk, or to another unit, which may just be starting again."""
+    until(lambda: has_taken(site, signal_number, unit))
 
 
-def has_taken(site: Site, signal_number: int) -> bool:
+def has_taken(site: Site, signal_number: int, unit: str) -> bool:
     try:
-        os.kill(site.process_of("muni"), signal_number)
+        os.kill(site.process_of(unit), signal_number)
     except ProcessLookupError:
         return False
     return True

@@ -1,0 +1,106 @@
+"""Issues are the same at several stores: the first one decides, and the others follow."""
+from __future__ import annotations
+
+import json
+
+import pytest
+
+from support.links import joined, said, status
+from support.several import SOON, STORES, ask_store, away
+from support.site import NAME, Site
+from support.trading import ISSUE, beside
+
+# Its desks take long to start.
+pytestmark = pytest.mark.xdist_group("issues of stores")
+
+OTHERS = STORES[1:]
+CONFLICT = (409, "REFUSED 3 Conflict issue\n")
+AGAIN = (503, "503 Service Unavailable\n")
+UNKNOWN = "REFUSED 1 UnknownIssue\n"
+COUPONS = ("4.125", "5")
+
+
+@pytest.fixture(scope="module")
+def site(deploy) -> Site:
+    return deploy(SOON, "--stores=2")
+
+
+def issue(cusip: str, coupon: str = COUPONS[0]) -> str:
+    return json.dumps(json.loads(ISSUE) | {"cusip": cusip, "coupon": coupon})
+
+
+def add(site: Site, cusip: str, coupon: str = COUPONS[0]) -> tuple[int, str]:
+    answer = site.ask("POST", "/issues", issue(cusip, coupon), user="rita")
+    return answer.status, answer.text
+
+
+def added(cusip: str) -> tuple[int, str]:
+    return 200, f"ADDED {cusip}\n"
+
+
+def kept(site: Site, cusip: str) -> list[str]:
+    """The coupon that each store keeps, or the line of its refusal."""
+    texts = [ask_store(site, store, "GET", f"/issues/{cusip}").text for store in STORES]
+    return [text.split(",")[7] if text.startswith("issue,") else text for text in texts]
+
+
+@pytest.mark.parametrize(("cusip", "first", "second"), [("990034AA8", *COUPONS), ("990081AB7", *COUPONS[::-1])])
+def test_the_terms_that_come_first_are_kept_everywhere_and_others_are_refused(site, cusip, first, second):
+    assert add(site, cusip, first) == added(cusip)
+    assert add(site, cusip, second) == CONFLICT
+    assert add(site, cusip, first) == added(cusip)
+    assert kept(site, cusip) == [f"{float(first):.7f}"] * 4
+
+
+def test_of_two_that_come_at_once_one_is_kept_everywhere(site):
+    cusip, told = "990000028", []
+    threads = [beside(lambda coupon=coupon: told.append(add(site, cusip, coupon))) for coupon in COUPONS * 4]
+    for thread in threads:
+        thread.join()
+    assert sorted(told) == [added(cusip)] * 4 + [CONFLICT] * 4
+    assert len(set(kept(site, cusip))) == 1
+
+
+@pytest.mark.parametrize(("store", "cusip"), zip(OTHERS, ("123456AA3", "990000010", "990000036")))
+def test_sent_again_an_issue_is_completed_that_a_store_did_not_get(site, store, cusip):
+    with away(site, store):
+        assert add(site, cusip) == AGAIN
+        assert add(site, cusip, COUPONS[1]) == CONFLICT
+    assert kept(site, cusip)[STORES.index(store)] == UNKNOWN
+    assert add(site, cusip, COUPONS[1]) == CONFLICT
+    assert add(site, cusip) == added(cusip)
+    assert kept(site, cusip) == ["4.1250000"] * 4
+
+
+def test_without_the_first_store_no_other_one_gets_an_issue(site):
+    cusip = "990084AA3"
+    with away(site, "desk"):
+        assert add(site, cusip) == AGAIN
+        assert {ask_store(site, store, "GET", f"/issues/{cusip}").text for store in OTHERS} == {UNKNOWN}
+    assert add(site, cusip) == added(cusip)
+
+
+def test_a_store_that_got_other_terms_past_the_program_is_told_of(site):
+    cusip = "990086AA8"
+    assert ask_store(site, "second", "POST", "/issues", issue(cusip, COUPONS[1])).status == 200
+    assert add(site, cusip) == CONFLICT
+    told = f"issues: POST /issues: second answers 409, {CONFLICT[1].strip()}, and the first store has it"
+    assert told in (site.folder / "log/muni-issues").read_text().splitlines()
+
+
+@pytest.mark.parametrize("body", ["", "{}", issue("990084AA4")])
+def test_what_is_no_issue_is_answered_as_by_one_store(site, body):
+    answer, alone = site.ask("POST", "/issues", body, user="rita"), ask_store(site, "desk", "POST", "/issues", body)
+    assert answer.status == alone.status in (400, 422)
+    assert (answer.text, answer.fields["Content-Type"]) == (alone.text, alone.fields["Content-Type"])
+
+
+def test_a_request_without_a_length_is_answered_as_by_one_store(site):
+    link = joined(site)
+    link.sendall((f"POST /issues HTTP/1.1\r\nHost: {NAME}\r\nAuthorization: {site.log_in('rita')['Authorization']}"
+                  "\r\nConnection: close\r\n\r\n").encode())
+    assert status(said(link)) == 411
+
+
+def test_nothing_else_is_asked_of_all_stores(site):
+    assert ask_store(site, "issues", "POST", "/trades", "{}")[::2] == (404, "404 Not Found\n")
