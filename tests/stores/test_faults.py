@@ -104,11 +104,13 @@ def tried(call: str, count: int, is_long: bool) -> Iterator[Fault]:
             yield Fault(call, at, errors[turn % len(errors)], is_onwards)
 
 
-def wanted_status(scene: Scene, fault: Fault) -> int:
-    """Of the input, the output or the store. An input is read up to its end, by two calls."""
+def wanted_status(scene: Scene, fault: Fault, count: int) -> int:
+    """Of the input, the output or the store. An input is read up to its end, by two calls: the first of all, or the last
+    for `figures`, which opens the store before."""
     if fault.call == "write":
         return 5
-    return 4 if fault.call == "read" and fault.at <= 2 and scene.rows else 6
+    inputs = range(count - 1, count + 1) if scene.command == "figures" else range(1, 3)
+    return 4 if fault.call == "read" and fault.at in inputs and scene.rows else 6
 
 
 def is_harmless(kind: str, scene: Scene, fault: Fault, has_ended_well: bool) -> bool:
@@ -148,7 +150,7 @@ def test_a_call_that_fails_under_a_command(faults, fresh, pytestconfig, kind, na
         if fault.at > count.at_answer or is_harmless(kind, scene, fault, said == right):
             assert said == right, fault
         else:
-            assert said.status == wanted_status(scene, fault), fault
+            assert said.status == wanted_status(scene, fault, count.in_all), fault
             is_front = right.output.startswith(said.output) and said.output != right.output
             assert is_front and (said.output.endswith(b"\n") or not said.output), fault
         for reference in TRADES:
