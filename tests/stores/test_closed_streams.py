@@ -28,9 +28,12 @@ def test_a_closed_output_takes_no_lines_and_gets_into_no_file(book):
 
 def test_a_closed_input_is_an_input_that_fails(book):
     book.report(ROWS)
-    before = book.store.state()
-    assert closed(book, "<&-", "import") == closed(book, "<&-", "figures") == Said(4, b"")
+    before, file = book.store.state(), book.store.file.read_bytes()
+    assert closed(book, "<&-", "import") == Said(4, b"")
     assert book.store.state() == before
+    # It opens the store before it reads, and so begins the log anew.
+    assert closed(book, "<&-", "figures") == Said(4, b"")
+    assert book.store.file.read_bytes() == file
     assert book.has("T0001")
 
 
