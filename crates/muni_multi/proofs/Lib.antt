@@ -4,3 +4,4 @@ pub mod HornerTurns
 pub mod BoundLemmas
 pub mod PriceLemmas
 pub mod DoublingTurns
+pub mod AnnuityLemmas

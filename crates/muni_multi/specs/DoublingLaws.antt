@@ -88,15 +88,15 @@ tail-last a b h v z (suc m) j same last =
     (tail_sum-more a h v (suc m) j ∙ ap (λ x. x * v ^ suc m + h * tail_sum a h v (suc m) (suc j)) first) (tail_sum-more b h v (suc m) j) rest)
 
 -- equal payments from any place on
-abbrev equal_sum : ℕ → ℕ → ℕ → ℕ
+abbrev pub equal_sum : ℕ → ℕ → ℕ → ℕ
 equal_sum p v m = tail_sum (λ _. p) 2000000 v m 0
 
-equal-split : (p v m k : ℕ) → equal_sum p v (m + k) ≡ equal_sum p v m * v ^ k + 2000000 ^ m * equal_sum p v k
+pub equal-split : (p v m k : ℕ) → equal_sum p v (m + k) ≡ equal_sum p v m * v ^ k + 2000000 ^ m * equal_sum p v k
 equal-split p v m k =
     tail-split (λ _. p) 2000000 v m k 0 ∙ ap (λ x. equal_sum p v m * v ^ k + 2000000 ^ m * x) (tail-same (λ _. p) (λ _. p) 2000000 v k (0 + m) 0 (λ _ _. refl))
 
 -- the first interest, m regular payments after it, and the redemption with the last of them
-abbrev paid_sum : PaymentSeries → ℕ → ℕ → ℕ
+abbrev pub paid_sum : PaymentSeries → ℕ → ℕ → ℕ
 paid_sum series v m = series.first * v ^ m + 2000000 * equal_sum series.regular v m + 2000000 ^ m * series.redemption
 
 paid-is : (series : PaymentSeries) (v m : ℕ) → IsSeries series → series.skip + suc m ≡ series.n → tail_sum (payment_at series) 2000000 v (suc m) series.skip ≡ paid_sum series v m
@@ -113,7 +113,7 @@ paid-is series v m is end =
     (payment-last series (series.skip + m) is.skip (omega arith))
     ∙ ap (λ x. x + 2000000 ^ m * series.redemption) whole
 
-whole-is : (series : PaymentSeries) (v m : ℕ) → IsSeries series → series.skip + suc m ≡ series.n → tail_sum (payment_at series) 2000000 v series.n 0 ≡ 2000000 ^ series.skip * paid_sum series v m
+pub whole-is : (series : PaymentSeries) (v m : ℕ) → IsSeries series → series.skip + suc m ≡ series.n → tail_sum (payment_at series) 2000000 v series.n 0 ≡ 2000000 ^ series.skip * paid_sum series v m
 whole-is series v m is end =
     let interest = interest_at_place series.skip series.first series.regular in
     let none : tail_sum (payment_at series) 2000000 v series.skip 0 ≡ 0

@@ -1,6 +1,7 @@
 pub mod Bounds
 pub mod LastStep
 pub mod Discount
+pub mod Annuity
 pub mod Horner
 pub mod HornerLaws
 pub mod Doubling

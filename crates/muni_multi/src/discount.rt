@@ -87,18 +87,20 @@ impl Discount {
     }
 
     /// The factor of half a year.
-    pub(crate) fn half_year(&self) -> Span
+    pub fn half_year(&self) -> Span
         ensures lo { result.lo ≡ discount_low self.now.y }
         ensures hi { result.hi ≡ discount_high self.now.y }
         ensures ends { AreDiscountEnds result.lo result.hi }
+        ensures within { IsManyPeriodsBoundary self.now.y }
     {
         self.half_year
     }
 
     /// The factor of the days up to the first payment.
-    pub(crate) fn part(&self) -> Span
+    pub fn part(&self) -> Span
         ensures lo { result.lo ≡ part_low self.now.y self.now.a }
         ensures hi { result.hi ≡ part_high self.now.y self.now.a }
+        ensures within { IsManyPeriodsBoundary self.now.y }
     {
         self.part
     }

@@ -8,7 +8,7 @@ ghost use Rattle.muni_rule.specs.Payments as rule;
 use muni_terms::Flows;
 
 /// The payment at place k, counted from 0, with the redemption if it is the last.
-pub(crate) fn payment_at(flows: &Flows, k: u32) -> u64
+pub fn payment_at(flows: &Flows, k: u32) -> u64
     requires { k < flows.now.n }
     ensures value { result ≡ rule.payment_at flows.now k }
     ensures bound { result ≤ 82_800_000_000_000 }

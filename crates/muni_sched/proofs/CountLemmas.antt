@@ -105,7 +105,7 @@ needed-kept true passed below need = cc
 needed-kept false true below need = cc
 needed-kept false false below need = refl
 
-kept-needed : (settled passed below : Bool) → (not settled && not passed) ≡ true → below ≡ true → (not settled && (not passed && below)) ≡ true
+pub kept-needed : (settled passed below : Bool) → (not settled && not passed) ≡ true → below ≡ true → (not settled && (not passed && below)) ≡ true
 kept-needed true passed below kept under = cc
 kept-needed false true below kept under = cc
 kept-needed false false below kept under = under
@@ -115,7 +115,7 @@ none-needed true passed below none = refl
 none-needed false true below none = refl
 none-needed false false below none = cc
 
-missed-above : (least : ℤ) (missed : ℕ) (asked : List OpenSearch) → (missed ≤ 105002 → least <ℤ yield_at missed) → All (λ (it : OpenSearch). it.guided.window.no ≤ 105002 → least <ℤ yield_at it.guided.window.no) asked → missed_after missed asked ≤ 105002 → least <ℤ yield_at (missed_after missed asked)
+pub missed-above : (least : ℤ) (missed : ℕ) (asked : List OpenSearch) → (missed ≤ 105002 → least <ℤ yield_at missed) → All (λ (it : OpenSearch). it.guided.window.no ≤ 105002 → least <ℤ yield_at it.guided.window.no) asked → missed_after missed asked ≤ 105002 → least <ℤ yield_at (missed_after missed asked)
 missed-above least missed [] above all most = above most
 missed-above least missed (it ∷ rest) above all most =
     let Above : OpenSearch → Type 0 = λ it. it.guided.window.no ≤ 105002 → least <ℤ yield_at it.guided.window.no in
@@ -133,7 +133,7 @@ search-above verdicts finals r lead least it most is after asked =
     let from = after.from in
     omega (arith, ints, within, same, from)
 
-lead-needed : (verdicts : PaymentSeries → ℕ → ℕ → Verdict) (finals : List CandidateOutcome) (r missed : ℕ) (lead : YieldBracket) (it : OpenSearch) → r ≤ 19 → 1 ≤ missed → (missed ≤ 105002 → rank_of (end_of verdicts r lead) <ℤ yield_at missed) → it.guided.bracket ≡ lead → IsAsked verdicts finals r it → nat_lt it.guided.window.yes missed ≡ true
+pub lead-needed : (verdicts : PaymentSeries → ℕ → ℕ → Verdict) (finals : List CandidateOutcome) (r missed : ℕ) (lead : YieldBracket) (it : OpenSearch) → r ≤ 19 → 1 ≤ missed → (missed ≤ 105002 → rank_of (end_of verdicts r lead) <ℤ yield_at missed) → it.guided.bracket ≡ lead → IsAsked verdicts finals r it → nat_lt it.guided.window.yes missed ≡ true
 lead-needed verdicts finals r missed lead it most some above same is =
     ⊎_elim
     (λ (less : it.guided.window.yes < missed). lt-ltb it.guided.window.yes missed less)
@@ -151,7 +151,7 @@ has-search_if : (test : Bool) (it : OpenSearch) (searches : List OpenSearch) (le
 has-search_if true it searches lead has = inr has
 has-search_if false it searches lead has = has
 
-has-needed : (ceiling : Option ℤ) (missed : ℕ) (lead : YieldBracket) (Good : OpenSearch → Type 0) (asked : List OpenSearch) → ((it : OpenSearch) → Good it → it.guided.bracket ≡ lead → is_needed ceiling missed it ≡ true) → All Good asked → HasSearch lead asked → HasSearch lead (filter (is_needed ceiling missed) asked)
+pub has-needed : (ceiling : Option ℤ) (missed : ℕ) (lead : YieldBracket) (Good : OpenSearch → Type 0) (asked : List OpenSearch) → ((it : OpenSearch) → Good it → it.guided.bracket ≡ lead → is_needed ceiling missed it ≡ true) → All Good asked → HasSearch lead asked → HasSearch lead (filter (is_needed ceiling missed) asked)
 has-needed ceiling missed lead Good [] need all has = absurd has
 has-needed ceiling missed lead Good (it ∷ rest) need all has =
     let needed = filter (is_needed ceiling missed) rest in
@@ -295,6 +295,13 @@ map-none (it ∷ rest) none = cc
 map-all : (Good : YieldBracket → Type 0) (searches : List OpenSearch) → All Good (map bracket_of searches) → All (λ (it : OpenSearch). Good it.guided.bracket) searches
 map-all Good [] all = All-nil (λ (it : OpenSearch). Good it.guided.bracket)
 map-all Good (it ∷ rest) all = All-cons (λ (it : OpenSearch). Good it.guided.bracket) it rest (All-head Good it.guided.bracket (map bracket_of rest) all) (map-all Good rest (All-tail Good it.guided.bracket (map bracket_of rest) all))
+
+-- nothing was asked of them
+pub first-low : (price : ℕ) (list : List Candidate) (search : SearchState) → 0 < price → All IsCandidate list → IsStarted price list search → All (λ (it : OpenSearch). it.guided.bracket.low ≡ 0) search.searches
+first-low price list search some all is =
+    let same : map bracket_of search.searches ≡ brackets_from price list = ap (map bracket_of) is.searches ∙ map-from price 0 list in
+    map-all (λ (bracket : YieldBracket). bracket.low ≡ 0) search.searches
+    (All-weaker IsFirst (λ (bracket : YieldBracket). bracket.low ≡ 0) (λ bracket first. first.low_is) (map bracket_of search.searches) (subst (All IsFirst) (sym same) (first-all price list some all)))
 
 first-level : (verdicts : PaymentSeries → ℕ → ℕ → Verdict) (lead it : YieldBracket) (least : ℤ) → IsFirst lead → IsFirst it → least ≤ℤ rank_of (end_of verdicts 0 it) → IsLevel verdicts 0 lead.low lead.high least it
 first-level verdicts lead it least own is from = record {

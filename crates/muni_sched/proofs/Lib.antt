@@ -22,4 +22,6 @@ pub mod OverLemmas
 pub mod StartLemmas
 pub mod LevelLemmas
 pub mod CountLemmas
+pub mod LookLemmas
+pub mod RoundsLemmas
 pub mod EachDateLemmas

@@ -200,13 +200,13 @@ ceiling-holds verdicts finals r ceiling (one ∷ rest) most all is =
 pub yield-rises : (place other : ℕ) → place ≤ other → yield_at place ≤ℤ yield_at other
 yield-rises place other order = omega (arith, ints)
 
-over-lower : (missed lower : ℕ) (r : ℤ) → lower ≤ missed → IsOver missed r → IsOver lower r
+pub over-lower : (missed lower : ℕ) (r : ℤ) → lower ≤ missed → IsOver missed r → IsOver lower r
 over-lower missed lower r order over =
     let from = over.1 in
     let rises = yield-rises lower missed order in
     (omega (arith, order, over.0), omega (arith, ints, rises, from))
 
-missed-falls : (missed : ℕ) (searches : List OpenSearch) → missed_after missed searches ≤ missed
+pub missed-falls : (missed : ℕ) (searches : List OpenSearch) → missed_after missed searches ≤ missed
 missed-falls missed [] = omega arith
 missed-falls missed (one ∷ rest) =
     let more = missed-falls (min missed one.guided.window.no) rest in
@@ -220,7 +220,7 @@ missed-more finals missed one some between is =
     subst (IsMissedPlace finals) (sym same) (record { some = some; holder = λ most. (one.candidate, between.most most) }))
     (cases_lt missed one.guided.window.no)
 
-missed-holds : (verdicts : PaymentSeries → ℕ → ℕ → Verdict) (finals : List CandidateOutcome) (r missed : ℕ) (searches : List OpenSearch) → r ≤ 19 → All (IsAsked verdicts finals r) searches → IsMissedPlace finals missed → IsMissedPlace finals (missed_after missed searches)
+pub missed-holds : (verdicts : PaymentSeries → ℕ → ℕ → Verdict) (finals : List CandidateOutcome) (r missed : ℕ) (searches : List OpenSearch) → r ≤ 19 → All (IsAsked verdicts finals r) searches → IsMissedPlace finals missed → IsMissedPlace finals (missed_after missed searches)
 missed-holds verdicts finals r missed [] most all is = is
 missed-holds verdicts finals r missed (one ∷ rest) most all is =
     let here = All-head (IsAsked verdicts finals r) one rest all in
@@ -342,11 +342,11 @@ sorted verdicts finals known r ceiling missed (one ∷ rest) k most some same al
     has
 
 -- ---- one round
-needed-pending : (settled passed below : Bool) → (not settled && (not passed && below)) ≡ true → settled ≡ false
+pub needed-pending : (settled passed below : Bool) → (not settled && (not passed && below)) ≡ true → settled ≡ false
 needed-pending true passed below need = cc
 needed-pending false passed below need = refl
 
-needed-running : (verdicts : PaymentSeries → ℕ → ℕ → Verdict) (finals : List CandidateOutcome) (r : ℕ) (ceiling : Option ℤ) (missed : ℕ) (one : OpenSearch) → IsAsked verdicts finals r one → is_needed ceiling missed one ≡ true → IsRunning verdicts finals r one
+pub needed-running : (verdicts : PaymentSeries → ℕ → ℕ → Verdict) (finals : List CandidateOutcome) (r : ℕ) (ceiling : Option ℤ) (missed : ℕ) (one : OpenSearch) → IsAsked verdicts finals r one → is_needed ceiling missed one ≡ true → IsRunning verdicts finals r one
 needed-running verdicts finals r ceiling missed one is need = record {
   is = is.is;
   pending = needed-pending (is_settled one.guided.bracket) (is_passed ceiling one.guided.bracket) (nat_lt one.guided.window.yes missed) need;
@@ -357,10 +357,10 @@ needed-running verdicts finals r ceiling missed one is need = record {
   same = is.same;
 }
 
-length-filter_most : (test : OpenSearch → Bool) (searches : List OpenSearch) → length (filter test searches) ≤ length searches
+pub length-filter_most : (test : OpenSearch → Bool) (searches : List OpenSearch) → length (filter test searches) ≤ length searches
 length-filter_most test searches = omega (arith, length-filter test searches, count_by-le-length test searches)
 
-covered-next : (verdicts : PaymentSeries → ℕ → ℕ → Verdict) (finals : List CandidateOutcome) (known : List (Option CandidateOutcome)) (r : ℕ) (before ceiling : Option ℤ) (missed least : ℕ) (searches after : List OpenSearch) (k : ℕ) → r ≤ 19 → 1 ≤ least → ((rank : ℤ) → IsBehind before missed rank → IsBehind ceiling least rank) → length known ≡ length finals → All (IsAsked verdicts finals r) after → (IsSearchedFor searches k → IsSearchedFor after k)
+pub covered-next : (verdicts : PaymentSeries → ℕ → ℕ → Verdict) (finals : List CandidateOutcome) (known : List (Option CandidateOutcome)) (r : ℕ) (before ceiling : Option ℤ) (missed least : ℕ) (searches after : List OpenSearch) (k : ℕ) → r ≤ 19 → 1 ≤ least → ((rank : ℤ) → IsBehind before missed rank → IsBehind ceiling least rank) → length known ≡ length finals → All (IsAsked verdicts finals r) after → (IsSearchedFor searches k → IsSearchedFor after k)
     → IsCovered finals known before missed searches k → IsCovered finals (recorded after known) ceiling least (filter (is_needed ceiling least) after) k
 covered-next verdicts finals known r before ceiling missed least searches after k most some falls same all goes covered =
     ⊎_elim

@@ -1,5 +1,5 @@
 -- One round of the search for the lowest yield, over lists.
-use Rattle.std.specs.Prelude.{◌≡◌, ℕ, ◌+◌, ◌<◌, ◌≤◌, List, [], ◌∷◌, Bool, false, not, ◌&&◌, ◌==◌, if◌then◌else◌, nat_le, nat_lt, min, map, take, length, All, slice_set, Option, Some, None, unwrap_or, IfSome, ℤ, pos, ◌+ℤ◌, int_le}
+use Rattle.std.specs.Prelude.{◌≡◌, ℕ, zero, suc, ◌+◌, ◌<◌, ◌≤◌, List, [], ◌∷◌, Bool, false, not, ◌&&◌, ◌==◌, ◌⊎◌, if◌then◌else◌, nat_le, nat_lt, min, map, take, length, All, slice_set, Option, Some, None, unwrap_or, IfSome, ℤ, pos, ◌+ℤ◌, int_le}
 use Rattle.std.specs.Int.{int_min}
 use Rattle.std.specs.List.{filter, AllZip}
 use Rattle.muni_rule.specs.Payments.{PaymentSeries}
@@ -33,6 +33,12 @@ IsOpen verdicts search = IsSearch search × IsPending search × IsGuided verdict
 pub record IsHalved (verdicts : PaymentSeries → ℕ → ℕ → Verdict) (before after : OpenSearch) : Type 0 where
   pub candidate : after.candidate ≡ before.candidate
   pub bracket : after.guided.bracket ≡ halved verdicts before.guided.bracket
+  pub guided : IsGuided verdicts after.guided
+
+-- one look at a search: its known verdicts stay right, and nothing else changes
+pub record IsLookedAt (verdicts : PaymentSeries → ℕ → ℕ → Verdict) (before after : OpenSearch) : Type 0 where
+  pub candidate : after.candidate ≡ before.candidate
+  pub bracket : after.guided.bracket ≡ before.guided.bracket
   pub guided : IsGuided verdicts after.guided
 
 -- the outcome of a settled search is known of its candidate
@@ -136,6 +142,19 @@ pub record IsStarted (price : ℕ) (list : List Candidate) (search : SearchState
   pub ceiling : search.ceiling ≡ ceiling_first None search.known
   pub missed : search.missed ≡ 105_003
 
+-- each search is looked at, and those are kept that are still needed
+pub record IsLook (verdicts : PaymentSeries → ℕ → ℕ → Verdict) (before after : SearchState) : Type 0 where
+  pub looked : List OpenSearch
+  pub each : AllZip (IsLookedAt verdicts) before.searches looked
+  pub known : after.known ≡ before.known
+  pub ceiling : after.ceiling ≡ before.ceiling
+  pub missed : after.missed ≡ missed_after before.missed looked
+  pub searches : after.searches ≡ filter (is_needed after.ceiling after.missed) looked
+
+-- one or two are not looked at
+abbrev pub MayLook : (PaymentSeries → ℕ → ℕ → Verdict) → SearchState → SearchState → Type 0
+MayLook verdicts before after = (after ≡ before) ⊎ IsLook verdicts before after
+
 -- one round: each search is halved, what is known then is recorded, and those are kept that are
 -- still needed
 pub record IsRound (verdicts : PaymentSeries → ℕ → ℕ → Verdict) (before after : SearchState) : Type 0 where
@@ -149,6 +168,18 @@ pub record IsRound (verdicts : PaymentSeries → ℕ → ℕ → Verdict) (befor
 -- nothing is left to ask
 abbrev pub is_over : SearchState → Bool
 is_over search = length search.searches == 0
+
+-- one round more
+pub record IsOneMore (AreRounds : SearchState → Type 0) (verdicts : PaymentSeries → ℕ → ℕ → Verdict) (after : SearchState) : Type 0 where
+  pub before : SearchState
+  pub rounds : AreRounds before
+  pub pending : is_over before ≡ false
+  pub round : IsRound verdicts before after
+
+-- so many rounds, one after the other
+abbrev pub AreRounds : (PaymentSeries → ℕ → ℕ → Verdict) → ℕ → SearchState → SearchState → Type 0
+AreRounds verdicts zero before after = after ≡ before
+AreRounds verdicts (suc count) before after = IsOneMore (AreRounds verdicts count before) verdicts after
 
 -- each open search belongs to a candidate
 pub record CanRefine (verdicts : PaymentSeries → ℕ → ℕ → Verdict) (search : SearchState) : Type 0 where

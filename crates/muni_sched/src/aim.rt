@@ -72,15 +72,16 @@ impl Aim {
         }
     }
 
-    // At the place after a guess, or at the guess itself if that one is known. A question that was
-    // asked and is too near to tell is passed by.
+    // At the place after a guess, or at the guess itself if that one is known or the guess is the least yield. A
+    // question that was asked and is too near to tell is passed by.
     fn at(search: &OpenSearch, guess: Place, asked: Option<Question>) -> Aim {
         let window = search.guided.window();
         let guess = guess.higher(window.yes()).lower(window.no().before());
         let place = match asked {
             Some(asked) if window.is_open_at(asked) => place_beside(asked.place(), window),
-            _ if guess.next().is_below(window.no()) => guess.next(),
-            _ => guess,
+            _ if Question::near(guess) == Question::FIRST => guess,
+            _ if !guess.next().is_below(window.no()) => guess,
+            _ => guess.next(),
         };
         Aim {
             question: Question::near(place),

@@ -1,18 +1,17 @@
 //! The searches for the yields of all candidates, side by side.
 
-ghost use Rattle.std.specs.Prelude.{◌≡◌, ◌<◌, ◌≤◌, ◌+◌, ℕ, ℤ, List, [], ◌==◌, take, length, All, Option, None, option_map};
+ghost use Rattle.std.specs.Prelude.{◌≡◌, ◌<◌, ◌≤◌, ◌+◌, ◌-◌, [], ◌==◌, false, take, length, All, Option, None, option_map};
 ghost use Rattle.std.specs.List.{filter, AllZip};
-ghost use Rattle.muni_yield.specs.Bracket.{IsBracket};
 ghost use Rattle.muni_yield.specs.Places.{place_verdict};
 ghost use Rattle.muni_yield.specs.Settled.{settled_as};
 ghost use Rattle.muni_sched.specs.Candidates.{IsCandidate};
-ghost use Rattle.muni_sched.specs.Figures.{IsOf};
 ghost use Rattle.muni_sched.specs.Search as spec;
-ghost use Rattle.muni_sched.specs.Search.{IsSearch, IsKnownYield, CanRefine, IsStarted, IsRound, state, noted, recorded, missed, missed_first, missed_after, ceiling_after, ceiling_first, searches_from};
+ghost use Rattle.muni_sched.specs.Search.{IsSearch, IsKnownYield, CanRefine, IsStarted, IsRound, AreRounds, MayLook, state, noted, recorded, missed, searches_from};
 ghost use Rattle.muni_sched.specs.YieldOutcome.{IsKnownFirst, many_yield};
-ghost use Rattle.muni_sched.specs.FigureKind.{Yield};
 
 use crate::aim::Aim;
+use crate::ceiling::{ceiling_first, is_at_ceiling, least_ceiling, least_missed, lower_of};
+use crate::look::look_at_each;
 use crate::round::{Round, add_discounts, ask_each};
 use crate::yield_outcome::{known_first, many_yield};
 use crate::{Calculator, Candidate, CandidateOutcome, Shape};
@@ -32,8 +31,8 @@ pub(crate) struct OpenSearch {
 }
 
 impl OpenSearch {
-    // The figure that the candidate is known not to reach. At 100.002 percent nothing is asked.
-    fn missed(&self) -> Option<i32>
+    /// The figure that the candidate is known not to reach. At 100.002 percent nothing is asked.
+    pub(crate) fn missed(&self) -> Option<i32>
         requires { IsSearch self.now }
         ensures { result ≡ missed self.now }
     {
@@ -70,15 +69,6 @@ impl OpenSearch {
     {
         let low = self.guided.bracket().low();
         low > -5_001 && is_at_ceiling(ceiling, low)
-    }
-}
-
-fn is_at_ceiling(ceiling: Option<i32>, thousandths: i32) -> bool
-    ensures { result ≡ spec.is_at_ceiling ceiling thousandths }
-{
-    match ceiling {
-        Some(ceiling) => ceiling <= thousandths,
-        None => false,
     }
 }
 
@@ -126,6 +116,30 @@ impl Search {
         self.aim = Aim::first(&slots[..self.left]);
     }
 
+    /// Looks at more than two searches before the first round: they learn what the aim asks, and those are dropped
+    /// that cannot be the lowest. One or two cost less to halve.
+    pub(crate) fn look<R, E: Encloser, G>(
+        &mut self,
+        calculator: &Calculator<'_, R, E, G>,
+        slots: &mut [OpenSearch],
+    )
+        requires fits { self.old.left ≤ length slots.old }
+        requires can { CanRefine (place_verdict (E.ends calculator.now.encloser.now))
+            (state self.old slots.old) }
+        ensures look { MayLook (place_verdict (E.ends calculator.now.encloser.now))
+            (state self.old slots.old) (state self.new slots.new) }
+        ensures fits { self.new.left ≤ length slots.new }
+    {
+        if self.left <= 2 {
+            return;
+        }
+        let searches = &mut slots[..self.left];
+        look_at_each(calculator.encloser, searches, self.aim.question());
+        self.missed = least_missed(searches, self.missed);
+        self.left = keep_needed(searches, self.ceiling, self.missed);
+        self.aim = self.aim.next(&slots[..self.left], true);
+    }
+
     /// The outcome of each candidate, if it is known.
     pub(crate) fn known(&self) -> &[Option<CandidateOutcome>]
         ensures { result.now ≡ self.now.known.items }
@@ -140,9 +154,73 @@ impl Search {
         self.left == 0
     }
 
-    /// One round: each search is halved once. Then those are dropped whose outcome is known or
-    /// cannot be the lowest.
-    pub(crate) fn refine<R: Threads + Sync, E: Encloser + Sync, G: Gate + Sync>(
+    /// One round or more, if a search is left. Answers the number of the next round.
+    pub(crate) fn advance<R: Threads + Sync, E: Encloser + Sync, G: Gate + Sync>(
+        &mut self,
+        calculator: &Calculator<'_, R, E, G>,
+        slots: &mut [OpenSearch],
+        round: u32,
+    ) -> u32
+        requires few { round ≤ 19 }
+        requires some { (self.old.left == 0) ≡ false }
+        requires fits { self.old.left ≤ length slots.old }
+        requires can { CanRefine (place_verdict (E.ends calculator.now.encloser.now))
+            (state self.old slots.old) }
+        ensures rounds { AreRounds (place_verdict (E.ends calculator.now.encloser.now)) (result - round)
+            (state self.old slots.old) (state self.new slots.new) }
+        ensures more { round < result }
+        ensures fits { self.new.left ≤ length slots.new }
+    {
+        let next = self.refine_told(calculator, slots, round);
+        if self.is_over() {
+            return next;
+        }
+        self.refine(calculator, slots, next);
+        next + 1
+    }
+
+    // The rounds of the last search for as long as none of its questions is open.
+    fn refine_told<R, E: Encloser, G: Gate>(
+        &mut self,
+        calculator: &Calculator<'_, R, E, G>,
+        slots: &mut [OpenSearch],
+        round: u32,
+    ) -> u32
+        requires few { round ≤ 19 }
+        requires fits { self.old.left ≤ length slots.old }
+        requires can { CanRefine (place_verdict (E.ends calculator.now.encloser.now))
+            (state self.old slots.old) }
+        ensures rounds { AreRounds (place_verdict (E.ends calculator.now.encloser.now)) (result - round)
+            (state self.old slots.old) (state self.new slots.new) }
+        ensures can { CanRefine (place_verdict (E.ends calculator.now.encloser.now))
+            (state self.new slots.new) }
+        ensures more { (round ≤ result) × (result ≤ round + 19) }
+        ensures fits { self.new.left ≤ length slots.new }
+    {
+        if self.left != 1 || slots[0].guided.window().is_wide() {
+            return round;
+        }
+        let mut search = slots[0];
+        let mut next = round;
+        while let Some(verdict) = search.guided.told() {
+            calculator.gate.start(next, search.candidate);
+            search.guided.halve_by(verdict);
+            next += 1;
+            self.ceiling = lower_of(self.ceiling, search.missed());
+            self.missed = self.missed.lower(search.guided.window().no());
+            if !search.is_needed(self.ceiling, self.missed) {
+                note_settled(&search, self.known.as_mut_slice());
+                self.left = 0;
+                return next;
+            }
+        }
+        slots[0] = search;
+        next
+    }
+
+    // One round: each search is halved once. Then those are dropped whose outcome is known or
+    // cannot be the lowest.
+    fn refine<R: Threads + Sync, E: Encloser + Sync, G: Gate + Sync>(
         &mut self,
         calculator: &Calculator<'_, R, E, G>,
         slots: &mut [OpenSearch],
@@ -264,38 +342,6 @@ fn put_searches(slots: &mut [OpenSearch], list: &[Candidate], price: Price) -> u
     count
 }
 
-// A yield that is printed is not reached at the next figure.
-fn missed_first(known: Option<CandidateOutcome>) -> Option<i32>
-    requires { IsKnownYield known }
-    ensures { result ≡ missed_first known }
-{
-    match known? {
-        CandidateOutcome::Print(yld) => Some(yld.units() as i32 + 1),
-        _ => None,
-    }
-}
-
-fn lower_of(ceiling: Option<i32>, other: Option<i32>) -> Option<i32>
-    ensures { result ≡ spec.lower_of ceiling other }
-{
-    match (ceiling, other) {
-        (Some(ceiling), Some(other)) => Some(ceiling.min(other)),
-        (Some(ceiling), None) => Some(ceiling),
-        (None, other) => other,
-    }
-}
-
-fn ceiling_first(known: &[Option<CandidateOutcome>]) -> Option<i32>
-    requires { All IsKnownYield known.now }
-    ensures { result ≡ ceiling_first None known.now }
-{
-    let mut ceiling = None;
-    for outcome in known {
-        ceiling = lower_of(ceiling, missed_first(*outcome));
-    }
-    ceiling
-}
-
 // The outcome of a search, once it is known.
 fn note_settled(search: &OpenSearch, known: &mut [Option<CandidateOutcome>])
     requires search { IsSearch search.now }
@@ -315,27 +361,6 @@ fn record_settled(searches: &[OpenSearch], known: &mut [Option<CandidateOutcome>
     for search in searches {
         note_settled(search, known);
     }
-}
-
-fn least_ceiling(searches: &[OpenSearch], before: Option<i32>) -> Option<i32>
-    requires { All IsSearch searches.now }
-    ensures { result ≡ ceiling_after before searches.now }
-{
-    let mut ceiling = before;
-    for search in searches {
-        ceiling = lower_of(ceiling, search.missed());
-    }
-    ceiling
-}
-
-fn least_missed(searches: &[OpenSearch], before: Place) -> Place
-    ensures { result ≡ missed_after before searches.now }
-{
-    let mut missed = before;
-    for search in searches {
-        missed = missed.lower(search.guided.window().no());
-    }
-    missed
 }
 
 // Moves the searches that are needed to the front, and answers how many they are.

@@ -41,10 +41,10 @@ pub(crate) fn search_yields<R: Threads + Sync, E: Encloser + Sync, G: Gate + Syn
     ensures few { result ≤ 19 }
 {
     search.start(slots, list, price);
+    search.look(calculator, slots);
     let mut rounds = 0;
     while !search.is_over() {
-        search.refine(calculator, slots, rounds);
-        rounds += 1;
+        rounds = search.advance(calculator, slots, rounds);
     }
     rounds
 }

@@ -119,15 +119,19 @@ verdict-no series ends price place may from to missed =
 reached-below : (series : PaymentSeries) (amount y z : ℤ) → IsSeries series → 2 ≤ series.n → y <ℤ z → AtLeast (to_come series) z amount → AtLeast (to_come series) y amount
 reached-below series amount y z is many less at = let falls = many_periods-fall series amount is many in falls.more y (falls.lower y z less at)
 
+yes-reached : (series : PaymentSeries) (ends : ℤ → WorthEnds) (price place other : ℕ) → MayBeAsked series ends price → 1 ≤ other → other ≤ place → place ≤ 105002 → AtLeast (to_come series) (boundary (yield_at place)) (pos (360000 * price + 360)) → yield_verdict ends series price (yield_at other) ≡ Yes
+yes-reached series ends price place other may from order to at =
+    ⊎_elim
+    (λ (less : other < place). verdict-yes series ends price other may from (omega arith) (reached-below series (pos (360000 * price + 360)) (boundary (yield_at other)) (boundary (yield_at place)) may.is may.many (place-rises other place less) at))
+    (λ (same : place ≤ other). let here : place ≡ other = omega arith in verdict-yes series ends price other may from (omega arith) (subst (λ p. AtLeast (to_come series) (boundary (yield_at p)) (pos (360000 * price + 360))) here at))
+    (cases_lt other place)
+
 yes-below : (series : PaymentSeries) (ends : ℤ → WorthEnds) (price place other : ℕ) → MayBeAsked series ends price → 1 ≤ other → other ≤ place → place ≤ 105002 → is_clear Yes (ends_of series (boundary (yield_at place)) (ends (boundary (yield_at place)))) (360000 * price + series.accrued) ≡ true → yield_verdict ends series price (yield_at other) ≡ Yes
 yes-below series ends price place other may from order to clear =
     let z = boundary (yield_at place) in
     let law = are-enclosed series ends price may in
-    let at = clear-reached series z (ends z) price (law z (in-range (yield_at place) (place-from place (omega arith)) (place-to place to))) clear in
-    ⊎_elim
-    (λ (less : other < place). verdict-yes series ends price other may from (omega arith) (reached-below series (pos (360000 * price + 360)) (boundary (yield_at other)) z may.is may.many (place-rises other place less) at))
-    (λ (same : place ≤ other). let here : place ≡ other = omega arith in verdict-yes series ends price other may from (omega arith) (subst (λ p. AtLeast (to_come series) (boundary (yield_at p)) (pos (360000 * price + 360))) here at))
-    (cases_lt other place)
+    yes-reached series ends price place other may from order to
+    (clear-reached series z (ends z) price (law z (in-range (yield_at place) (place-from place (omega arith)) (place-to place to))) clear)
 
 no-above : (series : PaymentSeries) (ends : ℤ → WorthEnds) (price place other : ℕ) → MayBeAsked series ends price → 1 ≤ place → place ≤ other → other ≤ 105002 → is_clear No (ends_of series (boundary (yield_at place)) (ends (boundary (yield_at place)))) (360000 * price + series.accrued) ≡ true → yield_verdict ends series price (yield_at other) ≡ No
 no-above series ends price place other may from order to clear =
@@ -158,6 +162,15 @@ learnt-by ends series price place window Unsure true may from to is before = bef
 
 pub learnt-window : (ends : PaymentSeries → ℤ → WorthEnds) (series : PaymentSeries) (price place : ℕ) (window : Window) (told : Reading) → MayBeAsked series (ends series) price → 1 ≤ place → place ≤ 105002 → told.clear ≡ is_clear told.verdict (ends_at ends series place) (360000 * price + series.accrued) → IsWindow (place_verdict ends series price) window → IsWindow (place_verdict ends series price) (learnt place told window)
 learnt-window ends series price place window told may from to is before = learnt-by ends series price place window told.verdict told.clear may from to is before
+
+-- payments that are worth more than the price at a place reach all places up to it
+pub reached-window : (ends : PaymentSeries → ℤ → WorthEnds) (series : PaymentSeries) (price place : ℕ) (window : Window) → MayBeAsked series (ends series) price → 1 ≤ place → place ≤ 105002 → AtLeast (to_come series) (boundary (yield_at place)) (pos (360000 * price + 360)) → IsWindow (place_verdict ends series price) window → IsWindow (place_verdict ends series price) (window_at place window.no)
+reached-window ends series price place window may from to at before = record {
+  most = to;
+  some = before.some;
+  yes = λ other some order. yes-reached series (ends series) price place other may some order to at;
+  no = before.no;
+}
 
 sum-reached : (series : PaymentSeries) (price : ℕ) → IsSeries series → 360000 * price + series.accrued + 360 ≤ sum_to (payment_at series) series.n → AtLeast (to_come series) (pos 0) (pos (360000 * price + 360))
 sum-reached series price is order = ((zero_yield-sum series is).at_least (pos (360000 * price + 360))).1 (omega (arith, ints, order))

@@ -1,15 +1,18 @@
 //! A search that knows verdicts without a question.
 
-ghost use Rattle.std.specs.Prelude.{◌≡◌, ◌<◌, ◌≤◌, false};
+ghost use Rattle.std.specs.Prelude.{◌≡◌, ◌<◌, ◌≤◌, false, ℕ, IfSome};
+ghost use Rattle.muni_rule.specs.Payments.{PaymentSeries};
+ghost use Rattle.muni_rule.specs.PrintedYield.{boundary};
+ghost use Rattle.muni_rule.specs.declared.verdict.Verdict.{Verdict};
 ghost use Rattle.muni_yield.specs.Bracket as bracket;
 ghost use Rattle.muni_yield.specs.Known.{IsGuided, guided_start};
-ghost use Rattle.muni_yield.specs.Places.{place_verdict};
+ghost use Rattle.muni_yield.specs.Places.{place_verdict, yield_at};
 
 use crate::guess::{RoughYield, place_near};
 use crate::laws::searches_are_in_order;
 use crate::{Bracket, Discounts, Place, Question, Window};
 use muni_dec::Price;
-use muni_multi::{Discount, Encloser, Verdict};
+use muni_multi::{Annuity, Discount, Encloser, Verdict};
 use muni_terms::Flows;
 
 /// A bracket, and the verdicts that are known.
@@ -50,6 +53,26 @@ impl GuidedSearch {
         &self.window
     }
 
+    /// Learns the answer to a question without a halving, if it is open: by the annuity of its yield, and where that
+    /// shows no yes, by asking.
+    pub fn look<E: Encloser>(&mut self, encloser: &E, question: Question, annuity: &mut Annuity)
+        requires place { annuity.old.discount.y ≡ boundary (yield_at question) }
+        requires known { IsGuided (place_verdict (E.ends encloser.now)) self.old }
+        ensures bracket { self.new.bracket ≡ self.old.bracket }
+        ensures known { IsGuided (place_verdict (E.ends encloser.now)) self.new }
+        ensures same { annuity.new.discount ≡ annuity.old.discount }
+    {
+        if !self.window.is_open_at(question) {
+            return;
+        }
+        searches_are_in_order(&self.bracket);
+        if annuity.shows(self.bracket.flows(), self.bracket.price()) {
+            self.window.reach(question.place());
+        } else {
+            let _verdict = self.ask(encloser, question, Some(annuity.discount()));
+        }
+    }
+
     /// Halves a search that is not settled. It asks the bracket's next question, or if the answer to
     /// that is known the question `aim`. No discount is computed if the one at hand is that of the
     /// question.
@@ -62,6 +85,30 @@ impl GuidedSearch {
         ensures known { IsGuided (place_verdict (E.ends encloser.now)) self.new }
     {
         let verdict = self.answer(encloser, aim, discounts);
+        self.bracket.halve_known(verdict);
+    }
+
+    /// The verdict on the next question of a search that is not settled, if it is known.
+    pub fn told(&self) -> Option<Verdict>
+        requires open { bracket.is_settled self.now.bracket ≡ false }
+        ensures { (verdicts : PaymentSeries → ℕ → ℕ → Verdict) → IsGuided verdicts self.now
+            → IfSome result (λ verdict. verdicts self.now.bracket.series self.now.bracket.price
+            (bracket.question self.now.bracket) ≡ verdict) }
+    {
+        self.window.verdict_at(self.bracket.question().place())
+    }
+
+    /// Halves by the verdict on the next question.
+    pub fn halve_by(&mut self, verdict: Verdict)
+        requires open { bracket.is_settled self.old.bracket ≡ false }
+        ensures halved { (verdicts : PaymentSeries → ℕ → ℕ → Verdict)
+            → verdicts self.old.bracket.series self.old.bracket.price
+            (bracket.question self.old.bracket) ≡ verdict
+            → self.new.bracket ≡ bracket.halved verdicts self.old.bracket }
+        ensures known { (verdicts : PaymentSeries → ℕ → ℕ → Verdict) → IsGuided verdicts self.old
+            → IsGuided verdicts self.new }
+        ensures window { self.new.window ≡ self.old.window }
+    {
         self.bracket.halve_known(verdict);
     }
 
@@ -89,7 +136,16 @@ impl GuidedSearch {
             && self.window.is_open_at(aim)
     }
 
-    fn discount_at(&self, question: Question) -> Discount {
+    /// The annuity at a question, without payments.
+    pub fn annuity(&self, question: Question) -> Annuity
+        ensures { result.discount.y ≡ boundary (yield_at question) }
+    {
+        Annuity::none(self.discount_at(question))
+    }
+
+    fn discount_at(&self, question: Question) -> Discount
+        ensures { result.y ≡ boundary (yield_at question) }
+    {
         Discount::at(question.boundary(), self.bracket.flows().a())
     }
 

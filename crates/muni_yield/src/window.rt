@@ -82,6 +82,13 @@ impl Window {
         }
     }
 
+    // What payments settle that are worth 10^-9 dollars more than the price at a place.
+    pub(crate) fn reach(&mut self, place: Place)
+        ensures { self.new ≡ spec.window_at place self.old.no }
+    {
+        self.yes = place;
+    }
+
     /// Whether more than one verdict is open.
     pub fn is_wide(&self) -> bool {
         self.yes.next().next().is_below(self.no)

@@ -177,10 +177,11 @@ struct Cost {
     calls: u32,
 }
 
-// Halvings and rounds were computed outside. How often the encloser is called hangs on the guesses at the
-// yield, so there it is as often as was counted. At 100 all candidates have the same yield. At 104 and 97
-// the first round drops all but one, and if none were dropped the searches would be halved over 750 times.
-// At 250 each is below the range by its first question, and two are exact cases, which take no call.
+// Rounds were computed outside. How many searches a look drops before the first round, and how often the encloser
+// is called, hangs on the guesses at the yield, so those are as often as was counted. At 100 all candidates have the
+// same yield, and none is dropped. At 104 and 97 the look drops all but one, and if none were dropped the searches
+// would be halved over 750 times. At 250 the look drops those that reach the least yield, and the others are below it
+// by what they learnt in it. The exact cases take no call.
 const FORTY_CALLS: [(&str, Cost); 4] = [
     (
         "price=100",
@@ -193,25 +194,25 @@ const FORTY_CALLS: [(&str, Cost); 4] = [
     (
         "price=104",
         Cost {
-            halvings: 58,
+            halvings: 18,
             rounds: 18,
-            calls: 39,
+            calls: 0,
         },
     ),
     (
         "price=97",
         Cost {
-            halvings: 59,
+            halvings: 19,
             rounds: 19,
-            calls: 40,
+            calls: 2,
         },
     ),
     (
         "price=250",
         Cost {
-            halvings: 41,
+            halvings: 21,
             rounds: 1,
-            calls: 39,
+            calls: 19,
         },
     ),
 ];

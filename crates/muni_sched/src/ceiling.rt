@@ -1,0 +1,76 @@
+//! The least figures that searches know not to be reached.
+
+ghost use Rattle.std.specs.Prelude.{◌≡◌, ◌≤◌, Option, None, All};
+ghost use Rattle.muni_sched.specs.Search as spec;
+ghost use Rattle.muni_sched.specs.Search.{IsSearch, IsKnownYield, missed_first, missed_after, ceiling_after, ceiling_first};
+
+use crate::CandidateOutcome;
+use crate::search::OpenSearch;
+use muni_yield::Place;
+
+/// Whether a figure is known not to be reached by the ceiling.
+pub(crate) fn is_at_ceiling(ceiling: Option<i32>, thousandths: i32) -> bool
+    ensures { result ≡ spec.is_at_ceiling ceiling thousandths }
+{
+    match ceiling {
+        Some(ceiling) => ceiling <= thousandths,
+        None => false,
+    }
+}
+
+/// The lower one of two figures, if there are any.
+pub(crate) fn lower_of(ceiling: Option<i32>, other: Option<i32>) -> Option<i32>
+    ensures { result ≡ spec.lower_of ceiling other }
+{
+    match (ceiling, other) {
+        (Some(ceiling), Some(other)) => Some(ceiling.min(other)),
+        (Some(ceiling), None) => Some(ceiling),
+        (None, other) => other,
+    }
+}
+
+/// The least figure that the outcomes known at first show not to be reached.
+pub(crate) fn ceiling_first(known: &[Option<CandidateOutcome>]) -> Option<i32>
+    requires { All IsKnownYield known.now }
+    ensures { result ≡ ceiling_first None known.now }
+{
+    let mut ceiling = None;
+    for outcome in known {
+        ceiling = lower_of(ceiling, missed_first(*outcome));
+    }
+    ceiling
+}
+
+// A yield that is printed is not reached at the next figure.
+fn missed_first(known: Option<CandidateOutcome>) -> Option<i32>
+    requires { IsKnownYield known }
+    ensures { result ≡ missed_first known }
+{
+    match known? {
+        CandidateOutcome::Print(yld) => Some(yld.units() as i32 + 1),
+        _ => None,
+    }
+}
+
+/// The least figure that is not reached after searches were asked.
+pub(crate) fn least_ceiling(searches: &[OpenSearch], before: Option<i32>) -> Option<i32>
+    requires { All IsSearch searches.now }
+    ensures { result ≡ ceiling_after before searches.now }
+{
+    let mut ceiling = before;
+    for search in searches {
+        ceiling = lower_of(ceiling, search.missed());
+    }
+    ceiling
+}
+
+/// The least place that is not reached after searches were asked.
+pub(crate) fn least_missed(searches: &[OpenSearch], before: Place) -> Place
+    ensures { result ≡ missed_after before searches.now }
+{
+    let mut missed = before;
+    for search in searches {
+        missed = missed.lower(search.guided.window().no());
+    }
+    missed
+}
