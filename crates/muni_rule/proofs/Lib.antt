@@ -19,3 +19,5 @@ pub mod ManyPeriodFallLemmas
 pub mod OnePriceLemmas
 pub mod RunLemmas
 pub mod RedemptionLemmas
+pub mod TailLemmas
+pub mod SensitivityLemmas

@@ -27,3 +27,5 @@ pub mod Schedule
 pub mod Redemptions
 pub mod RedemptionLaws
 pub mod LastPayment
+pub mod Sensitivities
+pub mod SensitivityLaws

@@ -10,6 +10,7 @@ ghost use Rattle.muni_rule.specs.PrintedYield.{PriceFalls, PrintsOneYield, Print
 ghost use Rattle.muni_rule.specs.QuasiDateLaws.{QuasiDatesAreAll, QuasiDatesRise, QuasiTestIsMembership};
 ghost use Rattle.muni_rule.specs.Ranges as ranges;
 ghost use Rattle.muni_rule.specs.RedemptionLaws.{PlainCallsAreTheirDays, CallsStandOnEachDate};
+ghost use Rattle.muni_rule.specs.SensitivityLaws.{DurationIsWithinYears, DurationIsAtMostYears, DurationOfZeroIsYears};
 
 use crate::YieldRange;
 
@@ -94,6 +95,14 @@ pub fn the_price_of_many_periods_falls()
     ensures one { ManyPeriodsPrintOneYield }
     ensures rounded { ManyPeriodsPrintRounded }
     ensures outcome { ManyPeriodsHaveOneOutcome }
+{}
+
+/// The duration is at most the years to redemption over one and half the yield, and it is these years if
+/// nothing is paid before the redemption. So it is at most the years where no yield is below zero.
+pub fn durations_are_within_years()
+    ensures within { DurationIsWithinYears }
+    ensures at_most { DurationIsAtMostYears }
+    ensures zero { DurationOfZeroIsYears }
 {}
 
 /// The ranges are those of the definitions.

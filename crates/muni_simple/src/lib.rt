@@ -9,6 +9,6 @@ mod units;
 mod yields;
 
 pub use discount::{discount_return, rate_price, rate_return};
-pub use price::{SimplePrice, single_price};
+pub use price::{SimplePrice, growth, single_price};
 pub use single::{Shape1, Single};
 pub use yields::{SimpleYield, single_yield};

@@ -53,7 +53,8 @@ fn thousandths_reached(single: &Single, shape: Shape1, y: Yield) -> Option<u64>
     )
 }
 
-fn growth(single: &Single, shape: Shape1, y: Yield) -> u64
+/// One and the yield of the days left, in 1/(B * 10^6), where B is the days of a year.
+pub fn growth(single: &Single, shape: Shape1, y: Yield) -> u64
     requires single { IsSingle shape single.now }
     requires y { IsGivenYield shape y }
     ensures value { pos result ≡ rule.growth (payment_of single.now) y }

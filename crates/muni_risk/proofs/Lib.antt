@@ -1,0 +1,9 @@
+pub mod Ends
+pub mod Accuracy
+pub mod SeriesSums
+pub mod Cuts
+pub mod Turns
+pub mod Figures
+pub mod Singles
+pub mod Worths
+pub mod Dv01Ends

@@ -1,0 +1,24 @@
+//! How the price moves with the yield: current yield, duration, convexity and what a basis point is worth.
+#![tactic(auto)]
+
+mod current;
+mod nearest;
+mod series;
+mod single;
+mod sums;
+
+pub use current::current_yield;
+pub use series::series_sensitivities;
+pub use single::single_sensitivities;
+
+/// How the price with the accrued interest moves with the yield, rounded to the nearest last digit.
+#[derive(Clone, Copy, Debug, PartialEq, Eq)]
+pub struct Sensitivities {
+    /// The modified duration, in 10^-3 years.
+    pub duration: u64,
+    /// The convexity, in 10^-3 years squared.
+    pub convexity: u64,
+    /// What the price falls by if the yield rises by 0.01 percent, in 10^-6 dollars per 100 of par, by
+    /// the first derivative.
+    pub dv01: u64,
+}
