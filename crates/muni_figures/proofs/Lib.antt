@@ -6,6 +6,7 @@ pub mod GroupLemmas
 pub mod IssueLemmas
 pub mod RowLemmas
 pub mod SaidLemmas
+pub mod ScanLemmas
 pub mod ShareLemmas
 pub mod ToldLemmas
 pub mod UniqueLemmas

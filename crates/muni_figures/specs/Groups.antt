@@ -1,5 +1,5 @@
 -- The blocks of a group, as they are taken from an input.
-use Rattle.std.specs.Prelude.{◌≡◌, ◌≢◌, ◌≤◌, ℕ, List, [], ◌∷◌, ◌++◌, length, All, vec_len}
+use Rattle.std.specs.Prelude.{◌≡◌, ◌≢◌, ◌≤◌, ◌==◌, if◌then◌else◌, ℕ, List, [], ◌∷◌, ◌++◌, length, All, vec_len}
 use Rattle.std.specs.Io.KnownBytes.{Consumes}
 use Rattle.muni_edge.specs.declared.source.Source.{Ghosts}
 use Rattle.muni_figures.specs.Blocks.{IsLeft, TakesBlock, most_bytes}
@@ -35,6 +35,10 @@ pub record TakesGroup {I : Type 0} (source : Ghosts I) (before now : LineBlocks)
   pub left : before.reading ≡ Open → IsLeft source now.reading old new
   pub over : before.reading ≢ Open → (now.reading ≡ before.reading) × (new ≡ old) × (piece ≡ [])
   pub few : length now.held.items ≤ most_bytes
+
+-- how many blocks are held at once: one, or 32 for several workers to share out
+abbrev pub blocks_at_once : ℕ → ℕ
+blocks_at_once workers = if workers == 1 then 1 else 32
 
 -- So many blocks are held at once, each of 64 KB at most.
 pub record AreBounded (most : ℕ) (shares : List Share) : Type 0 where

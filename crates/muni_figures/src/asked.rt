@@ -4,6 +4,7 @@ ghost use Rattle.std.specs.Prelude.{◌≡◌, ◌<◌, ◌≤◌, ◌∷◌, �
 ghost use Rattle.std.specs.Option.{option_map};
 ghost use Rattle.std.specs.Str.Lines.{strip_carriage_return};
 ghost use Rattle.muni_import.specs.Row.{field, given_in, is_basis};
+ghost use Rattle.muni_msg.specs.IssueFields.{cusip_reading};
 ghost use Rattle.muni_figures.specs.Rows as spec;
 
 use muni_days::Day;
@@ -29,6 +30,13 @@ pub fn read_line(line: &[u8]) -> Result<Asked, RowFault>
         return Err(RowFault::FieldCount);
     }
     read_fields(without_return(line))
+}
+
+/// The CUSIP in the first column of a line, if it is one.
+pub(crate) fn read_named(line: &[u8]) -> Option<[u8; 9]>
+    ensures { result ≡ cusip_reading (field 1 (spec.fields_in line.now)) }
+{
+    read_cusip(field(without_return(line), 1))
 }
 
 /// Whether a line is a row, even a bad one: it is not empty.

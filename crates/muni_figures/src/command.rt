@@ -45,7 +45,7 @@ pub struct FiguresOptions {
 
 /// Writes a line on each row of an input of any length, and then the total.
 ///
-/// The store is fetched first. A group of blocks is read at a time, one block for each worker, and its
+/// The store is fetched first. A group of blocks is read at a time, one or for several workers 32, and its
 /// lines are written before the next one. Each issue that rows name is asked for once and is kept in
 /// memory. Where the input, the output or the store fails, or no memory is left, the lines before it stay
 /// written. Rows whose places do not fit in 64 bits are too many.

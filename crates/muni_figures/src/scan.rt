@@ -6,7 +6,7 @@ ghost use Rattle.muni_keep.specs.Trades.{by_bytes};
 ghost use Rattle.muni_figures.specs.Issues.{IsScan, NamesRow};
 ghost use Rattle.muni_figures.specs.Rows.{row_of, rows_in};
 
-use crate::asked::{cut, is_row, read_line};
+use crate::asked::{cut, is_row, read_named};
 use muni_edge::NoMemory;
 use muni_terms::Issue;
 use std::alloc::Global;
@@ -41,7 +41,7 @@ pub(crate) fn scan_block(
     Ok(Scan { rows, unknown })
 }
 
-// Adds the CUSIP of a row whose issue is not had.
+// Adds the CUSIP of a row whose issue is not had. Its other columns are read when it is priced.
 fn add_unknown(
     line: &[u8],
     issues: &BTreeMap<[u8; 9], Issue>,
@@ -49,13 +49,13 @@ fn add_unknown(
 ) -> Result<(), NoMemory>
     ensures { OnOk result (NamesRow (tree.get by_bytes issues.now) (row_of line.now) unknown.old.items unknown.new.items) }
 {
-    let Ok(asked) = read_line(line) else {
+    let Some(cusip) = read_named(line) else {
         return Ok(());
     };
-    if issues.contains_key(&asked.cusip) {
+    if issues.contains_key(&cusip) {
         return Ok(());
     }
-    match unknown.push(asked.cusip) {
+    match unknown.push(cusip) {
         Ok(()) => Ok(()),
         Err(_) => Err(NoMemory),
     }
