@@ -16,13 +16,15 @@ from collections.abc import Iterator
 import pytest
 
 import muni
+from muni import parts
 from support.program import ROOT, needs, program_path
 from support.server import Server, free_port, reached
 
 FOLDER = ROOT / "clients/python"
 VERSION = (ROOT / "VERSION").read_text().strip()
 TYPED = ("clients/python/src/muni", "clients/python/compare.py", "tests/client/test_client_desk.py",
-         "tests/client/test_client_cuts.py", "tests/client/test_client_each.py", "tests/client/test_client_kept.py")
+         "tests/client/test_client_cuts.py", "tests/client/test_client_each.py", "tests/client/test_client_kept.py",
+         "tests/client/test_client_frames.py", "tests/client/test_client_parts.py", "tests/client/test_client_spread.py")
 BONDS = 100
 
 
@@ -35,7 +37,7 @@ def compare() -> types.ModuleType:
     return module
 
 
-EXAMPLES = [case for module in (muni, compare()) for case in doctest.DocTestFinder().find(module) if case.examples]
+EXAMPLES = [case for module in (muni, parts, compare()) for case in doctest.DocTestFinder().find(module) if case.examples]
 
 
 def python(*words: str | pathlib.Path, folder: pathlib.Path | None = None,
@@ -59,7 +61,7 @@ def test_an_example_of_the_code_gives_what_it_shows(case: doctest.DocTest) -> No
 
 
 def test_no_example_of_the_code_is_left_out() -> None:
-    assert len(EXAMPLES) == 16
+    assert len(EXAMPLES) == 17
 
 
 @pytest.fixture
@@ -118,7 +120,8 @@ def test_a_wheel_has_the_module_its_types_and_the_version(tmp_path: pathlib.Path
     wheels = list((tmp_path / "out").glob("*.whl"))
     assert [each.name for each in wheels] == [f"muni-{VERSION}-py3-none-any.whl"], told.stderr
     names = {each for each in zipfile.ZipFile(wheels[0]).namelist() if "dist-info" not in each}
-    assert names == {"muni/__init__.py", "muni/_refusals.py", "muni/py.typed"}
+    assert names == {f"muni/{each}" for each in ("__init__.py", "_frames.py", "_program.py", "_refusals.py", "parts.py",
+                                                 "py.typed", "spread.py")}
     # It can be imported as it is.
     told = python("-c", "import muni; print(muni.__version__, muni.__file__)", folder=tmp_path, path=wheels[0])
     assert told.stdout == f"{VERSION} {wheels[0]}/muni/__init__.py\n"

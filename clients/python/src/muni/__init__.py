@@ -26,7 +26,6 @@ import json
 import os
 import re
 import ssl
-import subprocess
 import time
 import urllib.parse
 from collections.abc import Iterator
@@ -35,6 +34,8 @@ from datetime import date
 from decimal import Decimal
 from typing import Any, ClassVar, Union
 
+from ._frames import figures, figures_by_part
+from ._program import Ended, Error, Path, ran
 from ._refusals import WORDS
 
 __all__ = [
@@ -42,7 +43,8 @@ __all__ = [
     "DayCount", "DeskFull", "Ended", "Error", "Figures", "GivenOutOfRange", "Issue", "Kind", "Label", "Listed", "NoTime", "PAGE",
     "Position", "REFUSALS", "Redemption", "Refused", "SettleOutside", "Side", "Status", "Trade", "Unanswered",
     "Undecided", "UnknownIssue", "UnknownTrade", "VersionsFull", "WrongBasis", "WrongNumber", "YieldAbove",
-    "YieldBelow", "export", "read_confirmation", "read_figures", "read_issue", "read_list", "read_positions",
+    "YieldBelow", "export", "figures", "figures_by_part", "read_confirmation", "read_figures", "read_issue",
+    "read_list", "read_positions",
 ]
 
 __version__ = "1.7.0"
@@ -236,10 +238,6 @@ class Position:
     money: Decimal
 
 
-class Error(Exception):
-    """What every exception of this module is."""
-
-
 class Unanswered(Error):
     """No answer came. Whether the request was kept is not known; sent again it acts once."""
 
@@ -251,15 +249,6 @@ class Status(Error):
         super().__init__(f"status {status}: {text.strip()[:200]}")
         self.status = status
         self.text = text
-
-
-class Ended(Error):
-    """The program ended with another status than 0. docs/FORMATS.md says what each means."""
-
-    def __init__(self, status: int, said: str) -> None:
-        super().__init__(f"status {status}: {said.strip()}")
-        self.status = status
-        self.said = said
 
 
 class Refused(Error):
@@ -589,16 +578,13 @@ def read_issue(text: str) -> Issue:
                  calls=tuple(_kept_call(call) for call in calls.split()), day_count=DayCount(days))
 
 
-def export(store: str | os.PathLike[str], desk: str = "", *, program: str | os.PathLike[str] = "muni") -> str:
+def export(store: Path, desk: str = "", *, program: Path = "muni") -> str:
     """The rows of what a store keeps, or of one desk with the issues that it names. `muni load` reads them again.
 
     It starts the program, which must be on the path if it is not named. No server may have the store open.
     """
     words = ["export", f"--store={os.fspath(store)}", *([f"--desk={_desk(desk)}"] if desk else [])]
-    done = subprocess.run([os.fspath(program), *words], capture_output=True, stdin=subprocess.DEVNULL, check=False)
-    if done.returncode != 0:
-        raise Ended(done.returncode, done.stderr.decode(errors="replace"))
-    return done.stdout.decode()
+    return ran(program, *words).decode()
 
 
 

@@ -1,0 +1,226 @@
+"""Frames of pandas: each row is a question to the program, and its answer stands in columns behind those of the row.
+
+pandas is imported when a frame is asked about, so the rest of the client does without it.
+"""
+from __future__ import annotations
+
+import importlib
+import itertools
+import os
+from collections.abc import Callable, Iterable, Iterator
+from contextlib import contextmanager
+from dataclasses import dataclass
+from datetime import date
+from decimal import Decimal
+from enum import Enum
+from typing import Any
+
+from ._program import Error, Path, lines
+
+# A pandas.DataFrame. A caller without pandas has none.
+Frame = Any
+
+
+# How many texts of a column are kept with what they read as.
+_MOST_KEPT = 100_000
+
+
+@dataclass(frozen=True)
+class Question:
+    """A command that takes a row for each question and writes a line for each: the columns that a frame has to have,
+    those that it may have, and the columns of the answer, each with what reads a text of it, and those among them in
+    which few texts come again and again."""
+
+    command: str
+    wanted: tuple[str, ...]
+    more: tuple[str, ...]
+    told: dict[str, Callable[[str], Any]]
+    few: frozenset[str]
+
+
+FIGURES = Question("figures", ("cusip", "par", "settle", "basis", "value"), ("fee", "side"), {
+    "price": Decimal, "yield": Decimal, "redemption": date.fromisoformat, "redemption_price": Decimal,
+    "redemption_label": str, "days": int, "principal": Decimal, "accrued": Decimal, "commission": Decimal,
+    "total": Decimal}, frozenset(["yield", "redemption", "redemption_price", "redemption_label", "days", "commission"]))
+
+
+def figures(frame: Frame, store: Path, *, workers: int = 1, program: Path = "muni", progress: bool = False) -> Frame:
+    """A frame with the figures of each of its rows, which `muni figures` computes with the issues of a store.
+
+    The columns `cusip`, `par`, `settle`, `basis` and `value` have to be there, in any order, and `fee` and `side` may:
+    the forms and ranges are those of a Trade. `fee` is in dollars per 100 of par. A field is a Decimal, an int, a text,
+    a day or a Basis or Side. A float is a TypeError, since it seldom is the number that was typed. A missing value is
+    an empty field: no fee, the side `buy`, and in another column a row that does not read.
+
+    The frame that is returned has the same index, rows and columns, and behind them `price` and `yield`, `redemption`
+    (a day), `redemption_price`, `redemption_label`, `days`, `principal`, `accrued`, `commission` and `total`. Amounts
+    are Decimals, and money is in dollars. The last column, `refusal`, is None, or the name of the refusal as
+    `UnknownIssue`, or `bad` and the first column that does not read, as `bad par`. Then there are no figures.
+
+    `workers` is 1 to 16. `progress` shows a bar if tqdm is installed. A frame that has one of the new columns already,
+    or a text with a comma or the end of a line, is a ValueError. If the program does not end with status 0, the
+    exception is Ended; the store must not be open elsewhere.
+    """
+    with _bar(progress, len(frame)) as advance:
+        return _asked(FIGURES, frame, store, workers, program, advance)
+
+
+def figures_by_part(frames: Iterable[Frame], store: Path, *, workers: int = 1, program: Path = "muni",
+                    progress: bool = False) -> Iterator[Frame]:
+    """The same for frames that come one after the other, as pandas.read_csv with `chunksize` gives them: each with its
+    figures as soon as it has them. So no more than one of them is in memory. The program is started for each."""
+    with _bar(progress, None) as advance:
+        for frame in frames:
+            yield _asked(FIGURES, frame, store, workers, program, advance)
+
+
+def _asked(question: Question, frame: Frame, store: Path, workers: int, program: Path,
+           advance: Callable[[int], None]) -> Frame:
+    answer = Answer(question)
+    words = (question.command, f"--store={os.fspath(store)}", f"--workers={workers}")
+    for some in lines(program, *words, rows=rows_of(question, frame)):
+        answer.add(some)
+        advance(len(some))
+    return answer.beside(frame)
+
+
+def rows_of(question: Question, frame: Frame) -> bytes:
+    """The rows of a frame as the program reads them."""
+    lacking = [name for name in question.wanted if name not in frame.columns]
+    if lacking:
+        raise ValueError(f"columns: {', '.join(lacking)} missing")
+    taken = [name for name in (*question.told, "refusal") if name in frame.columns]
+    if taken:
+        raise ValueError(f"columns: {', '.join(taken)} would be written over; rename or drop them")
+    given = [place for place, name in enumerate(question.more, 1) if name in frame.columns]
+    more = question.more[:max(given, default=0)]
+    columns = [texts_of(name, frame[name]) if name in frame.columns else [""] * len(frame)
+               for name in question.wanted + more]
+    text = "\n".join([*map(",".join, zip(*columns)), ""])
+    if (text.count(","), text.count("\n"), text.count("\r")) != ((len(columns) - 1) * len(frame), len(frame), 0):
+        raise ValueError(_parting(question.wanted + more, columns))
+    # A letter that is not ASCII stands in no field that reads, and neither does what is put for it.
+    return text.encode("ascii", "replace")
+
+
+def texts_of(name: str, column: Any) -> list[str]:
+    """The fields of a column, a missing value as an empty one."""
+    values = column.astype(object).where(column.notna(), None).tolist()
+    kinds = set(map(type, values))
+    for kind in kinds:
+        if issubclass(kind, bool) or not issubclass(kind, (str, int, Decimal, date, Enum, type(None))):
+            note = ("; pandas makes floats of ints beside a missing value, but not in a column of the type Int64"
+                    if issubclass(kind, float) and None in values else "")
+            raise TypeError(f"{name}: a Decimal, an int, a text or a day, not a {kind.__name__}{note}")
+    if kinds <= {str}:
+        return list(values)
+    if Decimal in kinds:
+        return list(map(_text, values))
+    # Few days stand in many rows.
+    texts = {value: _text(value) for value in set(values)}
+    return [texts[value] for value in values]
+
+
+def _text(value: Any) -> str:
+    """A field, in one form for equal values."""
+    if isinstance(value, Decimal):
+        text = str(value)
+        text = format(value, "f") if "E" in text else text
+        return text.rstrip("0").rstrip(".") if "." in text else text
+    if isinstance(value, date):
+        return value.strftime("%Y-%m-%d")
+    if isinstance(value, Enum):
+        return str(value.value)
+    return "" if value is None else str(value)
+
+
+def _parting(names: tuple[str, ...], columns: list[list[str]]) -> str:
+    """What is wrong with a field that is more than one."""
+    name, text = next((name, text) for name, column in zip(names, columns) for text in column
+                      if any(each in text for each in ",\n\r"))
+    return f"{name}: a field has no comma and no end of a line, and not {text!r}"
+
+
+class Answer:
+    """The lines that the program has written so far, as columns."""
+
+    def __init__(self, question: Question) -> None:
+        self.question = question
+        self.rows = 0
+        self.last = ""
+        self._numpy = importlib.import_module("numpy")
+        self._readers = [_Kept(read).__getitem__ if name in question.few else read
+                         for name, read in question.told.items()]
+        # Pieces of each column. An array, unlike a list, is not walked whenever Python looks for what to free.
+        self._pieces: list[list[Any]] = [[self._array([])] for _ in (*question.told, "refusal")]
+
+    def add(self, some: list[bytes]) -> None:
+        """Adds the next lines, each with its end. The last line of all is the total."""
+        if some[-1].startswith(b"TOTAL,"):
+            self.last = some.pop().decode("ascii").rstrip("\n")
+        has_figures = [b",figures," in line for line in some]
+        # Three fields stand before the figures: the place, the word and the CUSIP.
+        width = len(self._readers) + 3
+        fields = b"".join(itertools.compress(some, has_figures)).decode("ascii").replace("\n", ",").split(",")
+        if len(fields) != width * sum(has_figures) + 1:
+            raise Error(f"a line is cut: {some[-1]!r}")
+        where = self._numpy.array(has_figures, dtype=bool)
+        for place, (reader, pieces) in enumerate(zip(self._readers, self._pieces), 3):
+            piece = self._numpy.full(len(some), None, dtype=object)
+            piece[where] = self._array(list(map(reader, fields[place::width])))
+            pieces.append(piece)
+        self._pieces[-1].append(self._array([None if good else self._refusal(line.decode("ascii"))
+                                             for good, line in zip(has_figures, some)]))
+        self.rows += len(some)
+
+    def _array(self, values: list[Any]) -> Any:
+        """The values as they are. numpy.array would ask each whether it is an array itself."""
+        return self._numpy.fromiter(values, dtype=object, count=len(values))
+
+    def _refusal(self, line: str) -> str:
+        """The name of a refusal, or which column does not read."""
+        fields = line.rstrip("\n").split(",")
+        if fields[1] == "refused":
+            return fields[3]
+        names = self.question.wanted + self.question.more
+        return "bad row" if fields[2] == "1" else f"bad {names[int(fields[3]) - 1]}"
+
+    def beside(self, frame: Frame) -> Frame:
+        """The frame with the columns behind its own, if the total is that of the lines."""
+        pandas = importlib.import_module("pandas")
+        *columns, refusals = map(self._numpy.concatenate, self._pieces)
+        totals = [total for total in columns[-1] if total is not None]
+        said = f"TOTAL,{len(totals)},{sum(totals, Decimal()):.2f},{self.rows}"
+        if self.last != said or self.rows != len(frame):
+            raise Error(f"{self.rows} lines for {len(frame)} rows, and {self.last!r} at their end, not {said!r}")
+        new = {name: pandas.Series(column, index=frame.index, dtype="Int64" if name == "days" else object)
+               for name, column in zip((*self.question.told, "refusal"), (*columns, refusals))}
+        return frame.assign(**new)
+
+
+class _Kept(dict[str, Any]):
+    """What the texts of a column read as, each read once. If they are many, the later ones are read each time."""
+
+    def __init__(self, read: Callable[[str], Any]) -> None:
+        super().__init__()
+        self._read = read
+
+    def __missing__(self, text: str) -> Any:
+        found = self._read(text)
+        if len(self) < _MOST_KEPT:
+            self[text] = found
+        return found
+
+
+@contextmanager
+def _bar(is_wanted: bool, rows: int | None) -> Iterator[Callable[[int], None]]:
+    """Takes how many more rows have been answered, and shows it if that is wanted and tqdm is installed."""
+    try:
+        tqdm = importlib.import_module("tqdm") if is_wanted else None
+    except ModuleNotFoundError:
+        tqdm = None
+    if tqdm is None:
+        yield lambda _: None
+        return
+    with tqdm.tqdm(total=rows, unit=" rows", unit_scale=True) as shown:
+        yield shown.update

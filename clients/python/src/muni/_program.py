@@ -1,0 +1,84 @@
+"""The program on this machine: what a command of it writes, and how it ended."""
+from __future__ import annotations
+
+import importlib
+import os
+import subprocess
+import tempfile
+import threading
+from collections.abc import Iterator
+from contextlib import suppress
+from typing import IO, Union
+
+Path = Union[str, "os.PathLike[str]"]
+
+# How many bytes of lines are taken at a time, and how many may wait meanwhile, so that the program goes on.
+_TAKEN, _WAITING = 1 << 18, 1 << 20
+
+
+class Error(Exception):
+    """What every exception of this module is."""
+
+
+class Ended(Error):
+    """The program ended with another status than 0. docs/FORMATS.md says what each means."""
+
+    def __init__(self, status: int, said: str) -> None:
+        super().__init__(f"status {status}: {said.strip()}")
+        self.status = status
+        self.said = said
+
+    def __reduce__(self) -> tuple[type[Ended], tuple[int, str]]:
+        return type(self), (self.status, self.said)
+
+
+def ran(program: Path, *words: str, rows: bytes = b"", patience: float | None = None) -> bytes:
+    """All that a command writes. It is `Ended` if its status is not 0, and killed after `patience` seconds, which is
+    subprocess.TimeoutExpired."""
+    # By files, so that the program never waits for a pipe.
+    with tempfile.TemporaryFile() as sent, tempfile.TemporaryFile() as came:
+        sent.write(rows)
+        sent.seek(0)
+        done = subprocess.run([os.fspath(program), *words], stdin=sent, stdout=came, stderr=subprocess.PIPE,
+                              timeout=patience, check=False)
+        if done.returncode != 0:
+            raise Ended(done.returncode, done.stderr.decode(errors="replace"))
+        came.seek(0)
+        return came.read()
+
+
+def lines(program: Path, *words: str, rows: bytes) -> Iterator[list[bytes]]:
+    """The lines that a command writes, some at a time, while its input is sent. It is `Ended` behind the last of them
+    if its status is not 0. Whoever leaves off early ends it."""
+    with tempfile.TemporaryFile() as said:
+        process = subprocess.Popen([os.fspath(program), *words], stdin=subprocess.PIPE, stdout=subprocess.PIPE,
+                                   stderr=said)
+        assert process.stdin and process.stdout
+        sender = threading.Thread(target=_send, args=(process.stdin, rows))
+        sender.start()
+        try:
+            with process.stdout as output:
+                _widen(output)
+                while some := output.readlines(_TAKEN):
+                    yield some
+            status = process.wait()
+        finally:
+            process.kill()
+            process.wait()
+            sender.join()
+        if status != 0:
+            said.seek(0)
+            raise Ended(status, said.read().decode(errors="replace"))
+
+
+def _widen(pipe: IO[bytes]) -> None:
+    """Lets more bytes wait in a pipe, where that is possible."""
+    with suppress(ImportError, AttributeError, OSError):
+        fcntl = importlib.import_module("fcntl")
+        fcntl.fcntl(pipe, fcntl.F_SETPIPE_SZ, _WAITING)
+
+
+def _send(pipe: IO[bytes], rows: bytes) -> None:
+    """A program that ends early takes no more, and its status says why."""
+    with suppress(BrokenPipeError), pipe:
+        pipe.write(rows)
