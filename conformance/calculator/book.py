@@ -6,6 +6,7 @@ import enum
 from typing import NamedTuple
 
 from calculator.figures import Asked, Choice, Each, Figures, Refusal, Refused, Side, answers, each_of, likely
+from calculator.sensitivities import Risk, risk_of
 from calculator.terms import Issue, fault_of
 
 # How many trades a desk may have if nothing else is said.
@@ -50,10 +51,11 @@ class ListTrades(NamedTuple):
 
 
 class Quote(NamedTuple):
-    """A question for figures, and whether each redemption is told."""
+    """A question for figures, and whether each redemption and the sensitivities are told."""
 
     asked: Asked
     is_each: bool = False
+    is_risk: bool = False
 
 
 Command = AddIssue | Enter | Correct | Cancel | Confirm | ListTrades | Quote
@@ -89,6 +91,7 @@ class Quoted(NamedTuple):
     asked: Asked
     figures: Figures
     each: list[Each]
+    risk: Risk | None = None
 
 
 class Listed(NamedTuple):
@@ -136,11 +139,8 @@ class Book:
         match command:
             case AddIssue(issue):
                 return self.add(issue)
-            case Quote(asked, is_each):
-                found = self.quote(asked, choose)
-                if isinstance(found, Refusal):
-                    return found
-                return Quoted(asked, found, each_of(self.issues[asked.cusip], asked, choose) if is_each else [])
+            case Quote():
+                return self.quoted(command, choose)
             case ListTrades(desk, after):
                 return self.listed(desk, after)
             case Confirm(desk, reference):
@@ -156,6 +156,14 @@ class Book:
     def quote(self, asked: Asked, choose: Choice) -> Figures | Refusal:
         issue = self.issues.get(asked.cusip)
         return choose(answers(issue, asked)) if issue else Refusal(Refused.UNKNOWN_ISSUE)
+
+    def quoted(self, question: Quote, choose: Choice) -> Quoted | Refusal:
+        asked, found = question.asked, self.quote(question.asked, choose)
+        if isinstance(found, Refusal):
+            return found
+        issue = self.issues[asked.cusip]
+        each = each_of(issue, asked, choose) if question.is_each else []
+        return Quoted(asked, found, each, risk_of(issue, asked, found, choose) if question.is_risk else None)
 
     def add(self, issue: Issue) -> Reply:
         refusal = refused_terms(issue)

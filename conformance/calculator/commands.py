@@ -9,14 +9,16 @@ from calculator import drill, exported, rows, valued
 from calculator.book import Book, Confirm, refused_terms
 from calculator.figures import Choice, Refusal, answers, each_of, likely, quote_one
 from calculator.numerals import shown_figure
-from calculator.texts import confirmation, each_lines, figure_lines, position_line, refusal_line, text_of
+from calculator.sensitivities import risk_of
+from calculator.texts import (confirmation, each_lines, figure_lines, position_line, refusal_line, risk_lines,
+                              text_of)
 from calculator.words import Drill, Help, OverStore, QuoteOne, QuoteTerms, Usage, job
 
 IMPORTED_MAX = 4_194_304
 MARKED_MAX = 1_048_576
 HELP = """\
 quote-one COUPON NEXT SETTLE REDEMPTION YIELD
-quote --kind --dated --maturity --settle --yield|--price|--rate --first --coupon --call --par --workers --days --each
+quote --kind --dated --maturity --settle --yield|--price|--rate --first --coupon --call --par --workers --days --each --risk
 import --store --workers --positions --desk-limit
 confirm --store --desk --ref|--all
 serve --store --port --connections --workers --desk-limit
@@ -27,7 +29,7 @@ export --store --desk --issues
 list --store --desk
 load --store --desk-limit
 check-store --store
-figures --store --workers --from --header
+figures --store --workers --from --header --risk
 help
 """
 
@@ -82,7 +84,8 @@ def quoted(asked: QuoteTerms, choose: Choice) -> Said:
     if isinstance(found, Refusal):
         return refused(found)
     each = each_of(asked.issue, asked.asked, choose) if asked.is_each else []
-    return said([*figure_lines(asked.asked, found), *each_lines(asked.asked, each)])
+    risk = risk_of(asked.issue, asked.asked, found, choose) if asked.is_risk else None
+    return said([*figure_lines(asked.asked, found), *each_lines(asked.asked, each), *risk_lines(risk)])
 
 
 def over_store(asked: OverStore, book: Book, data: bytes | Callable[[], bytes], choose: Choice) -> Said:
@@ -109,7 +112,8 @@ def over_store(asked: OverStore, book: Book, data: bytes | Callable[[], bytes], 
             return said(rows.report(book, data if isinstance(data, bytes) else data(), choose))
         case "figures":
             text = data if isinstance(data, bytes) else data()
-            return said(valued.report(book, text, asked.first, asked.has_header, choose))
+            form = valued.Form(asked.first, asked.has_header, asked.is_risk)
+            return said(valued.report(book, text, form, choose))
         case _:
             text = data if isinstance(data, bytes) else data()
             return Said(Status.TOO_LARGE) if len(text) > MARKED_MAX else said(rows.marks(book, text, choose))

@@ -15,7 +15,7 @@ from calculator.json_text import BadJson
 from calculator.numerals import Unreadable
 from calculator.terms import Call, Issue, Kind
 from calculator.texts import (confirmation, each_lines, figure_lines, list_line, position_line, refusal_line,
-                              text_of)
+                              risk_lines, text_of)
 
 HEAD_MAX = 16_384
 FIELDS_MAX = 64
@@ -185,7 +185,7 @@ def posted(path: str, body: bytes) -> Command:
     if path == "/issues":
         return AddIssue(issue(members))
     if path == "/quotes":
-        return Quote(asked(members, Side.BUY, 0), members.is_true("each"))
+        return Quote(asked(members, Side.BUY, 0), members.is_true("each"), members.is_true("risk"))
     key = numerals.desk(members["desk"]), numerals.reference(members["reference"])
     if path == "/cancels":
         return Cancel(*key, fields.number(members["number"]))
@@ -247,8 +247,9 @@ def answer_of_reply(reply: Reply) -> bytes:
             return answer(200, f"ADDED {cusip}\n")
         case Confirmed():
             return answer(200, text_of(confirmation(reply)))
-        case Quoted(asked_, figures, each):
-            return answer(200, text_of([*figure_lines(asked_, figures), *each_lines(asked_, each)]))
+        case Quoted(asked_, figures, each, risk):
+            lines = [*figure_lines(asked_, figures), *each_lines(asked_, each), *risk_lines(risk)]
+            return answer(200, text_of(lines))
         case Listed(trades):
             return answer(200, text_of(list_line(*trade) for trade in trades))
         case Refusal(number, _):

@@ -107,5 +107,9 @@ def shown_figure(thousandths: int) -> str:
     return shown(thousandths, 3)
 
 
+def shown_dv01(micros: int) -> str:
+    return shown(micros, 6)
+
+
 def shown_money(cents: int) -> str:
     return shown(cents, 2)

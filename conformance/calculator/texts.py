@@ -6,8 +6,9 @@ from collections.abc import Iterable, Iterator
 from calculator.book import Act, Confirmed, Position, Version
 from calculator.days import DayBasis
 from calculator.figures import Asked, Each, Figures, Given, Refusal, Side, boundary_text
-from calculator.numerals import shown, shown_figure, shown_money, shown_price
+from calculator.numerals import shown, shown_dv01, shown_figure, shown_money, shown_price
 from calculator.printed import Ending
+from calculator.sensitivities import Risk
 
 
 def text_of(lines: Iterable[str]) -> str:
@@ -38,6 +39,17 @@ def each_lines(asked: Asked, each: list[Each]) -> Iterator[str]:
         elif ending is Ending.UNDECIDED:
             came += f" {boundary_text(asked, figure)}"
         yield f"EACH {redemption.day} {shown_price(redemption.price)} {redemption.label} {came}"
+
+
+def risk_lines(risk: Risk | None) -> Iterator[str]:
+    """The lines of the sensitivities, if there are any."""
+    if risk is None:
+        return
+    if risk.current_yield is not None:
+        yield f"CURRENT YIELD {shown_figure(risk.current_yield)}"
+    yield f"DURATION {shown_figure(risk.duration)}"
+    yield f"CONVEXITY {shown_figure(risk.convexity)}"
+    yield f"DV01 {shown_dv01(risk.dv01)}"
 
 
 def confirmation(confirmed: Confirmed) -> list[str]:

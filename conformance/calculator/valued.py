@@ -2,18 +2,33 @@
 from __future__ import annotations
 
 from collections.abc import Iterator
+from typing import NamedTuple
 
 from calculator import fields, numerals
 from calculator.book import Book
 from calculator.figures import Asked, Choice, Figures, Refusal, Side, likely
-from calculator.numerals import Unreadable, shown_figure, shown_money, shown_price
+from calculator.numerals import Unreadable, shown_dv01, shown_figure, shown_money, shown_price
 from calculator.rows import BYTE_ORDER_MARK, BadRow, Columns, bad_line, refused_line
+from calculator.sensitivities import Risk, risk_of
 
 HEADER = ("place,answer,cusip,price,yield,redemption,redemption_price,redemption_label,days,principal,accrued,"
           "commission,total")
+RISK_HEADER = ",current_yield,duration,convexity,dv01"
 # The numbers of fields of a line, whose last two may be left out, and the most bytes that it may have.
 SIZES = (5, 6, 7)
 LONGEST = 4096
+
+
+class Form(NamedTuple):
+    """The place of the first line, whether the names of the columns come first, and whether each line has its
+    sensitivities."""
+
+    first: int = 1
+    has_header: bool = False
+    is_risk: bool = False
+
+    def header(self) -> list[str]:
+        return [HEADER + RISK_HEADER * self.is_risk] if self.has_header else []
 
 
 def lines(data: bytes) -> Iterator[str]:
@@ -50,11 +65,19 @@ def line_of(place: int, cusip: str, found: Figures) -> str:
                      *map(shown_money, money)])
 
 
-def report(book: Book, data: bytes, first: int = 1, has_header: bool = False, choose: Choice = likely) -> list[str]:
+def risk_columns(risk: Risk | None) -> str:
+    """The columns of the sensitivities. Of one that there is not, the column is empty."""
+    if risk is None:
+        return ",,,,"
+    current = "" if risk.current_yield is None else shown_figure(risk.current_yield)
+    return f",{current},{shown_figure(risk.duration)},{shown_figure(risk.convexity)},{shown_dv01(risk.dv01)}"
+
+
+def report(book: Book, data: bytes, form: Form = Form(), choose: Choice = likely) -> list[str]:
     """A line on each line of a text, whose places begin with the first one, and how many have figures, the sum of
     their totals, and how many there are."""
     found, count, total = [], 0, 0
-    for place, line in enumerate(lines(data), first):
+    for place, line in enumerate(lines(data), form.first):
         read = asked(line)
         came = read if isinstance(read, BadRow) else book.quote(read, choose)
         if isinstance(came, BadRow):
@@ -62,6 +85,7 @@ def report(book: Book, data: bytes, first: int = 1, has_header: bool = False, ch
         elif isinstance(came, Refusal):
             found.append(refused_line(place, came))
         else:
-            found.append(line_of(place, read.cusip, came))
+            risk = risk_columns(risk_of(book.issues[read.cusip], read, came, choose)) if form.is_risk else ""
+            found.append(line_of(place, read.cusip, came) + risk)
             count, total = count + 1, total + came.total
-    return [*([HEADER] if has_header else []), *found, f"TOTAL,{count},{shown_money(total)},{len(found)}"]
+    return [*form.header(), *found, f"TOTAL,{count},{shown_money(total)},{len(found)}"]

@@ -21,7 +21,7 @@ SEEDS = 2**64
 GREATEST_LIMIT = 100_000_000
 GREATEST_PLACE = 2**63 - 1
 # The options without a value.
-PLAIN = ("--each", "--all", "--issues", "--header")
+PLAIN = ("--each", "--risk", "--all", "--issues", "--header")
 
 
 class Usage(Exception):
@@ -42,6 +42,7 @@ class QuoteTerms:
     issue: Issue
     asked: Asked
     is_each: bool = False
+    is_risk: bool = False
 
 
 @dataclasses.dataclass(frozen=True)
@@ -53,7 +54,8 @@ class Drill:
 @dataclasses.dataclass(frozen=True)
 class OverStore:
     """A command over a store, with the words that it may have beside: all trades of a desk, or the issues alone, how
-    many trades a desk may have, and the place of the first row and whether the names of the columns come first."""
+    many trades a desk may have, and of a file that is valued the place of the first row, whether the names of the
+    columns come first, and whether each line has its sensitivities."""
 
     name: str
     store: str
@@ -64,6 +66,7 @@ class OverStore:
     limit: int = USUAL_LIMIT
     first: int = 1
     has_header: bool = False
+    is_risk: bool = False
 
 
 @dataclasses.dataclass(frozen=True)
@@ -181,7 +184,8 @@ def quote(options: Options) -> QuoteTerms:
         raise Usage
     value = options.one(given[0], lambda text: fields.value(given[0], text))
     issue = Issue(*QUOTED, kind, dated, maturity, coupon, first, tuple(calls), basis)
-    return QuoteTerms(issue, Asked(issue.cusip, par, settlement, given[0], value), options.plain("each"))
+    return QuoteTerms(issue, Asked(issue.cusip, par, settlement, given[0], value), options.plain("each"),
+                      options.plain("risk"))
 
 
 def over_store(name: str, options: Options) -> OverStore:
@@ -208,7 +212,8 @@ def over_store(name: str, options: Options) -> OverStore:
         case "figures":
             options.maybe("workers", number(1, 16), 1)
             first = options.maybe("from", number(1, GREATEST_PLACE), 1)
-            return OverStore(name, store, first=first, has_header=options.plain("header"))
+            return OverStore(name, store, first=first, has_header=options.plain("header"),
+                             is_risk=options.plain("risk"))
         case "mark" | "check-store":
             return OverStore(name, store)
     raise Usage
