@@ -1,6 +1,7 @@
 """A case of cases.csv: its columns, the words that ask it, and the lines that answer it."""
 import csv
 import decimal
+import itertools
 import pathlib
 
 FILE = pathlib.Path(__file__).resolve().parent / "cases.csv"
@@ -37,7 +38,14 @@ ANSWERED = [
     "total",
     "refusal",
 ]
-COLUMNS = ASKED + ANSWERED + ["exact"]
+# The lines of the sensitivities, by their columns. In a column two numbers may stand, which both are right.
+RISK = {
+    "current_yield": "CURRENT YIELD",
+    "duration": "DURATION",
+    "convexity": "CONVEXITY",
+    "dv01": "DV01",
+}
+COLUMNS = ASKED + ANSWERED + ["exact", *RISK]
 
 # The desk under which a case of the command `trade` is entered.
 DESK = "CASES"
@@ -61,13 +69,14 @@ def family(row):
 
 
 def words(row):
-    """The words that ask a case of `quote-one` or `quote`."""
+    """The words that ask a case of `quote-one`, `quote` or `risk`."""
     if row["command"] == "quote-one":
         return ["quote-one"] + [row[name] for name in ("coupon", "maturity", "settle", "redeemed", "value")]
     options = ["kind", "dated", "first", "maturity", "coupon", "days", "settle", "par"]
     said = ["--%s=%s" % (name, row[name]) for name in options if row[name]]
     said += ["--call=" + call for call in row["calls"].split()]
-    return ["quote"] + said + ["--%s=%s" % (row["given"], row["value"])]
+    said.append("--%s=%s" % (row["given"], row["value"]))
+    return ["quote"] + said + ["--risk"] * (row["command"] == "risk")
 
 
 def reference(row):
@@ -88,7 +97,7 @@ def answers(row):
     """The right answers: the lines of the figures, or the line of the refusal. If a row has both, both are right."""
     right = []
     if row["price"]:
-        right.append(row["price"] + "\n" if row["command"] == "quote-one" else figures(row))
+        right += [row["price"] + "\n"] if row["command"] == "quote-one" else [figures(row) + more for more in risks(row)]
     if row["refusal"]:
         right.append(row["refusal"] + "\n")
     return right
@@ -107,6 +116,12 @@ def figures(row):
     return "".join(line + "\n" for line in lines)
 
 
+def risks(row):
+    """The lines of the sensitivities in each way that is right."""
+    lines = [["%s %s\n" % (name, each) for each in row[column].split()] for column, name in RISK.items() if row[column]]
+    return map("".join, itertools.product(*lines))
+
+
 def set_answer(row, text):
     """Puts the lines of an answer into their columns."""
     for line in text.splitlines():
@@ -121,5 +136,8 @@ def set_answer(row, text):
             row[name.lower()] = rest.partition(" ")[0]
         elif name in ("PRINCIPAL", "ACCRUED", "COMMISSION", "TOTAL"):
             row[name.lower()] = rest
+        elif name in ("CURRENT", "DURATION", "CONVEXITY", "DV01"):
+            column = next(column for column, head in RISK.items() if line.startswith(head))
+            row[column] = line.rpartition(" ")[2]
         elif row["command"] == "quote-one":
             row["price"] = line

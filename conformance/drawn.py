@@ -28,11 +28,12 @@ class Case:
     side: str = ""
     fee: int = 0
     redeemed: object = None
+    is_risk: bool = False
 
     def command(self):
         if self.redeemed is not None:
             return "quote-one"
-        return "trade" if self.side else "quote"
+        return "trade" if self.side else "risk" if self.is_risk else "quote"
 
 
 def decimal_text(value, places):

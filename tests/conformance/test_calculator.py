@@ -15,7 +15,9 @@ from calculator.figures import Asked, Given, Refusal, Refused, Side, answers
 from calculator.numerals import Unreadable
 from calculator.printed import Ending, Outcome, price_of
 from calculator.redemptions import interest_on, redemptions
+from calculator.sensitivities import convexity, duration, dv01
 from calculator.terms import BadTerms, Call, Fault, Issue, Kind, Mark, check_digit, fault_of, is_cusip
+from calculator.texts import text_of
 from hypothesis import given
 from hypothesis import strategies as st
 
@@ -225,6 +227,44 @@ def test_a_word_that_is_like_each_is_none(word):
     assert commands.run(f"{QUOTED} --yield=3 {word}".split()) == (2, b"")
 
 
+# Sensitivities.
+
+@pytest.mark.parametrize(("words", "lines"), [
+    ("--kind=periodic --dated=2020-01-01 --first=2020-07-01 --maturity=2025-01-01 --coupon=5 --settle=2024-04-01"
+     " --yield=4", ["CURRENT YIELD 4.964", "DURATION 0.723", "CONVEXITY 0.884", "DV01 0.007377"]),
+    ("--kind=periodic --dated=2022-01-01 --first=2022-07-01 --maturity=2044-01-01 --coupon=4"
+     " --call=2034-01-01:100 --settle=2024-01-01 --price=108.584",
+     ["CURRENT YIELD 3.684", "DURATION 8.295", "CONVEXITY 80.680", "DV01 0.090074"]),
+    ("--kind=discount --dated=2024-01-01 --maturity=2024-07-01 --settle=2024-04-01 --rate=3", []),
+])
+def test_sensitivities_are_the_worked_ones(words, lines):
+    plain = commands.run(["quote", *words.split()])
+    assert commands.run(["quote", "--risk", *words.split()]).output == plain.output + text_of(lines).encode()
+
+
+def test_exact_sensitivities_are_the_worked_fractions():
+    bond = Issue("990034AA8", "BOND", Kind.PERIODIC, date(2020, 1, 1), date(2025, 1, 1), 50_000_000, date(2020, 7, 1))
+    paid = redemptions(bond, date(2024, 4, 1))[0].paid
+    assert (duration(paid, 40_000), convexity(paid, 40_000)) == (Fraction(51675, 71434), Fraction(6438125, 7286268))
+    assert dv01(paid, 40_000).allowed == (7_377,)
+
+
+@pytest.mark.parametrize("word", ["--risk=", "--risk=1", "--risk --risk", "--ris", "risk"])
+def test_a_word_that_is_like_risk_is_none(word):
+    assert commands.run(f"{QUOTED} --yield=3 {word}".split()) == (2, b"")
+
+
+def test_lines_that_are_valued_have_columns_of_sensitivities():
+    books: dict[str, Book] = {}
+    commands.run(["import", "--store=S"], books, ROWS)
+    told = commands.run("figures --store=S --risk --header".split(), books,
+                        b"123456AA3,25000,2024-04-01,yield,4\nX,1,2024-04-01,yield,4\n")
+    head, line, bad, total = told.output.decode().splitlines()
+    assert head.endswith(",total,current_yield,duration,convexity,dv01")
+    assert line.endswith(",25493.75,4.964,0.723,0.884,0.007377")
+    assert (bad, total) == ("2,bad,2,1", "TOTAL,1,25493.75,2")
+
+
 # Texts, tables and requests.
 
 numbers = st.builds("{}{}{}{}".format, st.sampled_from(["", "-"]), st.integers(0, 10**400),
@@ -256,11 +296,19 @@ def test_a_question_for_figures_may_ask_for_each_redemption(member, is_each):
     assert exchange.posted("/quotes", body.encode()).is_each == is_each
 
 
+@pytest.mark.parametrize(("member", "is_risk"), [("", False), (',"risk":true', True), (',"risk":false', False)])
+def test_a_question_for_figures_may_ask_for_sensitivities(member, is_risk):
+    body = '{"cusip":"123456AA3","par":"100","settle":"2024-01-01","basis":"yield","value":"3"' + member + "}"
+    assert exchange.posted("/quotes", body.encode()).is_risk == is_risk
+
+
 @pytest.mark.parametrize("value", ['"true"', "1", "0", "null", "[]", "{}", '""'])
-def test_what_is_no_boolean_does_not_ask_for_each_redemption(value):
-    body = '{"cusip":"123456AA3","par":"100","settle":"2024-01-01","basis":"yield","value":"3","each":' + value + "}"
-    with pytest.raises(Unreadable):
-        exchange.posted("/quotes", body.encode())
+def test_what_is_no_boolean_asks_for_no_lines_more(value):
+    for member in ("each", "risk"):
+        body = ('{"cusip":"123456AA3","par":"100","settle":"2024-01-01","basis":"yield","value":"3","%s":%s}'
+                % (member, value))
+        with pytest.raises(Unreadable):
+            exchange.posted("/quotes", body.encode())
 
 
 fields = st.text(st.sampled_from('ab,"\r\n \u00ff'), max_size=6)

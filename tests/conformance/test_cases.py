@@ -40,8 +40,8 @@ def test_there_are_as_many_cases_as_the_page_says():
     found = re.findall(r"^\| `(\w+)` \| ([\d,]+) \|", page, re.M)
     listed = {name: int(count.replace(",", "")) for name, count in found}
     assert listed == Counter(map(cases.family, ROWS))
-    assert sum(listed.values()) == len(ROWS) == 6230
-    assert "`cases.csv` has 6,230 cases" in page
+    assert sum(listed.values()) == len(ROWS) == 6630
+    assert "`cases.csv` has 6,630 cases" in page
 
 
 @pytest.mark.parametrize("family", FAMILIES)

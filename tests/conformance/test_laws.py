@@ -2,6 +2,7 @@
 import dataclasses
 import math
 from datetime import date
+from decimal import Context, Decimal, localcontext
 from fractions import Fraction
 
 from calculator.days import days_30_360, days_of_period, months_later, quasi_coupon_dates
@@ -10,6 +11,7 @@ from calculator.powers import enclosed, is_below, power, product
 from calculator.price import HALVES, ManyPayments, OnePayment
 from calculator.printed import Ending, Outcome, boundary_of, price_of, rounded
 from calculator.redemptions import PAR, Decided, Label, all_deciding, deciding, redemptions, side_of_range
+from calculator.sensitivities import LEEWAY, convexity, duration, dv01, nearest_to
 from calculator.terms import Call, Issue, Kind, Mark, fault_of
 from hypothesis import assume, given
 from hypothesis import strategies as st
@@ -120,6 +122,47 @@ def told(issue: Issue, settlement: date, given_: Given, value: int) -> tuple[Fig
 
 
 values = st.tuples(st.just(Given.YIELD), yields) | st.tuples(st.just(Given.PRICE), st.integers(1, 140_000_000))
+
+
+def worth(paid: OnePayment | ManyPayments, yield_: Decimal) -> Decimal:
+    """What the payments are worth in dollars, by decimals of the context."""
+    growth = yield_ / 1_000_000
+    if isinstance(paid, OnePayment):
+        return Decimal(paid.due) / paid.unit / (1 + growth * paid.left / paid.year)
+    first = Decimal(180 - paid.elapsed) / 180
+    return sum(Decimal(payment) / paid.unit / (1 + growth / 2) ** (first + place)
+               for place, payment in enumerate(paid.payments))
+
+
+@given(settled(bonds() | notes()), yields)
+def test_sensitivities_are_those_of_the_worth_at_yields_beside(settlement_of_issue, yield_):
+    paid = redemptions(*settlement_of_issue)[0].paid
+    with localcontext(Context(prec=70)):
+        step = Decimal("1e-12")
+        below, at, above = (worth(paid, Decimal(yield_) + move) for move in (-step, 0, step))
+        by_year = step / 1_000_000
+        slope, bend = (below - above) / (2 * by_year), (above - 2 * at + below) / by_year**2
+        near = Decimal("1e-9")
+        for exact, found in ((duration(paid, yield_), slope / at), (convexity(paid, yield_), bend / at)):
+            assert abs(Decimal(exact.numerator) / exact.denominator - found) < near
+        digits = slope * 100
+        for printed in dv01(paid, yield_).allowed:
+            assert abs(digits - printed) < Decimal("0.500001") + near
+
+
+@given(st.fractions(0, 10**6))
+def test_a_number_is_printed_within_half_of_a_last_digit(exact):
+    allowed = nearest_to(exact).allowed
+    assert allowed == tuple(sorted(allowed, key=lambda digits: (abs(digits - exact), -digits)))
+    assert set(allowed) == {digits for digits in range(max(0, int(exact) - 1), int(exact) + 3)
+                            if abs(digits - exact) <= Fraction(1, 2) + LEEWAY}
+
+
+@given(st.integers(0, 10**6), st.integers(-3, 3))
+def test_near_half_of_a_last_digit_two_numbers_are_right(digits, millionths):
+    allowed = nearest_to(digits + Fraction(1, 2) + millionths * LEEWAY).allowed
+    both = (digits + 1, digits) if millionths >= 0 else (digits, digits + 1)
+    assert allowed == (both if abs(millionths) <= 1 else both[:1])
 
 
 @given(settled(bonds(calls=6)), values)
