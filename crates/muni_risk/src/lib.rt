@@ -22,3 +22,12 @@ pub struct Sensitivities {
     /// the first derivative.
     pub dv01: u64,
 }
+
+/// How the price of a trade moves with its yield, and what its coupon yields on the price.
+#[derive(Clone, Copy, Debug, PartialEq, Eq)]
+pub struct Risk {
+    /// The current yield, in units of 0.001 percent. None if interest is not paid periodically, and at a
+    /// price of 0.
+    pub current_yield: Option<u64>,
+    pub sensitivities: Sensitivities,
+}
