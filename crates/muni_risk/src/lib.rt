@@ -3,11 +3,13 @@
 
 mod current;
 mod nearest;
+mod print;
 mod series;
 mod single;
 mod sums;
 
 pub use current::current_yield;
+pub use print::{print_millionths, print_thousandths};
 pub use series::series_sensitivities;
 pub use single::single_sensitivities;
 
