@@ -4,11 +4,11 @@
 
 # Made of the launcher's tables by tests/documents/made_pages.py.
 _muni_commands='quote-one quote import confirm serve drill positions mark export list load check-store figures help'
-_muni_flags=' --each --all --issues --header '
+_muni_flags=' --each --risk --all --issues --header '
 
 _muni_options() {
     case $1 in
-    quote) echo --kind --dated --first --maturity --settle --coupon --yield --price --rate --call --days --par --each --workers ;;
+    quote) echo --kind --dated --first --maturity --settle --coupon --yield --price --rate --call --days --par --each --risk --workers ;;
     import) echo --store --workers --positions --desk-limit ;;
     confirm) echo --store --desk --ref --all ;;
     serve) echo --store --port --connections --workers --desk-limit ;;

@@ -6,8 +6,9 @@ import { showEach } from "./each.js";
 import { read } from "./fields.js";
 import { isNone } from "./given.js";
 import { wordsOf } from "./questions.js";
+import { showRisk } from "./risk.js";
 import { figureRows } from "./sheet.js";
-import { grouped, netPrice, readEach, readLines, scaled, split } from "./texts.js";
+import { grouped, netPrice, readEach, readLines, readRisk, scaled, split } from "./texts.js";
 import { hush, hushGood, refuse, say, tellSent, waitingIn } from "./tell.js";
 
 const form = $("ticket");
@@ -28,6 +29,7 @@ export function stale() {
   $("figures").classList.remove("has");
   $("figures-lines").replaceChildren();
   $("figures-each").replaceChildren();
+  $("figures-risk").replaceChildren();
   clearCurve();
   hushGood(told);
 }
@@ -78,7 +80,7 @@ export async function quote(waysOf) {
   const mine = asked;
   const { side, fee, ...body } = typed;
   hush(told);
-  const answer = await ask("/quotes", { ...body, each: true }, waitingIn(told));
+  const answer = await ask("/quotes", { ...body, each: true, risk: true }, waitingIn(told));
   if (mine !== asked) return dropped();
   if (answer.kind !== "done") {
     refuse(told, answer, ...waysOf(answer));
@@ -89,6 +91,7 @@ export async function quote(waysOf) {
   if (mine !== asked) return dropped();
   showFigures(typed, lines, notes);
   showEach(readEach(answer.text), lines);
+  showRisk(readRisk(answer.text));
   isShown = true;
   say(told, "good", ["Quoted", ...tellSent(answer), "Nothing is kept."]);
   return { body, lines, notes, isCurrent: () => mine === asked };

@@ -66,6 +66,13 @@ export function readEach(text) {
     .map(([, day, price, label, figure = "", reason = ""]) => ({ day, price, label, figure, reason }));
 }
 
+const RISK = /^(CURRENT YIELD|DURATION|CONVEXITY|DV01) ([\d.]+)$/;
+
+// How the price moves with the yield, if the lines have it: names and numbers, in their order.
+export function readRisk(text) {
+  return text.split("\n").map(line => line.match(RISK)).filter(Boolean).map(([, name, value]) => [name, value]);
+}
+
 // `104.250 GIVEN` in two.
 export function split(value) {
   const at = value.indexOf(" ");

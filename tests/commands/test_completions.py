@@ -32,6 +32,7 @@ ASK = '. docs/muni.bash; COMP_WORDS=("$@"); COMP_CWORD=$(($# - 1)); _muni; print
     ("./muni import --store=S > READ", "README.md"),
     ("./muni confirm --store=S --h", "--help"),
     ("./muni quote --kind = zero --ea", "--each"),
+    ("./muni quote --kind = zero --ri", "--risk"),
     ("./muni quote --kind = zero --pa", "--par="),
     ("./muni install exa", "examples"),
 ])

@@ -58,7 +58,7 @@ PRINCIPAL 25334.25
 ACCRUED 217.71
 TOTAL 25551.96"""),
     "the commands": (("help",), """quote-one COUPON NEXT SETTLE REDEMPTION YIELD
-quote --kind --dated --maturity --settle --yield|--price|--rate --first --coupon --call --par --workers --days --each
+quote --kind --dated --maturity --settle --yield|--price|--rate --first --coupon --call --par --workers --days --each --risk
 import --store --workers --positions --desk-limit
 confirm --store --desk --ref|--all
 serve --store --port --connections --workers --desk-limit

@@ -41,7 +41,7 @@ from ._refusals import WORDS
 __all__ = [
     "Act", "BadTerms", "Basis", "Call", "CallKind", "Canceled", "Candidate", "Client", "Confirmation", "Conflict",
     "DayCount", "DeskFull", "Ended", "Error", "Figures", "GivenOutOfRange", "Issue", "Kind", "Label", "Listed", "NoTime", "PAGE",
-    "Position", "REFUSALS", "Redemption", "Refused", "SettleOutside", "Side", "Status", "Trade", "Unanswered",
+    "Position", "REFUSALS", "Redemption", "Refused", "Risk", "SettleOutside", "Side", "Status", "Trade", "Unanswered",
     "Undecided", "UnknownIssue", "UnknownTrade", "VersionsFull", "WrongBasis", "WrongNumber", "YieldAbove",
     "YieldBelow", "export", "figures", "figures_by_part", "read_confirmation", "read_figures", "read_issue",
     "read_list", "read_positions",
@@ -172,12 +172,28 @@ class Candidate(Redemption):
 
 
 @dataclass(frozen=True)
+class Risk:
+    """How the price moves with the yield: of the disclosed redemption, at the yield as it is printed.
+
+    `duration` is the modified duration in years, `convexity` is in years squared, and `dv01` is what the price falls by
+    if the yield rises by 0.01 percent, in dollars per 100 of par. `current_yield` is in percent, and None if interest is
+    not paid periodically.
+    """
+
+    current_yield: Decimal | None
+    duration: Decimal
+    convexity: Decimal
+    dv01: Decimal
+
+
+@dataclass(frozen=True)
 class Figures:
     """What the desk computes. `given` is what it was asked by, and the other figures are computed from that.
 
     A given price is printed with three decimals, truncated, and a given yield with three, rounded: neither is
     told in full. `rate` is there only if it was given, and `commission` is 0 if there is none. `candidates` has every
-    redemption that may come, in order of day, if a quote has asked for each.
+    redemption that may come, in order of day, if a quote has asked for each. `risk` is there if a quote has asked for
+    it, and of a discounted note it is None.
     """
 
     given: Basis
@@ -191,6 +207,7 @@ class Figures:
     commission: Decimal
     total: Decimal
     candidates: tuple[Candidate, ...] = ()
+    risk: Risk | None = None
 
 
 @dataclass(frozen=True)
@@ -391,6 +408,8 @@ _REFUSAL = re.compile(r"REFUSED (\d+) (\w+) ?(.*)")
 _EACH = re.compile(r"EACH (\S+) ([\d.]+) (MATURITY|PAR OPTION|CALLED|CALL) "
                    r"(?:(?:PRICE|YIELD) (-?[\d.]+)|(UNDECIDED (?:price|yield) -?[\d.]+|BELOW|ABOVE|NO TIME))")
 
+_RISK = re.compile(r"^(CURRENT YIELD|DURATION|CONVEXITY|DV01) ([\d.]+)$", re.MULTILINE)
+
 # The names of lines. The longer of two that begin alike comes first.
 _NAMES = (
     "CORRECTED CONFIRMATION", "CANCELED CONFIRMATION", "CONFIRMATION", "DESK", "REFERENCE", "BOUGHT", "SOLD", "CUSIP",
@@ -456,8 +475,22 @@ def _candidate(line: str) -> Candidate:
                      reason or "")
 
 
+def _risk(text: str) -> Risk | None:
+    """Reads how the price moves with the yield, if the lines have it.
+
+    >>> _risk("TOTAL 108.58\\nCURRENT YIELD 3.684\\nDURATION 8.295\\nCONVEXITY 80.680\\nDV01 0.090074\\n").dv01
+    Decimal('0.090074')
+    """
+    found = {name: Decimal(value) for name, value in _RISK.findall(text)}
+    if not found:
+        return None
+    if not {"DURATION", "CONVEXITY", "DV01"} <= found.keys():
+        raise ValueError(f"no risk: {text!r}")
+    return Risk(found.get("CURRENT YIELD"), found["DURATION"], found["CONVEXITY"], found["DV01"])
+
+
 def read_figures(text: str) -> Figures:
-    """Reads the lines of figures, and those of each redemption if they are there.
+    """Reads the lines of figures, those of each redemption, and how the price moves, if they are there.
 
     >>> figures = read_figures('''PRICE 104.370 COMPUTED
     ... YIELD 3.650 GIVEN
@@ -473,7 +506,7 @@ def read_figures(text: str) -> Figures:
     Redemption(day=datetime.date(2035, 8, 1), price=Decimal('100.000000'), label=<Label.PAR_OPTION: 'PAR OPTION'>)
     """
     candidates = tuple(_candidate(line) for line in text.splitlines() if line.startswith("EACH "))
-    return replace(_figures(_lines(text)), candidates=candidates)
+    return replace(_figures(_lines(text)), candidates=candidates, risk=_risk(text))
 
 
 def read_confirmation(text: str) -> Confirmation:
@@ -753,11 +786,13 @@ class Client:
             raise Status(200, text)
         return text[6:].rstrip("\n")
 
-    def quote(self, cusip: str, par: int, settle: date, basis: Basis, value: Amount, each: bool = False) -> Figures:
+    def quote(self, cusip: str, par: int, settle: date, basis: Basis, value: Amount, each: bool = False,
+              risk: bool = False) -> Figures:
         """Figures of an issue that is kept; nothing is kept by it. A quote knows no commission. With `each` the figures
-        have every redemption that may come as one of their `candidates`."""
-        body = _given(cusip, par, settle, basis, value)
-        return self._figures(self._ask("POST", "/quotes", {**body, "each": True} if each else body))
+        have every redemption that may come as one of their `candidates`, and with `risk` how the price moves with the
+        yield as their `risk`."""
+        wanted = {name: True for name, is_wanted in (("each", each), ("risk", risk)) if is_wanted}
+        return self._figures(self._ask("POST", "/quotes", {**_given(cusip, par, settle, basis, value), **wanted}))
 
     def enter(self, trade: Trade) -> Confirmation:
         """Enters a trade. One that was entered before, with equal contents, is answered as the first time."""
