@@ -1,15 +1,12 @@
 -- The lines of redemption candidates, each with its own figure.
-use Rattle.std.specs.Prelude.{ℕ, List, [], ◌∷◌, ◌++◌, codes}
-use Rattle.std.specs.List.{flat_map}
+use Rattle.std.specs.Prelude.{ℕ, List, [], ◌∷◌, codes}
 use Rattle.muni_dec.specs.Decimal.{decimal_text, signed_text}
 use Rattle.muni_dec.specs.Line.{line}
 use Rattle.muni_days.specs.Day.{civil, day_text}
 use Rattle.muni_msg.specs.declared.each.EachFigure.{EachFigure}
 use Rattle.muni_msg.specs.declared.each.EachFigure.TheVariants.{Price, Yield, Undecided, Below, Above, NoTime}
 use Rattle.muni_msg.specs.declared.each.EachRedemption.{EachRedemption}
-use Rattle.muni_msg.specs.declared.asked.Asked.{Asked}
-use Rattle.muni_msg.specs.declared.figures.Figures.{Figures}
-use Rattle.muni_confirm.specs.Figures.{label_text, figure_text}
+use Rattle.muni_confirm.specs.Figures.{label_text}
 use Rattle.muni_confirm.specs.Refusal.{boundary_parts}
 
 -- the figure with three decimals, or why there is none
@@ -26,8 +23,3 @@ unfoldable pub each_text : EachRedemption → List ℕ
 each_text redemption =
     line (codes "EACH" ∷ day_text (civil redemption.date) ∷ decimal_text 6 redemption.price
     ∷ label_text redemption.label ∷ figure_parts redemption.figure)
-
--- figures, and the redemption candidates that are shown beside them
-abbrev pub quoted_text : Figures → Asked → List EachRedemption → List ℕ
-quoted_text figures asked each =
-    figure_text figures asked.given asked.fee ++ flat_map each_text each

@@ -11,6 +11,7 @@ ghost use Rattle.muni_confirm.specs.Confirmation.{day_line, trade_lines, par_lin
 ghost use Rattle.muni_confirm.specs.Each.{figure_parts, each_text};
 ghost use Rattle.muni_confirm.specs.Figures.{rate_line, price_lines, redemption_line, days_line, money_lines};
 ghost use Rattle.muni_confirm.specs.Laws.{FiguresFit, ConfirmationFits, RefusalFits};
+ghost use Rattle.muni_confirm.specs.Risk.{current_yield_line, sensitivity_lines, risk_lines};
 ghost use Rattle.muni_confirm.specs.Refusal.{kept_parts, fault_day, fault_parts, boundary_parts, detail, name_text};
 
 use muni_days::Day;
@@ -19,6 +20,7 @@ use muni_msg::{
     Act, Asked, EachFigure, EachRedemption, Figures, Given, Kept, Key, Refusal, Version,
     refusal_name,
 };
+use muni_risk::{Risk, Sensitivities};
 use muni_terms::{Boundary, Issue, IssueRow, TermsFault};
 
 /// A law: the lines of figures have at most 374 bytes.
@@ -62,6 +64,38 @@ pub fn each_fits(redemption: &EachRedemption)
     decimal_fits(&redemption.price);
     figure_fits(&redemption.figure);
 }
+
+/// A law: the lines of how a price moves with its yield have at most 141 bytes.
+pub fn risk_fits(risk: Option<Risk>)
+    ensures { length (risk_lines risk) ≤ 141 }
+{
+    if let Some(risk) = risk {
+        current_yield_fits(risk.current_yield);
+        sensitivities_fit(risk.sensitivities);
+    }
+}
+
+fn current_yield_fits(current_yield: Option<u64>)
+    ensures { length (current_yield_line current_yield) ≤ 39 }
+{
+    if let Some(current_yield) = current_yield {
+        number_fits::<3>(current_yield);
+    }
+}
+
+#[tactic(auto, unfolding(crate::specs::Risk::sensitivity_lines))]
+fn sensitivities_fit(sensitivities: Sensitivities)
+    ensures { length (sensitivity_lines sensitivities) ≤ 102 }
+{
+    number_fits::<3>(sensitivities.duration);
+    number_fits::<3>(sensitivities.convexity);
+    number_fits::<6>(sensitivities.dv01);
+}
+
+#[tactic(auto, using(crate::proofs::LengthLemmas::lengths))]
+fn number_fits<const PLACES: usize>(number: u64)
+    ensures { length (decimal_text PLACES number) ≤ PLACES + 21 }
+{}
 
 fn figure_fits(figure: &EachFigure)
     ensures { length (behind_blanks (figure_parts figure.now)) ≤ 46 }

@@ -4,7 +4,7 @@ ghost use Rattle.std.specs.Prelude.{◌≡◌, ◌↔◌, true};
 ghost use Rattle.std.specs.Cmp.Rules.{comparing};
 ghost use Rattle.std.proofs.Common.{rules};
 
-use crate::{Asked, DeskName, Figures, Reference, Refusal, Terms, Version};
+use crate::{Asked, DeskName, Figures, Reference, Refusal, Shown, Terms, Version};
 use arrayvec::ArrayVec;
 use muni_terms::{Issue, IssueRow};
 
@@ -40,10 +40,10 @@ pub enum Command {
     Confirm {
         key: Key,
     },
-    /// For figures, with nothing kept, and for those of each redemption candidate by itself if they are wanted.
+    /// For figures, with nothing kept, and for what is to be shown after them.
     Quote {
         asked: Asked,
-        each: bool,
+        shown: Shown,
     },
     /// For the trades of a desk, after a reference if one is given.
     List {
@@ -68,13 +68,12 @@ pub enum Reply {
     Added {
         cusip: [u8; 9],
     },
-    /// The figures, what they were asked for and of which issue, and whether each redemption candidate by itself
-    /// is wanted too.
+    /// The figures, what they were asked for and of which issue, and what is to be shown after them.
     Quoted {
         issue: Issue,
         asked: Asked,
         figures: Figures,
-        each: bool,
+        shown: Shown,
     },
     /// The first 50 trades after the reference, or of all if none is given, in the order of their
     /// references.

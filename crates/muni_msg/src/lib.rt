@@ -12,6 +12,7 @@ mod figures;
 mod issue_fields;
 mod names;
 mod refusal;
+mod shown;
 mod version;
 
 pub use asked::{Asked, Given, Side, Terms};
@@ -28,4 +29,5 @@ pub use figures::Figures;
 pub use issue_fields::{read_coupon, read_cusip, read_issue_name};
 pub use names::{DeskName, NameFault, Reference};
 pub use refusal::{Range, Refusal, refusal_name};
+pub use shown::Shown;
 pub use version::{Act, Kept, Version};
