@@ -37,7 +37,7 @@ use Rattle.muni_book.proofs.PutLemmas.{last-kept}
 -- What an answer has to be: a refusal has its cause, and what is confirmed is kept.
 abbrev pub IsAnswerFor : (limit : ℕ) → Tables → Command → Reply → Type 0
 IsAnswerFor limit t c (Added cusip) = Unit {0}
-IsAnswerFor limit t c (Quoted issue asked figures each) = ⊥
+IsAnswerFor limit t c (Quoted issue asked figures shown) = ⊥
 IsAnswerFor limit t c (Listed lines) = AsksToKeep c → ⊥
 IsAnswerFor limit t c (Confirmed issue key number version) =
     (version_at t key number ≡ Some version) × (issue_at t version.terms.asked.cusip ≡ Some issue)
@@ -46,7 +46,7 @@ IsAnswerFor limit t c (Refused why) = HasCause limit t c why
 -- and a plan: what is quoted is asked of an issue that is kept
 abbrev pub IsFor : (limit : ℕ) → Tables → Command → Plan → Type 0
 IsFor limit t c (Answer reply) = IsAnswerFor limit t c reply
-IsFor limit t c (Quote issue asked each) = issue_at t asked.cusip ≡ Some issue
+IsFor limit t c (Quote issue asked shown) = issue_at t asked.cusip ≡ Some issue
 IsFor limit t c (KeepIssue issue) = Unit {0}
 IsFor limit t c (KeepVersion issue key number version) = Unit {0}
 IsFor limit t c (KeepPriced issue key number act terms) = Unit {0}
@@ -205,5 +205,5 @@ is-for limit t (command.Enter key terms) = of-entry limit t key terms
 is-for limit t (command.Correct key number terms) = of-correction limit t key number terms
 is-for limit t (command.Cancel key number) = of-cancel limit t key number
 is-for limit t (command.Confirm key) = of-confirmation limit t key
-is-for limit t (command.Quote asked each) = of-issue limit t (command.Quote asked each) _ asked.cusip (issue_at t asked.cusip) refl (inr refl) (λ issue there. there)
+is-for limit t (command.Quote asked shown) = of-issue limit t (command.Quote asked shown) _ asked.cusip (issue_at t asked.cusip) refl (inr refl) (λ issue there. there)
 is-for limit t (command.List desk from) = λ never. never

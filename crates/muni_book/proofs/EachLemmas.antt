@@ -53,7 +53,7 @@ use Rattle.muni_book.proofs.OneFigureLemmas.{case-of, right-outcomes}
 use Rattle.muni_book.proofs.RightLemmas.{answered-right}
 
 -- ---- a figure of a kind, by its thousandths
-abbrev figure_as : FigureKind → ℤ → EachFigure
+abbrev pub figure_as : FigureKind → ℤ → EachFigure
 figure_as kind t = figure_of_answer (answer.Low (figure_of kind t) 0)
 
 figure-at : (kind : FigureKind) (t : ℤ) (c : ℕ) → figure_of_answer (answer.Low (figure_of kind t) c) ≡ figure_as kind t
@@ -164,7 +164,7 @@ least-of given list each exact t c least are exactly right there shows = record 
 
 -- ---- the redemption that is found
 -- a redemption is found at a place with a figure
-record IsFoundLow (given : GivenFigure) (list : List Candidate) (exact : List ExactOutcome) (redemption : Candidate) (shown : EachFigure) : Type 0 where
+pub record IsFoundLow (given : GivenFigure) (list : List Candidate) (exact : List ExactOutcome) (redemption : Candidate) (shown : EachFigure) : Type 0 where
   pub place : ℕ
   pub there : slice_get list place ≡ Some redemption
   pub figure : ℤ
@@ -197,7 +197,7 @@ at_yield-low y list exact price c found (Some candidate) there right is =
     let same : found ≡ record { price = price; yld = rounded_yield y; redemption = candidate } = same-found found (record { price = price; yld = rounded_yield y; redemption = candidate }) is in
     subst (λ (it : PriceAndYield). IsFoundLow (at_yield y) list exact it.redemption (AsPrice it.price)) (sym same) (found-low (at_yield y) list exact (figure.Price price) c candidate right there)
 
-at_yield-found : (y : ℤ) (list : List Candidate) (exact : List ExactOutcome) (found : PriceAndYield) (low : LowAnswer) → IsRightFor (at_yield y) exact list low → Some (Ok found) ≡ found_at_yield y list low → IsFoundLow (at_yield y) list exact found.redemption (AsPrice found.price)
+pub at_yield-found : (y : ℤ) (list : List Candidate) (exact : List ExactOutcome) (found : PriceAndYield) (low : LowAnswer) → IsRightFor (at_yield y) exact list low → Some (Ok found) ≡ found_at_yield y list low → IsFoundLow (at_yield y) list exact found.redemption (AsPrice found.price)
 at_yield-found y list exact found (answer.Low (figure.Price price) c) right is = at_yield-low y list exact price c found (slice_get list c) refl right is
 at_yield-found y list exact found (answer.Low (figure.Yield yld) c) right is = absurd (none-found found is)
 at_yield-found y list exact found (answer.Undecided date boundary) right is = absurd (not-found found _ is)
@@ -211,7 +211,7 @@ at_price-low price net list exact yld c found (Some candidate) there right is =
     let same : found ≡ record { price = price / 1000; yld = yld; redemption = candidate } = same-found found (record { price = price / 1000; yld = yld; redemption = candidate }) is in
     subst (λ (it : PriceAndYield). IsFoundLow (at_price net) list exact it.redemption (AsYield it.yld)) (sym same) (found-low (at_price net) list exact (figure.Yield yld) c candidate right there)
 
-at_price-found : (price net : ℕ) (list : List Candidate) (exact : List ExactOutcome) (found : PriceAndYield) (low : LowAnswer) → IsRightFor (at_price net) exact list low → Some (Ok found) ≡ found_at_price price list low → IsFoundLow (at_price net) list exact found.redemption (AsYield found.yld)
+pub at_price-found : (price net : ℕ) (list : List Candidate) (exact : List ExactOutcome) (found : PriceAndYield) (low : LowAnswer) → IsRightFor (at_price net) exact list low → Some (Ok found) ≡ found_at_price price list low → IsFoundLow (at_price net) list exact found.redemption (AsYield found.yld)
 at_price-found price net list exact found (answer.Low (figure.Price other) c) right is = absurd (none-found found is)
 at_price-found price net list exact found (answer.Low (figure.Yield yld) c) right is = at_price-low price net list exact yld c found (slice_get list c) refl right is
 at_price-found price net list exact found (answer.Undecided date boundary) right is = absurd (not-found found _ is)
@@ -221,7 +221,7 @@ at_price-found price net list exact found (answer.NoTime date) right is = absurd
 
 -- ---- at each basis
 -- what figures disclose of a redemption, and what is shown of it alone
-record IsDisclosed (figures : Figures) (found : PriceAndYield) : Type 0 where
+pub record IsDisclosed (figures : Figures) (found : PriceAndYield) : Type 0 where
   pub price : figures.price ≡ found.price
   pub yld : figures.yld ≡ found.yld
   pub date : figures.redemption ≡ found.redemption.date
@@ -260,7 +260,7 @@ rate-at asked rate figures (candidate ∷ list) (shown ∷ each) zero other give
     ap (λ (it : EachRedemption). it.figure) (sym (same_Some shown other there)) ∙ alone
 rate-at asked rate figures (candidate ∷ list) (shown ∷ each) (suc k) other given are there = rate-at asked rate figures list each k other given are.1 there
 
-rate-note : (found : PriceAndYield) (note : Candidate) (price : ℕ) (return : SimpleYield) → Ok found ≡ found_at_rate note price return → found.redemption ≡ note
+pub rate-note : (found : PriceAndYield) (note : Candidate) (price : ℕ) (return : SimpleYield) → Ok found ≡ found_at_rate note price return → found.redemption ≡ note
 rate-note found note price (simple.Print yld) is = let same : found ≡ record { price = price; yld = yld; redemption = note } = cc in ap (λ (it : PriceAndYield). it.redemption) same
 rate-note found note price simple.Below is = absurd (let never : Ok found ≡ Err (refusal.YieldBelow note.date) = is in cc)
 rate-note found note price simple.Above is = absurd (let never : Ok found ≡ Err refusal.YieldAbove = is in cc)
@@ -312,7 +312,7 @@ least-at (AtPrice price) asked figures found list each given is outcomes right s
     (subst (IsFoundLow (at_price net) list exact found.redemption) figure low) (alone-price asked price figures list each given shown) shown all
 least-at (AtRate rate) asked figures found list each given is outcomes right shown all = least-at_rate asked rate figures found list each given is right shown
 
-disclosed-of : (row : IssueRow) (asked : Asked) (figures : Figures) (right : AreRightFigures row asked figures) → IsDisclosed figures right.found
+pub disclosed-of : (row : IssueRow) (asked : Asked) (figures : Figures) (right : AreRightFigures row asked figures) → IsDisclosed figures right.found
 disclosed-of row asked figures right = record {
   price = ap (λ (it : Figures). it.price) right.filled;
   yld = ap (λ (it : Figures). it.yld) right.filled;

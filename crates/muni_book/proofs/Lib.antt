@@ -5,6 +5,8 @@ pub mod UniqueLemmas
 pub mod RightLemmas
 pub mod OneFigureLemmas
 pub mod EachLemmas
+pub mod RiskLemmas
+pub mod DetailLemmas
 pub mod PutLemmas
 pub mod CauseLemmas
 pub mod RefusedLemmas

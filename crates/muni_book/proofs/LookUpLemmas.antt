@@ -1,5 +1,5 @@
 -- What the commands that keep nothing are answered.
-use Rattle.std.proofs.Common.{◌≡◌, inl, inr, ℕ, Bool, refl, sym, ap, subst, Option, Some, None, Result, Ok, Err}
+use Rattle.std.proofs.Common.{◌≡◌, inl, inr, ℕ, refl, sym, ap, subst, Option, Some, None, Result, Ok, Err}
 use Rattle.muni_terms.specs.declared.row.IssueRow.{IssueRow}
 use Rattle.muni_msg.specs.declared.asked.Asked.{Asked}
 use Rattle.muni_msg.specs.declared.command.Key.{Key}
@@ -7,6 +7,7 @@ use Rattle.muni_msg.specs.declared.command.Reply.TheVariants.{Confirmed}
 use Rattle.muni_msg.specs.declared.figures.Figures.{Figures}
 use Rattle.muni_msg.specs.declared.refusal.Refusal.{Refusal}
 use Rattle.muni_msg.specs.declared.version.Version.{Version}
+use Rattle.muni_msg.specs.declared.shown.Shown.{Shown}
 use Rattle.muni_keep.specs.Tables.{Tables, issue_at, last_at}
 use Rattle.muni_book_step.specs.declared.plan.Plan.TheVariants.{Answer, Quote}
 use Rattle.muni_book_step.specs.Plan.{for_issue, for_trade, confirmed}
@@ -34,16 +35,16 @@ pub pages-listed : (P : Rules) → PagesAreListed P
 pages-listed P t desk from reply entry step = (ap (λ (o : Outcome). o.reply) step, ap (λ (o : Outcome). o.entry) step)
 
 -- ---- quotes
-abbrev ByFigures : Pricing → Tables → Asked → Bool → Outcome → Type 0
-ByFigures P t asked each outcome = QuotesFigures P t asked each outcome.reply × (outcome.entry ≡ None)
+abbrev ByFigures : Pricing → Tables → Asked → Shown → Outcome → Type 0
+ByFigures P t asked shown outcome = QuotesFigures P t asked shown outcome.reply × (outcome.entry ≡ None)
 
-by-answer : (P : Pricing) (t : Tables) (asked : Asked) (each : Bool) (issue : IssueRow) (answer : Result Figures Refusal) → issue_at t asked.cusip ≡ Some issue → P issue asked answer → ByFigures P t asked each (quoted issue asked each answer)
-by-answer P t asked each issue (Ok figures) there prices = ((refl, refl, there, prices), refl)
-by-answer P t asked each issue (Err why) there prices = (inr (issue, there, prices), refl)
+by-answer : (P : Pricing) (t : Tables) (asked : Asked) (shown : Shown) (issue : IssueRow) (answer : Result Figures Refusal) → issue_at t asked.cusip ≡ Some issue → P issue asked answer → ByFigures P t asked shown (quoted issue asked shown answer)
+by-answer P t asked shown issue (Ok figures) there prices = ((refl, refl, there, prices), refl)
+by-answer P t asked shown issue (Err why) there prices = (inr (issue, there, prices), refl)
 
-by-figures : (P : Pricing) (t : Tables) (asked : Asked) (each : Bool) (o : Option IssueRow) (outcome : Outcome) → issue_at t asked.cusip ≡ o → IsOutcome P (for_issue (λ issue. Quote issue asked each) o) outcome → ByFigures P t asked each outcome
-by-figures P t asked each None outcome there step = subst (ByFigures P t asked each) (sym step) (inl (refl, there), refl)
-by-figures P t asked each (Some issue) outcome there step = subst (ByFigures P t asked each) (sym step.2) (by-answer P t asked each issue step.0 there step.1)
+by-figures : (P : Pricing) (t : Tables) (asked : Asked) (shown : Shown) (o : Option IssueRow) (outcome : Outcome) → issue_at t asked.cusip ≡ o → IsOutcome P (for_issue (λ issue. Quote issue asked shown) o) outcome → ByFigures P t asked shown outcome
+by-figures P t asked shown None outcome there step = subst (ByFigures P t asked shown) (sym step) (inl (refl, there), refl)
+by-figures P t asked shown (Some issue) outcome there step = subst (ByFigures P t asked shown) (sym step.2) (by-answer P t asked shown issue step.0 there step.1)
 
 pub figures-quoted : (P : Rules) → FiguresAreQuoted P
-figures-quoted P t asked each reply entry step = by-figures P.prices t asked each (issue_at t asked.cusip) (record { reply = reply; entry = entry }) refl step
+figures-quoted P t asked shown reply entry step = by-figures P.prices t asked shown (issue_at t asked.cusip) (record { reply = reply; entry = entry }) refl step

@@ -79,7 +79,7 @@ kept-stays old new (command.Enter key terms) reply keeps kept = (confirmed-stays
 kept-stays old new (command.Correct key number terms) reply keeps kept = (confirmed-stays old new key number reply keeps kept.0, kept.1, kept.2)
 kept-stays old new (command.Cancel key number) reply keeps kept = (confirmed-stays old new key number reply keeps kept.0, kept.1)
 kept-stays old new (command.Confirm key) reply keeps kept = absurd kept
-kept-stays old new (command.Quote asked each) reply keeps kept = absurd kept
+kept-stays old new (command.Quote asked shown) reply keeps kept = absurd kept
 kept-stays old new (command.List desk from) reply keeps kept = absurd kept
 
 -- ---- what is kept is answered again
@@ -107,7 +107,7 @@ answered-again limit t (command.Cancel key number) reply kept =
     let last = has-last (trade_at t key) number kept.0.version kept.0.version_kept in
     rw (last.1, kept.0.version_kept, ap is_canceled kept.1) (again-confirmed t key number reply kept.0)
 answered-again limit t (command.Confirm key) reply kept = absurd kept
-answered-again limit t (command.Quote asked each) reply kept = absurd kept
+answered-again limit t (command.Quote asked shown) reply kept = absurd kept
 answered-again limit t (command.List desk from) reply kept = absurd kept
 
 pub act-once : (P : Rules) → CommandsActOnce P

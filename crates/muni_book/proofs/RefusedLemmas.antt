@@ -144,7 +144,7 @@ unknown-issue limit t (command.Cancel key number) cusip needs none =
     rw (is.last_is, next-free t key number last is.last_is is.number_is, is.live, next number last.0 is.number_is, lacks) refl
 unknown-issue limit t (command.Confirm key) cusip needs none =
     let lacks = subst (λ x. issue_at t x ≡ None) needs.2 none in rw (needs.1, lacks) refl
-unknown-issue limit t (command.Quote asked each) cusip needs none =
+unknown-issue limit t (command.Quote asked shown) cusip needs none =
     let lacks = subst (λ x. issue_at t x ≡ None) needs none in rw lacks refl
 unknown-issue limit t (command.List desk from) cusip needs none = absurd needs
 

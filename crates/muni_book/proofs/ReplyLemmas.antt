@@ -9,7 +9,7 @@ use Rattle.muni_book.specs.Unique.{PricesOnce, StepsAreUnique, RunsAreUnique}
 
 one-outcome : (P : Pricing) → PricesOnce P → (plan : Plan) (outcome other : Outcome) → IsOutcome P plan outcome → IsOutcome P plan other → outcome ≡ other
 one-outcome P once (Answer reply) outcome other is also = is ∙ sym also
-one-outcome P once (Quote issue asked each) outcome other is also = is.2 ∙ ap (quoted issue asked each) (once issue asked is.0 also.0 is.1 also.1) ∙ sym also.2
+one-outcome P once (Quote issue asked shown) outcome other is also = is.2 ∙ ap (quoted issue asked shown) (once issue asked is.0 also.0 is.1 also.1) ∙ sym also.2
 one-outcome P once (KeepIssue issue) outcome other is also = is ∙ sym also
 one-outcome P once (KeepVersion issue key number version) outcome other is also = is ∙ sym also
 one-outcome P once (KeepPriced issue key number act terms) outcome other is also =

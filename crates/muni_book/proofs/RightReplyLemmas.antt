@@ -21,6 +21,7 @@ use Rattle.muni_msg.specs.declared.figures.Figures.{Figures}
 use Rattle.muni_msg.specs.declared.refusal.Refusal.{Refusal}
 use Rattle.muni_msg.specs.declared.version.Act.{Act}
 use Rattle.muni_msg.specs.declared.version.Version.{Version}
+use Rattle.muni_msg.specs.declared.shown.Shown.{Shown}
 use Rattle.muni_keep.specs.History.{History, versions, count, version_in, next_number}
 use Rattle.muni_keep.specs.Tables.{Tables, issue_at, trade_at, version_at, line}
 use Rattle.muni_keep.specs.Trades.{by_bytes, own, is_past, trades_past}
@@ -128,7 +129,7 @@ pages-right R t desk from sound =
 -- ---- what a reply confirms is kept after the step, and what it quotes is right
 abbrev IsKeptReply : Rightness → Tables → Reply → Type 0
 IsKeptReply R t (Added cusip) = Unit {0}
-IsKeptReply R t (Quoted issue asked figures each) =
+IsKeptReply R t (Quoted issue asked figures shown) =
     (issue_at t asked.cusip ≡ Some issue) × R issue asked figures
 IsKeptReply R t (Listed lines) = Unit {0}
 IsKeptReply R t (Confirmed issue key number version) =
@@ -140,14 +141,14 @@ HasKept R t outcome = IsKeptReply R (after outcome.entry t) outcome.reply
 
 by-answer : (limit : ℕ) (R : Rightness) (t : Tables) (c : Command) (reply : Reply) → IsAnswerFor limit t c reply → IsKeptReply R t reply
 by-answer limit R t c (Added cusip) answer = tt
-by-answer limit R t c (Quoted issue asked figures each) answer = absurd answer
+by-answer limit R t c (Quoted issue asked figures shown) answer = absurd answer
 by-answer limit R t c (Listed lines) answer = tt
 by-answer limit R t c (Confirmed issue key number version) answer = answer
 by-answer limit R t c (Refused why) answer = tt
 
-by-quoted : (P : Pricing) (R : Rightness) → PricesRight P R → (t : Tables) (issue : IssueRow) (asked : Asked) (each : Bool) (answer : Result Figures Refusal) → issue_at t asked.cusip ≡ Some issue → P issue asked answer → HasKept R t (quoted issue asked each answer)
-by-quoted P R priced t issue asked each (Ok figures) known prices = (known, priced issue asked figures prices)
-by-quoted P R priced t issue asked each (Err why) known prices = tt
+by-quoted : (P : Pricing) (R : Rightness) → PricesRight P R → (t : Tables) (issue : IssueRow) (asked : Asked) (shown : Shown) (answer : Result Figures Refusal) → issue_at t asked.cusip ≡ Some issue → P issue asked answer → HasKept R t (quoted issue asked shown answer)
+by-quoted P R priced t issue asked shown (Ok figures) known prices = (known, priced issue asked figures prices)
+by-quoted P R priced t issue asked shown (Err why) known prices = tt
 
 by-put : (R : Rightness) (t : Tables) (issue : IssueRow) (key : Key) (number : ℕ) (version : Version) → number ≡ next_number (trade_at t key) → issue_at t version.terms.asked.cusip ≡ Some issue → HasKept R t (kept issue key number version)
 by-put R t issue key number version next known = (version-put t key number version next, known)
@@ -159,7 +160,7 @@ by-priced R t issue key number act terms (Err why) next known = tt
 
 by-plan : (P : Rules) (R : Rightness) → PricesRight P.prices R → (t : Tables) (c : Command) (plan : Plan) (outcome : Outcome) → IsFor P.limit t c plan → HasReason P.limit t c plan → IsOutcome P.prices plan outcome → HasKept R t outcome
 by-plan P R right t c (Answer reply) outcome answer reason is = subst (HasKept R t) (sym is) (by-answer P.limit R t c reply answer)
-by-plan P R right t c (Quote issue asked each) outcome known reason is = subst (HasKept R t) (sym is.2) (by-quoted P.prices R right t issue asked each is.0 known is.1)
+by-plan P R right t c (Quote issue asked shown) outcome known reason is = subst (HasKept R t) (sym is.2) (by-quoted P.prices R right t issue asked shown is.0 known is.1)
 by-plan P R right t c (KeepIssue issue) outcome answer reason is = subst (HasKept R t) (sym is) tt
 by-plan P R right t c (KeepVersion issue key number version) outcome answer reason is =
     let known = subst (λ (v : Version). issue_at t v.terms.asked.cusip ≡ Some issue) (sym reason.version_is) reason.issue_is in
@@ -170,21 +171,21 @@ by-plan P R right t c (KeepPriced issue key number act terms) outcome answer (in
     subst (HasKept R t) (sym is.2) (by-priced R t issue key number act terms is.0 (live-next t key number correction.last correction.is_live) correction.issue_is)
 
 -- the figures of a quote are those that may be answered
-pub step-quoted : (P : Rules) (t : Tables) (c : Command) (issue : IssueRow) (asked : Asked) (figures : Figures) (each : Bool) (entry : Option Entry) → IsStepOver P t c (record { reply = Quoted issue asked figures each; entry = entry }) → P.prices issue asked (Ok figures)
-step-quoted P t c issue asked figures each entry step =
-    (by-plan P (λ row what found. P.prices row what (Ok found)) (λ row what found prices. prices) t c _ (record { reply = Quoted issue asked figures each; entry = entry }) (is-for P.limit t c) (reason-of P.limit t c) step).1
+pub step-quoted : (P : Rules) (t : Tables) (c : Command) (issue : IssueRow) (asked : Asked) (figures : Figures) (shown : Shown) (entry : Option Entry) → IsStepOver P t c (record { reply = Quoted issue asked figures shown; entry = entry }) → P.prices issue asked (Ok figures)
+step-quoted P t c issue asked figures shown entry step =
+    (by-plan P (λ row what found. P.prices row what (Ok found)) (λ row what found prices. prices) t c _ (record { reply = Quoted issue asked figures shown; entry = entry }) (is-for P.limit t c) (reason-of P.limit t c) step).1
 
 -- ---- steps and runs
 right-reply : (R : Rightness) (t : Tables) (reply : Reply) → IsSound R t → IsKeptReply R t reply → IsRightReply R t reply
 right-reply R t (Added cusip) sound there = tt
-right-reply R t (Quoted issue asked figures each) sound there = there
+right-reply R t (Quoted issue asked figures shown) sound there = there
 right-reply R t (Listed lines) sound there = tt
 right-reply R t (Confirmed issue key number version) sound there = kept-right R t issue key number version sound there.0 there.1
 right-reply R t (Refused why) sound there = tt
 
 still-right : (R : Rightness) (old new : Tables) (reply : Reply) → Keeps old new → IsRightReply R old reply → IsRightReply R new reply
 still-right R old new (Added cusip) keeps is = tt
-still-right R old new (Quoted issue asked figures each) keeps is = (keeps.issues asked.cusip issue is.0, is.1)
+still-right R old new (Quoted issue asked figures shown) keeps is = (keeps.issues asked.cusip issue is.0, is.1)
 still-right R old new (Listed lines) keeps is = tt
 still-right R old new (Confirmed issue key number version) keeps is = record {
   version_kept = keeps.versions key number version is.version_kept;

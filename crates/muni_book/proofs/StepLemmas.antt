@@ -1,5 +1,5 @@
 -- What comes of a step: refusals by their causes, entries by their reasons, and what is kept is answered again.
-use Rattle.std.proofs.Common.{◌≡◌, ◌⊎◌, inl, inr, ℕ, Bool, refl, sym, ap, subst, ◌∙◌, Some, Result, Ok, Err}
+use Rattle.std.proofs.Common.{◌≡◌, ◌⊎◌, inl, inr, ℕ, refl, sym, ap, subst, ◌∙◌, Some, Result, Ok, Err}
 use Rattle.muni_terms.specs.declared.row.IssueRow.{IssueRow}
 use Rattle.muni_msg.specs.declared.asked.Asked.{Asked}
 use Rattle.muni_msg.specs.declared.asked.Terms.{Terms}
@@ -11,6 +11,7 @@ use Rattle.muni_msg.specs.declared.command.Reply.TheVariants.{Added, Quoted, Lis
 use Rattle.muni_msg.specs.declared.figures.Figures.{Figures}
 use Rattle.muni_msg.specs.declared.refusal.Refusal.{Refusal}
 use Rattle.muni_msg.specs.declared.version.Act.{Act}
+use Rattle.muni_msg.specs.declared.shown.Shown.{Shown}
 use Rattle.muni_keep.specs.Tables.{Tables, issue_at}
 use Rattle.muni_book_step.specs.declared.plan.Plan.{Plan}
 use Rattle.muni_book_step.specs.declared.plan.Plan.TheVariants.{Answer, Quote, KeepIssue, KeepVersion, KeepPriced}
@@ -30,21 +31,21 @@ use Rattle.muni_book.proofs.RefusedLemmas.{IsPlanned, refused-for}
 -- ---- a refusal has its cause
 abbrev IsRefusedFor : Rules → Tables → Command → Reply → Type 0
 IsRefusedFor P t c (Added cusip) = Unit {0}
-IsRefusedFor P t c (Quoted issue asked figures each) = Unit {0}
+IsRefusedFor P t c (Quoted issue asked figures shown) = Unit {0}
 IsRefusedFor P t c (Listed lines) = Unit {0}
 IsRefusedFor P t c (Confirmed issue key number version) = Unit {0}
 IsRefusedFor P t c (Refused why) = HasCause P.limit t c why ⊎ HasNoFigures P t c why
 
 of-reply : (P : Rules) (t : Tables) (c : Command) (reply : Reply) → IsAnswerFor P.limit t c reply → IsRefusedFor P t c reply
 of-reply P t c (Added cusip) cause = tt
-of-reply P t c (Quoted issue asked figures each) cause = tt
+of-reply P t c (Quoted issue asked figures shown) cause = tt
 of-reply P t c (Listed lines) cause = tt
 of-reply P t c (Confirmed issue key number version) cause = tt
 of-reply P t c (Refused why) cause = inl cause
 
-of-quoted : (P : Rules) (t : Tables) (c : Command) (issue : IssueRow) (asked : Asked) (each : Bool) (answer : Result Figures Refusal) → c ≡ command.Quote asked each → issue_at t asked.cusip ≡ Some issue → P.prices issue asked answer → IsRefusedFor P t c (quoted issue asked each answer).reply
-of-quoted P t c issue asked each (Ok figures) is there prices = tt
-of-quoted P t c issue asked each (Err why) is there prices = inr (inl (issue, asked, record { each = each; command = is; issue_is = there }, prices))
+of-quoted : (P : Rules) (t : Tables) (c : Command) (issue : IssueRow) (asked : Asked) (shown : Shown) (answer : Result Figures Refusal) → c ≡ command.Quote asked shown → issue_at t asked.cusip ≡ Some issue → P.prices issue asked answer → IsRefusedFor P t c (quoted issue asked shown answer).reply
+of-quoted P t c issue asked shown (Ok figures) is there prices = tt
+of-quoted P t c issue asked shown (Err why) is there prices = inr (inl (issue, asked, record { shown = shown; command = is; issue_is = there }, prices))
 
 of-priced : (P : Rules) (t : Tables) (c : Command) (issue : IssueRow) (key : Key) (number : ℕ) (act : Act) (terms : Terms) (answer : Result Figures Refusal)
     → (IsNewTrade P.limit t c issue key number act terms ⊎ IsCorrection t c issue key number act terms) → P.prices issue terms.asked answer → IsRefusedFor P t c (priced issue key number act terms answer).reply
@@ -56,7 +57,7 @@ ByReply P t c outcome = IsRefusedFor P t c outcome.reply
 
 of-plan : (P : Rules) (t : Tables) (c : Command) (plan : Plan) (outcome : Outcome) → IsFor P.limit t c plan → HasReason P.limit t c plan → IsOutcome P.prices plan outcome → ByReply P t c outcome
 of-plan P t c (Answer reply) outcome cause reason is = subst (ByReply P t c) (sym is) (of-reply P t c reply cause)
-of-plan P t c (Quote issue asked each) outcome there reason is = subst (ByReply P t c) (sym is.2) (of-quoted P t c issue asked each is.0 reason there is.1)
+of-plan P t c (Quote issue asked shown) outcome there reason is = subst (ByReply P t c) (sym is.2) (of-quoted P t c issue asked shown is.0 reason there is.1)
 of-plan P t c (KeepIssue issue) outcome cause reason is = subst (ByReply P t c) (sym is) tt
 of-plan P t c (KeepVersion issue key number version) outcome cause reason is = subst (ByReply P t c) (sym is) tt
 of-plan P t c (KeepPriced issue key number act terms) outcome cause reason is = subst (ByReply P t c) (sym is.2) (of-priced P t c issue key number act terms is.0 reason is.1)
@@ -71,8 +72,8 @@ carried P t c plan outcome planned step = subst (λ p. IsOutcome P.prices p outc
 pub causes-refused : (P : Rules) → PricesOnce P.prices → CausesAreRefused P
 causes-refused P once t c why outcome (inl cause) step = carried P t c _ outcome (refused-for P.limit t c why cause) step
 causes-refused P once t c why outcome (inr (inl (issue, what, quote, prices))) step =
-    let is = carried P t c (Quote issue what quote.each) outcome (subst (IsPlanned P.limit t (Quote issue what quote.each)) (sym quote.command) (rw quote.issue_is refl)) step in
-    is.2 ∙ ap (quoted issue what quote.each) (once issue what is.0 (Err why) is.1 prices)
+    let is = carried P t c (Quote issue what quote.shown) outcome (subst (IsPlanned P.limit t (Quote issue what quote.shown)) (sym quote.command) (rw quote.issue_is refl)) step in
+    is.2 ∙ ap (quoted issue what quote.shown) (once issue what is.0 (Err why) is.1 prices)
 causes-refused P once t c why outcome (inr (inr (issue, key, number, act, terms, reason, prices))) step =
     let is = carried P t c (KeepPriced issue key number act terms) outcome (priced-planned P.limit t c issue key number act terms reason) step in
     is.2 ∙ ap (priced issue key number act terms) (once issue terms.asked is.0 (Err why) is.1 prices)
@@ -80,7 +81,7 @@ causes-refused P once t c why outcome (inr (inr (issue, key, number, act, terms,
 -- ---- a command is accepted or refused
 by-answer : (limit : ℕ) (t : Tables) (c : Command) (reply : Reply) → AsksToKeep c → IsAnswerFor limit t c reply → IsAccepted reply ⊎ IsRefusal reply
 by-answer limit t c (Added cusip) asks answer = inl tt
-by-answer limit t c (Quoted issue asked figures each) asks answer = absurd answer
+by-answer limit t c (Quoted issue asked figures shown) asks answer = absurd answer
 by-answer limit t c (Listed lines) asks answer = absurd (answer asks)
 by-answer limit t c (Confirmed issue key number version) asks answer = inl tt
 by-answer limit t c (Refused why) asks answer = inr tt
@@ -94,7 +95,7 @@ by-priced issue key number act terms (Err why) = inr tt
 
 by-plan : (P : Rules) (t : Tables) (c : Command) (plan : Plan) (outcome : Outcome) → AsksToKeep c → IsFor P.limit t c plan → HasReason P.limit t c plan → IsOutcome P.prices plan outcome → ByKind outcome
 by-plan P t c (Answer reply) outcome asks answer reason is = subst ByKind (sym is) (by-answer P.limit t c reply asks answer)
-by-plan P t c (Quote issue asked each) outcome asks there reason is = absurd (subst AsksToKeep reason asks)
+by-plan P t c (Quote issue asked shown) outcome asks there reason is = absurd (subst AsksToKeep reason asks)
 by-plan P t c (KeepIssue issue) outcome asks answer reason is = subst ByKind (sym is) (inl tt)
 by-plan P t c (KeepVersion issue key number version) outcome asks answer reason is = subst ByKind (sym is) (inl tt)
 by-plan P t c (KeepPriced issue key number act terms) outcome asks answer reason is = subst ByKind (sym is.2) (by-priced issue key number act terms is.0)

@@ -2,7 +2,7 @@
 -- is: the terms of an issue; a trade that is not kept; other contents under the same CUSIP or number; a canceled
 -- trade; its 99 versions; a number that is not the next one; an issue that is not kept; a full desk; and at last
 -- the figures.
-use Rattle.std.specs.Prelude.{◌≡◌, ◌≢◌, ◌⊎◌, ℕ, ◌+◌, ◌-◌, ◌^◌, ◌≤◌, ◌<◌, ⊤, min, Bool, List, Option, Some, None, Ok, Err}
+use Rattle.std.specs.Prelude.{◌≡◌, ◌≢◌, ◌⊎◌, ℕ, ◌+◌, ◌-◌, ◌^◌, ◌≤◌, ◌<◌, ⊤, min, List, Option, Some, None, Ok, Err}
 use Rattle.std.specs.FinMap.{len}
 use Rattle.muni_terms.specs.Check.{checked}
 use Rattle.muni_terms.specs.declared.row.IssueRow.{IssueRow}
@@ -18,6 +18,7 @@ use Rattle.muni_msg.specs.declared.version.Act.{Act}
 use Rattle.muni_msg.specs.declared.version.Act.TheVariants as act
 use Rattle.muni_msg.specs.declared.version.Kept.TheVariants as kept
 use Rattle.muni_msg.specs.declared.version.Version.{Version}
+use Rattle.muni_msg.specs.declared.shown.Shown.{Shown}
 use Rattle.muni_keep.specs.Tables.{Tables, issue_at, version_at, last_at}
 use Rattle.muni_keep.specs.Trades.{own}
 use Rattle.muni_book_step.specs.Reasons.{IsNewTrade, IsLive, IsCorrection}
@@ -47,7 +48,7 @@ IsAsked (command.Correct key number terms) version =
     (version.act ≡ act.Corrected) × (version.terms ≡ terms)
 IsAsked (command.Cancel key number) version = version.act ≡ act.Canceled
 IsAsked (command.Confirm key) version = ⊥
-IsAsked (command.Quote asked each) version = ⊥
+IsAsked (command.Quote asked shown) version = ⊥
 IsAsked (command.List desk after) version = ⊥
 
 -- a version that is kept is what it asks to keep
@@ -71,7 +72,7 @@ HasRoom (command.Enter key terms) count = ⊤
 HasRoom (command.Correct key number terms) count = count < 99
 HasRoom (command.Cancel key number) count = ⊤
 HasRoom (command.Confirm key) count = ⊤
-HasRoom (command.Quote asked each) count = ⊤
+HasRoom (command.Quote asked shown) count = ⊤
 HasRoom (command.List desk after) count = ⊤
 
 -- The CUSIP of the issue that a command needs, if nothing is wrong before that: that of its terms if they
@@ -86,7 +87,7 @@ NeedsIssue tables (command.Cancel key number) cusip =
     (last : ℕ × Version) × IsLive tables key number last × (cusip ≡ last.1.terms.asked.cusip)
 NeedsIssue tables (command.Confirm key) cusip =
     (last : ℕ × Version) × (last_at tables key ≡ Some last) × (cusip ≡ last.1.terms.asked.cusip)
-NeedsIssue tables (command.Quote asked each) cusip = cusip ≡ asked.cusip
+NeedsIssue tables (command.Quote asked shown) cusip = cusip ≡ asked.cusip
 NeedsIssue tables (command.List desk after) cusip = ⊥
 
 -- that CUSIP, or the one of the version that is sent again
@@ -135,8 +136,8 @@ HasCause limit tables asked WrongBasis = ⊥
 
 -- a quote of an issue that is kept
 pub record IsQuote (tables : Tables) (asked : Command) (issue : IssueRow) (what : Asked) : Type 0 where
-  pub each : Bool
-  pub command : asked ≡ command.Quote what each
+  pub shown : Shown
+  pub command : asked ≡ command.Quote what shown
   pub issue_is : issue_at tables what.cusip ≡ Some issue
 
 -- The figures that it asks for are refused, and nothing else is wrong: a quote, a new trade, or a

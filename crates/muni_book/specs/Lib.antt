@@ -6,6 +6,8 @@ pub mod FilledFor
 pub mod Fault
 pub mod RightFigures
 pub mod Each
+pub mod Risk
+pub mod Details
 pub mod SoundTables
 pub mod Causes
 pub mod Kept

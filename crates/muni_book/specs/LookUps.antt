@@ -1,5 +1,5 @@
 -- What the commands that keep nothing are answered.
-use Rattle.std.specs.Prelude.{◌≡◌, ◌⊎◌, ℕ, Bool, List, Option, Some, None, Ok, Err}
+use Rattle.std.specs.Prelude.{◌≡◌, ◌⊎◌, ℕ, List, Option, Some, None, Ok, Err}
 use Rattle.muni_terms.specs.declared.row.IssueRow.{IssueRow}
 use Rattle.muni_msg.specs.declared.asked.Asked.{Asked}
 use Rattle.muni_msg.specs.declared.command.Command.TheVariants as command
@@ -8,13 +8,14 @@ use Rattle.muni_msg.specs.declared.command.Reply.{Reply}
 use Rattle.muni_msg.specs.declared.command.Reply.TheVariants.{Added, Quoted, Listed, Confirmed, Refused}
 use Rattle.muni_msg.specs.declared.refusal.Refusal.TheVariants.{UnknownIssue, UnknownTrade}
 use Rattle.muni_msg.specs.declared.version.Version.{Version}
+use Rattle.muni_msg.specs.declared.shown.Shown.{Shown}
 use Rattle.muni_keep.specs.Tables.{Tables, issue_at, last_at, page_at}
 use Rattle.muni_book_step.specs.Step.{Pricing, Rules, Entry, IsStepOver}
 
 -- the last version of a trade with its issue; or there is none of them
 abbrev pub ConfirmsLast : Tables → Key → Reply → Type 0
 ConfirmsLast tables key (Added cusip) = ⊥
-ConfirmsLast tables key (Quoted issue asked figures each) = ⊥
+ConfirmsLast tables key (Quoted issue asked figures shown) = ⊥
 ConfirmsLast tables key (Listed lines) = ⊥
 ConfirmsLast tables key (Confirmed issue of number version) =
     (of ≡ key) × (last_at tables key ≡ Some (number, version))
@@ -25,14 +26,14 @@ ConfirmsLast tables key (Refused why) =
     × (issue_at tables last.1.terms.asked.cusip ≡ None))
 
 -- figures that may be answered, or the refusal that may; or the issue is not kept
-abbrev pub QuotesFigures : Pricing → Tables → Asked → Bool → Reply → Type 0
-QuotesFigures Prices tables asked each (Added cusip) = ⊥
-QuotesFigures Prices tables asked each (Quoted issue what figures wanted) =
-    (what ≡ asked) × (wanted ≡ each) × (issue_at tables asked.cusip ≡ Some issue)
+abbrev pub QuotesFigures : Pricing → Tables → Asked → Shown → Reply → Type 0
+QuotesFigures Prices tables asked shown (Added cusip) = ⊥
+QuotesFigures Prices tables asked shown (Quoted issue what figures also) =
+    (what ≡ asked) × (also ≡ shown) × (issue_at tables asked.cusip ≡ Some issue)
     × Prices issue asked (Ok figures)
-QuotesFigures Prices tables asked each (Listed lines) = ⊥
-QuotesFigures Prices tables asked each (Confirmed issue key number version) = ⊥
-QuotesFigures Prices tables asked each (Refused why) =
+QuotesFigures Prices tables asked shown (Listed lines) = ⊥
+QuotesFigures Prices tables asked shown (Confirmed issue key number version) = ⊥
+QuotesFigures Prices tables asked shown (Refused why) =
     ((why ≡ UnknownIssue) × (issue_at tables asked.cusip ≡ None))
     ⊎ ((issue : IssueRow) × (issue_at tables asked.cusip ≡ Some issue) × Prices issue asked (Err why))
 
@@ -53,6 +54,6 @@ PagesAreListed rules =
 -- a quote has the right figures, and nothing is kept
 abbrev pub FiguresAreQuoted : Rules → Type 0
 FiguresAreQuoted rules =
-    (tables : Tables) (asked : Asked) (each : Bool) (reply : Reply) (entry : Option Entry)
-    → IsStepOver rules tables (command.Quote asked each) (record { reply = reply; entry = entry })
-    → QuotesFigures rules.prices tables asked each reply × (entry ≡ None)
+    (tables : Tables) (asked : Asked) (shown : Shown) (reply : Reply) (entry : Option Entry)
+    → IsStepOver rules tables (command.Quote asked shown) (record { reply = reply; entry = entry })
+    → QuotesFigures rules.prices tables asked shown reply × (entry ≡ None)

@@ -25,7 +25,7 @@ pub record IsKeptRight (AreRight : Rightness) (tables : Tables) (issue : IssueRo
 -- What a reply confirms is kept, and its figures are right, as are those of a quote. A list has lines of its own.
 abbrev pub IsRightReply : Rightness → Tables → Reply → Type 0
 IsRightReply AreRight tables (Added cusip) = ⊤
-IsRightReply AreRight tables (Quoted issue asked figures each) =
+IsRightReply AreRight tables (Quoted issue asked figures shown) =
     (issue_at tables asked.cusip ≡ Some issue) × AreRight issue asked figures
 IsRightReply AreRight tables (Listed lines) = ⊤
 IsRightReply AreRight tables (Confirmed issue key number version) =

@@ -7,6 +7,8 @@ mod each;
 mod fault;
 pub mod laws;
 mod outside;
+mod risks;
+mod shown;
 mod steps;
 mod trade;
 
@@ -16,4 +18,6 @@ pub use each::each_redemption;
 pub use fault::BookFault;
 pub use muni_sched::{Calculator, Workers};
 pub use outside::apply;
+pub use risks::risk;
+pub use shown::details;
 pub use steps::step;

@@ -56,13 +56,17 @@ fn carry_out<R: Threads + Sync, K: Keeper, E: Encloser + Sync, G: Gate + Sync>(
 {
     match plan {
         Plan::Answer(reply) => Ok(reply),
-        Plan::Quote { issue, asked, each } => {
+        Plan::Quote {
+            issue,
+            asked,
+            shown,
+        } => {
             match figures(calculator, &issue, &asked, &mut Schedule::new()) {
                 Ok(figures) => Ok(Reply::Quoted {
                     issue,
                     asked,
                     figures,
-                    each,
+                    shown,
                 }),
                 Err(why) => Ok(Reply::Refused(why)),
             }

@@ -32,7 +32,7 @@ use Rattle.muni_book_step.specs.Step.{desk_of, own_of}
 -- an answer that accepts a command says what is kept for it
 abbrev pub HasReason : ℕ → Tables → Command → Plan → Type 0
 HasReason limit t c (Answer reply) = AsksToKeep c → IsAccepted reply → IsKept t c reply
-HasReason limit t c (Quote issue asked each) = c ≡ command.Quote asked each
+HasReason limit t c (Quote issue asked shown) = c ≡ command.Quote asked shown
 HasReason limit t c (KeepIssue issue) = IsNewIssue t c issue
 HasReason limit t c (KeepVersion issue key number version) = IsCancel t c issue key number version
 HasReason limit t c (KeepPriced issue key number act terms) =
@@ -170,5 +170,5 @@ reason-of limit t (command.Enter key terms) = of-entry limit t key terms
 reason-of limit t (command.Correct key number terms) = of-correction limit t key number terms
 reason-of limit t (command.Cancel key number) = of-cancel limit t key number
 reason-of limit t (command.Confirm key) = of-confirmation limit t key
-reason-of limit t (command.Quote asked each) = of-issue limit t (command.Quote asked each) _ (issue_at t asked.cusip) (λ issue there. refl)
+reason-of limit t (command.Quote asked shown) = of-issue limit t (command.Quote asked shown) _ (issue_at t asked.cusip) (λ issue there. refl)
 reason-of limit t (command.List desk after) = λ asks accepted. absurd asks

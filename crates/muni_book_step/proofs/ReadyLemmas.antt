@@ -36,7 +36,7 @@ new-next t key number one new = one ∙ sym (ap next_number (none-kept _ new))
 
 can-keep : (limit : ℕ) (t : Tables) (c : Command) (plan : Plan) → HasReason limit t c plan → CanKeep t plan
 can-keep limit t c (Answer reply) why = tt
-can-keep limit t c (Quote issue asked each) why = tt
+can-keep limit t c (Quote issue asked shown) why = tt
 can-keep limit t c (KeepIssue issue) why = why.is_new
 can-keep limit t c (KeepVersion issue key number version) why = live-next t key number why.last why.is_live
 can-keep limit t c (KeepPriced issue key number act terms) (inl why) = new-next t key number why.number_is why.is_new

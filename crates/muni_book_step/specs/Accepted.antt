@@ -18,13 +18,13 @@ AsksToKeep (command.Enter key terms) = ⊤
 AsksToKeep (command.Correct key number terms) = ⊤
 AsksToKeep (command.Cancel key number) = ⊤
 AsksToKeep (command.Confirm key) = ⊥
-AsksToKeep (command.Quote asked each) = ⊥
+AsksToKeep (command.Quote asked shown) = ⊥
 AsksToKeep (command.List desk after) = ⊥
 
 -- it is accepted by this reply
 abbrev pub IsAccepted : Reply → Type 0
 IsAccepted (Added cusip) = ⊤
-IsAccepted (Quoted issue asked figures each) = ⊥
+IsAccepted (Quoted issue asked figures shown) = ⊥
 IsAccepted (Listed lines) = ⊥
 IsAccepted (Confirmed issue key number version) = ⊤
 IsAccepted (Refused why) = ⊥
@@ -50,5 +50,5 @@ IsKept tables (command.Correct key number terms) reply =
 IsKept tables (command.Cancel key number) reply =
     (confirmed : IsConfirmed tables key number reply) × (confirmed.version.act ≡ Canceled)
 IsKept tables (command.Confirm key) reply = ⊥
-IsKept tables (command.Quote asked each) reply = ⊥
+IsKept tables (command.Quote asked shown) reply = ⊥
 IsKept tables (command.List desk after) reply = ⊥

@@ -19,6 +19,7 @@ use Rattle.muni_msg.specs.declared.version.Act.{Act}
 use Rattle.muni_msg.specs.declared.version.Act.TheVariants.{Entered, Corrected, Canceled}
 use Rattle.muni_msg.specs.declared.version.Kept.TheVariants as kept
 use Rattle.muni_msg.specs.declared.version.Version.{Version}
+use Rattle.muni_msg.specs.declared.shown.Shown.{Shown}
 use Rattle.muni_keep.specs.History.{count, version_in}
 use Rattle.muni_keep.specs.Tables.{line}
 use Rattle.muni_keep.specs.Trades.{by_bytes, Trades, trades_past}
@@ -178,8 +179,8 @@ abbrev pub confirmation_plan : Issues → Trades Version → Key → Plan
 confirmation_plan issues own key =
     for_trade (λ last. confirmed issues key last.0 last.1) (last_of own key)
 
-abbrev pub quote_plan : Issues → Asked → Bool → Plan
-quote_plan issues asked each = for_issue (λ issue. plan.Quote issue asked each) (get issues asked.cusip)
+abbrev pub quote_plan : Issues → Asked → Shown → Plan
+quote_plan issues asked shown = for_issue (λ issue. plan.Quote issue asked shown) (get issues asked.cusip)
 
 abbrev pub list_plan : Trades Version → Option (List ℕ) → Plan
 list_plan own after =
@@ -192,5 +193,5 @@ plan_of limit issues own (Enter key terms) = entry_plan limit issues own key ter
 plan_of limit issues own (Correct key number terms) = correction_plan issues own key number terms
 plan_of limit issues own (Cancel key number) = cancel_plan issues own key number
 plan_of limit issues own (Confirm key) = confirmation_plan issues own key
-plan_of limit issues own (Quote asked each) = quote_plan issues asked each
+plan_of limit issues own (Quote asked shown) = quote_plan issues asked shown
 plan_of limit issues own (ListTrades desk after) = list_plan own after

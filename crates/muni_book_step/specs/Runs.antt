@@ -29,7 +29,7 @@ RunsTo rules old commands replies told =
 -- a reply that refuses the command
 abbrev pub IsRefusal : Reply → Type 0
 IsRefusal (Added cusip) = ⊥
-IsRefusal (Quoted issue asked figures each) = ⊥
+IsRefusal (Quoted issue asked figures shown) = ⊥
 IsRefusal (Listed lines) = ⊥
 IsRefusal (Confirmed issue key number version) = ⊥
 IsRefusal (Refused why) = ⊤

@@ -1,5 +1,5 @@
 -- One step of the book, over the issues and over the trades of the desk that sent the command.
-use Rattle.std.specs.Prelude.{◌≡◌, ℕ, ⊤, Bool, List, Option, Some, None, Result, Ok, Err}
+use Rattle.std.specs.Prelude.{◌≡◌, ℕ, ⊤, List, Option, Some, None, Result, Ok, Err}
 use Rattle.std.specs.FinMap.{empty}
 use Rattle.muni_terms.specs.declared.row.IssueRow.{IssueRow}
 use Rattle.muni_msg.specs.declared.asked.Asked.{Asked}
@@ -11,6 +11,7 @@ use Rattle.muni_msg.specs.declared.command.Reply.{Reply}
 use Rattle.muni_msg.specs.declared.command.Reply.TheVariants.{Added, Quoted, Confirmed, Refused}
 use Rattle.muni_msg.specs.declared.figures.Figures.{Figures}
 use Rattle.muni_msg.specs.declared.refusal.Refusal.{Refusal}
+use Rattle.muni_msg.specs.declared.shown.Shown.{Shown}
 use Rattle.muni_msg.specs.declared.version.Act.{Act}
 use Rattle.muni_msg.specs.declared.version.Version.{Version}
 use Rattle.muni_keep.specs.History.{next_number}
@@ -44,9 +45,9 @@ abbrev pub answered : Reply → Outcome
 answered reply = record { reply = reply; entry = None }
 
 -- the figures of a quote are answered with what was asked, and of which issue
-abbrev pub quoted : IssueRow → Asked → Bool → Result Figures Refusal → Outcome
-quoted issue asked each (Ok figures) = answered (Quoted issue asked figures each)
-quoted issue asked each (Err why) = answered (Refused why)
+abbrev pub quoted : IssueRow → Asked → Shown → Result Figures Refusal → Outcome
+quoted issue asked shown (Ok figures) = answered (Quoted issue asked figures shown)
+quoted issue asked shown (Err why) = answered (Refused why)
 
 -- a version is kept and confirmed
 abbrev pub kept : IssueRow → Key → ℕ → Version → Outcome
@@ -62,8 +63,8 @@ priced issue key number act terms (Err why) = answered (Refused why)
 -- what comes of a plan
 abbrev pub IsOutcome : Pricing → Plan → Outcome → Type 0
 IsOutcome Prices (Answer reply) outcome = outcome ≡ answered reply
-IsOutcome Prices (Quote issue asked each) outcome =
-    (answer : Result Figures Refusal) × Prices issue asked answer × (outcome ≡ quoted issue asked each answer)
+IsOutcome Prices (Quote issue asked shown) outcome =
+    (answer : Result Figures Refusal) × Prices issue asked answer × (outcome ≡ quoted issue asked shown answer)
 IsOutcome Prices (KeepIssue issue) outcome =
     outcome ≡ record { reply = Added issue.cusip; entry = Some (NewIssue issue) }
 IsOutcome Prices (KeepVersion issue key number version) outcome =
@@ -84,7 +85,7 @@ desk_of (command.Enter key terms) = Some key.desk
 desk_of (command.Correct key number terms) = Some key.desk
 desk_of (command.Cancel key number) = Some key.desk
 desk_of (command.Confirm key) = Some key.desk
-desk_of (command.Quote asked each) = None
+desk_of (command.Quote asked shown) = None
 desk_of (command.List desk after) = Some desk
 
 -- the trades of that desk
@@ -106,7 +107,7 @@ after (Some (NewVersion key version)) tables = with_version key version tables
 -- what is to be kept can be: an issue that is new, or the next version of a trade
 abbrev pub CanKeep : Tables → Plan → Type 0
 CanKeep tables (Answer reply) = ⊤
-CanKeep tables (Quote issue asked each) = ⊤
+CanKeep tables (Quote issue asked shown) = ⊤
 CanKeep tables (KeepIssue issue) = issue_at tables issue.cusip ≡ None
 CanKeep tables (KeepVersion issue key number version) = number ≡ next_number (trade_at tables key)
 CanKeep tables (KeepPriced issue key number act terms) = number ≡ next_number (trade_at tables key)

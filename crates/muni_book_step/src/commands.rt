@@ -10,7 +10,8 @@ ghost use Rattle.muni_book_step.specs.Step.{own_of, desk_of};
 use crate::Plan;
 use muni_keep::{KeepFault, Keeper};
 use muni_msg::{
-    Act, Asked, Command, DeskLimit, DeskName, Kept, Key, Reference, Refusal, Reply, Terms, Version,
+    Act, Asked, Command, DeskLimit, DeskName, Kept, Key, Reference, Refusal, Reply, Shown, Terms,
+    Version,
 };
 use muni_terms::{Issue, IssueRow, check};
 
@@ -29,7 +30,7 @@ pub fn plan_of<K: Keeper>(
         Command::Correct { key, number, terms } => correct(keeper, key, *number, terms),
         Command::Cancel { key, number } => cancel(keeper, key, *number),
         Command::Confirm { key } => confirm(keeper, key),
-        Command::Quote { asked, each } => quote(keeper, asked, *each),
+        Command::Quote { asked, shown } => quote(keeper, asked, *shown),
         Command::List { desk, after } => list(keeper, desk, after),
     }
 }
@@ -339,15 +340,15 @@ fn confirm<K: Keeper>(keeper: &mut K, key: &Key) -> Result<Plan, KeepFault>
     }
 }
 
-fn quote<K: Keeper>(keeper: &mut K, asked: &Asked, each: bool) -> Result<Plan, KeepFault>
+fn quote<K: Keeper>(keeper: &mut K, asked: &Asked, shown: Shown) -> Result<Plan, KeepFault>
     ensures plan { Finds K.Keeper keeper.old keeper.new result
-        (λ t. spec.quote_plan t.issues asked.now each) }
+        (λ t. spec.quote_plan t.issues asked.now shown) }
 {
     match keeper.issue(&asked.cusip)? {
         Some(issue) => Ok(Plan::Quote {
             issue,
             asked: *asked,
-            each,
+            shown,
         }),
         None => Ok(refused(Refusal::UnknownIssue)),
     }

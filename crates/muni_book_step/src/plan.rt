@@ -1,6 +1,6 @@
 //! What is to be done for a command.
 
-use muni_msg::{Act, Asked, Key, Reply, Terms, Version};
+use muni_msg::{Act, Asked, Key, Reply, Shown, Terms, Version};
 use muni_terms::Issue;
 
 /// What is to be done for a command.
@@ -12,7 +12,7 @@ pub enum Plan {
     Quote {
         issue: Issue,
         asked: Asked,
-        each: bool,
+        shown: Shown,
     },
     /// The issue is kept.
     KeepIssue(Issue),

@@ -7,7 +7,7 @@ use Rattle.serde_json.specs.Data.{Data}
 use Rattle.serde_json.specs.Find.{get}
 use Rattle.muni_msg.specs.Fields.{◌>>=◌, basis_field, fee_field}
 use Rattle.muni_msg.specs.declared.asked.Side.TheVariants.{Buy}
-use Rattle.muni_wire.specs.Body.{command_of, command_in, key_in, number_in, asked_in, wanted_in, each_in, fee_in, terms_in, calendar_in, basis_in, issue_with, issue_in}
+use Rattle.muni_wire.specs.Body.{command_of, command_in, key_in, number_in, asked_in, shown_in, fee_in, terms_in, calendar_in, basis_in, issue_with, issue_in}
 use Rattle.muni_wire.specs.Members.{text_or_empty}
 use Rattle.muni_wire.specs.LeftOut.{HasOneMore, NamesOneMore}
 use Rattle.muni_wire.specs.declared.routes.Form.{Form}
@@ -64,9 +64,9 @@ same-quote part whole alike =
       alike.others (codes "value") refl refl,
     ) refl
 
-same-each : (part whole : Data) → AreAlike part whole → each_in part ≡ each_in whole
-unfolding each_in
-same-each part whole alike = ap wanted_in (alike.others (codes "each") refl refl)
+same-shown : (part whole : Data) → AreAlike part whole → shown_in part ≡ shown_in whole
+unfolding shown_in
+same-shown part whole alike = rw (alike.others (codes "each") refl refl, alike.others (codes "risk") refl refl) refl
 
 same-terms : (part whole : Data) → AreAlike part whole → terms_in part ≡ terms_in whole
 unfolding terms_in asked_in
@@ -102,7 +102,7 @@ same-command form.Issue part whole alike = rw (same-issue part whole alike) refl
 same-command form.Trade part whole alike = rw (same-key part whole alike, same-terms part whole alike) refl
 same-command form.Correction part whole alike = rw (same-key part whole alike, same-number part whole alike, same-terms part whole alike) refl
 same-command form.Cancellation part whole alike = rw (same-key part whole alike, same-number part whole alike) refl
-same-command form.Quote part whole alike = rw (same-quote part whole alike, same-each part whole alike) refl
+same-command form.Quote part whole alike = rw (same-quote part whole alike, same-shown part whole alike) refl
 
 of-bodies : (name text : List ℕ) (posted : Form) (whole part : List ℕ) (more : NamesOneMore name text whole part) → AreAlike more.part_data more.whole_data
     → command_of posted part ≡ command_of posted whole

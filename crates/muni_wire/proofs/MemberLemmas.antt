@@ -5,7 +5,7 @@ use Rattle.serde_json.specs.Data.{Data}
 use Rattle.serde_json.specs.Find.{get}
 use Rattle.muni_msg.specs.Fields.{◌>>=◌}
 use Rattle.muni_msg.specs.declared.asked.Side.TheVariants.{Buy}
-use Rattle.muni_wire.specs.Body.{data_of, command_of, command_in, key_in, asked_in, wanted_in, each_in, fee_in, terms_in, calendar_in, basis_in, issue_with, issue_in}
+use Rattle.muni_wire.specs.Body.{data_of, command_of, command_in, key_in, asked_in, shown_in, fee_in, terms_in, calendar_in, basis_in, issue_with, issue_in}
 use Rattle.muni_wire.specs.OtherMembers.{member_names}
 use Rattle.muni_wire.specs.declared.routes.Form.{Form}
 use Rattle.muni_wire.specs.declared.routes.Form.TheVariants as form
@@ -18,9 +18,9 @@ same-quote : (a b : Data) → get (codes "cusip") a ≡ get (codes "cusip") b �
 unfolding asked_in
 same-quote a b cusip par settle basis value = rw (cusip, par, settle, basis, value) refl
 
-same-each : (a b : Data) → get (codes "each") a ≡ get (codes "each") b → each_in a ≡ each_in b
-unfolding each_in
-same-each a b each = ap wanted_in each
+same-shown : (a b : Data) → get (codes "each") a ≡ get (codes "each") b → get (codes "risk") a ≡ get (codes "risk") b → shown_in a ≡ shown_in b
+unfolding shown_in
+same-shown a b each risk = rw (each, risk) refl
 
 same-terms : (a b : Data) → get (codes "cusip") a ≡ get (codes "cusip") b → get (codes "par") a ≡ get (codes "par") b → get (codes "settle") a ≡ get (codes "settle") b
     → get (codes "basis") a ≡ get (codes "basis") b → get (codes "value") a ≡ get (codes "value") b → get (codes "side") a ≡ get (codes "side") b → get (codes "fee") a ≡ get (codes "fee") b
@@ -63,7 +63,7 @@ same-command form.Cancellation a b same =
 same-command form.Quote a b same =
     rw (
       same-quote a b (same 0 [] (omega arith)) (same 1 [] (omega arith)) (same 2 [] (omega arith)) (same 3 [] (omega arith)) (same 4 [] (omega arith)),
-      same-each a b (same 5 [] (omega arith)),
+      same-shown a b (same 5 [] (omega arith)) (same 6 [] (omega arith)),
     ) refl
 
 pub other-members-are-ignored : (posted : Form) (one other : List ℕ) (a b : Data) → data_of one ≡ Some a → data_of other ≡ Some b

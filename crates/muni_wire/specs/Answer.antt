@@ -1,12 +1,12 @@
 -- The answers to requests (RFC 9112).
 use Rattle.std.specs.Prelude.{ℕ, List, [], ◌∷◌, ◌++◌, codes, decimal, length, true, false}
 use Rattle.muni_confirm.specs.Confirmation.{confirmation_text}
-use Rattle.muni_confirm.specs.Each.{quoted_text}
+use Rattle.muni_confirm.specs.Details.{quoted_text}
+use Rattle.muni_confirm.specs.declared.details.Details.{Details}
 use Rattle.muni_confirm.specs.Refusal.{refusal_text}
 use Rattle.muni_dec.specs.Line.{line}
 use Rattle.muni_msg.specs.declared.command.Reply.{Reply}
 use Rattle.muni_msg.specs.declared.command.Reply.TheVariants.{Added, Quoted, Listed, Confirmed, Refused}
-use Rattle.muni_msg.specs.declared.each.EachRedemption.{EachRedemption}
 use Rattle.muni_wire.specs.List.{list_text}
 use Rattle.muni_wire.specs.HttpStatus.{code, phrase, status_of_reply, status_of_bad}
 use Rattle.muni_wire.specs.declared.fault.Bad.{Bad}
@@ -55,17 +55,17 @@ success text = answer status.Success [] text
 abbrev pub added_text : List ℕ → List ℕ
 added_text cusip = line (codes "ADDED" ∷ cusip ∷ [])
 
--- the text of a reply, with the redemption candidates that are shown beside a quote
-abbrev pub reply_text : Reply → List EachRedemption → List ℕ
-reply_text (Added cusip) each = added_text cusip
-reply_text (Quoted issue asked figures wanted) each = quoted_text figures asked each
-reply_text (Listed lines) each = list_text lines.items
-reply_text (Confirmed issue key number version) each = confirmation_text issue key number version
-reply_text (Refused why) each = refusal_text why
+-- the text of a reply, with what is shown after the figures of a quote
+abbrev pub reply_text : Reply → Details → List ℕ
+reply_text (Added cusip) details = added_text cusip
+reply_text (Quoted issue asked figures shown) details = quoted_text figures asked details
+reply_text (Listed lines) details = list_text lines.items
+reply_text (Confirmed issue key number version) details = confirmation_text issue key number version
+reply_text (Refused why) details = refusal_text why
 
 -- the answer to a command
-abbrev pub answer_to_reply : Reply → List EachRedemption → List ℕ
-answer_to_reply reply each = answer (status_of_reply reply) [] (reply_text reply each)
+abbrev pub answer_to_reply : Reply → Details → List ℕ
+answer_to_reply reply details = answer (status_of_reply reply) [] (reply_text reply details)
 
 -- the header line that names the method that is allowed
 abbrev pub allowed : Bad → List ℕ

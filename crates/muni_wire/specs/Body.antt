@@ -25,6 +25,7 @@ use Rattle.muni_msg.specs.declared.asked.Terms.{Terms}
 use Rattle.muni_msg.specs.declared.command.Command.{Command}
 use Rattle.muni_msg.specs.declared.command.Command.TheVariants as command
 use Rattle.muni_msg.specs.declared.command.Key.{Key}
+use Rattle.muni_msg.specs.declared.shown.Shown.{Shown}
 use Rattle.muni_wire.specs.Calls.{calls_in}
 use Rattle.muni_wire.specs.Members.{member, optional}
 use Rattle.muni_wire.specs.declared.look.Request.{Request}
@@ -83,13 +84,17 @@ asked_in side fee value = do
   given ← given_in value
   Some (record { cusip = cusip; par = par; settle = settle; given = given; side = side; fee = fee })
 
--- whether the redemption candidates are wanted: a Boolean, which may be left out
+-- whether something is wanted: a Boolean, which may be left out
 abbrev pub wanted_in : Option Data → Option Bool
 wanted_in None = Some false
 wanted_in (Some found) = as_bool found
 
-unfoldable pub each_in : Data → Option Bool
-each_in value = wanted_in (get (codes "each") value)
+-- what is to be shown after the figures of a quote
+unfoldable pub shown_in : Data → Option Shown
+shown_in value = do
+  each ← wanted_in (get (codes "each") value)
+  risk ← wanted_in (get (codes "risk") value)
+  Some (record { each = each; risk = risk })
 
 -- a commission, which may be left out
 unfoldable pub fee_in : Data → Option ℕ
@@ -167,8 +172,8 @@ command_in form.Cancellation value = do
   Some (command.Cancel key number)
 command_in form.Quote value = do
   asked ← asked_in Buy 0 value
-  each ← each_in value
-  Some (command.Quote asked each)
+  shown ← shown_in value
+  Some (command.Quote asked shown)
 
 -- what a body of a form asks for
 abbrev pub command_of : Form → List ℕ → Option Command

@@ -47,7 +47,7 @@ status_of_refusal refusal.WrongBasis = status.Unprocessable
 
 abbrev pub status_of_reply : Reply → HttpStatus
 status_of_reply (Added cusip) = status.Success
-status_of_reply (Quoted issue asked figures each) = status.Success
+status_of_reply (Quoted issue asked figures shown) = status.Success
 status_of_reply (Listed lines) = status.Success
 status_of_reply (Confirmed issue key number version) = status.Success
 status_of_reply (Refused why) = status_of_refusal why

@@ -19,7 +19,8 @@ member_names form.Correction =
     ∷ codes "side" ∷ codes "fee" ∷ codes "desk" ∷ codes "reference" ∷ codes "number" ∷ []
 member_names form.Cancellation = codes "desk" ∷ codes "reference" ∷ codes "number" ∷ []
 member_names form.Quote =
-    codes "cusip" ∷ codes "par" ∷ codes "settle" ∷ codes "basis" ∷ codes "value" ∷ codes "each" ∷ []
+    codes "cusip" ∷ codes "par" ∷ codes "settle" ∷ codes "basis" ∷ codes "value" ∷ codes "each"
+    ∷ codes "risk" ∷ []
 
 -- bodies with the same members of these names ask for the same, whatever others they have
 abbrev pub OtherMembersAreIgnored : Type 0

@@ -3,7 +3,7 @@
 ghost use Rattle.std.specs.Prelude.{◌≡◌, ◌≤◌, ◌+◌, ◌++◌, [], decimal, length, IfOk};
 ghost use Rattle.arrayvec.specs.ArrayVec.{array_vec_len};
 ghost use Rattle.muni_confirm.specs.Confirmation.{confirmation_text};
-ghost use Rattle.muni_confirm.specs.Each.{quoted_text};
+ghost use Rattle.muni_confirm.specs.Details.{quoted_text};
 ghost use Rattle.muni_confirm.specs.Refusal.{refusal_text};
 ghost use Rattle.muni_wire.specs.Answer as spec;
 ghost use Rattle.muni_wire.specs.Answers.{Answers};
@@ -15,10 +15,10 @@ use crate::list::push_list;
 use crate::status::HttpStatus;
 use arrayvec::ArrayVec;
 use itoa::Buffer;
-use muni_confirm::{confirmation, figure_lines, push_each, refusal_line};
+use muni_confirm::{Details, confirmation, figure_lines, push_details, refusal_line};
 use muni_dec::text::{push, push_line};
 use muni_edge::{Failed, Link, NoMemory};
-use muni_msg::{Asked, EachRedemption, Figures, Key, Line, Refusal, Reply, Version};
+use muni_msg::{Asked, Figures, Key, Line, Refusal, Reply, Version};
 use muni_terms::Issue;
 use std::alloc::Global;
 
@@ -29,15 +29,14 @@ use std::alloc::Global;
 pub fn write_reply<L: Link>(
     link: &mut L,
     reply: &Reply,
-    each: &[EachRedemption],
+    details: &Details,
 ) -> Result<HttpStatus, Failed>
-    requires { length each.now ≤ 100 }
     ensures { Answers L.Source L.Sink (status_of_reply reply.now)
-        (spec.answer_to_reply reply.now each.now) result link.old link.new }
+        (spec.answer_to_reply reply.now details.now) result link.old link.new }
 {
     match reply {
         Reply::Added { cusip } => write_added(link, cusip),
-        Reply::Quoted { asked, figures, .. } => write_figures(link, asked, figures, each),
+        Reply::Quoted { asked, figures, .. } => write_figures(link, asked, figures, details),
         Reply::Listed(lines) => write_list(link, lines),
         Reply::Confirmed {
             issue,
@@ -104,17 +103,16 @@ fn write_figures<L: Link>(
     link: &mut L,
     asked: &Asked,
     figures: &Figures,
-    each: &[EachRedemption],
+    details: &Details,
 ) -> Result<HttpStatus, Failed>
-    requires { length each.now ≤ 100 }
     ensures { Answers L.Source L.Sink HttpStatus.Success
-        (spec.success (quoted_text figures.now asked.now each.now)) result link.old link.new }
+        (spec.success (quoted_text figures.now asked.now details.now)) result link.old link.new }
 {
     let mut lines = ArrayVec::new();
     figure_lines(figures, &asked.given, asked.fee, &mut lines);
     let mut text = ArrayVec::<u8, 10624>::new();
     push(&mut text, &lines);
-    push_each(&mut text, each);
+    push_details(&mut text, details);
     write(link, HttpStatus::Success, b"", &text)
 }
 

@@ -1,6 +1,7 @@
 //! What a body asks for: the members of a JSON object.
 
 ghost use Rattle.std.specs.Prelude.{◌≡◌, Some, None, Err, IfOk, IfErr, IfSome, option_map};
+ghost use Rattle.serde_json.specs.Find.{get};
 ghost use Rattle.serde_json.specs.View.{view};
 ghost use Rattle.muni_wire.specs.Body as spec;
 ghost use Rattle.muni_wire.specs.Faults.{IsOfBody};
@@ -13,8 +14,8 @@ use arrayvec::ArrayVec;
 use muni_days::{Basis, Day};
 use muni_dec::{Coupon, Fee, Par};
 use muni_msg::{
-    Asked, Command, DeskName, Given, Key, Reference, Side, Terms, read_basis_field, read_coupon,
-    read_cusip, read_fee_field, read_given, read_issue_name, read_kind, read_side,
+    Asked, Command, DeskName, Given, Key, Reference, Shown, Side, Terms, read_basis_field,
+    read_coupon, read_cusip, read_fee_field, read_given, read_issue_name, read_kind, read_side,
     read_version_number,
 };
 use muni_terms::{IssueRow, Kind};
@@ -74,17 +75,27 @@ fn read_command(form: Form, value: &Value) -> Option<Command>
         }),
         Form::Quote => Some(Command::Quote {
             asked: asked(value, Side::Buy, Fee::new(0))?,
-            each: each(value)?,
+            shown: shown(value)?,
         }),
     }
 }
 
-// Whether the redemption candidates are wanted: they are not if the member is left out.
-#[tactic(auto, unfolding(crate::specs::Body::each_in))]
-fn each(value: &Value) -> Option<bool>
-    ensures { result ≡ spec.each_in (view value.now) }
+// What is to be shown after the figures.
+#[tactic(auto, unfolding(crate::specs::Body::shown_in))]
+fn shown(value: &Value) -> Option<Shown>
+    ensures { result ≡ spec.shown_in (view value.now) }
 {
-    match value.get("each") {
+    Some(Shown {
+        each: wanted(value, "each")?,
+        risk: wanted(value, "risk")?,
+    })
+}
+
+// Whether something is wanted: it is not if its member is left out.
+fn wanted(value: &Value, name: &str) -> Option<bool>
+    ensures { result ≡ spec.wanted_in (get name.now (view value.now)) }
+{
+    match value.get(name) {
         Some(found) => found.as_bool(),
         None => Some(false),
     }
