@@ -24,7 +24,8 @@ FOLDER = ROOT / "clients/python"
 VERSION = (ROOT / "VERSION").read_text().strip()
 TYPED = ("clients/python/src/muni", "clients/python/compare.py", "tests/client/test_client_desk.py",
          "tests/client/test_client_cuts.py", "tests/client/test_client_each.py", "tests/client/test_client_kept.py",
-         "tests/client/test_client_frames.py", "tests/client/test_client_parts.py", "tests/client/test_client_spread.py")
+         "tests/client/test_client_frames.py", "tests/client/test_client_parts.py", "tests/client/test_client_risk.py",
+         "tests/client/test_client_spread.py")
 BONDS = 100
 
 
