@@ -41,7 +41,7 @@ refused-last t key why (inr (is, last, there, none)) =
 
 printed : (t : Tables) (key : Key) (told : Reply) → ConfirmsLast t key told → answer_of told ≡ Some (confirmed t key)
 printed t key (reply.Added cusip) is = absurd is
-printed t key (reply.Quoted issue asked figures each) is = absurd is
+printed t key (reply.Quoted issue asked figures shown) is = absurd is
 printed t key (reply.Listed lines) is = absurd is
 printed t key (reply.Confirmed issue other number version) is =
     let answer : Key → Answer = λ key. record { answered = Confirmed; text = confirmation_text issue key number version } in

@@ -38,7 +38,7 @@ fields-are key number figures =
 -- ---- lines
 line-of : (t : Tables) (place : ℕ) (reply : Reply) → IsRightReply AreRightFigures t reply → IsLineOf t place (Ok reply) (row_line place (Ok reply))
 line-of t place (Added cusip) right = refl
-line-of t place (Quoted issue asked figures each) right = refl
+line-of t place (Quoted issue asked figures shown) right = refl
 line-of t place (Listed lines) right = refl
 line-of t place (Confirmed issue key number version) right =
     record { right = right; printed = ap (λ fields. decimal place ++ fields ++ 10 ∷ []) (fields-are key number version.figures) }

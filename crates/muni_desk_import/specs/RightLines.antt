@@ -25,7 +25,7 @@ pub record IsConfirmedLine (tables : Tables) (place : ℕ) (issue : IssueRow) (k
 -- the line of what came of a row; none but a confirmation's has figures
 abbrev pub IsLineOf : Tables → ℕ → Said → List ℕ → Type 0
 IsLineOf tables place (Ok (Added cusip)) line = line ≡ row_line place (Ok (Added cusip))
-IsLineOf tables place (Ok (Quoted issue asked figures each)) line = line ≡ row_line place (Ok (Quoted issue asked figures each))
+IsLineOf tables place (Ok (Quoted issue asked figures shown)) line = line ≡ row_line place (Ok (Quoted issue asked figures shown))
 IsLineOf tables place (Ok (Listed lines)) line = line ≡ row_line place (Ok (Listed lines))
 IsLineOf tables place (Ok (Confirmed issue key number version)) line =
     IsConfirmedLine tables place issue key number version line

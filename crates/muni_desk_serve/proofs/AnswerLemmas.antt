@@ -31,7 +31,7 @@ due-answered : (R : Rules) (old new : Option Tables) (before now : ℕ) (link af
     → IsAnswerToSome R old link (served.Answered status) new after
 unfolding IsAnswerToSome
 due-answered R old new before now link after answer status faults none rose is written (inl due) =
-    (Whole (Book due.command), due.asks, (due.reply, due.each, due.step, due.beside, written-whole answer (reply_answer due.reply due.each) link after status due.is is written))
+    (Whole (Book due.command), due.asks, (due.reply, due.details, due.step, due.beside, written-whole answer (reply_answer due.reply due.details) link after status due.is is written))
 due-answered R old new before now link after answer status faults none rose is written (inr (inl due)) =
     (Faulty due.kind, due.asks, (written-whole answer (bad_answer due.kind) link after status due.is is written, due.tables))
 due-answered R old new before now link after answer status faults none rose is written (inr (inr (inl due))) =

@@ -42,7 +42,7 @@ refusal-good refusal.WrongBasis = (refl, λ is. absurd (omega (arith, is)))
 
 pub reply-good : (reply : Reply) → IsGood (status_of_reply reply)
 reply-good (Added cusip) = (refl, λ is. absurd (omega (arith, is)))
-reply-good (Quoted issue asked figures each) = (refl, λ is. absurd (omega (arith, is)))
+reply-good (Quoted issue asked figures shown) = (refl, λ is. absurd (omega (arith, is)))
 reply-good (Listed lines) = (refl, λ is. absurd (omega (arith, is)))
 reply-good (Confirmed issue key number version) = (refl, λ is. absurd (omega (arith, is)))
 reply-good (Refused why) = refusal-good why

@@ -5,6 +5,7 @@ use Rattle.muni_msg.specs.declared.command.Key.{Key}
 use Rattle.muni_msg.specs.declared.command.Line.{Line}
 use Rattle.muni_msg.specs.declared.command.Reply.TheVariants.{Confirmed}
 use Rattle.muni_msg.specs.declared.version.Version.{Version}
+use Rattle.muni_confirm.specs.Details.{no_details}
 use Rattle.muni_keep.specs.Tables.{Tables, issue_at, version_at, page_at, latest_at, before_latest, line}
 use Rattle.muni_keep.specs.Trades.{own, past}
 use Rattle.muni_keep.proofs.LastLemmas.{latest-page}
@@ -27,10 +28,10 @@ latest-found lines_of (Some t) mid desk before (Ok lines) same is found =
 
 pub version-seen : (told mid : Option Tables) (key copy : Key) (number : ℕ) (version : Version) (issue : IssueRow) → mid ≡ told → copy ≡ key
     → IfSome told (λ t. Some version ≡ version_at t key number) → IfSome mid (λ t. Some issue ≡ issue_at t version.terms.asked.cusip)
-    → IfSome told (λ t. reply_answer (Confirmed issue copy number version) [] ≡ reply_answer (version_shown t key number (version_at t key number)) [])
+    → IfSome told (λ t. reply_answer (Confirmed issue copy number version) no_details ≡ reply_answer (version_shown t key number (version_at t key number)) no_details)
 version-seen None mid key copy number version issue same is kept known = tt
 version-seen (Some t) mid key copy number version issue same is kept known =
     let there : Some issue ≡ issue_at t version.terms.asked.cusip = subst (λ told. IfSome told (λ t. Some issue ≡ issue_at t version.terms.asked.cusip)) same known in
-    ap (λ k. reply_answer (Confirmed issue k number version) []) is
-    ∙ ap (λ i. reply_answer (version_confirmed key number version i) []) there
-    ∙ ap (λ v. reply_answer (version_shown t key number v) []) kept
+    ap (λ k. reply_answer (Confirmed issue k number version) no_details) is
+    ∙ ap (λ i. reply_answer (version_confirmed key number version i) no_details) there
+    ∙ ap (λ v. reply_answer (version_shown t key number v) no_details) kept

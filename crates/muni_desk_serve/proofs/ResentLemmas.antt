@@ -80,7 +80,7 @@ due-got R old link then answer command new status faults (inl due) come other is
     record {
       reply = due.reply;
       step = subst (λ c. StepsTo R old c due.reply new) (come-same (record { before = link; after = then; came = served.Answered status }) command due.command come due.asks) due.step;
-      has = (due.each, due.beside, written-whole answer (reply_answer due.reply due.each) link then status due.is is written);
+      has = (due.details, due.beside, written-whole answer (reply_answer due.reply due.details) link then status due.is is written);
     }
 due-got R old link then answer command new status faults (inr (inl due)) come other is written =
     absurd (come-bad (record { before = link; after = then; came = served.Answered status }) command due.kind come due.asks)

@@ -5,7 +5,8 @@ use Rattle.std.proofs.lemmas.List.Elements.{All-nil, All-cons, All-head, All-tai
 use Rattle.muni_msg.specs.declared.command.Command.{Command}
 use Rattle.muni_msg.specs.declared.command.Reply.{Reply}
 use Rattle.muni_msg.specs.declared.command.Reply.TheVariants.{Added, Quoted, Listed, Confirmed, Refused}
-use Rattle.muni_msg.specs.declared.each.EachRedemption.{EachRedemption}
+use Rattle.muni_confirm.specs.Details.{no_details}
+use Rattle.muni_confirm.specs.declared.details.Details.{Details}
 use Rattle.muni_keep.specs.Tables.{Tables}
 use Rattle.muni_wire.specs.Answer.{reply_text}
 use Rattle.muni_book.specs.Rules.{book_rules}
@@ -20,12 +21,12 @@ use Rattle.muni_desk_serve.specs.Look.{version_shown, version_confirmed}
 use Rattle.muni_desk_serve.specs.RightAnswers.{IsRightText, IsAnsweredRight}
 use Rattle.muni_desk_serve.proofs.RunLemmas.{connections-run}
 
-right-text : (t : Tables) (reply : Reply) (each : List EachRedemption) → IsRightReply AreRightFigures t reply → AreBeside reply each → IsRightText t reply (reply_text reply each)
-right-text t (Added cusip) each right beside = refl
-right-text t (Quoted issue asked figures wanted) each right beside = (right.0, right.1, each, beside, refl)
-right-text t (Listed lines) each right beside = refl
-right-text t (Confirmed issue key number version) each right beside = (right, refl)
-right-text t (Refused why) each right beside = refl
+right-text : (t : Tables) (reply : Reply) (details : Details) → IsRightReply AreRightFigures t reply → AreBeside reply details → IsRightText t reply (reply_text reply details)
+right-text t (Added cusip) details right beside = refl
+right-text t (Quoted issue asked figures shown) details right beside = (right.0, right.1, details, beside, refl)
+right-text t (Listed lines) details right beside = refl
+right-text t (Confirmed issue key number version) details right beside = (right, refl)
+right-text t (Refused why) details right beside = refl
 
 answered-right : (t : Tables) {exchanges : List Exchange} {commands : List Command} {replies : List Reply} → Follow exchanges commands replies → All (IsRightReply AreRightFigures t) replies → All (IsAnsweredRight t) exchanges
 answered-right t nothing all = All-nil (IsAnsweredRight t)
@@ -55,6 +56,6 @@ versions-shown-right right t key number version sound there =
     record {
       issue = found.0;
       right = found.1;
-      shown = ap (λ v. reply_answer (version_shown t key number v) []) there
-          ∙ ap (λ i. reply_answer (version_confirmed key number version i) []) found.1.issue_kept;
+      shown = ap (λ v. reply_answer (version_shown t key number v) no_details) there
+          ∙ ap (λ i. reply_answer (version_confirmed key number version i) no_details) found.1.issue_kept;
     }

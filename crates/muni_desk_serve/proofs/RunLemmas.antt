@@ -33,7 +33,7 @@ due-steps R old link then answer new status faults (inl due) is written =
       command = due.command;
       reply = due.reply;
       step = due.step;
-      has = record { asks = due.asks; answer = λ asked came. (due.each, due.beside, written-whole answer (reply_answer due.reply due.each) link then status due.is is written) };
+      has = record { asks = due.asks; answer = λ asked came. (due.details, due.beside, written-whole answer (reply_answer due.reply due.details) link then status due.is is written) };
     })
 due-steps R old link then answer new status faults (inr (inl due)) is written =
     inl (due.tables, λ asked came. inl (record { kind = due.kind; asks = due.asks; answer = written-whole answer (bad_answer due.kind) link then status due.is is written }))

@@ -13,11 +13,12 @@ use Rattle.muni_msg.specs.declared.asked.Asked.{Asked}
 use Rattle.muni_msg.specs.declared.command.Command.{Command}
 use Rattle.muni_msg.specs.declared.command.Reply.{Reply}
 use Rattle.muni_msg.specs.declared.command.Reply.TheVariants.{Added, Quoted, Listed, Confirmed, Refused}
-use Rattle.muni_msg.specs.declared.each.EachRedemption.{EachRedemption}
 use Rattle.muni_msg.specs.declared.figures.Figures.{Figures}
+use Rattle.muni_msg.specs.declared.shown.Shown.{Shown}
+use Rattle.muni_confirm.specs.declared.details.Details.{Details}
 use Rattle.muni_book.specs.Answers.{IsRightAnswer}
-use Rattle.muni_book.specs.Each.{AreEach}
-use Rattle.muni_book.proofs.EachLemmas.{each-right}
+use Rattle.muni_book.specs.Details.{AreDetails}
+use Rattle.muni_book.proofs.DetailLemmas.{details-right}
 use Rattle.muni_book.proofs.RightReplyLemmas.{step-quoted}
 use Rattle.muni_book_step.specs.Runs.{StepsTo}
 use Rattle.muni_book_step.specs.Step.{Rules}
@@ -61,34 +62,33 @@ due-written R old new link mid after answer served.LinkFault faults written same
     inr (rw (← puts) written.0, answer, due, rw (← same) written.1)
 due-written R old new link mid after answer served.NoMemory faults written same puts due = absurd written
 
--- what is answered of each redemption candidate stands beside a quote for which they are wanted
-pub each-beside : (ends : PaymentSeries → ℤ → WorthEnds) (reply : Reply) (issue : IssueRow) (asked : Asked) (figures : Figures) (wanted : Bool) (each : List EachRedemption) → reply ≡ Quoted issue asked figures wanted → wanted ≡ true
-    → (IsRightAnswer ends issue asked (Ok figures) → AreEach ends issue asked figures each) → IsPricedReply (IsRightAnswer ends) reply → AreBeside reply each
-each-beside ends reply issue asked figures wanted each is true_is shown priced =
-    let same : reply ≡ Quoted issue asked figures true = is ∙ ap (Quoted issue asked figures) true_is in
-    subst (λ r. AreBeside r each) (sym same) (each-right ends issue asked figures each (shown (subst (IsPricedReply (IsRightAnswer ends)) same priced)))
+-- what is to be shown of a quote stands after its figures
+pub quote-beside : (ends : PaymentSeries → ℤ → WorthEnds) (reply : Reply) (issue : IssueRow) (asked : Asked) (figures : Figures) (shown : Shown) (details : Details) → reply ≡ Quoted issue asked figures shown
+    → (IsRightAnswer ends issue asked (Ok figures) → AreDetails ends issue asked figures shown details) → IsPricedReply (IsRightAnswer ends) reply → AreBeside reply details
+quote-beside ends reply issue asked figures shown details is told priced =
+    subst (λ r. AreBeside r details) (sym is) (details-right ends issue asked figures shown details (told (subst (IsPricedReply (IsRightAnswer ends)) is priced)))
 
 -- a step of the book answers a quote by figures that may be answered
 reply-priced : (R : Rules) (t : Tables) (command : Command) (reply : Reply) (new : Option Tables) → StepsTo R t command reply new → IsPricedReply R.prices reply
 reply-priced R t command (Added cusip) new step = tt
-reply-priced R t command (Quoted issue asked figures each) new step = step-quoted R t command issue asked figures each step.0 step.1
+reply-priced R t command (Quoted issue asked figures shown) new step = step-quoted R t command issue asked figures shown step.0 step.1
 reply-priced R t command (Listed lines) new step = tt
 reply-priced R t command (Confirmed issue key number version) new step = tt
 reply-priced R t command (Refused why) new step = tt
 
-pub beside-step : (R : Rules) (old : Option Tables) (command : Command) (reply : Reply) (each : List EachRedemption) (new : Option Tables) → IfSome old (λ t. StepsTo R t command reply new) → (IsPricedReply R.prices reply → AreBeside reply each) → IfSome old (λ t. AreBeside reply each)
-beside-step R (Some t) command reply each new step shown = shown (reply-priced R t command reply new step)
-beside-step R None command reply each new step shown = tt
+pub beside-step : (R : Rules) (old : Option Tables) (command : Command) (reply : Reply) (details : Details) (new : Option Tables) → IfSome old (λ t. StepsTo R t command reply new) → (IsPricedReply R.prices reply → AreBeside reply details) → IfSome old (λ t. AreBeside reply details)
+beside-step R (Some t) command reply details new step shown = shown (reply-priced R t command reply new step)
+beside-step R None command reply details new step shown = tt
 
-pub replied : (R : Rules) (old new : Option Tables) (before now : ℕ) (link mid after : Traffic) (command : Command) (reply : Reply) (each : List EachRedemption) (came : Served)
-    → before ≤ now → Asks link (Whole (Book command)) → IfSome old (λ t. StepsTo R t command reply new) → IfSome old (λ t. AreBeside reply each)
-    → IsWritten (reply_answer reply each) came mid.written after.written mid.put_faults after.put_faults → mid.written ≡ link.written → mid.put_faults ≡ link.put_faults
+pub replied : (R : Rules) (old new : Option Tables) (before now : ℕ) (link mid after : Traffic) (command : Command) (reply : Reply) (details : Details) (came : Served)
+    → before ≤ now → Asks link (Whole (Book command)) → IfSome old (λ t. StepsTo R t command reply new) → IfSome old (λ t. AreBeside reply details)
+    → IsWritten (reply_answer reply details) came mid.written after.written mid.put_faults after.put_faults → mid.written ≡ link.written → mid.put_faults ≡ link.put_faults
     → WasServed R old before link came new now after
-replied R old new before now link mid after command reply each came later asks step beside written same puts =
-    let due : IsDue R old link (reply_answer reply each) new 0 = inl (record { command = command; reply = reply; asks = asks; step = step; each = each; beside = beside; is = refl; none = refl }) in
+replied R old new before now link mid after command reply details came later asks step beside written same puts =
+    let due : IsDue R old link (reply_answer reply details) new 0 = inl (record { command = command; reply = reply; asks = asks; step = step; details = details; beside = beside; is = refl; none = refl }) in
     record {
       faults = 0;
-      serves = due-written R old new link mid after (reply_answer reply each) came 0 written same puts due;
+      serves = due-written R old new link mid after (reply_answer reply details) came 0 written same puts due;
       rose = omega (arith, later);
     }
 

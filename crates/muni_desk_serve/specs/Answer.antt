@@ -3,8 +3,9 @@ use Rattle.std.specs.Prelude.{◌≡◌, ℕ, ⊤, List, [], Result, Ok, Err}
 use Rattle.muni_edge.specs.declared.fault.Failed.{Failed}
 use Rattle.muni_msg.specs.declared.command.Reply.{Reply}
 use Rattle.muni_msg.specs.declared.command.Reply.TheVariants.{Added, Quoted, Listed, Confirmed, Refused}
-use Rattle.muni_msg.specs.declared.each.EachRedemption.{EachRedemption}
-use Rattle.muni_book.specs.Each.{AreRightEach, AreWanted}
+use Rattle.muni_confirm.specs.Details.{no_details}
+use Rattle.muni_confirm.specs.declared.details.Details.{Details}
+use Rattle.muni_book.specs.Details.{AreRightDetails}
 use Rattle.muni_book_step.specs.Step.{Pricing}
 use Rattle.muni_wire.specs.Answer.{answer_to_reply, answer_to_bad, unavailable}
 use Rattle.muni_wire.specs.HttpStatus.{code, status_of_reply, status_of_bad}
@@ -19,27 +20,26 @@ pub record Answer : Type 0 where
   pub status : ℕ
   pub bytes : List ℕ
 
--- to a command, by the reply of the book and the redemption candidates that are shown beside a quote
-abbrev pub reply_answer : Reply → List EachRedemption → Answer
-reply_answer reply each =
-    record { status = code (status_of_reply reply); bytes = answer_to_reply reply each }
+-- to a command, by the reply of the book and what is shown after the figures of a quote
+abbrev pub reply_answer : Reply → Details → Answer
+reply_answer reply details =
+    record { status = code (status_of_reply reply); bytes = answer_to_reply reply details }
 
 -- the figures of a quote may be answered
 abbrev pub IsPricedReply : Pricing → Reply → Type 0
 IsPricedReply Prices (Added cusip) = ⊤
-IsPricedReply Prices (Quoted issue asked figures wanted) = Prices issue asked (Ok figures)
+IsPricedReply Prices (Quoted issue asked figures shown) = Prices issue asked (Ok figures)
 IsPricedReply Prices (Listed lines) = ⊤
 IsPricedReply Prices (Confirmed issue key number version) = ⊤
 IsPricedReply Prices (Refused why) = ⊤
 
--- those of a quote are shown if they are wanted, each right by its exact figure, and else none is
-abbrev pub AreBeside : Reply → List EachRedemption → Type 0
-AreBeside (Added cusip) each = each ≡ []
-AreBeside (Quoted issue asked figures wanted) each =
-    AreWanted wanted (AreRightEach issue asked figures) each
-AreBeside (Listed lines) each = each ≡ []
-AreBeside (Confirmed issue key number version) each = each ≡ []
-AreBeside (Refused why) each = each ≡ []
+-- after the figures of a quote stands what is to be shown of them, right by the exact figures, and else nothing
+abbrev pub AreBeside : Reply → Details → Type 0
+AreBeside (Added cusip) details = details ≡ no_details
+AreBeside (Quoted issue asked figures shown) details = AreRightDetails issue asked figures shown details
+AreBeside (Listed lines) details = details ≡ no_details
+AreBeside (Confirmed issue key number version) details = details ≡ no_details
+AreBeside (Refused why) details = details ≡ no_details
 
 -- to what is no command
 abbrev pub bad_answer : Bad → Answer

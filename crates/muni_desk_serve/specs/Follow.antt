@@ -4,7 +4,7 @@ use Rattle.muni_edge.specs.Sink.{HasWritten}
 use Rattle.muni_keep.specs.Tables.{Tables}
 use Rattle.muni_msg.specs.declared.command.Command.{Command}
 use Rattle.muni_msg.specs.declared.command.Reply.{Reply}
-use Rattle.muni_msg.specs.declared.each.EachRedemption.{EachRedemption}
+use Rattle.muni_confirm.specs.declared.details.Details.{Details}
 use Rattle.muni_book_step.specs.Step.{Rules}
 use Rattle.muni_wire.specs.Reading.{Whole, Faulty, HeadAsks}
 use Rattle.muni_wire.specs.declared.fault.Bad.{Bad}
@@ -28,7 +28,7 @@ HasAnswer exchange answer = IsAnswered answer exchange.before exchange.came exch
 -- it is that of this reply, with the redemption candidates that are shown beside it
 abbrev pub IsAnsweredBy : Reply → Traffic → Served → Traffic → Type 0
 IsAnsweredBy reply link came after =
-    (each : List EachRedemption) × AreBeside reply each × IsAnswered (reply_answer reply each) link came after
+    (details : Details) × AreBeside reply details × IsAnswered (reply_answer reply details) link came after
 
 abbrev pub HasAnswerOf : Exchange → Reply → Type 0
 HasAnswerOf exchange reply = IsAnsweredBy reply exchange.before exchange.came exchange.after

@@ -12,7 +12,8 @@ use Rattle.muni_msg.specs.declared.command.Key.{Key}
 use Rattle.muni_msg.specs.declared.command.Reply.{Reply}
 use Rattle.muni_msg.specs.declared.command.Reply.TheVariants.{Confirmed}
 use Rattle.muni_msg.specs.declared.version.Version.{Version}
-use Rattle.muni_msg.specs.declared.each.EachRedemption.{EachRedemption}
+use Rattle.muni_confirm.specs.declared.details.Details.{Details}
+use Rattle.muni_confirm.specs.Details.{no_details}
 use Rattle.muni_rule.specs.Payments.{PaymentSeries}
 use Rattle.muni_rule.specs.WorthEnds.{WorthEnds}
 use Rattle.muni_book_step.specs.Accepted.{AsksToKeep, IsAccepted}
@@ -39,8 +40,8 @@ pub record NoneRose (before : ℕ) (link : Traffic) (now : ℕ) (after : Traffic
 -- what is answered to a reading of the bytes, and the tables after it
 abbrev pub IsAnswerTo : Rules → Reading → Option Tables → Traffic → Served → Option Tables → Traffic → Type 0
 IsAnswerTo rules (Whole (Book command)) old link came new after =
-    (reply : Reply) × (each : List EachRedemption) × IfSome old (λ t. StepsTo rules t command reply new)
-    × IfSome old (λ t. AreBeside reply each) × IsAnswered (reply_answer reply each) link came after
+    (reply : Reply) × (details : Details) × IfSome old (λ t. StepsTo rules t command reply new)
+    × IfSome old (λ t. AreBeside reply details) × IsAnswered (reply_answer reply details) link came after
 IsAnswerTo rules (Whole (LookAt look)) old link came new after =
     (answer : Answer) × IfSome old (λ t. answer ≡ look_answer t look) × IsAnswered answer link came after × (new ≡ old)
 IsAnswerTo rules (Faulty kind) old link came new after =
@@ -110,7 +111,7 @@ pub record IsShownRight (tables : Tables) (key : Key) (number : ℕ) (version : 
   pub issue : IssueRow
   pub right : IsKeptRight AreRightFigures tables issue key number version
   pub shown : look_answer tables (look.Version key number)
-      ≡ reply_answer (Confirmed issue key number version) []
+      ≡ reply_answer (Confirmed issue key number version) no_details
 
 abbrev pub VersionsAreShownRight : Type 0
 VersionsAreShownRight =

@@ -6,6 +6,7 @@ use Rattle.muni_msg.specs.declared.command.Reply.{Reply}
 use Rattle.muni_msg.specs.declared.command.Reply.TheVariants as reply
 use Rattle.muni_msg.specs.declared.refusal.Refusal.TheVariants.{UnknownIssue, UnknownTrade, DeskFull}
 use Rattle.muni_msg.specs.declared.version.Version.{Version}
+use Rattle.muni_confirm.specs.Details.{no_details}
 use Rattle.muni_export.specs.Rows.{issue_row}
 use Rattle.muni_keep.specs.Tables.{Tables, issue_at, version_at, latest_at}
 use Rattle.muni_position.specs.Line.{summed_text}
@@ -21,7 +22,7 @@ use Rattle.muni_desk_serve.specs.declared.looks.Seen.TheVariants as seen
 
 -- the row of an issue, if it is kept
 abbrev pub issue_answer : Option IssueRow → Answer
-issue_answer None = reply_answer (reply.Refused UnknownIssue) []
+issue_answer None = reply_answer (reply.Refused UnknownIssue) no_details
 issue_answer (Some issue) = record { status = code Success; bytes = success (issue_row issue) }
 
 -- the confirmation of a version, if its issue is kept
@@ -37,16 +38,16 @@ version_shown tables key number (Some version) =
 
 -- the lines of positions, unless the desk has more trades than are summed
 abbrev pub positions_answer : Option (List ℕ) → Answer
-positions_answer None = reply_answer (reply.Refused DeskFull) []
+positions_answer None = reply_answer (reply.Refused DeskFull) no_details
 positions_answer (Some text) = record { status = code Success; bytes = success text }
 
 abbrev pub look_answer : Tables → Look → Answer
 look_answer tables (look.Issue cusip) = issue_answer (issue_at tables cusip)
 look_answer tables (look.Version key number) =
-    reply_answer (version_shown tables key number (version_at tables key number)) []
+    reply_answer (version_shown tables key number (version_at tables key number)) no_details
 look_answer tables (look.Positions desk) = positions_answer (summed_text desk tables)
 look_answer tables (look.Latest desk) =
-    reply_answer (reply.Listed (record { items = latest_at tables desk })) []
+    reply_answer (reply.Listed (record { items = latest_at tables desk })) no_details
 
 -- the answer with what was found
 abbrev pub seen_status : Seen → HttpStatus
@@ -54,7 +55,7 @@ seen_status (seen.Reply reply) = status_of_reply reply
 seen_status (seen.Answer answer) = Success
 
 abbrev pub seen_bytes : Seen → List ℕ
-seen_bytes (seen.Reply reply) = answer_to_reply reply []
+seen_bytes (seen.Reply reply) = answer_to_reply reply no_details
 seen_bytes (seen.Answer answer) = answer.items
 
 abbrev pub seen_answer : Seen → Answer

@@ -3,15 +3,15 @@ use Rattle.std.specs.Prelude.{◌≡◌, ◌⊎◌, ℕ, List, [], Some}
 use Rattle.muni_msg.specs.declared.command.Command.{Command}
 use Rattle.muni_msg.specs.declared.command.Reply.{Reply}
 use Rattle.muni_msg.specs.declared.command.Reply.TheVariants.{Added, Quoted, Listed, Confirmed, Refused}
-use Rattle.muni_msg.specs.declared.each.EachRedemption.{EachRedemption}
-use Rattle.muni_confirm.specs.Each.{quoted_text}
+use Rattle.muni_confirm.specs.Details.{quoted_text, no_details}
+use Rattle.muni_confirm.specs.declared.details.Details.{Details}
 use Rattle.muni_confirm.specs.Confirmation.{confirmation_text}
 use Rattle.muni_keep.specs.Tables.{Tables, issue_at}
 use Rattle.muni_wire.specs.Answer.{answer, reply_text}
 use Rattle.muni_wire.specs.HttpStatus.{code, status_of_reply}
 use Rattle.muni_wire.specs.Reading.{Whole}
 use Rattle.muni_wire.specs.declared.look.Request.TheVariants.{Book}
-use Rattle.muni_book.specs.Each.{AreRightEach, AreWanted}
+use Rattle.muni_book.specs.Details.{AreRightDetails}
 use Rattle.muni_book.specs.RightFigures.{AreRightFigures}
 use Rattle.muni_book.specs.RightReplies.{IsKeptRight}
 use Rattle.muni_desk_serve.specs.Connections.{Exchange}
@@ -19,18 +19,18 @@ use Rattle.muni_desk_serve.specs.Follow.{HasAnswer, WasAnswered, HasNoReply}
 use Rattle.muni_desk_serve.specs.Serves.{Asks}
 
 -- The text of a reply. A confirmation is that of a version that is kept, with figures that are right, and a quote has
--- right figures of an issue that is kept, with those of each redemption candidate if they are wanted.
+-- right figures of an issue that is kept, with what is to be shown after them.
 abbrev pub IsRightText : Tables → Reply → List ℕ → Type 0
-IsRightText tables (Added cusip) text = text ≡ reply_text (Added cusip) []
-IsRightText tables (Quoted issue asked figures wanted) text =
+IsRightText tables (Added cusip) text = text ≡ reply_text (Added cusip) no_details
+IsRightText tables (Quoted issue asked figures shown) text =
     (issue_at tables asked.cusip ≡ Some issue) × AreRightFigures issue asked figures
-    × (each : List EachRedemption) × AreWanted wanted (AreRightEach issue asked figures) each
-    × (text ≡ quoted_text figures asked each)
-IsRightText tables (Listed lines) text = text ≡ reply_text (Listed lines) []
+    × (details : Details) × AreRightDetails issue asked figures shown details
+    × (text ≡ quoted_text figures asked details)
+IsRightText tables (Listed lines) text = text ≡ reply_text (Listed lines) no_details
 IsRightText tables (Confirmed issue key number version) text =
     IsKeptRight AreRightFigures tables issue key number version
     × (text ≡ confirmation_text issue key number version)
-IsRightText tables (Refused why) text = text ≡ reply_text (Refused why) []
+IsRightText tables (Refused why) text = text ≡ reply_text (Refused why) no_details
 
 -- A connection asked for a command. If it has an answer, this has the status of the reply, and as its body the right text.
 pub record HasRightBody (tables : Tables) (exchange : Exchange) : Type 0 where

@@ -9,7 +9,7 @@ use Rattle.muni_keep.specs.Tables.{Tables}
 use Rattle.muni_keep.specs.declared.keeper.Keeper as keeper
 use Rattle.muni_msg.specs.declared.command.Command.{Command}
 use Rattle.muni_msg.specs.declared.command.Reply.{Reply}
-use Rattle.muni_msg.specs.declared.each.EachRedemption.{EachRedemption}
+use Rattle.muni_confirm.specs.declared.details.Details.{Details}
 use Rattle.muni_book_step.specs.Runs.{StepsTo}
 use Rattle.muni_book_step.specs.Step.{Rules}
 use Rattle.muni_wire.specs.Extent.{AwaitsMore, TakesOnlyWhile}
@@ -51,9 +51,9 @@ pub record IsReply (rules : Rules) (old : Option Tables) (link : Traffic) (answe
   pub reply : Reply
   pub asks : Asks link (Whole (Book command))
   pub step : IfSome old (λ t. StepsTo rules t command reply new)
-  pub each : List EachRedemption
-  pub beside : IfSome old (λ t. AreBeside reply each)
-  pub is : answer ≡ reply_answer reply each
+  pub details : Details
+  pub beside : IfSome old (λ t. AreBeside reply details)
+  pub is : answer ≡ reply_answer reply details
   pub none : faults ≡ 0
 
 -- they are no command, and the tables stay as they are

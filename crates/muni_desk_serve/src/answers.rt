@@ -8,11 +8,11 @@ ghost use Rattle.muni_desk_serve.specs.Serves.{LeavesCounted, TakesRequest, WasS
 
 use crate::looks::{look_up, write_seen};
 use crate::served::Served;
-use arrayvec::ArrayVec;
-use muni_book::{Book, BookFault, Calculator, each_redemption, step};
+use muni_book::{Book, BookFault, Calculator, details, step};
+use muni_confirm::Details;
 use muni_edge::{Failed, Gate, Link};
 use muni_keep::{KeepFault, Keeper};
-use muni_msg::{EachRedemption, Reply};
+use muni_msg::Reply;
 use muni_multi::Encloser;
 use muni_wire::{
     HttpStatus, Request, WireFault, read_request, write_bad, write_reply, write_unavailable,
@@ -51,7 +51,7 @@ pub fn answer_one<R: Threads + Sync, L: Link, K: Keeper, E: Encloser + Sync, G: 
     };
     match request {
         Request::Book(command) => match step(book, keeper, &command) {
-            Ok(reply) => came_of(write_reply(link, &reply, &wanted(book.calculator, &reply))),
+            Ok(reply) => came_of(write_reply(link, &reply, &beside(book.calculator, &reply))),
             Err(BookFault::Failed) => came_of(write_unavailable(link)),
             Err(BookFault::NoMemory) => Served::NoMemory,
         },
@@ -63,29 +63,23 @@ pub fn answer_one<R: Threads + Sync, L: Link, K: Keeper, E: Encloser + Sync, G: 
     }
 }
 
-// The redemption candidates, if the reply is a quote for which they are wanted.
-fn wanted<R: Threads + Sync, E: Encloser + Sync, G: Gate + Sync>(
+// What is shown after the figures, if the reply is a quote.
+fn beside<R: Threads + Sync, E: Encloser + Sync, G: Gate + Sync>(
     calculator: &Calculator<'_, R, E, G>,
     reply: &Reply,
-) -> ArrayVec<EachRedemption, 100>
+) -> Details
     ensures { spec.IsPricedReply (IsRightAnswer (E.ends calculator.now.encloser.now)) reply.now
-        → spec.AreBeside reply.now result.items }
+        → spec.AreBeside reply.now result }
 {
     match reply {
         Reply::Quoted {
             issue,
             asked,
             figures,
-            each,
-        } => {
-            if *each {
-                each_redemption(calculator, issue, asked, figures)
-            } else {
-                ArrayVec::new()
-            }
-        }
+            shown,
+        } => details(calculator, issue, asked, figures, *shown),
         Reply::Added { .. } | Reply::Listed(_) | Reply::Confirmed { .. } | Reply::Refused(_) => {
-            ArrayVec::new()
+            Details::none()
         }
     }
 }

@@ -9,6 +9,7 @@ ghost use Rattle.muni_wire.specs.Answers.{Answers};
 ghost use Rattle.muni_desk_serve.specs.Look as spec;
 
 use arrayvec::ArrayVec;
+use muni_confirm::Details;
 use muni_edge::{Failed, Link, NoMemory};
 use muni_export::RowWriter;
 use muni_keep::{KeepFault, Keeper};
@@ -50,7 +51,7 @@ pub(crate) fn write_seen<L: Link>(link: &mut L, seen: &Seen) -> Result<HttpStatu
     ensures { Answers L.Source L.Sink (spec.seen_status seen.now) (spec.seen_bytes seen.now) result link.old link.new }
 {
     match seen {
-        Seen::Reply(reply) => write_reply(link, reply, &[]),
+        Seen::Reply(reply) => write_reply(link, reply, &Details::none()),
         Seen::Answer(answer) => write_success(link, answer),
     }
 }

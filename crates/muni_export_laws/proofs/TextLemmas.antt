@@ -19,7 +19,7 @@ named (Enter key terms ∷ commands) again = refl
 named (Correct key number terms ∷ commands) again = refl
 named (Cancel key number ∷ commands) again = refl
 named (Confirm key ∷ commands) again = absurd (let never = again.0 in cc)
-named (Quote asked each ∷ commands) again = absurd (let never = again.0 in cc)
+named (Quote asked shown ∷ commands) again = absurd (let never = again.0 in cc)
 named (ListTrades desk from ∷ commands) again = absurd (let never = again.0 in cc)
 
 rows-again : (commands : List Command) → AllByRecursion IsReadAgain commands → ◌≡◌ {A = List Row} (map row_of (map fields_of commands)) (map (λ command. Ok command) commands)

@@ -43,7 +43,7 @@ fields_of (Enter key terms) = trade_fields key terms.asked
 fields_of (Correct key number terms) = correction_fields key number terms.asked
 fields_of (Cancel key number) = cancel_fields key number
 fields_of (Confirm key) = []
-fields_of (Quote asked each) = []
+fields_of (Quote asked shown) = []
 fields_of (ListTrades desk after) = []
 
 abbrev pub export_text : Tables → List ℕ

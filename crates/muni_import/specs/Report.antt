@@ -33,7 +33,7 @@ confirmed_fields key number figures =
 -- what is told of a reply; no row asks for figures or for a list
 abbrev pub reply_fields : Reply → List ℕ
 reply_fields (Added cusip) = behind_commas (codes "added" ∷ cusip ∷ [])
-reply_fields (Quoted issue asked figures each) = []
+reply_fields (Quoted issue asked figures shown) = []
 reply_fields (Listed lines) = []
 reply_fields (Confirmed issue key number version) = confirmed_fields key number version.figures
 reply_fields (Refused refusal) = refused_fields (number_of refusal)

@@ -5,7 +5,7 @@ use Rattle.muni_wire.specs.Answer.{answer_to_reply, answer_to_bad, unavailable a
 use Rattle.muni_wire.specs.HttpStatus.{status_of_reply, status_of_bad}
 use Rattle.muni_wire.specs.declared.look.Request.TheVariants.{Book, Look as LookAt}
 use Rattle.muni_wire.specs.declared.status.HttpStatus.TheVariants.{Unavailable}
-use Rattle.muni_desk_serve.specs.Answer.{IsPricedReply, AreBeside, came_of}
+use Rattle.muni_desk_serve.specs.Answer.{came_of}
 use Rattle.muni_desk_serve.specs.Look.{seen_answer, seen_bytes, seen_status}
 use Rattle.muni_desk_serve.proofs.LeavesLemmas.{leaves-answered, leaves-wanting, reply-good}
 use Rattle.muni_desk_serve.proofs.ServesLemmas.{beside-step, replied, unavailable, looked-up, bad, wrote}
@@ -17,14 +17,13 @@ returns-in-Ok-step-clause-served g c =
     let read = rw (c.in-Ok.is, c.in-Book.is) at c.read_request.ensures in
     let did = c.in-Ok-step.ensures in
     let P = book_rules c.args.book.now.limit (g.E.Encloser.ends c.args.book.now.calculator.now.encloser.now) in
-    let each = c.deref.result.now in
-    let shown : IsPricedReply P.prices c.in-Ok-step.reply → AreBeside c.in-Ok-step.reply each = λ priced. subst (AreBeside c.in-Ok-step.reply) (sym c.deref.ensures.0) (c.wanted.ensures priced) in
-    let beside = beside-step P (g.K.Keeper.tables c.args.keeper.now) c.in-Book.command c.in-Ok-step.reply each (g.K.Keeper.tables c.step.new.keeper) did.step shown in
+    let details = c.beside.result in
+    let beside = beside-step P (g.K.Keeper.tables c.args.keeper.now) c.in-Book.command c.in-Ok-step.reply details (g.K.Keeper.tables c.step.new.keeper) did.step c.beside.ensures in
     rw c.came_of-in-Ok-step.ensures
     (replied (book_rules c.args.book.now.limit (g.E.Encloser.ends c.args.book.now.calculator.now.encloser.now)) (g.K.Keeper.tables c.args.keeper.now) (g.K.Keeper.tables c.step.new.keeper)
     (g.K.Keeper.faults c.args.keeper.now) (g.K.Keeper.faults c.step.new.keeper)
     (told c.args.link.now) (told c.read_request.new.link) (told c.write_reply.new.link)
-    c.in-Book.command c.in-Ok-step.reply each (came_of c.write_reply.result) did.same.later read.allowed did.step beside (wrote g.L.Source g.L.Sink (status_of_reply c.in-Ok-step.reply) (answer_to_reply c.in-Ok-step.reply each) c.write_reply.result c.read_request.new.link c.write_reply.new.link c.write_reply.ensures) read.takes.only.keeps_bytes read.takes.only.keeps_puts)
+    c.in-Book.command c.in-Ok-step.reply details (came_of c.write_reply.result) did.same.later read.allowed did.step beside (wrote g.L.Source g.L.Sink (status_of_reply c.in-Ok-step.reply) (answer_to_reply c.in-Ok-step.reply details) c.write_reply.result c.read_request.new.link c.write_reply.new.link c.write_reply.ensures) read.takes.only.keeps_bytes read.takes.only.keeps_puts)
 
 pub returns-in-Err-Failed-clause-served : goal.returns-in-Err-Failed-clause-served
 returns-in-Err-Failed-clause-served g c =
@@ -44,7 +43,7 @@ returns-in-Ok-step-clause-leaves g c =
     let reply = c.in-Ok-step.reply in
     let good = reply-good reply in
     rw c.came_of-in-Ok-step.ensures
-    (leaves-answered g.K.Keeper g.L.Source g.L.Sink (status_of_reply reply) (answer_to_reply reply c.deref.result.now) c.write_reply.result c.args.keeper.now c.step.new.keeper
+    (leaves-answered g.K.Keeper g.L.Source g.L.Sink (status_of_reply reply) (answer_to_reply reply c.beside.result) c.write_reply.result c.args.keeper.now c.step.new.keeper
     c.args.link.now c.read_request.new.link c.write_reply.new.link (Book c.in-Book.command) good.0 (λ is. absurd (good.1 is))
     (record { tells = did.same.tells; later = did.same.later; lent_as = did.same.lent_as }) read.allowed read.takes c.write_reply.ensures)
 
