@@ -9,7 +9,7 @@ import subprocess
 from collections.abc import Iterator
 
 import pytest
-from calculator.valued import HEADER
+from calculator.valued import HEADER, RISK_HEADER
 
 from support.books import Book
 from support.exported import Row, cusip, issue, text_of
@@ -37,6 +37,12 @@ def issues() -> list[Row]:
 @pytest.fixture(scope="module")
 def valued(issues: list[Row]) -> Valued:
     return Valued(text_of(issues))
+
+
+@pytest.fixture(scope="module")
+def sensitive(issues: list[Row]) -> Valued:
+    """With the columns of the sensitivities."""
+    return Valued(text_of(issues), is_risk=True)
 
 
 @pytest.fixture(scope="module")
@@ -98,6 +104,30 @@ def test_both_kinds_of_store_give_the_same_lines(muni, tmp_path, issues, valued,
         assert kind == "sqlite" or book.store.state() == before
 
 
+@pytest.mark.parametrize("workers", [1, 2, 3, 16])
+def test_each_line_has_its_sensitivities_if_they_are_asked_for(kept, sensitive, rows, workers):
+    """Duration, convexity and DV01 to the last digit, of rows of every kind of issue, by exact fractions."""
+    said = kept.said("figures", "--risk", f"--workers={workers}", "--header", rows=text(rows))
+    assert said == Said(0, sensitive.text(rows, has_header=True))
+    columns = [line.rstrip(b"\n").split(b",")[-4:] for line in sensitive.lines(rows) if b",figures," in line]
+    assert {sum(map(bool, each)) for each in columns} == {0, 3, 4}
+
+
+def test_sensitivities_only_follow_what_a_line_has_without_them(kept, valued, rows):
+    """Columns are added to a row with figures alone, and the total is the same."""
+    plain, risked = (kept.said("figures", *words, rows=text(rows)).output.splitlines() for words in ((), ("--risk",)))
+    assert b"".join(line + b"\n" for line in plain) == valued.text(rows)
+    for without, line in zip(plain, risked, strict=True):
+        columns = line.removeprefix(without)
+        assert without + columns == line
+        assert columns.count(b",") == (4 if b",figures," in without else 0)
+
+
+@pytest.mark.parametrize("size", [7, PIECE, BLOCK, 65_537])
+def test_sensitivities_are_the_same_for_each_piece_of_the_input(kept, sensitive, rows, size):
+    assert by_pieces(kept, "--risk", "--workers=2", pieces=cut(text(rows), size)) == Said(0, sensitive.text(rows))
+
+
 @pytest.mark.parametrize("end", [b"\n", b"\r\n", b"\n\n", b"\n\r\n"], ids=["feed", "both", "twice", "empty"])
 @pytest.mark.parametrize("mark", [b"", MARK], ids=["bare", "marked"])
 def test_every_end_of_a_line_is_read(kept, valued, rows, end, mark):
@@ -126,6 +156,9 @@ def test_an_input_without_a_row_has_a_total_alone(book):
     for sent in (b"", b"\n", b"\r\n" * 3, b"\n" * (3 * BLOCK), MARK, MARK + b"\n"):
         assert book.said("figures", "--workers=2", rows=sent) == Said(0, told())
     assert book.said("figures", "--header") == Said(0, HEADER.encode() + b"\n" + told())
+    names = (HEADER + RISK_HEADER).encode()
+    assert book.said("figures", "--risk", "--header") == Said(0, names + b"\n" + told())
+    assert book.said("figures", "--risk") == Said(0, told())
 
 
 def padded(length: int) -> bytes:

@@ -13,7 +13,7 @@ from collections.abc import Iterable, Iterator
 from decimal import Decimal
 from typing import NamedTuple
 
-from calculator.valued import HEADER
+from calculator.valued import HEADER, RISK_HEADER
 
 from support.books import Book
 from support.exported import Row, asked, cusip
@@ -36,18 +36,19 @@ class Told(NamedTuple):
 
 
 class Valued:
-    """What the exact calculator says of lines over issues. A line is asked once, since its figures hang on nothing
-    else."""
+    """What the exact calculator says of lines over issues, perhaps with their sensitivities. A line is asked once,
+    since its figures hang on nothing else."""
 
-    def __init__(self, issues: bytes) -> None:
+    def __init__(self, issues: bytes, is_risk: bool = False) -> None:
         self.reference = Reference()
+        self.words = ("--risk",) if is_risk else ()
         self.told: dict[bytes, Told] = {}
         assert self.reference.imported(issues)[0] == 0
 
     def of(self, line: bytes) -> Told:
         """What is told of a line that is a row."""
         if line not in self.told:
-            _, output = self.reference.ran("figures", rows=line)
+            _, output = self.reference.ran("figures", *self.words, rows=line)
             told, total, _ = output.split(b"\n")
             fields = told.partition(b",")[2]
             sum_of = Decimal(total.split(b",")[2].decode())
@@ -64,7 +65,8 @@ class Valued:
 
     def text(self, rows: list[bytes], first: int = 1, has_header: bool = False) -> bytes:
         """All that is written on rows."""
-        header = HEADER.encode() + b"\n" if has_header else b""
+        names = HEADER + RISK_HEADER if self.words else HEADER
+        header = names.encode() + b"\n" if has_header else b""
         return header + b"".join(self.lines(rows, first)) + self.total(rows)
 
 

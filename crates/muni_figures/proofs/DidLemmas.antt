@@ -1,5 +1,5 @@
 -- What the rows of a group do.
-use Rattle.std.proofs.Common.{◌≡◌, ◌<◌, ◌≤◌, ◌+◌, ◌^◌, ◌∙◌, ℕ, zero, suc, List, [], ◌∷◌, ◌++◌, length, Option, Result, Ok, Err, refl, sym, ap, ap₂, subst, arith}
+use Rattle.std.proofs.Common.{◌≡◌, ◌<◌, ◌≤◌, ◌+◌, ◌^◌, ◌∙◌, ℕ, zero, suc, Bool, List, [], ◌∷◌, ◌++◌, length, Option, Result, Ok, Err, refl, sym, ap, ap₂, subst, arith}
 use Rattle.std.specs.Prelude.{All, IfOk, IfSome}
 use Rattle.std.specs.List.{AllByRecursion, AllZip}
 use Rattle.muni_terms.specs.declared.row.IssueRow.{IssueRow}
@@ -68,11 +68,11 @@ did-unplaced Answers place rows before fault.Write had only many = absurd only
 did-unplaced Answers place rows before fault.Store had only many = absurd only
 
 -- ---- by the issues that were fetched, and by the tables
-done-told : (Prices : Pricing) (told : Option Tables) (issue : List ℕ → Option IssueRow) (place : ℕ) (rows : List Row) (lines : List ℕ) (tally : Tally) → AllByRecursion (λ row. IfSome told (λ t. IsFetched t issue row)) rows
-    → AreDone (IsSaid Prices issue) place rows lines tally → AreDone (IsToldOf Prices told) place rows lines tally
-done-told Prices told issue place rows lines tally fetched done = record {
+done-told : (Prices : Pricing) (has_risk : Bool) (told : Option Tables) (issue : List ℕ → Option IssueRow) (place : ℕ) (rows : List Row) (lines : List ℕ) (tally : Tally) → AllByRecursion (λ row. IfSome told (λ t. IsFetched t issue row)) rows
+    → AreDone (IsSaid Prices has_risk issue) place rows lines tally → AreDone (IsToldOf Prices has_risk told) place rows lines tally
+done-told Prices has_risk told issue place rows lines tally fetched done = record {
   said = done.said;
-  each = all-told Prices told issue rows done.said fetched done.each;
+  each = all-told Prices has_risk told issue rows done.said fetched done.each;
   written = done.written;
   counted = done.counted;
   small = done.small;
@@ -82,32 +82,32 @@ front-fetched : {X : Type 0} (P : X → Type 0) (xs ys : List X) → AllByRecurs
 front-fetched P [] ys are = tt
 front-fetched P (x ∷ xs) ys are = (are.0, front-fetched P xs ys are.1)
 
-first-told : (Prices : Pricing) (told : Option Tables) (issue : List ℕ → Option IssueRow) (before : List ℕ) (place : ℕ) (rows : List Row) (text : List ℕ) → AllByRecursion (λ row. IfSome told (λ t. IsFetched t issue row)) rows
-    → IsFirstText (IsSaid Prices issue) before place rows text → IsFirstText (IsToldOf Prices told) before place rows text
-first-told Prices told issue before place rows text fetched first = record {
+first-told : (Prices : Pricing) (has_risk : Bool) (told : Option Tables) (issue : List ℕ → Option IssueRow) (before : List ℕ) (place : ℕ) (rows : List Row) (text : List ℕ) → AllByRecursion (λ row. IfSome told (λ t. IsFetched t issue row)) rows
+    → IsFirstText (IsSaid Prices has_risk issue) before place rows text → IsFirstText (IsToldOf Prices has_risk told) before place rows text
+first-told Prices has_risk told issue before place rows text fetched first = record {
   rows = first.rows;
   left = first.left;
   split = first.split;
   lines = first.lines;
   tally = first.tally;
-  done = done-told Prices told issue place first.rows first.lines first.tally
+  done = done-told Prices has_risk told issue place first.rows first.lines first.tally
       (front-fetched (λ row. IfSome told (λ t. IsFetched t issue row)) first.rows first.left (subst (AllByRecursion (λ row. IfSome told (λ t. IsFetched t issue row))) (sym first.split) fetched)) first.done;
   written = first.written;
 }
 
-pub did-told : (Prices : Pricing) (told : Option Tables) (issue : List ℕ → Option IssueRow) (place : ℕ) (rows : List Row) (before : Tally) (result : Result Tally Fault) (had has : Option (List ℕ)) → AllByRecursion (λ row. IfSome told (λ t. IsFetched t issue row)) rows
-    → DidRows (IsSaid Prices issue) place rows before result had has → DidRows (IsToldOf Prices told) place rows before result had has
-did-told Prices told issue place rows before (Ok tally) had has fetched (lines, these, done, is, written) =
-    (lines, these, done-told Prices told issue (place + before.rows) rows lines these fetched done, is, written)
-did-told Prices told issue place rows before (Err fault.Write) had has fetched (text, first, written) =
-    (text, first-told Prices told issue [] (place + before.rows) rows text fetched first, written)
-did-told Prices told issue place rows before (Err fault.TooLarge) had has fetched ((text, first, written), many) =
-    ((text, first-told Prices told issue [] (place + before.rows) rows text fetched first, written), many)
-did-told Prices told issue place rows before (Err fault.Read) had has fetched did = absurd did
-did-told Prices told issue place rows before (Err fault.Store) had has fetched (text, first, written) =
-    (text, first-told Prices told issue [] (place + before.rows) rows text fetched first, written)
-did-told Prices told issue place rows before (Err fault.NoMemory) had has fetched (text, first, written) =
-    (text, first-told Prices told issue [] (place + before.rows) rows text fetched first, written)
+pub did-told : (Prices : Pricing) (has_risk : Bool) (told : Option Tables) (issue : List ℕ → Option IssueRow) (place : ℕ) (rows : List Row) (before : Tally) (result : Result Tally Fault) (had has : Option (List ℕ)) → AllByRecursion (λ row. IfSome told (λ t. IsFetched t issue row)) rows
+    → DidRows (IsSaid Prices has_risk issue) place rows before result had has → DidRows (IsToldOf Prices has_risk told) place rows before result had has
+did-told Prices has_risk told issue place rows before (Ok tally) had has fetched (lines, these, done, is, written) =
+    (lines, these, done-told Prices has_risk told issue (place + before.rows) rows lines these fetched done, is, written)
+did-told Prices has_risk told issue place rows before (Err fault.Write) had has fetched (text, first, written) =
+    (text, first-told Prices has_risk told issue [] (place + before.rows) rows text fetched first, written)
+did-told Prices has_risk told issue place rows before (Err fault.TooLarge) had has fetched ((text, first, written), many) =
+    ((text, first-told Prices has_risk told issue [] (place + before.rows) rows text fetched first, written), many)
+did-told Prices has_risk told issue place rows before (Err fault.Read) had has fetched did = absurd did
+did-told Prices has_risk told issue place rows before (Err fault.Store) had has fetched (text, first, written) =
+    (text, first-told Prices has_risk told issue [] (place + before.rows) rows text fetched first, written)
+did-told Prices has_risk told issue place rows before (Err fault.NoMemory) had has fetched (text, first, written) =
+    (text, first-told Prices has_risk told issue [] (place + before.rows) rows text fetched first, written)
 
 pub did-room : (Answers : Row → FiguresSaid → Type 0) (place : ℕ) (rows : List Row) (before : Tally) (result : Result Tally Fault) (had has : Option (List ℕ)) → place + before.rows + length rows < 2 ^ 64
     → DidRows Answers place rows before result had has → IfOk result (λ tally. place + tally.rows < 2 ^ 64)

@@ -8,6 +8,7 @@ use Rattle.std.proofs.lemmas.Grind.{flat_map-append}
 use Rattle.muni_terms.specs.declared.row.IssueRow.{IssueRow}
 use Rattle.muni_keep.specs.Tables.{Tables}
 use Rattle.muni_marks.specs.Portfolio.{AreKnown, IsFetched, IsKnown, IsKnownNext}
+use Rattle.muni_marks.proofs.PortfolioLemmas.{all_push}
 use Rattle.muni_figures.specs.Issues.{AreAsked, AreFound, IsNamed, IsScan, NamesRow}
 use Rattle.muni_edge.specs.declared.fault.NoMemory.{NoMemory}
 use Rattle.muni_figures.specs.Rows.{Row}
@@ -28,13 +29,9 @@ pub all-named : (issue : List ℕ → Option IssueRow) (rows : List Row) (old ne
 all-named issue [] old new kept named = tt
 all-named issue (row ∷ rows) old new kept named = (named-push issue row old new kept named.0, all-named issue rows old new kept named.1)
 
-pub all-push : {X : Type 0} (P : X → Type 0) (xs : List X) (x : X) → AllByRecursion P xs → P x → AllByRecursion P (xs ++ x ∷ [])
-all-push P [] x are is = (is, tt)
-all-push P (y ∷ ys) x are is = (are.0, all-push P ys x are.1 is)
-
 -- one row more is named
 pub one-named : (issue : List ℕ → Option IssueRow) (rows : List Row) (row : Row) (old new : List (List ℕ)) → NamesRow issue row old new → AllByRecursion (IsNamed issue old) rows → AllByRecursion (IsNamed issue new) (rows ++ row ∷ [])
-one-named issue rows row old new names named = all-push (IsNamed issue new) rows row (all-named issue rows old new names.kept named) names.named
+one-named issue rows row old new names named = all_push (IsNamed issue new) rows row (all-named issue rows old new names.kept named) names.named
 
 -- ---- asking for CUSIPs one after another
 either-of : {X : Type 0} (xs : List X) (y x : X) → Contains (xs ++ y ∷ []) x → Contains xs x ⊎ (y ≡ x)
@@ -105,7 +102,7 @@ told-joined f (Some t) all i z old mid new within is asked then =
 
 pub scan-more : (xs : List Share) (i : ℕ) (share : Share) (scan : Scan) → i < length xs → share ≡ get_or xs i share → share.scan ≡ Ok scan → AllByRecursion HasScan (take i xs) → AllByRecursion HasScan (take (i + 1) xs)
 scan-more xs i share scan within is some are =
-    subst (AllByRecursion HasScan) (sym (take_more xs i share within ∙ ap (λ s. take i xs ++ s ∷ []) (sym is))) (all-push HasScan (take i xs) share are (subst IsOk (sym some) refl))
+    subst (AllByRecursion HasScan) (sym (take_more xs i share within ∙ ap (λ s. take i xs ++ s ∷ []) (sym is))) (all_push HasScan (take i xs) share are (subst IsOk (sym some) refl))
 
 -- ---- the rows of blocks whose CUSIPs were asked for
 row-fetched : (tables : Tables) (unknown all : List (List ℕ)) (old new : List ℕ → Option IssueRow) (row : Row) → AreFound tables old → AreAsked tables all old new → ((cusip : List ℕ) → Contains unknown cusip → Contains all cusip)

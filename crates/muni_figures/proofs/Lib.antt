@@ -2,6 +2,7 @@ pub mod BlockLemmas
 pub mod DidLemmas
 pub mod DoneLemmas
 pub mod FigureLemmas
+pub mod FollowLemmas
 pub mod GroupLemmas
 pub mod IssueLemmas
 pub mod RowLemmas

@@ -1,15 +1,18 @@
 -- The parts of a text, and the rows of lines.
-use Rattle.std.proofs.Common.{◌≡◌, ◌≤◌, ◌<◌, ◌+◌, ◌==◌, ◌∙◌, ℕ, zero, suc, Bool, true, false, cond, List, [], ◌∷◌, ◌++◌, length, take, drop, Option, Some, None, refl, sym, ap, subst, arith}
-use Rattle.std.specs.Prelude.{position, nat_lt, unwrap_or, if◌then◌else◌, IfSome}
+use Rattle.std.proofs.Common.{◌≡◌, ◌≤◌, ◌<◌, ◌+◌, ◌==◌, ◌∙◌, ℕ, zero, suc, Bool, true, false, cond, List, [], ◌∷◌, ◌++◌, length, take, drop, get_or, Option, Some, None, refl, sym, ap, subst, arith}
+use Rattle.std.specs.Prelude.{position, nat_lt, slice_get, unwrap_or, if◌then◌else◌, IfSome}
 use denote.Ref.{Bor}
 use Rattle.std.specs.Option.{option_map}
 use Rattle.std.specs.List.{position_or_len}
 use Rattle.std.proofs.lemmas.Bool.Decides.{nat_tests}
-use Rattle.std.proofs.lemmas.List.{append_assoc, drop-drop, length-append}
+use Rattle.std.proofs.lemmas.Option.{slice_get-map, slice_get_past, slice_get_read}
+use Rattle.std.proofs.lemmas.List.{append_assoc, length-append}
 use Rattle.std.proofs.lemmas.List.Sums.{fails_before_first}
 use Rattle.std.proofs.lemmas.List.Splits.{slice_split_first, slice_split_none}
 use Rattle.csv.specs.Records.{field_at}
+use Rattle.muni_import.specs.Row.{field}
 use Rattle.muni_figures.specs.Rows.{Row, is_row, parts, parts_left, row_in, row_of, rows_in, rows_of_lines}
+use Rattle.muni_figures.specs.Texts.{texts_of}
 
 found-by : (test : Bool) (n i : ℕ) → cond test (Some n) None ≡ Some i → (test ≡ true) × (n ≡ i)
 found-by true n i is = (refl, cc is)
@@ -40,25 +43,27 @@ parts-none byte text is =
     let past = not-below at (length text) (none-by (nat_lt at (length text)) at is) in
     slice_split_none (λ b. b == byte) text (λ k d within. fails_before_first (λ b. b == byte) text k d (omega (arith, past, within)))
 
--- the field at a place, by what is left from there on
-pub field-none : (fields : List (List ℕ)) (n : ℕ) → drop n fields ≡ [] → unwrap_or (field_at fields n) [] ≡ []
+-- the field at a place
+field-at : (fields : List (List ℕ)) (n : ℕ) → field_at fields n ≡ slice_get fields n
 unfolding field_at
-field-none [] n is = refl
-field-none (first ∷ fields) zero is = absurd (cc is)
-field-none (first ∷ fields) (suc n) is = field-none fields n is
+field-at [] n = refl
+field-at (first ∷ fields) zero = refl
+field-at (first ∷ fields) (suc n) = field-at fields n
 
-pub field-some : (fields : List (List ℕ)) (n : ℕ) (field : List ℕ) (more : List (List ℕ)) → drop n fields ≡ field ∷ more → unwrap_or (field_at fields n) [] ≡ field
+pub field-first : (first : List ℕ) (more fields : List (List ℕ)) → fields ≡ first ∷ more → field 1 fields ≡ first
 unfolding field_at
-field-some [] zero field more is = absurd (cc is)
-field-some [] (suc n) field more is = absurd (cc is)
-field-some (first ∷ fields) zero field more is = cc is
-field-some (first ∷ fields) (suc n) field more is = field-some fields n field more is
+field-first first more fields is = ap (λ l. unwrap_or (field_at l 0) []) is
 
-pub drop-next : {X : Type 0} (xs : List X) (n : ℕ) (x : X) (more : List X) → drop n xs ≡ x ∷ more → drop (n + 1) xs ≡ more
-drop-next xs n x more is = sym (drop-drop 1 n xs) ∙ ap (drop 1) is
+-- a field among others, and none after the last
+pub field-within : (fields : List (Bor (List ℕ))) (n : ℕ) (here : Bor (List ℕ)) → n < length fields → here ≡ get_or fields n here → unwrap_or (field_at (texts_of fields) n) [] ≡ here.now
+field-within fields n here within is =
+    ap (λ found. unwrap_or found []) (field-at (texts_of fields) n ∙ slice_get-map (λ field. field.now) fields n
+    ∙ ap (option_map (λ field. field.now)) (slice_get_read fields (length fields) n here refl within is))
 
-pub drop-end : {X : Type 0} (xs : List X) (n : ℕ) → drop n xs ≡ [] → drop (n + 1) xs ≡ []
-drop-end xs n is = sym (drop-drop 1 n xs) ∙ ap (drop 1) is
+pub field-past : (fields : List (Bor (List ℕ))) (n : ℕ) → length fields ≤ n → unwrap_or (field_at (texts_of fields) n) [] ≡ []
+field-past fields n past =
+    ap (λ found. unwrap_or found []) (field-at (texts_of fields) n ∙ slice_get-map (λ field. field.now) fields n
+    ∙ ap (option_map (λ field. field.now)) (slice_get_past fields n past))
 
 -- ---- the lines of a block one after another
 -- how much is left of it, which each line makes less

@@ -1,5 +1,5 @@
 -- What is written, by the tables that a cabinet exposes.
-use Rattle.std.proofs.Common.{◌≡◌, ℕ, inl, inr, List, [], ◌∷◌, Option, Some, None, Result, Ok, Err, subst}
+use Rattle.std.proofs.Common.{◌≡◌, ℕ, Bool, inl, inr, List, [], ◌∷◌, Option, Some, None, Result, Ok, Err, subst}
 use Rattle.std.specs.Prelude.{IfSome}
 use Rattle.std.specs.List.{AllZip}
 use Rattle.muni_keep.specs.Tables.{Tables}
@@ -14,17 +14,17 @@ use Rattle.muni_figures.specs.declared.said.FiguresSaid.{FiguresSaid}
 use Rattle.muni_figures.specs.declared.tally.Tally.{Tally}
 
 -- what is answered by some tables is answered, whatever they are
-module _ (Prices : Pricing) (told : Option Tables) where
-  pub blind-each : (rows : List Row) (said : List FiguresSaid) → AllZip (IsToldOf Prices told) rows said → AllZip (IsToldOf Prices None) rows said
+module _ (Prices : Pricing) (has_risk : Bool) (told : Option Tables) where
+  pub blind-each : (rows : List Row) (said : List FiguresSaid) → AllZip (IsToldOf Prices has_risk told) rows said → AllZip (IsToldOf Prices has_risk None) rows said
   blind-each [] [] are = tt
   blind-each [] (one ∷ said) are = absurd are
   blind-each (row ∷ rows) [] are = absurd are
   blind-each (row ∷ rows) (one ∷ said) are = (record { shape = are.0.shape; right = tt }, blind-each rows said are.1)
 
-  pub blind-done : (place : ℕ) (rows : List Row) (lines : List ℕ) (tally : Tally) → AreDone (IsToldOf Prices told) place rows lines tally → AreDone (IsToldOf Prices None) place rows lines tally
+  pub blind-done : (place : ℕ) (rows : List Row) (lines : List ℕ) (tally : Tally) → AreDone (IsToldOf Prices has_risk told) place rows lines tally → AreDone (IsToldOf Prices has_risk None) place rows lines tally
   blind-done place rows lines tally done = record { said = done.said; each = blind-each rows done.said done.each; written = done.written; counted = done.counted; small = done.small }
 
-  abbrev pub blind-first : (before : List ℕ) (place : ℕ) (all : List Row) (text : List ℕ) → IsFirstText (IsToldOf Prices told) before place all text → IsFirstText (IsToldOf Prices None) before place all text
+  abbrev pub blind-first : (before : List ℕ) (place : ℕ) (all : List Row) (text : List ℕ) → IsFirstText (IsToldOf Prices has_risk told) before place all text → IsFirstText (IsToldOf Prices has_risk None) before place all text
   blind-first before place all text first = record {
     rows = first.rows;
     left = first.left;
@@ -35,18 +35,18 @@ module _ (Prices : Pricing) (told : Option Tables) where
     written = first.written;
   }
 
-  pub blind-whole : (before : List ℕ) (place : ℕ) (all : List Row) (text : List ℕ) → IsFiguresText (IsToldOf Prices told) before place all text → IsFiguresText (IsToldOf Prices None) before place all text
+  pub blind-whole : (before : List ℕ) (place : ℕ) (all : List Row) (text : List ℕ) → IsFiguresText (IsToldOf Prices has_risk told) before place all text → IsFiguresText (IsToldOf Prices has_risk None) before place all text
   blind-whole before place all text whole = record { lines = whole.lines; tally = whole.tally; done = blind-done place all whole.lines whole.tally whole.done; written = whole.written }
 
-  pub blind-begun : (before : List ℕ) (place : ℕ) (all : List Row) (text : List ℕ) → IsBegunText (IsToldOf Prices told) before place all text → IsBegunText (IsToldOf Prices None) before place all text
+  pub blind-begun : (before : List ℕ) (place : ℕ) (all : List Row) (text : List ℕ) → IsBegunText (IsToldOf Prices has_risk told) before place all text → IsBegunText (IsToldOf Prices has_risk None) before place all text
   blind-begun before place all text (inl first) = inl (blind-first before place all text first)
   blind-begun before place all text (inr whole) = inr (blind-whole before place all text whole)
 
-  pub blind-wrote : (before : List ℕ) (place : ℕ) (text : List ℕ) (had has : Option (List ℕ)) → WroteFirst (IsToldOf Prices told) before place text had has → WroteFirst (IsToldOf Prices None) before place text had has
+  pub blind-wrote : (before : List ℕ) (place : ℕ) (text : List ℕ) (had has : Option (List ℕ)) → WroteFirst (IsToldOf Prices has_risk told) before place text had has → WroteFirst (IsToldOf Prices has_risk None) before place text had has
   blind-wrote before place text had has (inl (lines, first, written)) = inl (lines, blind-first before place (rows_of text) lines first, written)
   blind-wrote before place text had has (inr same) = inr same
 
-  pub blind-figures : (before : List ℕ) (place : ℕ) (text : List ℕ) (result : Result (Unit {0}) Fault) (left had has : Option (List ℕ)) → WroteFigures (IsToldOf Prices told) before place text result left had has → WroteFigures (IsToldOf Prices None) before place text result left had has
+  pub blind-figures : (before : List ℕ) (place : ℕ) (text : List ℕ) (result : Result (Unit {0}) Fault) (left had has : Option (List ℕ)) → WroteFigures (IsToldOf Prices has_risk told) before place text result left had has → WroteFigures (IsToldOf Prices has_risk None) before place text result left had has
   blind-figures before place text (Ok done) left had has (lines, whole, written) = (lines, blind-whole before place (rows_of text) lines whole, written)
   blind-figures before place text (Err fault.Read) left had has came = record {
     came = came.came;
@@ -61,14 +61,14 @@ module _ (Prices : Pricing) (told : Option Tables) where
   blind-figures before place text (Err fault.NoMemory) left had has wrote = blind-wrote before place text had has wrote
   blind-figures before place text (Err fault.TooLarge) left had has wrote = (blind-wrote before place text had has wrote.0, wrote.1)
 
-if-blind : (Prices : Pricing) (kept : Option Tables) (before : List ℕ) (place : ℕ) (result : Result (Unit {0}) Fault) (all left had has : Option (List ℕ)) → IfSome all (λ text. WroteFigures (IsToldOf Prices kept) before place text result left had has)
-    → IfSome all (λ text. WroteFigures (IsToldOf Prices None) before place text result left had has)
-if-blind Prices kept before place result None left had has wrote = tt
-if-blind Prices kept before place result (Some text) left had has wrote = blind-figures Prices kept before place text result left had has wrote
+if-blind : (Prices : Pricing) (has_risk : Bool) (kept : Option Tables) (before : List ℕ) (place : ℕ) (result : Result (Unit {0}) Fault) (all left had has : Option (List ℕ)) → IfSome all (λ text. WroteFigures (IsToldOf Prices has_risk kept) before place text result left had has)
+    → IfSome all (λ text. WroteFigures (IsToldOf Prices has_risk None) before place text result left had has)
+if-blind Prices has_risk kept before place result None left had has wrote = tt
+if-blind Prices has_risk kept before place result (Some text) left had has wrote = blind-figures Prices has_risk kept before place text result left had has wrote
 
 -- by the tables of a keeper that was fetched
-pub fetched-wrote : (Prices : Pricing) (told kept : Option Tables) (before : List ℕ) (place : ℕ) (result : Result (Unit {0}) Fault) (all left had has : Option (List ℕ)) → IfSome told (λ t. kept ≡ Some t)
-    → IfSome all (λ text. WroteFigures (IsToldOf Prices kept) before place text result left had has) → IfSome all (λ text. WroteFigures (IsToldOf Prices told) before place text result left had has)
-fetched-wrote Prices None kept before place result all left had has fetched wrote = if-blind Prices kept before place result all left had has wrote
-fetched-wrote Prices (Some t) kept before place result all left had has fetched wrote =
-    subst (λ told. IfSome all (λ text. WroteFigures (IsToldOf Prices told) before place text result left had has)) fetched wrote
+pub fetched-wrote : (Prices : Pricing) (has_risk : Bool) (told kept : Option Tables) (before : List ℕ) (place : ℕ) (result : Result (Unit {0}) Fault) (all left had has : Option (List ℕ)) → IfSome told (λ t. kept ≡ Some t)
+    → IfSome all (λ text. WroteFigures (IsToldOf Prices has_risk kept) before place text result left had has) → IfSome all (λ text. WroteFigures (IsToldOf Prices has_risk told) before place text result left had has)
+fetched-wrote Prices has_risk None kept before place result all left had has fetched wrote = if-blind Prices has_risk kept before place result all left had has wrote
+fetched-wrote Prices has_risk (Some t) kept before place result all left had has fetched wrote =
+    subst (λ told. IfSome all (λ text. WroteFigures (IsToldOf Prices has_risk told) before place text result left had has)) fetched wrote

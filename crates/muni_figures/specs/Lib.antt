@@ -8,3 +8,4 @@ pub mod Line
 pub mod Rows
 pub mod Said
 pub mod Shares
+pub mod Texts

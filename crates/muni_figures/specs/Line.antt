@@ -1,5 +1,5 @@
 -- The lines of figures, their header and their total.
-use Rattle.std.specs.Prelude.{◌≤◌, ℕ, ◌+◌, Bool, true, false, if◌then◌else◌, List, [], ◌∷◌, ◌++◌, codes, decimal, ⊤}
+use Rattle.std.specs.Prelude.{◌≤◌, ℕ, ◌+◌, Bool, true, false, if◌then◌else◌, List, [], ◌∷◌, ◌++◌, codes, decimal, Option, Some, None, ⊤}
 use Rattle.std.specs.Fmt.{signed_decimal}
 use Rattle.std.specs.List.{sum_by, count_by}
 use Rattle.muni_dec.specs.Decimal.{decimal_text}
@@ -8,12 +8,16 @@ use Rattle.muni_days.specs.Day.{civil, day_text}
 use Rattle.muni_confirm.specs.Figures.{label_text}
 use Rattle.muni_import.specs.Line.{behind_commas, refused_fields, bad_fields}
 use Rattle.muni_msg.specs.declared.figures.Figures.{Figures}
+use Rattle.muni_risk.specs.declared.Risk.{Risk}
+use Rattle.muni_figures.specs.declared.command.FiguresOptions.{FiguresOptions}
+use Rattle.muni_figures.specs.declared.said.RiskColumns.{RiskColumns}
+use Rattle.muni_figures.specs.declared.said.RiskColumns.TheVariants.{LeftOut, Shown}
 use Rattle.muni_figures.specs.declared.said.FiguresSaid.{FiguresSaid}
 use Rattle.muni_figures.specs.declared.said.FiguresSaid.TheVariants.{Priced, Refused, Bad}
 
 -- a refusal has a number from 1 to 15
 abbrev pub HasName : FiguresSaid → Type 0
-HasName (Priced cusip figures) = ⊤
+HasName (Priced cusip figures columns) = ⊤
 HasName (Refused number) = (1 ≤ number) × (number ≤ 15)
 HasName (Bad fault) = ⊤
 
@@ -41,9 +45,26 @@ figure_fields cusip figures =
     price_fields cusip figures ++ redemption_fields figures
     ++ behind_commas (signed_decimal figures.days ∷ []) ++ money_fields figures
 
+-- a current yield, or an empty column
+abbrev pub current_text : Option ℕ → List ℕ
+current_text None = []
+current_text (Some current) = decimal_text 3 current
+
+-- the sensitivities
+unfoldable pub sensitivity_fields : Risk → List ℕ
+sensitivity_fields risk =
+    behind_commas (current_text risk.current_yield ∷ decimal_text 3 risk.sensitivities.duration
+    ∷ decimal_text 3 risk.sensitivities.convexity ∷ decimal_text 6 risk.sensitivities.dv01 ∷ [])
+
+-- the columns of the sensitivities, which are empty if there are none
+unfoldable pub risk_fields : RiskColumns → List ℕ
+risk_fields LeftOut = []
+risk_fields (Shown None) = behind_commas ([] ∷ [] ∷ [] ∷ [] ∷ [])
+risk_fields (Shown (Some risk)) = sensitivity_fields risk
+
 -- what is told of a row
 unfoldable pub said_fields : FiguresSaid → List ℕ
-said_fields (Priced cusip figures) = figure_fields cusip figures
+said_fields (Priced cusip figures columns) = figure_fields cusip figures ++ risk_fields columns
 said_fields (Refused number) = refused_fields number
 said_fields (Bad fault) = bad_fields fault
 
@@ -58,12 +79,12 @@ said_lines place (said ∷ more) = said_line place said ++ said_lines (place + 1
 
 -- whether a row has figures, and its total in cents
 abbrev pub is_priced : FiguresSaid → Bool
-is_priced (Priced cusip figures) = true
+is_priced (Priced cusip figures columns) = true
 is_priced (Refused number) = false
 is_priced (Bad fault) = false
 
 abbrev pub total_of : FiguresSaid → ℕ
-total_of (Priced cusip figures) = figures.total
+total_of (Priced cusip figures columns) = figures.total
 total_of (Refused number) = 0
 total_of (Bad fault) = 0
 
@@ -79,11 +100,19 @@ unfoldable pub total_line : (priced sum rows : ℕ) → List ℕ
 total_line priced sum rows =
     codes "TOTAL" ++ behind_commas (decimal priced ∷ decimal_text 2 sum ∷ decimal rows ∷ []) ++ 10 ∷ []
 
--- the names of the columns, which are written before all lines if they are asked for
-abbrev pub header_line : List ℕ
-header_line =
+-- the names of the columns
+abbrev pub names : List ℕ
+names =
     codes "place,answer,cusip,price,yield,redemption,redemption_price,redemption_label,days,principal,accrued,commission,total"
-    ++ 10 ∷ []
 
-abbrev pub header : Bool → List ℕ
-header has_header = if has_header then header_line else []
+-- and those of the sensitivities
+abbrev pub risk_names : Bool → List ℕ
+risk_names has_risk = if has_risk then codes ",current_yield,duration,convexity,dv01" else []
+
+-- as a line
+abbrev pub names_line : Bool → List ℕ
+names_line has_risk = names ++ risk_names has_risk ++ 10 ∷ []
+
+-- which comes before all lines if it is asked for
+abbrev pub header : FiguresOptions → List ℕ
+header options = if options.has_header then names_line options.has_risk else []

@@ -1,12 +1,14 @@
 //! What a line of an input asks for.
 
-ghost use Rattle.std.specs.Prelude.{◌≡◌, ◌<◌, ◌≤◌, ◌∷◌, ◌==◌, length, count_by, IfSome};
+ghost use Rattle.std.specs.Prelude.{◌≡◌, ◌<◌, ◌≤◌, ◌∷◌, None, length, IfSome};
 ghost use Rattle.std.specs.Option.{option_map};
 ghost use Rattle.std.specs.Str.Lines.{strip_carriage_return};
 ghost use Rattle.muni_import.specs.Row.{field, given_in, is_basis};
 ghost use Rattle.muni_msg.specs.IssueFields.{cusip_reading};
 ghost use Rattle.muni_figures.specs.Rows as spec;
+ghost use Rattle.muni_figures.specs.Texts.{texts_of};
 
+use arrayvec::ArrayVec;
 use muni_days::Day;
 use muni_dec::Par;
 use muni_dec::text::find;
@@ -16,6 +18,10 @@ use muni_msg::{Asked, Given, Side, read_cusip, read_fee_field, read_given, read_
 
 // The greatest number of bytes of a line that may be a row.
 const LONGEST: usize = 4_096;
+
+// A row has so many fields.
+const LEAST_FIELDS: usize = 5;
+const MOST_FIELDS: usize = 7;
 
 /// What a line asks for, or why it is no row.
 ///
@@ -36,7 +42,7 @@ pub fn read_line(line: &[u8]) -> Result<Asked, RowFault>
 pub(crate) fn read_named(line: &[u8]) -> Option<[u8; 9]>
     ensures { result ≡ cusip_reading (field 1 (spec.fields_in line.now)) }
 {
-    read_cusip(field(without_return(line), 1))
+    read_cusip(cut(without_return(line), b',').0)
 }
 
 /// Whether a line is a row, even a bad one: it is not empty.
@@ -71,46 +77,60 @@ fn without_return(line: &[u8]) -> &[u8]
 fn read_fields(line: &[u8]) -> Result<Asked, RowFault>
     ensures { result ≡ spec.row_by (spec.parts 44 line.now) }
 {
-    let count = field_count(line);
-    if count < 5 || count > 7 {
+    match fields_of(line) {
+        Some(fields) => read_counted(&fields),
+        None => Err(RowFault::FieldCount),
+    }
+}
+
+// The fields of a line, if there are so few that it may be a row.
+fn fields_of(line: &[u8]) -> Option<ArrayVec<&[u8], MOST_FIELDS>>
+    ensures all { IfSome result (λ fields. texts_of fields.items ≡ spec.parts 44 line.now) }
+    ensures many { result ≡ None → 7 < length (spec.parts 44 line.now) }
+{
+    let mut fields = ArrayVec::new();
+    let mut left = Some(line);
+    while let Some(text) = left {
+        let (field, more) = cut(text, b',');
+        if fields.try_push(field).is_err() {
+            return None;
+        }
+        left = more;
+    }
+    Some(fields)
+}
+
+#[tactic(auto, unfolding(crate::specs::Rows::row_by))]
+fn read_counted(fields: &[&[u8]]) -> Result<Asked, RowFault>
+    requires { length fields.now ≤ 7 }
+    ensures { result ≡ spec.row_by (texts_of fields.now) }
+{
+    if fields.len() < LEAST_FIELDS {
         return Err(RowFault::FieldCount);
     }
-    read_asked(line)
-}
-
-fn field_count(line: &[u8]) -> usize
-    ensures { result ≡ length (spec.parts 44 line.now) }
-{
-    comma_count(line) + 1
-}
-
-fn comma_count(line: &[u8]) -> usize
-    ensures count { result ≡ count_by (λ b. b == 44) line.now }
-    ensures few { result ≤ length line.now }
-{
-    line.iter().filter(|byte| **byte == b',').count()
+    read_asked(fields)
 }
 
 #[tactic(auto, unfolding(crate::specs::Rows::asked_in))]
-fn read_asked(line: &[u8]) -> Result<Asked, RowFault>
-    ensures { result ≡ spec.asked_in (spec.parts 44 line.now) }
+fn read_asked(fields: &[&[u8]]) -> Result<Asked, RowFault>
+    ensures { result ≡ spec.asked_in (texts_of fields.now) }
 {
     Ok(Asked {
-        cusip: in_column(1, read_cusip(field(line, 1)))?,
-        par: in_column(2, Par::read(field(line, 2)).ok())?,
-        settle: in_column(3, Day::read(field(line, 3)).ok())?,
-        given: given(line)?,
-        fee: in_column(6, read_fee_field(field(line, 6)))?,
-        side: in_column(7, read_side_field(field(line, 7)))?,
+        cusip: in_column(1, read_cusip(field(fields, 1)))?,
+        par: in_column(2, Par::read(field(fields, 2)).ok())?,
+        settle: in_column(3, Day::read(field(fields, 3)).ok())?,
+        given: given(fields)?,
+        fee: in_column(6, read_fee_field(field(fields, 6)))?,
+        side: in_column(7, read_side_field(field(fields, 7)))?,
     })
 }
 
 // A basis in the fourth column, and a value in the fifth.
-fn given(line: &[u8]) -> Result<Given, RowFault>
-    ensures { result ≡ given_in 4 (spec.parts 44 line.now) }
+fn given(fields: &[&[u8]]) -> Result<Given, RowFault>
+    ensures { result ≡ given_in 4 (texts_of fields.now) }
 {
-    let basis = field(line, 4);
-    match read_given(basis, field(line, 5)) {
+    let basis = field(fields, 4);
+    match read_given(basis, field(fields, 5)) {
         Some(given) => Ok(given),
         None if is_basis(basis) => Err(RowFault::BadField { column: 5 }),
         None => Err(RowFault::BadField { column: 4 }),
@@ -133,19 +153,12 @@ fn read_side_field(text: &[u8]) -> Option<Side>
 }
 
 // The field of a column. After the last one each is empty.
-fn field(line: &[u8], column: u32) -> &[u8]
+fn field<'a>(fields: &[&'a [u8]], column: u32) -> &'a [u8]
     requires { 1 ≤ column }
-    ensures { result.now ≡ field column (spec.parts 44 line.now) }
+    ensures { result.now ≡ field column (texts_of fields.now) }
 {
-    let mut left = Some(line);
-    for _ in 0..column - 1 {
-        left = match left {
-            Some(text) => cut(text, b',').1,
-            None => None,
-        };
-    }
-    match left {
-        Some(text) => cut(text, b',').0,
+    match fields.get(column as usize - 1) {
+        Some(field) => field,
         None => b"",
     }
 }

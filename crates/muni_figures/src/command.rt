@@ -20,7 +20,7 @@ ghost use Rattle.muni_figures.specs.Shares.{AreNumbered, rows_of_shares};
 use crate::blocks::{LineBlocks, Reading};
 use crate::groups::take_group;
 use crate::issues::ask_for;
-use crate::line::{HEADER, total_line};
+use crate::line::{column_names, total_line};
 use crate::shares::{Share, number, price_shares, scan_shares};
 use crate::tally::Tally;
 use arrayvec::ArrayVec;
@@ -41,6 +41,24 @@ pub struct FiguresOptions {
     pub first: u64,
     /// Whether the names of the columns come first.
     pub has_header: bool,
+    /// Whether the current yield, the duration, the convexity and the price value of a basis point follow
+    /// the total of each row.
+    pub has_risk: bool,
+}
+
+// What rows are valued with.
+#[derive(Drop)]
+struct Valuing<'a, R, E, G> {
+    calculator: &'a Calculator<'a, R, E, G>,
+    alloc: Global,
+    options: FiguresOptions,
+}
+
+// What is had of the rows so far: the issues that they name, and what they come to.
+#[derive(Drop)]
+struct SoFar {
+    issues: BTreeMap<[u8; 9], Issue>,
+    tally: Tally,
 }
 
 /// Writes a line on each row of an input of any length, and then the total.
@@ -67,8 +85,8 @@ pub fn figures<
 ) -> Result<(), Fault>
     requires { C.out cabinet.old ≡ None }
     ensures written { IfSome (I.left input.old) (λ text. WroteFigures
-        (IsToldOf (IsRightAnswer (E.ends calculator.now.encloser.now)) (C.told cabinet.old store.now))
-        (header options.has_header) options.first text result (I.left input.new) (O.bytes output.old) (O.bytes output.new)) }
+        (IsToldOf (IsRightAnswer (E.ends calculator.now.encloser.now)) options.has_risk (C.told cabinet.old store.now))
+        (header options) options.first text result (I.left input.new) (O.bytes output.old) (O.bytes output.new)) }
     ensures takes { TakesSome I.Source input.old input.new }
     ensures reads { OnOk result (I.faults input.new ≡ I.faults input.old) }
     ensures writes { ReportsWrites O.Sink result output.old output.new }
@@ -100,8 +118,8 @@ fn figure_rows<
     output: &mut O,
 ) -> Result<(), Fault>
     ensures written { IfSome (I.left input.old) (λ text. WroteFigures
-        (IsToldOf (IsRightAnswer (E.ends calculator.now.encloser.now)) (K.tables keeper.old))
-        (header options.has_header) options.first text result (I.left input.new) (O.bytes output.old) (O.bytes output.new)) }
+        (IsToldOf (IsRightAnswer (E.ends calculator.now.encloser.now)) options.has_risk (K.tables keeper.old))
+        (header options) options.first text result (I.left input.new) (O.bytes output.old) (O.bytes output.new)) }
     ensures takes { TakesSome I.Source input.old input.new }
     ensures reads { OnOk result (I.faults input.new ≡ I.faults input.old) }
     ensures writes { ReportsWrites O.Sink result output.old output.new }
@@ -110,25 +128,24 @@ fn figure_rows<
     ensures same { SameKeeper K.Keeper Fault.Store result keeper.old keeper.new }
     ensures unchanged { K.tables keeper.new ≡ K.tables keeper.old }
 {
-    write_header(options.has_header, output)?;
+    write_header(options, output)?;
     let mut blocks = LineBlocks::open(alloc, input)?;
-    let mut issues = BTreeMap::new(alloc);
-    let mut tally = Tally::new();
+    let mut so_far = SoFar {
+        issues: BTreeMap::new(alloc),
+        tally: Tally::new(),
+    };
+    let valuing = Valuing {
+        calculator,
+        alloc,
+        options,
+    };
     'groups: for _ in 0..u64::MAX {
         let mut shares = take_group(calculator.workers, alloc, &mut blocks, input)?;
-        tally = do_group(
-            calculator,
-            alloc,
-            options.first,
-            &tally,
-            &mut shares,
-            &mut issues,
-            keeper,
-            output,
-        )?;
+        let tally = do_group(&valuing, &mut shares, &mut so_far, keeper, output)?;
+        so_far.tally = tally;
         match blocks.reading {
             Reading::Open => {}
-            Reading::Ended => return write_total(&tally, output),
+            Reading::Ended => return write_total(&so_far.tally, output),
             Reading::Failed => return Err(Fault::Read),
         }
     }
@@ -138,56 +155,56 @@ fn figure_rows<
 
 // Prices the rows of a group after those that are counted, and writes their lines.
 fn do_group<R: Threads + Sync, K: Keeper, O: Sink, E: Encloser + Sync, G: Gate + Sync>(
-    calculator: &Calculator<'_, R, E, G>,
-    alloc: Global,
-    first: u64,
-    before: &Tally,
+    valuing: &Valuing<'_, R, E, G>,
     shares: &mut [Share],
-    issues: &mut BTreeMap<[u8; 9], Issue>,
+    so_far: &mut SoFar,
     keeper: &mut K,
     output: &mut O,
 ) -> Result<Tally, Fault>
-    requires found { IfSome (K.tables keeper.old) (λ t. AreFound t (tree.get by_bytes issues.old)) }
-    requires small { IsSmall before.now }
-    requires room { first + before.now.rows < 2 ^ 64 }
-    ensures did { DidRows (IsToldOf (IsRightAnswer (E.ends calculator.now.encloser.now)) (K.tables keeper.old))
-        first (rows_of_shares shares.old) before.now result (O.bytes output.old) (O.bytes output.new) }
+    requires found { IfSome (K.tables keeper.old) (λ t. AreFound t (tree.get by_bytes so_far.old.issues)) }
+    requires small { IsSmall so_far.old.tally }
+    requires room { valuing.now.options.first + so_far.old.tally.rows < 2 ^ 64 }
+    ensures did { DidRows (IsToldOf (IsRightAnswer (E.ends valuing.now.calculator.now.encloser.now)) valuing.now.options.has_risk (K.tables keeper.old))
+        valuing.now.options.first (rows_of_shares shares.old) so_far.old.tally result (O.bytes output.old) (O.bytes output.new) }
     ensures small { IfOk result (λ tally. IsSmall tally) }
-    ensures room { IfOk result (λ tally. first + tally.rows < 2 ^ 64) }
-    ensures found { IfOk result (λ _. IfSome (K.tables keeper.old) (λ t. AreFound t (tree.get by_bytes issues.new))) }
+    ensures room { IfOk result (λ tally. valuing.now.options.first + tally.rows < 2 ^ 64) }
+    ensures found { IfOk result (λ _. IfSome (K.tables keeper.old) (λ t. AreFound t (tree.get by_bytes so_far.new.issues))) }
     ensures writes { ReportsWrites O.Sink result output.old output.new }
     ensures write_failed { IsErrOf result Fault.Write → Rose (O.faults output.old) (O.faults output.new) }
     ensures same { SameKeeper K.Keeper Fault.Store result keeper.old keeper.new }
     ensures unchanged { K.tables keeper.new ≡ K.tables keeper.old }
 {
-    scan_shares(calculator, alloc, issues, shares);
-    ask_for(alloc, keeper, shares, issues)?;
-    number(shares, first + before.rows)?;
-    write_shares(calculator, alloc, first, before, shares, issues, output)
+    scan_shares(valuing.calculator, valuing.alloc, &so_far.issues, shares);
+    ask_for(valuing.alloc, keeper, shares, &mut so_far.issues)?;
+    number(shares, valuing.options.first + so_far.tally.rows)?;
+    write_shares(valuing, shares, so_far, output)
 }
 
 // Prices the rows of blocks with places, and writes their lines.
 fn write_shares<R: Threads + Sync, O: Sink, E: Encloser + Sync, G: Gate + Sync>(
-    calculator: &Calculator<'_, R, E, G>,
-    alloc: Global,
-    first: u64,
-    before: &Tally,
+    valuing: &Valuing<'_, R, E, G>,
     shares: &mut [Share],
-    issues: &BTreeMap<[u8; 9], Issue>,
+    so_far: &SoFar,
     output: &mut O,
 ) -> Result<Tally, Fault>
-    requires numbered { AreNumbered (first + before.now.rows) shares.old }
-    requires small { IsSmall before.now }
-    requires room { first + before.now.rows + length (rows_of_shares shares.old) < 2 ^ 64 }
-    ensures did { DidRows (IsSaid (IsRightAnswer (E.ends calculator.now.encloser.now)) (tree.get by_bytes issues.now))
-        first (rows_of_shares shares.old) before.now result (O.bytes output.old) (O.bytes output.new) }
+    requires numbered { AreNumbered (valuing.now.options.first + so_far.now.tally.rows) shares.old }
+    requires small { IsSmall so_far.now.tally }
+    requires room { valuing.now.options.first + so_far.now.tally.rows + length (rows_of_shares shares.old) < 2 ^ 64 }
+    ensures did { DidRows (IsSaid (IsRightAnswer (E.ends valuing.now.calculator.now.encloser.now)) valuing.now.options.has_risk (tree.get by_bytes so_far.now.issues))
+        valuing.now.options.first (rows_of_shares shares.old) so_far.now.tally result (O.bytes output.old) (O.bytes output.new) }
     ensures small { IfOk result (λ tally. IsSmall tally) }
     ensures writes { ReportsWrites O.Sink result output.old output.new }
     ensures write_failed { IsErrOf result Fault.Write → Rose (O.faults output.old) (O.faults output.new) }
     ensures not_store { ¬ (IsErrOf result Fault.Store) }
 {
-    price_shares(calculator, alloc, issues, shares);
-    let mut tally = *before;
+    price_shares(
+        valuing.calculator,
+        valuing.alloc,
+        &so_far.issues,
+        valuing.options.has_risk,
+        shares,
+    );
+    let mut tally = so_far.tally;
     for share in shares.iter() {
         let lines = match &share.lines {
             Ok(lines) => lines,
@@ -199,11 +216,11 @@ fn write_shares<R: Threads + Sync, O: Sink, E: Encloser + Sync, G: Gate + Sync>(
     Ok(tally)
 }
 
-fn write_header<O: Sink>(has_header: bool, output: &mut O) -> Result<(), Fault>
-    ensures { Writes O.Sink Fault.Write result (header has_header) output.old output.new }
+fn write_header<O: Sink>(options: FiguresOptions, output: &mut O) -> Result<(), Fault>
+    ensures { Writes O.Sink Fault.Write result (header options) output.old output.new }
 {
-    if has_header {
-        write(HEADER, output)
+    if options.has_header {
+        write(column_names(options.has_risk), output)
     } else {
         Ok(())
     }

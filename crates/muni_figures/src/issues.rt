@@ -6,12 +6,13 @@ ghost use Rattle.std.specs.BTreeSet as set;
 ghost use Rattle.std.specs.List.{AllByRecursion};
 ghost use Rattle.muni_keep.specs.Keeper.{OnlyReads};
 ghost use Rattle.muni_keep.specs.Trades.{by_bytes};
-ghost use Rattle.muni_marks.specs.Portfolio.{AreKnown, IsKnownNext};
+ghost use Rattle.muni_marks.specs.Portfolio.{AreKnown};
 ghost use Rattle.muni_figures.specs.Issues.{AreAsked, AreFound};
 ghost use Rattle.muni_figures.specs.Shares.{HasScan, unknown_of_shares};
 
 use crate::shares::Share;
 use muni_keep::{KeepFault, Keeper};
+use muni_marks::ask;
 use muni_terms::Issue;
 use std::alloc::Global;
 use std::collections::{BTreeMap, BTreeSet};
@@ -57,31 +58,4 @@ fn ask_each<K: Keeper>(
         ask(keeper, cusip, issues, missing)?;
     }
     Ok(())
-}
-
-// What is kept under a CUSIP, which is asked for if it is not known yet.
-fn ask<K: Keeper>(
-    keeper: &mut K,
-    cusip: &[u8; 9],
-    issues: &mut BTreeMap<[u8; 9], Issue>,
-    missing: &mut BTreeSet<[u8; 9]>,
-) -> Result<(), KeepFault>
-    requires { IfSome (K.tables keeper.old) (λ t. AreKnown t (tree.get by_bytes issues.old) (set.contains by_bytes missing.old)) }
-    ensures known { OnOk result (IfSome (K.tables keeper.old)
-        (λ t. IsKnownNext t cusip.now (tree.get by_bytes issues.old) (tree.get by_bytes issues.new) (set.contains by_bytes missing.new))) }
-    ensures reads { OnlyReads K.Keeper result keeper.old keeper.new }
-{
-    if issues.contains_key(cusip) || missing.contains(cusip) {
-        return Ok(());
-    }
-    match keeper.issue(cusip)? {
-        Some(issue) => match issues.insert(*cusip, issue) {
-            Ok(_) => Ok(()),
-            Err(_) => Err(KeepFault::NoMemory),
-        },
-        None => match missing.insert(*cusip) {
-            Ok(_) => Ok(()),
-            Err(_) => Err(KeepFault::NoMemory),
-        },
-    }
 }

@@ -1,8 +1,8 @@
 //! Laws of figures, over every input.
 
-ghost use Rattle.muni_figures.specs.Laws.{InputsHaveOneText, LinesGoOn};
+ghost use Rattle.muni_figures.specs.Laws.{InputsHaveOneText, LinesGoOn, SensitivitiesOnlyFollow};
 
-/// A law of the definitions: an input over given tables has one text. So what is written does not depend
+/// A law of the definitions: without sensitivities an input over given tables has one text. So what is written does not depend
 /// on how many workers there are, nor on how the input is cut into blocks.
 pub fn inputs_have_one_text()
     ensures { InputsHaveOneText }
@@ -12,4 +12,10 @@ pub fn inputs_have_one_text()
 /// those of its second, if the places of the second go on after those of the first. The totals add up.
 pub fn lines_go_on()
     ensures { LinesGoOn }
+{}
+
+/// A law of the definitions: if sensitivities are asked for, their columns follow those that a row has without
+/// them, and a refused row has no more columns.
+pub fn sensitivities_only_follow()
+    ensures { SensitivitiesOnlyFollow }
 {}

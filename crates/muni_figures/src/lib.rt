@@ -16,4 +16,4 @@ mod tally;
 
 pub use asked::read_line;
 pub use command::{FiguresOptions, figures};
-pub use said::FiguresSaid;
+pub use said::{FiguresSaid, RiskColumns};

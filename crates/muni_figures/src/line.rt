@@ -9,7 +9,7 @@ ghost use Rattle.muni_dec.specs.Values.{price_text, printed_yield_text};
 ghost use Rattle.muni_import.specs.Line.{behind_commas};
 ghost use Rattle.muni_figures.specs.Line as spec;
 
-use crate::said::FiguresSaid;
+use crate::said::{FiguresSaid, RiskColumns};
 use crate::tally::Tally;
 use arrayvec::ArrayVec;
 use itoa::Buffer;
@@ -17,18 +17,31 @@ use muni_dec::text::push;
 use muni_dec::{Price, Yield3};
 use muni_edge::NoMemory;
 use muni_import::line::{push_bad, push_day, push_field, push_money, push_price, push_refused};
+use muni_marks::{push_count, push_sum};
 use muni_msg::Figures;
+use muni_risk::{Risk, print_millionths, print_thousandths};
 use muni_terms::Label;
 
-/// The names of the columns, as a line.
-pub(crate) const HEADER: &[u8] =
+const NAMES: &[u8] =
     b"place,answer,cusip,price,yield,redemption,redemption_price,redemption_label,days,principal,accrued,commission,total\n";
+
+const NAMES_WITH_RISK: &[u8] =
+    b"place,answer,cusip,price,yield,redemption,redemption_price,redemption_label,days,principal,accrued,commission,total,current_yield,duration,convexity,dv01\n";
+
+/// The names of the columns, as a line.
+pub(crate) fn column_names(has_risk: bool) -> &'static [u8]
+    ensures { result.now ≡ spec.names_line has_risk }
+{
+    if has_risk { NAMES_WITH_RISK } else { NAMES }
+}
 
 /// Appends the line of a row, with its line end.
 ///
 /// `place,figures,CUSIP,PRICE,YIELD,REDEMPTION,REDEMPTION PRICE,LABEL,DAYS,PRINCIPAL,ACCRUED,COMMISSION,TOTAL`,
 /// `place,refused,NUMBER,NAME`, `place,bad,1`, or `place,bad,2,COLUMN`. The price and the yield have three
-/// decimals, the redemption price has six, and money is in dollars.
+/// decimals, the redemption price has six, and money is in dollars. If sensitivities are asked for,
+/// `,CURRENT,DURATION,CONVEXITY,DV01` follow the total, with three decimals, and DV01 with six. A column that
+/// does not apply is empty.
 pub(crate) fn add_line(text: &mut Vec<u8>, place: u64, said: &FiguresSaid) -> Result<(), NoMemory>
     requires { spec.HasName said.now }
     ensures { OnOk result (text.new.items ≡ text.old.items ++ spec.said_line place said.now) }
@@ -46,7 +59,14 @@ fn add_fields(text: &mut Vec<u8>, said: &FiguresSaid) -> Result<(), NoMemory>
 {
     let mut part = ArrayVec::new();
     match said {
-        FiguresSaid::Priced { cusip, figures } => return add_figures(text, cusip, figures),
+        FiguresSaid::Priced {
+            cusip,
+            figures,
+            risk,
+        } => {
+            add_figures(text, cusip, figures)?;
+            return add_risk(text, risk);
+        }
         FiguresSaid::Refused { number } => push_refused(&mut part, *number),
         FiguresSaid::Bad(fault) => push_bad(&mut part, *fault),
     }
@@ -64,6 +84,21 @@ fn add_figures(text: &mut Vec<u8>, cusip: &[u8; 9], figures: &Figures) -> Result
     part.clear();
     push_days(&mut part, figures.days);
     push_amounts(&mut part, figures);
+    text.extend_from_slice(&part)?;
+    Ok(())
+}
+
+// The sensitivities, as far as they are asked for.
+#[tactic(auto, unfolding(crate::specs::Line::risk_fields))]
+fn add_risk(text: &mut Vec<u8>, columns: &RiskColumns) -> Result<(), NoMemory>
+    ensures { OnOk result (text.new.items ≡ text.old.items ++ spec.risk_fields columns.now) }
+{
+    let mut part = ArrayVec::new();
+    match columns {
+        RiskColumns::LeftOut => {}
+        RiskColumns::Shown(None) => push(&mut part, b",,,,"),
+        RiskColumns::Shown(Some(risk)) => push_risk(&mut part, risk),
+    }
     text.extend_from_slice(&part)?;
     Ok(())
 }
@@ -109,6 +144,49 @@ fn push_amounts(text: &mut ArrayVec<u8, 256>, figures: &Figures)
     push_money(text, &figures.accrued);
     push_money(text, &figures.commission);
     push_money(text, &figures.total);
+}
+
+#[tactic(auto, unfolding(crate::specs::Line::sensitivity_fields))]
+fn push_risk(text: &mut ArrayVec<u8, 256>, risk: &Risk)
+    requires { array_vec_len text.old ≤ 0 }
+    ensures items { text.new.items ≡ text.old.items ++ spec.sensitivity_fields risk.now }
+    ensures len { array_vec_len text.new ≤ 120 }
+{
+    push_current(text, risk.current_yield);
+    push_thousandths(text, risk.sensitivities.duration);
+    push_thousandths(text, risk.sensitivities.convexity);
+    push_millionths(text, risk.sensitivities.dv01);
+}
+
+fn push_current(text: &mut ArrayVec<u8, 256>, current: Option<u64>)
+    requires { array_vec_len text.old ≤ 0 }
+    ensures items { text.new.items ≡ text.old.items ++ behind_commas (spec.current_text current ∷ []) }
+    ensures len { array_vec_len text.new ≤ array_vec_len text.old + 30 }
+{
+    match current {
+        Some(units) => push_thousandths(text, units),
+        None => push_field(text, b""),
+    }
+}
+
+fn push_thousandths(text: &mut ArrayVec<u8, 256>, units: u64)
+    requires { array_vec_len text.old ≤ 200 }
+    ensures items { text.new.items ≡ text.old.items ++ behind_commas (decimal_text 3 units ∷ []) }
+    ensures len { array_vec_len text.new ≤ array_vec_len text.old + 30 }
+{
+    let mut value = ArrayVec::new();
+    print_thousandths(units, &mut value);
+    push_field(text, &value);
+}
+
+fn push_millionths(text: &mut ArrayVec<u8, 256>, units: u64)
+    requires { array_vec_len text.old ≤ 200 }
+    ensures items { text.new.items ≡ text.old.items ++ behind_commas (decimal_text 6 units ∷ []) }
+    ensures len { array_vec_len text.new ≤ array_vec_len text.old + 30 }
+{
+    let mut value = ArrayVec::new();
+    print_millionths(units, &mut value);
+    push_field(text, &value);
 }
 
 fn push_yield(text: &mut ArrayVec<u8, 256>, yld: &Yield3)
@@ -165,26 +243,4 @@ pub(crate) fn total_line(tally: &Tally, text: &mut ArrayVec<u8, 256>)
     push_sum(text, tally.sum);
     push_count(text, tally.rows);
     text.push(b'\n');
-}
-
-fn push_count(text: &mut ArrayVec<u8, 256>, count: u64)
-    requires { array_vec_len text.old ≤ 100 }
-    ensures items { text.new.items ≡ text.old.items ++ behind_commas (decimal count ∷ []) }
-    ensures len { array_vec_len text.new ≤ array_vec_len text.old + 21 }
-{
-    let mut buffer = Buffer::new();
-    push_field(text, buffer.format(count).as_bytes());
-}
-
-fn push_sum(text: &mut ArrayVec<u8, 256>, sum: u128)
-    requires { array_vec_len text.old ≤ 40 }
-    ensures items { text.new.items ≡ text.old.items ++ behind_commas (decimal_text 2 sum ∷ []) }
-    ensures len { array_vec_len text.new ≤ array_vec_len text.old + 50 }
-{
-    text.push(b',');
-    let mut buffer = Buffer::new();
-    push(text, buffer.format(sum / 100).as_bytes());
-    text.push(b'.');
-    text.push(b'0' + (sum / 10 % 10) as u8);
-    text.push(b'0' + (sum % 10) as u8);
 }

@@ -1,17 +1,18 @@
 //! The lines of the rows of a block.
 
-ghost use Rattle.std.specs.Prelude.{◌≡◌, ◌+◌, ◌<◌, ◌^◌, ◌++◌, [], length, IfOk, OnOk};
+ghost use Rattle.std.specs.Prelude.{◌≡◌, ◌+◌, ◌<◌, ◌^◌, ◌++◌, [], IfOk, OnOk};
 ghost use Rattle.std.specs.BTreeMap as tree;
 ghost use Rattle.muni_book.specs.Answers.{IsRightAnswer};
 ghost use Rattle.muni_keep.specs.Trades.{by_bytes};
 ghost use Rattle.muni_figures.specs.Done.{AreDone, IsSmall, no_tally, tally_of, tally_sum};
 ghost use Rattle.muni_figures.specs.Line.{HasName, said_line};
-ghost use Rattle.muni_figures.specs.Rows.{rows_in};
 ghost use Rattle.muni_figures.specs.Said.{IsSaid};
+ghost use Rattle.muni_figures.specs.Shares.{HasPlaces, rows_of_share};
 
 use crate::asked::{cut, is_row, read_line};
 use crate::line::add_line;
 use crate::said::{FiguresSaid, said_of};
+use crate::shares::Share;
 use crate::tally::Tally;
 use muni_book::Calculator;
 use muni_edge::{Gate, NoMemory};
@@ -58,27 +59,27 @@ impl BlockLines {
     }
 }
 
-/// The lines of the rows of a block, the first of which has this place. Each is priced by the issue that
-/// is had under its CUSIP.
+/// The lines of the rows of a block. Each is priced by the issue that is had under its CUSIP, and has
+/// sensitivities if they are asked for.
 pub(crate) fn block_lines<R: Threads + Sync, E: Encloser + Sync, G: Gate + Sync>(
     calculator: &Calculator<'_, R, E, G>,
     alloc: Global,
     issues: &BTreeMap<[u8; 9], Issue>,
-    block: &[u8],
-    place: u64,
+    share: &Share,
+    has_risk: bool,
 ) -> Result<BlockLines, NoMemory>
-    requires { place + length (rows_in block.now) < 2 ^ 64 }
+    requires { HasPlaces share.now }
     ensures { IfOk result (λ lines.
-        AreDone (IsSaid (IsRightAnswer (E.ends calculator.now.encloser.now)) (tree.get by_bytes issues.now)) place (rows_in block.now) lines.text.items lines.tally) }
+        AreDone (IsSaid (IsRightAnswer (E.ends calculator.now.encloser.now)) has_risk (tree.get by_bytes issues.now)) share.now.place (rows_of_share share.now) lines.text.items lines.tally) }
 {
     let mut lines = BlockLines::new(alloc);
     let mut schedule = Schedule::new();
-    let mut left = Some(block);
+    let mut left = Some(share.block.as_slice());
     while let Some(bytes) = left {
         let (line, more) = cut(bytes, b'\n');
         if is_row(line) {
-            let said = said_of(calculator, &read_line(line), issues, &mut schedule);
-            lines.add(place, &said)?;
+            let said = said_of(calculator, &read_line(line), issues, has_risk, &mut schedule);
+            lines.add(share.place, &said)?;
         }
         left = more;
     }

@@ -71,10 +71,11 @@ pub(crate) fn price_shares<R: Threads + Sync, E: Encloser + Sync, G: Gate + Sync
     calculator: &Calculator<'_, R, E, G>,
     alloc: Global,
     issues: &BTreeMap<[u8; 9], Issue>,
+    has_risk: bool,
     shares: &mut [Share],
 )
     requires { All HasPlaces shares.old }
-    ensures { AllZip (IsPricedShare (IsSaid (IsRightAnswer (E.ends calculator.now.encloser.now)) (tree.get by_bytes issues.now))) shares.old shares.new }
+    ensures { AllZip (IsPricedShare (IsSaid (IsRightAnswer (E.ends calculator.now.encloser.now)) has_risk (tree.get by_bytes issues.now))) shares.old shares.new }
 {
     let alone = Calculator {
         workers: Workers::ONE,
@@ -86,9 +87,9 @@ pub(crate) fn price_shares<R: Threads + Sync, E: Encloser + Sync, G: Gate + Sync
         calculator.workers.count() as usize,
         &|_worker: usize, share: &mut Share|
             requires { HasPlaces share.now }
-            ensures { IsPricedShare (IsSaid (IsRightAnswer (E.ends alone.entry.encloser.now)) (tree.get by_bytes issues.entry.now)) share.entry.now share.exit.now }
+            ensures { IsPricedShare (IsSaid (IsRightAnswer (E.ends alone.entry.encloser.now)) has_risk.entry (tree.get by_bytes issues.entry.now)) share.entry.now share.exit.now }
         {
-            share.lines = block_lines(&alone, alloc, issues, &share.block, share.place);
+            share.lines = block_lines(&alone, alloc, issues, share, has_risk);
         },
     );
 }

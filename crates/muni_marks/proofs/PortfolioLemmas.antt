@@ -31,7 +31,8 @@ unfolding rows_of
 few text rows are =
     omega (arith, ap length are, length-map (records default_config (strip_bom text)) row_of, few-records text)
 
-numbered : (refusal : Refusal) → (1 ≤ number_of refusal) × (number_of refusal ≤ 15)
+-- a refusal has a number from 1 to 15
+pub numbered : (refusal : Refusal) → (1 ≤ number_of refusal) × (number_of refusal ≤ 15)
 numbered UnknownIssue = (omega arith, omega arith)
 numbered UnknownTrade = (omega arith, omega arith)
 numbered (Conflict kept) = (omega arith, omega arith)
@@ -141,8 +142,8 @@ asked_none tables old is_missing now_missing key known none is updates = record 
     by_key other true at missing = subst (IsKnown tables old) (tells_apart exact_bytes key other at) this
     by_key other false at missing = known.missing other (sym (ap (λ b. cond b true (is_missing other)) at) ∙ sym (updates other) ∙ missing)
 
--- the rows so far
-all_push : {X : Type 0} (P : X → Type 0) (xs : List X) (x : X) → AllByRecursion P xs → P x → AllByRecursion P (xs ++ x ∷ [])
+-- one element more
+pub all_push : {X : Type 0} (P : X → Type 0) (xs : List X) (x : X) → AllByRecursion P xs → P x → AllByRecursion P (xs ++ x ∷ [])
 all_push P [] x are is = (is, tt)
 all_push P (y ∷ ys) x are is = (are.0, all_push P ys x are.1 is)
 

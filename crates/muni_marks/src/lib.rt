@@ -7,7 +7,7 @@ mod portfolio;
 mod pricing;
 mod reader;
 
-pub use line::{mark_line, total};
-pub use portfolio::{LIMIT, mark};
+pub use line::{mark_line, push_count, push_sum, total};
+pub use portfolio::{LIMIT, ask, mark};
 pub use pricing::{MarkSaid, marks};
 pub use reader::read_marks;

@@ -95,8 +95,9 @@ pub(crate) fn total_line(count: u64, sum: u128, text: &mut ArrayVec<u8, 256>)
     text.push(b'\n');
 }
 
-fn push_count(text: &mut ArrayVec<u8, 256>, count: u64)
-    requires { array_vec_len text.old ≤ 10 }
+/// Appends a field with a count.
+pub fn push_count(text: &mut ArrayVec<u8, 256>, count: u64)
+    requires { array_vec_len text.old ≤ 100 }
     ensures items { text.new.items ≡ text.old.items ++ behind_commas (decimal count ∷ []) }
     ensures len { array_vec_len text.new ≤ array_vec_len text.old + 21 }
 {
@@ -104,7 +105,8 @@ fn push_count(text: &mut ArrayVec<u8, 256>, count: u64)
     push_field(text, buffer.format(count).as_bytes());
 }
 
-fn push_sum(text: &mut ArrayVec<u8, 256>, sum: u128)
+/// Appends a field with a sum of cents, in dollars with both decimals.
+pub fn push_sum(text: &mut ArrayVec<u8, 256>, sum: u128)
     requires { array_vec_len text.old ≤ 40 }
     ensures items { text.new.items ≡ text.old.items ++ behind_commas (decimal_text 2 sum ∷ []) }
     ensures len { array_vec_len text.new ≤ array_vec_len text.old + 50 }

@@ -147,8 +147,9 @@ fn kept_issues<K: Keeper>(
     Ok(issues)
 }
 
-// What is kept under a CUSIP, which is asked for if it is not known yet.
-fn ask<K: Keeper>(
+/// Adds what is kept under a CUSIP to the issues, or the CUSIP to those under which none is kept. The keeper
+/// is asked only if neither has it.
+pub fn ask<K: Keeper>(
     keeper: &mut K,
     cusip: &[u8; 9],
     issues: &mut BTreeMap<[u8; 9], Issue>,

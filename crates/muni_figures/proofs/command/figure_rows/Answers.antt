@@ -15,8 +15,8 @@ use Rattle.muni_figures.proofs.command.figure_rows.Goals as goal
 
 pub returns-in_err-write_header-clause-written : goal.returns-in_err-write_header-clause-written
 returns-in_err-write_header-clause-written g c =
-    let Answers = IsToldOf (IsRightAnswer (g.E.Encloser.ends c.args.calculator.now.encloser.now)) (g.K.Keeper.tables c.args.keeper.now) in
-    let before = header c.args.options.has_header in
+    let Answers = IsToldOf (IsRightAnswer (g.E.Encloser.ends c.args.calculator.now.encloser.now)) c.args.options.has_risk (g.K.Keeper.tables c.args.keeper.now) in
+    let before = header c.args.options in
     let place = c.args.options.first in
     let left = g.I.Source.left in
     let bytes = g.O.Sink.bytes in
@@ -26,8 +26,8 @@ returns-in_err-write_header-clause-written g c =
 
 pub returns-in_err-blocks-clause-written : goal.returns-in_err-blocks-clause-written
 returns-in_err-blocks-clause-written g c =
-    let Answers = IsToldOf (IsRightAnswer (g.E.Encloser.ends c.args.calculator.now.encloser.now)) (g.K.Keeper.tables c.args.keeper.now) in
-    let before = header c.args.options.has_header in
+    let Answers = IsToldOf (IsRightAnswer (g.E.Encloser.ends c.args.calculator.now.encloser.now)) c.args.options.has_risk (g.K.Keeper.tables c.args.keeper.now) in
+    let before = header c.args.options in
     let place = c.args.options.first in
     let left = g.I.Source.left in
     let bytes = g.O.Sink.bytes in
@@ -37,14 +37,14 @@ returns-in_err-blocks-clause-written g c =
 
 pub returns-in_err-shares-clause-written : goal.returns-in_err-shares-clause-written
 returns-in_err-shares-clause-written g c =
-    let Answers = IsToldOf (IsRightAnswer (g.E.Encloser.ends c.args.calculator.now.encloser.now)) (g.K.Keeper.tables c.args.keeper.now) in
-    let before = header c.args.options.has_header in
+    let Answers = IsToldOf (IsRightAnswer (g.E.Encloser.ends c.args.calculator.now.encloser.now)) c.args.options.has_risk (g.K.Keeper.tables c.args.keeper.now) in
+    let before = header c.args.options in
     let place = c.args.options.first in
     let left = g.I.Source.left in
     let bytes = g.O.Sink.bytes in
     let p = err_from_is_err_and c.from_residual-in_err-shares.result c.from_residual-in_err-shares.ensures.1 in
     rw (p.1, p.2)
-    (so-far-no_memory Answers before place c.groups.tally c.groups.blocks.reading c.groups.blocks.held.items (left c.args.input.now) (left c.groups.input) (left c.take_group.new.input) (bytes c.args.output.now) (bytes c.groups.output) c.groups.invariant.far)
+    (so-far-no_memory Answers before place c.groups.so_far.tally c.groups.blocks.reading c.groups.blocks.held.items (left c.args.input.now) (left c.groups.input) (left c.take_group.new.input) (bytes c.args.output.now) (bytes c.groups.output) c.groups.invariant.far)
 
 pub returns-in_err-shares-clause-takes : goal.returns-in_err-shares-clause-takes
 returns-in_err-shares-clause-takes g c =
@@ -56,8 +56,8 @@ returns-in_err-shares-clause-takes g c =
 pub returns-in_err-tally-clause-written : goal.returns-in_err-tally-clause-written
 returns-in_err-tally-clause-written g c =
     let Prices = IsRightAnswer (g.E.Encloser.ends c.args.calculator.now.encloser.now) in
-    let Answers = IsToldOf (IsRightAnswer (g.E.Encloser.ends c.args.calculator.now.encloser.now)) (g.K.Keeper.tables c.args.keeper.now) in
-    let before = header c.args.options.has_header in
+    let Answers = IsToldOf (IsRightAnswer (g.E.Encloser.ends c.args.calculator.now.encloser.now)) c.args.options.has_risk (g.K.Keeper.tables c.args.keeper.now) in
+    let before = header c.args.options in
     let place = c.args.options.first in
     let left = g.I.Source.left in
     let bytes = g.O.Sink.bytes in
@@ -66,109 +66,109 @@ returns-in_err-tally-clause-written g c =
     let shares = c.in_ok-shares.shares.items in
     let p = err_from_is_err_and c.from_residual-in_err-tally.result c.from_residual-in_err-tally.ensures.1 in
     rw (p.1, p.2)
-    (group-failed g.I.Source Answers before place c.groups.tally c.in_err-tally.field-0.0 c.groups.blocks c.take_group.new.blocks shares c.args.input.now c.groups.input c.take_group.new.input
+    (group-failed g.I.Source Answers before place c.groups.so_far.tally c.in_err-tally.field-0.0 c.groups.blocks c.take_group.new.blocks shares c.args.input.now c.groups.input c.take_group.new.input
     (bytes c.args.output.now) (bytes c.groups.output) (bytes c.do_group.new.output) was.far group
-    (subst (λ told. DidRows (IsToldOf Prices told) place (rows_of_shares shares) c.groups.tally (Err c.in_err-tally.field-0.0) (bytes c.groups.output) (bytes c.do_group.new.output)) was.tables
-    (subst (λ shares. DidRows (IsToldOf Prices (g.K.Keeper.tables c.groups.keeper)) place (rows_of_shares shares) c.groups.tally (Err c.in_err-tally.field-0.0) (bytes c.groups.output) (bytes c.do_group.new.output)) c.deref_mut.ensures.value c.in_err-tally.ensures.did)))
+    (subst (λ told. DidRows (IsToldOf Prices c.args.options.has_risk told) place (rows_of_shares shares) c.groups.so_far.tally (Err c.in_err-tally.field-0.0) (bytes c.groups.output) (bytes c.do_group.new.output)) was.tables
+    (subst (λ shares. DidRows (IsToldOf Prices c.args.options.has_risk (g.K.Keeper.tables c.groups.keeper)) place (rows_of_shares shares) c.groups.so_far.tally (Err c.in_err-tally.field-0.0) (bytes c.groups.output) (bytes c.do_group.new.output)) c.deref_mut.ensures.value c.in_err-tally.ensures.did)))
 
 pub returns-in_err-tally-clause-takes : goal.returns-in_err-tally-clause-takes
 returns-in_err-tally-clause-takes g c =
-    let Answers = IsToldOf (IsRightAnswer (g.E.Encloser.ends c.args.calculator.now.encloser.now)) (g.K.Keeper.tables c.args.keeper.now) in
-    let before = header c.args.options.has_header in
+    let Answers = IsToldOf (IsRightAnswer (g.E.Encloser.ends c.args.calculator.now.encloser.now)) c.args.options.has_risk (g.K.Keeper.tables c.args.keeper.now) in
+    let before = header c.args.options in
     let place = c.args.options.first in
     let left = g.I.Source.left in
     let bytes = g.O.Sink.bytes in
     let was = c.groups.invariant in
     let group = c.in_ok-shares.ensures.group in
     let shares = c.in_ok-shares.shares.items in
-    let come = far-after g.I.Source Answers before place c.groups.tally c.groups.blocks c.take_group.new.blocks shares c.args.input.now c.groups.input c.take_group.new.input (bytes c.args.output.now) (bytes c.groups.output) was.far group in
+    let come = far-after g.I.Source Answers before place c.groups.so_far.tally c.groups.blocks c.take_group.new.blocks shares c.args.input.now c.groups.input c.take_group.new.input (bytes c.args.output.now) (bytes c.groups.output) was.far group in
     (come.came, come.taken)
 
 pub returns-in-Ended-clause-written : goal.returns-in-Ended-clause-written
 returns-in-Ended-clause-written g c =
-    let Answers = IsToldOf (IsRightAnswer (g.E.Encloser.ends c.args.calculator.now.encloser.now)) (g.K.Keeper.tables c.args.keeper.now) in
-    let before = header c.args.options.has_header in
+    let Answers = IsToldOf (IsRightAnswer (g.E.Encloser.ends c.args.calculator.now.encloser.now)) c.args.options.has_risk (g.K.Keeper.tables c.args.keeper.now) in
+    let before = header c.args.options in
     let place = c.args.options.first in
     let left = g.I.Source.left in
     let bytes = g.O.Sink.bytes in
     let was = c.groups.invariant in
     let group = c.in_ok-shares.ensures.group in
     let shares = c.in_ok-shares.shares.items in
-    let come = far-after g.I.Source Answers before place c.groups.tally c.groups.blocks c.take_group.new.blocks shares c.args.input.now c.groups.input c.take_group.new.input (bytes c.args.output.now) (bytes c.groups.output) was.far group in
-    let wrote = far-written Answers before place c.groups.tally c.in_ok-tally.tally c.groups.blocks.reading c.groups.blocks.held.items (rows_of_shares shares) (left c.args.input.now) (left c.groups.input) (bytes c.args.output.now) (bytes c.groups.output) (bytes c.do_group.new.output) was.far (rw (was.tables, c.deref_mut.ensures.value) at c.in_ok-tally.ensures.did) in
+    let come = far-after g.I.Source Answers before place c.groups.so_far.tally c.groups.blocks c.take_group.new.blocks shares c.args.input.now c.groups.input c.take_group.new.input (bytes c.args.output.now) (bytes c.groups.output) was.far group in
+    let wrote = far-written Answers before place c.groups.so_far.tally c.in_ok-tally.tally c.groups.blocks.reading c.groups.blocks.held.items (rows_of_shares shares) (left c.args.input.now) (left c.groups.input) (bytes c.args.output.now) (bytes c.groups.output) (bytes c.do_group.new.output) was.far (rw (was.tables, c.deref_mut.ensures.value) at c.in_ok-tally.ensures.did) in
     let rows = was.far.rows ++ rows_of_shares shares in
     ended-by g.I.Source Answers before place c.in_ok-tally.tally c.take_group.new.blocks rows c.args.input.now c.take_group.new.input (bytes c.args.output.now) (bytes c.do_group.new.output) (bytes c.write_total.new.output)
     c.write_total.result c.in-Ended.is come wrote c.write_total.ensures.written c.write_total.ensures.part c.write_total.ensures.only
 
 pub returns-in-Ended-clause-takes : goal.returns-in-Ended-clause-takes
 returns-in-Ended-clause-takes g c =
-    let Answers = IsToldOf (IsRightAnswer (g.E.Encloser.ends c.args.calculator.now.encloser.now)) (g.K.Keeper.tables c.args.keeper.now) in
-    let before = header c.args.options.has_header in
+    let Answers = IsToldOf (IsRightAnswer (g.E.Encloser.ends c.args.calculator.now.encloser.now)) c.args.options.has_risk (g.K.Keeper.tables c.args.keeper.now) in
+    let before = header c.args.options in
     let place = c.args.options.first in
     let left = g.I.Source.left in
     let bytes = g.O.Sink.bytes in
     let was = c.groups.invariant in
     let group = c.in_ok-shares.ensures.group in
     let shares = c.in_ok-shares.shares.items in
-    let come = far-after g.I.Source Answers before place c.groups.tally c.groups.blocks c.take_group.new.blocks shares c.args.input.now c.groups.input c.take_group.new.input (bytes c.args.output.now) (bytes c.groups.output) was.far group in
+    let come = far-after g.I.Source Answers before place c.groups.so_far.tally c.groups.blocks c.take_group.new.blocks shares c.args.input.now c.groups.input c.take_group.new.input (bytes c.args.output.now) (bytes c.groups.output) was.far group in
     (come.came, come.taken)
 
 pub returns-in-Failed-clause-written : goal.returns-in-Failed-clause-written
 returns-in-Failed-clause-written g c =
-    let Answers = IsToldOf (IsRightAnswer (g.E.Encloser.ends c.args.calculator.now.encloser.now)) (g.K.Keeper.tables c.args.keeper.now) in
-    let before = header c.args.options.has_header in
+    let Answers = IsToldOf (IsRightAnswer (g.E.Encloser.ends c.args.calculator.now.encloser.now)) c.args.options.has_risk (g.K.Keeper.tables c.args.keeper.now) in
+    let before = header c.args.options in
     let place = c.args.options.first in
     let left = g.I.Source.left in
     let bytes = g.O.Sink.bytes in
     let was = c.groups.invariant in
     let group = c.in_ok-shares.ensures.group in
     let shares = c.in_ok-shares.shares.items in
-    let come = far-after g.I.Source Answers before place c.groups.tally c.groups.blocks c.take_group.new.blocks shares c.args.input.now c.groups.input c.take_group.new.input (bytes c.args.output.now) (bytes c.groups.output) was.far group in
-    let wrote = far-written Answers before place c.groups.tally c.in_ok-tally.tally c.groups.blocks.reading c.groups.blocks.held.items (rows_of_shares shares) (left c.args.input.now) (left c.groups.input) (bytes c.args.output.now) (bytes c.groups.output) (bytes c.do_group.new.output) was.far (rw (was.tables, c.deref_mut.ensures.value) at c.in_ok-tally.ensures.did) in
+    let come = far-after g.I.Source Answers before place c.groups.so_far.tally c.groups.blocks c.take_group.new.blocks shares c.args.input.now c.groups.input c.take_group.new.input (bytes c.args.output.now) (bytes c.groups.output) was.far group in
+    let wrote = far-written Answers before place c.groups.so_far.tally c.in_ok-tally.tally c.groups.blocks.reading c.groups.blocks.held.items (rows_of_shares shares) (left c.args.input.now) (left c.groups.input) (bytes c.args.output.now) (bytes c.groups.output) (bytes c.do_group.new.output) was.far (rw (was.tables, c.deref_mut.ensures.value) at c.in_ok-tally.ensures.did) in
     let rows = was.far.rows ++ rows_of_shares shares in
     failed-read g.I.Source Answers before place c.in_ok-tally.tally c.take_group.new.blocks rows c.args.input.now c.take_group.new.input (bytes c.args.output.now) (bytes c.do_group.new.output) c.in-Failed.is come wrote
 
 pub returns-in-Failed-clause-takes : goal.returns-in-Failed-clause-takes
 returns-in-Failed-clause-takes g c =
-    let Answers = IsToldOf (IsRightAnswer (g.E.Encloser.ends c.args.calculator.now.encloser.now)) (g.K.Keeper.tables c.args.keeper.now) in
-    let before = header c.args.options.has_header in
+    let Answers = IsToldOf (IsRightAnswer (g.E.Encloser.ends c.args.calculator.now.encloser.now)) c.args.options.has_risk (g.K.Keeper.tables c.args.keeper.now) in
+    let before = header c.args.options in
     let place = c.args.options.first in
     let left = g.I.Source.left in
     let bytes = g.O.Sink.bytes in
     let was = c.groups.invariant in
     let group = c.in_ok-shares.ensures.group in
     let shares = c.in_ok-shares.shares.items in
-    let come = far-after g.I.Source Answers before place c.groups.tally c.groups.blocks c.take_group.new.blocks shares c.args.input.now c.groups.input c.take_group.new.input (bytes c.args.output.now) (bytes c.groups.output) was.far group in
+    let come = far-after g.I.Source Answers before place c.groups.so_far.tally c.groups.blocks c.take_group.new.blocks shares c.args.input.now c.groups.input c.take_group.new.input (bytes c.args.output.now) (bytes c.groups.output) was.far group in
     (come.came, come.taken)
 
 pub returns-clause-written : goal.returns-clause-written
 returns-clause-written g c =
-    let Answers = IsToldOf (IsRightAnswer (g.E.Encloser.ends c.args.calculator.now.encloser.now)) (g.K.Keeper.tables c.args.keeper.now) in
-    let before = header c.args.options.has_header in
+    let Answers = IsToldOf (IsRightAnswer (g.E.Encloser.ends c.args.calculator.now.encloser.now)) c.args.options.has_risk (g.K.Keeper.tables c.args.keeper.now) in
+    let before = header c.args.options in
     let place = c.args.options.first in
     let left = g.I.Source.left in
     let bytes = g.O.Sink.bytes in
-    so-far-no_memory Answers before place c.groups.tally c.groups.blocks.reading c.groups.blocks.held.items (left c.args.input.now) (left c.groups.input) (left c.groups.input) (bytes c.args.output.now) (bytes c.groups.output) c.groups.invariant.far
+    so-far-no_memory Answers before place c.groups.so_far.tally c.groups.blocks.reading c.groups.blocks.held.items (left c.args.input.now) (left c.groups.input) (left c.groups.input) (bytes c.args.output.now) (bytes c.groups.output) c.groups.invariant.far
 
 pub groups-init : goal.groups-init
 groups-init g c =
-    let Answers = IsToldOf (IsRightAnswer (g.E.Encloser.ends c.args.calculator.now.encloser.now)) (g.K.Keeper.tables c.args.keeper.now) in
-    let before = header c.args.options.has_header in
+    let Answers = IsToldOf (IsRightAnswer (g.E.Encloser.ends c.args.calculator.now.encloser.now)) c.args.options.has_risk (g.K.Keeper.tables c.args.keeper.now) in
+    let before = header c.args.options in
     let place = c.args.options.first in
     let left = g.I.Source.left in
     let bytes = g.O.Sink.bytes in
     let opened = c.in_ok-blocks.ensures in
     let reading = c.in_ok-blocks.blocks.reading in
-    let none = c.new-tally.ensures.value in
-    let room : place + c.new-tally.result.rows < 2 ^ 64 = omega (arith, ap (λ (t : Tally). t.rows) none) in
+    let none = c.new-so_far.ensures.value in
+    let room : place + c.new-so_far.result.rows < 2 ^ 64 = omega (arith, ap (λ (t : Tally). t.rows) none) in
     record {
       far = rw none
           (so-far-start Answers before place reading c.in_ok-blocks.blocks.held.items opened.came (left c.args.input.now) (left c.open.new.input) (bytes c.args.output.now) (bytes c.write_header.new.output) opened.taken opened.held opened.enough
           (λ ended. (subst (λ r. IsLeft g.I.Source r c.args.input.now c.open.new.input) ended opened.left).0) opened.whole c.in_ok-write_header.ensures.written);
       few = opened.few;
-      small = c.new-tally.ensures.small;
+      small = c.new-so_far.ensures.small;
       room = room;
-      found = none-found (g.K.Keeper.tables c.args.keeper.now) (tree.get by_bytes c.new-issues.result) (λ cusip. search rules);
+      found = none-found (g.K.Keeper.tables c.args.keeper.now) (tree.get by_bytes c.new-so_far.result) (λ cusip. search rules);
       tables = refl;
       later = omega arith;
       lent_as = refl;
@@ -178,16 +178,16 @@ groups-init g c =
 
 pub groups-preserved : goal.groups-preserved
 groups-preserved g c =
-    let Answers = IsToldOf (IsRightAnswer (g.E.Encloser.ends c.args.calculator.now.encloser.now)) (g.K.Keeper.tables c.args.keeper.now) in
-    let before = header c.args.options.has_header in
+    let Answers = IsToldOf (IsRightAnswer (g.E.Encloser.ends c.args.calculator.now.encloser.now)) c.args.options.has_risk (g.K.Keeper.tables c.args.keeper.now) in
+    let before = header c.args.options in
     let place = c.args.options.first in
     let left = g.I.Source.left in
     let bytes = g.O.Sink.bytes in
     let was = c.groups.invariant in
     let group = c.in_ok-shares.ensures.group in
     let shares = c.in_ok-shares.shares.items in
-    let come = far-after g.I.Source Answers before place c.groups.tally c.groups.blocks c.take_group.new.blocks shares c.args.input.now c.groups.input c.take_group.new.input (bytes c.args.output.now) (bytes c.groups.output) was.far group in
-    let wrote = far-written Answers before place c.groups.tally c.in_ok-tally.tally c.groups.blocks.reading c.groups.blocks.held.items (rows_of_shares shares) (left c.args.input.now) (left c.groups.input) (bytes c.args.output.now) (bytes c.groups.output) (bytes c.do_group.new.output) was.far (rw (was.tables, c.deref_mut.ensures.value) at c.in_ok-tally.ensures.did) in
+    let come = far-after g.I.Source Answers before place c.groups.so_far.tally c.groups.blocks c.take_group.new.blocks shares c.args.input.now c.groups.input c.take_group.new.input (bytes c.args.output.now) (bytes c.groups.output) was.far group in
+    let wrote = far-written Answers before place c.groups.so_far.tally c.in_ok-tally.tally c.groups.blocks.reading c.groups.blocks.held.items (rows_of_shares shares) (left c.args.input.now) (left c.groups.input) (bytes c.args.output.now) (bytes c.groups.output) (bytes c.do_group.new.output) was.far (rw (was.tables, c.deref_mut.ensures.value) at c.in_ok-tally.ensures.did) in
     let rows = was.far.rows ++ rows_of_shares shares in
     let did = c.in_ok-tally.ensures in
     record {

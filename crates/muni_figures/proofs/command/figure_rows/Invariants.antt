@@ -14,12 +14,12 @@ use Rattle.muni_figures.proofs.command.figure_rows.Given as goal
 -- the lines of the groups so far were written
 abbrev pub invariant-groups : goal.invariant-groups
 invariant-groups g l = record {
-  far : IsSoFar (IsToldOf (IsRightAnswer (g.E.Encloser.ends l.fn.calculator.encloser.now)) (g.K.Keeper.tables l.fn.keeper)) (header l.fn.options.has_header) l.fn.options.first l.tally l.blocks.reading l.blocks.held.items
+  far : IsSoFar (IsToldOf (IsRightAnswer (g.E.Encloser.ends l.fn.calculator.encloser.now)) l.fn.options.has_risk (g.K.Keeper.tables l.fn.keeper)) (header l.fn.options) l.fn.options.first l.so_far.tally l.blocks.reading l.blocks.held.items
       (g.I.Source.left l.fn.input) (g.I.Source.left l.input) (g.O.Sink.bytes l.fn.output) (g.O.Sink.bytes l.output);
   few : length l.blocks.held.items ≤ most_bytes;
-  small : IsSmall l.tally;
-  room : l.fn.options.first + l.tally.rows < 2 ^ 64;
-  found : IfSome (g.K.Keeper.tables l.fn.keeper) (λ t. AreFound t (tree.get by_bytes l.issues));
+  small : IsSmall l.so_far.tally;
+  room : l.fn.options.first + l.so_far.tally.rows < 2 ^ 64;
+  found : IfSome (g.K.Keeper.tables l.fn.keeper) (λ t. AreFound t (tree.get by_bytes l.so_far.issues));
   tables : g.K.Keeper.tables l.keeper ≡ g.K.Keeper.tables l.fn.keeper;
   later : g.K.Keeper.faults l.fn.keeper ≤ g.K.Keeper.faults l.keeper;
   lent_as : g.K.Keeper.lent_as l.keeper ≡ g.K.Keeper.lent_as l.fn.keeper;

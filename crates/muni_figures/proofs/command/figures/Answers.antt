@@ -6,8 +6,8 @@ use Rattle.muni_figures.proofs.command.figures.Goals as goal
 
 pub returns-clause-written : goal.returns-clause-written
 returns-clause-written g c =
-    fetched-wrote (IsRightAnswer (g.E.Encloser.ends c.args.calculator.now.encloser.now)) (g.C.Cabinet.told c.args.cabinet.now c.args.store.now) (g.C.K.Keeper.tables c.in_ok-keeper.keeper)
-    (header c.args.options.has_header) c.args.options.first c.figure_rows-done.result (g.I.Source.left c.args.input.now) (g.I.Source.left c.figure_rows-done.new.input)
+    fetched-wrote (IsRightAnswer (g.E.Encloser.ends c.args.calculator.now.encloser.now)) c.args.options.has_risk (g.C.Cabinet.told c.args.cabinet.now c.args.store.now) (g.C.K.Keeper.tables c.in_ok-keeper.keeper)
+    (header c.args.options) c.args.options.first c.figure_rows-done.result (g.I.Source.left c.args.input.now) (g.I.Source.left c.figure_rows-done.new.input)
     (g.O.Sink.bytes c.args.output.now) (g.O.Sink.bytes c.figure_rows-done.new.output) c.in_ok-keeper.ensures.tables c.figure_rows-done.ensures.written
 
 pub returns-clause-leaves : goal.returns-clause-leaves

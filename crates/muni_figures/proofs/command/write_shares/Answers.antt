@@ -10,16 +10,16 @@ use Rattle.muni_figures.proofs.WriteLemmas.{all-places, few-more, first-text, ne
 use Rattle.muni_figures.proofs.command.write_shares.Goals as goal
 
 pub price_shares-requires-after_bounds : goal.price_shares-requires-after_bounds
-price_shares-requires-after_bounds g c = λ bounds met. all-places (c.args.first + c.args.before.now.rows) c.args.shares.now c.requires.numbered
+price_shares-requires-after_bounds g c = λ bounds met. all-places (c.args.valuing.now.options.first + c.args.so_far.now.tally.rows) c.args.shares.now c.requires.numbered
 
 pub loop-share-init : goal.loop-share-init
 loop-share-init g c =
-    let Answers = IsSaid (IsRightAnswer (g.E.Encloser.ends c.args.calculator.now.encloser.now)) (tree.get by_bytes c.args.issues.now) in
+    let Answers = IsSaid (IsRightAnswer (g.E.Encloser.ends c.args.valuing.now.calculator.now.encloser.now)) c.args.valuing.now.options.has_risk (tree.get by_bytes c.args.so_far.now.issues) in
     record {
       lines = [];
       these = no_tally;
-      done = done-none Answers (c.args.first + c.args.before.now.rows);
-      tally = none-more c.args.before.now;
+      done = done-none Answers (c.args.valuing.now.options.first + c.args.so_far.now.tally.rows);
+      tally = none-more c.args.so_far.now.tally;
       small = c.requires.small;
       written = written-none (g.O.Sink.bytes c.args.output.now);
       puts = refl;
@@ -27,17 +27,17 @@ loop-share-init g c =
 
 pub returns-in-Err-clause-did : goal.returns-in-Err-clause-did
 returns-in-Err-clause-did g c =
-    let Answers = IsSaid (IsRightAnswer (g.E.Encloser.ends c.args.calculator.now.encloser.now)) (tree.get by_bytes c.args.issues.now) in
+    let Answers = IsSaid (IsRightAnswer (g.E.Encloser.ends c.args.valuing.now.calculator.now.encloser.now)) c.args.valuing.now.options.has_risk (tree.get by_bytes c.args.so_far.now.issues) in
     let before = c.loop-share.invariant in
-    (before.lines, first-text Answers (c.args.first + c.args.before.now.rows) c.args.shares.now c.loop-share.share-index before.lines before.these before.done, before.written)
+    (before.lines, first-text Answers (c.args.valuing.now.options.first + c.args.so_far.now.tally.rows) c.args.shares.now c.loop-share.share-index before.lines before.these before.done, before.written)
 
 pub returns-in_err-write-clause-did : goal.returns-in_err-write-clause-did
 returns-in_err-write-clause-did g c =
-    let Answers = IsSaid (IsRightAnswer (g.E.Encloser.ends c.args.calculator.now.encloser.now)) (tree.get by_bytes c.args.issues.now) in
+    let Answers = IsSaid (IsRightAnswer (g.E.Encloser.ends c.args.valuing.now.calculator.now.encloser.now)) c.args.valuing.now.options.has_risk (tree.get by_bytes c.args.so_far.now.issues) in
     let before = c.loop-share.invariant in
     let xs = c.args.shares.now in
     let i = c.loop-share.share-index in
-    let place = c.args.first + c.args.before.now.rows in
+    let place = c.args.valuing.now.options.first + c.args.so_far.now.tally.rows in
     let lines = c.in-Ok.lines in
     let bytes = g.O.Sink.bytes in
     let p = err_from_is_err_and c.from_residual.result c.from_residual.ensures.1 in
@@ -50,11 +50,11 @@ returns-in_err-write-clause-did g c =
 
 pub plus-tally-requires-clause-room : goal.plus-tally-requires-clause-room
 plus-tally-requires-clause-room g c =
-    let Answers = IsSaid (IsRightAnswer (g.E.Encloser.ends c.args.calculator.now.encloser.now)) (tree.get by_bytes c.args.issues.now) in
+    let Answers = IsSaid (IsRightAnswer (g.E.Encloser.ends c.args.valuing.now.calculator.now.encloser.now)) c.args.valuing.now.options.has_risk (tree.get by_bytes c.args.so_far.now.issues) in
     let before = c.loop-share.invariant in
     let xs = c.args.shares.now in
     let i = c.loop-share.share-index in
-    let place = c.args.first + c.args.before.now.rows in
+    let place = c.args.valuing.now.options.first + c.args.so_far.now.tally.rows in
     let lines = c.in-Ok.lines in
     let within = priced-within Answers xs c.price_shares.new.shares i c.price_shares.ensures c.loop-share-test.true in
     let block = share-done Answers place xs c.price_shares.new.shares i c.share-item.result lines c.requires.numbered c.price_shares.ensures within c.share-item.is c.in-Ok.is in
@@ -64,18 +64,18 @@ plus-tally-requires-clause-room g c =
 
 pub plus-tally-requires-clause-others : goal.plus-tally-requires-clause-others
 plus-tally-requires-clause-others g c =
-    let Answers = IsSaid (IsRightAnswer (g.E.Encloser.ends c.args.calculator.now.encloser.now)) (tree.get by_bytes c.args.issues.now) in
-    let place = c.args.first + c.args.before.now.rows in
+    let Answers = IsSaid (IsRightAnswer (g.E.Encloser.ends c.args.valuing.now.calculator.now.encloser.now)) c.args.valuing.now.options.has_risk (tree.get by_bytes c.args.so_far.now.issues) in
+    let place = c.args.valuing.now.options.first + c.args.so_far.now.tally.rows in
     let within = priced-within Answers c.args.shares.now c.price_shares.new.shares c.loop-share.share-index c.price_shares.ensures c.loop-share-test.true in
     (share-done Answers place c.args.shares.now c.price_shares.new.shares c.loop-share.share-index c.share-item.result c.in-Ok.lines c.requires.numbered c.price_shares.ensures within c.share-item.is c.in-Ok.is).small
 
 pub loop-share-preserved : goal.loop-share-preserved
 loop-share-preserved g c =
-    let Answers = IsSaid (IsRightAnswer (g.E.Encloser.ends c.args.calculator.now.encloser.now)) (tree.get by_bytes c.args.issues.now) in
+    let Answers = IsSaid (IsRightAnswer (g.E.Encloser.ends c.args.valuing.now.calculator.now.encloser.now)) c.args.valuing.now.options.has_risk (tree.get by_bytes c.args.so_far.now.issues) in
     let before = c.loop-share.invariant in
     let xs = c.args.shares.now in
     let i = c.loop-share.share-index in
-    let place = c.args.first + c.args.before.now.rows in
+    let place = c.args.valuing.now.options.first + c.args.so_far.now.tally.rows in
     let lines = c.in-Ok.lines in
     let bytes = g.O.Sink.bytes in
     let within = priced-within Answers xs c.price_shares.new.shares i c.price_shares.ensures c.loop-share-test.true in
@@ -84,7 +84,7 @@ loop-share-preserved g c =
       lines = before.lines ++ lines.text.items;
       these = tally_sum before.these lines.tally;
       done = next-done Answers place xs i c.share-item.result before.lines lines.text.items before.these lines.tally within before.done block;
-      tally = c.plus-tally.ensures.value ∙ ap (λ t. tally_sum t lines.tally) before.tally ∙ tally-assoc c.args.before.now before.these lines.tally;
+      tally = c.plus-tally.ensures.value ∙ ap (λ t. tally_sum t lines.tally) before.tally ∙ tally-assoc c.args.so_far.now.tally before.these lines.tally;
       small = c.plus-tally.ensures.small;
       written = written-then (bytes c.args.output.now) (bytes c.loop-share.output) (bytes c.write.new.output) before.lines lines.text.items before.written (rw c.as_slice.ensures.value at c.in_ok-write.ensures.written);
       puts = c.in_ok-write.ensures.uncounted ∙ before.puts;

@@ -12,37 +12,37 @@ use Rattle.muni_figures.proofs.pricing.block_lines.Goals as goal
 
 pub loop-left-init : goal.loop-left-init
 loop-left-init g c =
-    let Answers = IsSaid (IsRightAnswer (g.E.Encloser.ends c.args.calculator.now.encloser.now)) (tree.get by_bytes c.args.issues.now) in
+    let Answers = IsSaid (IsRightAnswer (g.E.Encloser.ends c.args.calculator.now.encloser.now)) c.args.has_risk (tree.get by_bytes c.args.issues.now) in
     record {
       rows = [];
-      read = read-none c.args.block.now;
-      done = rw (c.new-lines.ensures.text, c.new-lines.ensures.tally) (done-none Answers c.args.place);
+      read = read-none c.args.share.now.block.items;
+      done = rw (c.new-lines.ensures.text, c.new-lines.ensures.tally) (done-none Answers c.args.share.now.place);
     }
 
 pub add-requires-clause-name : goal.add-requires-clause-name
 add-requires-clause-name g c =
-    said-named (IsRightAnswer (g.E.Encloser.ends c.args.calculator.now.encloser.now)) (tree.get by_bytes c.args.issues.now) c.read_line.result c.said_of-said.result c.said_of-said.ensures
+    said-named (IsRightAnswer (g.E.Encloser.ends c.args.calculator.now.encloser.now)) c.args.has_risk (tree.get by_bytes c.args.issues.now) c.read_line.result c.said_of-said.result c.said_of-said.ensures
 
 pub add-requires-clause-room : goal.add-requires-clause-room
 add-requires-clause-room g c =
-    let Answers = IsSaid (IsRightAnswer (g.E.Encloser.ends c.args.calculator.now.encloser.now)) (tree.get by_bytes c.args.issues.now) in
+    let Answers = IsSaid (IsRightAnswer (g.E.Encloser.ends c.args.calculator.now.encloser.now)) c.args.has_risk (tree.get by_bytes c.args.issues.now) in
     let before = c.loop-left.invariant in
     let line = c.cut.result.0.now in
     let left = option_map (λ text. text.now) c.cut.result.1 in
-    let read = read-row c.args.block.now c.in-Some.bytes.now line left before.rows (rw c.in-Some.is at before.read) c.cut.ensures.parts (size-shorter c.cut.result.1 (length c.in-Some.bytes.now) c.cut.ensures.shorter) (sym c.is_row.ensures ∙ c.if-is_row.true) in
-    omega (arith, read-within c.args.block.now line left before.rows read, c.requires, done-rows Answers c.args.place before.rows c.loop-left.lines.text.items c.loop-left.lines.tally before.done)
+    let read = read-row c.args.share.now.block.items c.in-Some.bytes.now line left before.rows (rw c.in-Some.is at before.read) c.cut.ensures.parts (size-shorter c.cut.result.1 (length c.in-Some.bytes.now) c.cut.ensures.shorter) (sym c.is_row.ensures ∙ c.if-is_row.true) in
+    omega (arith, read-within c.args.share.now.block.items line left before.rows read, c.requires, done-rows Answers c.args.share.now.place before.rows c.loop-left.lines.text.items c.loop-left.lines.tally before.done)
 
 pub loop-left-preserved-in_ok-add : goal.loop-left-preserved-in_ok-add
 loop-left-preserved-in_ok-add g c =
-    let Answers = IsSaid (IsRightAnswer (g.E.Encloser.ends c.args.calculator.now.encloser.now)) (tree.get by_bytes c.args.issues.now) in
+    let Answers = IsSaid (IsRightAnswer (g.E.Encloser.ends c.args.calculator.now.encloser.now)) c.args.has_risk (tree.get by_bytes c.args.issues.now) in
     let before = c.loop-left.invariant in
     let line = c.cut.result.0.now in
     let left = option_map (λ text. text.now) c.cut.result.1 in
     let added = c.in_ok-add.ensures in
     record {
       rows = before.rows ++ row_of line ∷ [];
-      read = read-row c.args.block.now c.in-Some.bytes.now line left before.rows (rw c.in-Some.is at before.read) c.cut.ensures.parts (size-shorter c.cut.result.1 (length c.in-Some.bytes.now) c.cut.ensures.shorter) (sym c.is_row.ensures ∙ c.if-is_row.true);
+      read = read-row c.args.share.now.block.items c.in-Some.bytes.now line left before.rows (rw c.in-Some.is at before.read) c.cut.ensures.parts (size-shorter c.cut.result.1 (length c.in-Some.bytes.now) c.cut.ensures.shorter) (sym c.is_row.ensures ∙ c.if-is_row.true);
       done = rw (added.text, added.tally)
-          (done-more Answers c.args.place before.rows c.loop-left.lines.text.items c.loop-left.lines.tally (row_of line) c.said_of-said.result before.done
+          (done-more Answers c.args.share.now.place before.rows c.loop-left.lines.text.items c.loop-left.lines.tally (row_of line) c.said_of-said.result before.done
           (rw c.read_line.ensures at c.said_of-said.ensures) (rw added.tally at added.small));
     }

@@ -13,8 +13,8 @@ use Rattle.muni_figures.proofs.pricing.block_lines.Given as goal
 abbrev pub invariant-loop-left : goal.invariant-loop-left
 invariant-loop-left g l = record {
   rows : List Row;
-  read : IsRead l.block (option_map (λ text. text.now) l.left) rows;
-  done : AreDone (IsSaid (IsRightAnswer (g.E.Encloser.ends l.calculator.encloser.now)) (tree.get by_bytes l.issues)) l.place rows l.lines.text.items l.lines.tally;
+  read : IsRead l.share.block.items (option_map (λ text. text.now) l.left) rows;
+  done : AreDone (IsSaid (IsRightAnswer (g.E.Encloser.ends l.calculator.encloser.now)) l.has_risk (tree.get by_bytes l.issues)) l.share.place rows l.lines.text.items l.lines.tally;
 }
 
 abbrev pub decreases-loop-left : goal.decreases-loop-left

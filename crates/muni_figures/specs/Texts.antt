@@ -1,0 +1,6 @@
+-- The texts of the fields of a line.
+use Rattle.std.specs.Prelude.{ℕ, List, map}
+use denote.Ref.{Bor}
+
+abbrev pub texts_of : List (Bor (List ℕ)) → List (List ℕ)
+texts_of fields = map (λ field. field.now) fields
