@@ -7,9 +7,10 @@ use Rattle.std.specs.List.{position_or_len}
 use Rattle.std.proofs.lemmas.Bool.Decides.{nat_tests}
 use Rattle.std.proofs.lemmas.Option.{slice_get-map, slice_get_past, slice_get_read}
 use Rattle.std.proofs.lemmas.List.{append_assoc, length-append}
-use Rattle.std.proofs.lemmas.List.Sums.{fails_before_first}
+use Rattle.std.proofs.lemmas.List.Sums.{fails_before_first, position_or_len_is}
 use Rattle.std.proofs.lemmas.List.Splits.{slice_split_first, slice_split_none}
 use Rattle.csv.specs.Records.{field_at}
+use Rattle.memchr.specs.Find.{NoneBefore, Nowhere, Passes, is_byte}
 use Rattle.muni_import.specs.Row.{field}
 use Rattle.muni_figures.specs.Rows.{Row, is_row, parts, parts_left, row_in, row_of, rows_in, rows_of_lines}
 use Rattle.muni_figures.specs.Texts.{texts_of}
@@ -41,6 +42,23 @@ pub parts-none : (byte : ℕ) (text : List ℕ) → position (λ b. b == byte) t
 parts-none byte text is =
     let at = position_or_len (λ b. b == byte) text in
     let past = not-below at (length text) (none-by (nat_lt at (length text)) at is) in
+    slice_split_none (λ b. b == byte) text (λ k d within. fails_before_first (λ b. b == byte) text k d (omega (arith, past, within)))
+
+-- the same by a search for the byte
+not-true : (test : Bool) → ¬ (test ≡ true) → test ≡ false
+not-true true not = absurd (not refl)
+not-true false not = refl
+
+pub found-at : (byte end : ℕ) (text : List ℕ) → NoneBefore (Passes (is_byte byte) text) 0 (length text) end × Passes (is_byte byte) text end
+    → parts byte text ≡ take end text ∷ parts byte (drop (end + 1) text)
+found-at byte end text (before, here) =
+    let at = position_or_len_is (λ b. b == byte) text end 0 (omega (arith, before.high)) (λ k less. not-true _ (before.before k (omega arith) less)) (λ within. here) in
+    subst (λ n. parts byte text ≡ take n text ∷ parts byte (drop (n + 1) text)) at
+    (slice_split_first (λ b. b == byte) text 0 (subst (λ n. n < length text) (sym at) before.high))
+
+pub found-nowhere : (byte : ℕ) (text : List ℕ) → Nowhere (Passes (is_byte byte) text) 0 (length text) → parts byte text ≡ text ∷ []
+found-nowhere byte text nowhere =
+    let past = position_or_len_is (λ b. b == byte) text (length text) 0 (omega arith) (λ k less. not-true _ (nowhere k (omega arith) less)) (λ within. absurd (omega (arith, within))) in
     slice_split_none (λ b. b == byte) text (λ k d within. fails_before_first (λ b. b == byte) text k d (omega (arith, past, within)))
 
 -- the field at a place

@@ -9,6 +9,7 @@ ghost use Rattle.muni_figures.specs.Rows as spec;
 ghost use Rattle.muni_figures.specs.Texts.{texts_of};
 
 use arrayvec::ArrayVec;
+use memchr::memchr;
 use muni_days::Day;
 use muni_dec::Par;
 use muni_dec::text::find;
@@ -21,6 +22,7 @@ const LONGEST: usize = 4_096;
 
 // A row has so many fields.
 const LEAST_FIELDS: usize = 5;
+
 const MOST_FIELDS: usize = 7;
 
 /// What a line asks for, or why it is no row.
@@ -52,8 +54,20 @@ pub(crate) fn is_row(line: &[u8]) -> bool
     !without_return(line).is_empty()
 }
 
-/// The first part of a text, up to a byte, and what comes after that byte.
-pub(crate) fn cut(text: &[u8], byte: u8) -> (&[u8], Option<&[u8]>)
+/// The first line of a text, and what comes after its line feed.
+pub(crate) fn next_line(text: &[u8]) -> (&[u8], Option<&[u8]>)
+    ensures parts { spec.parts 10 text.now
+        ≡ result.0.now ∷ spec.parts_left 10 (option_map (λ more. more.now) result.1) }
+    ensures shorter { IfSome result.1 (λ more. length more.now < length text.now) }
+{
+    match memchr(b'\n', text) {
+        Some(end) => (&text[..end], Some(&text[end + 1..])),
+        None => (text, None),
+    }
+}
+
+// The first part of a text, up to a byte, and what comes after that byte.
+fn cut(text: &[u8], byte: u8) -> (&[u8], Option<&[u8]>)
     ensures parts { spec.parts byte text.now
         ≡ result.0.now ∷ spec.parts_left byte (option_map (λ more. more.now) result.1) }
     ensures shorter { IfSome result.1 (λ more. length more.now < length text.now) }

@@ -9,7 +9,7 @@ ghost use Rattle.muni_figures.specs.Line.{HasName, said_line};
 ghost use Rattle.muni_figures.specs.Said.{IsSaid};
 ghost use Rattle.muni_figures.specs.Shares.{HasPlaces, rows_of_share};
 
-use crate::asked::{cut, is_row, read_line};
+use crate::asked::{is_row, next_line, read_line};
 use crate::line::add_line;
 use crate::said::{FiguresSaid, said_of};
 use crate::shares::Share;
@@ -76,9 +76,15 @@ pub(crate) fn block_lines<R: Threads + Sync, E: Encloser + Sync, G: Gate + Sync>
     let mut schedule = Schedule::new();
     let mut left = Some(share.block.as_slice());
     while let Some(bytes) = left {
-        let (line, more) = cut(bytes, b'\n');
+        let (line, more) = next_line(bytes);
         if is_row(line) {
-            let said = said_of(calculator, &read_line(line), issues, has_risk, &mut schedule);
+            let said = said_of(
+                calculator,
+                &read_line(line),
+                issues,
+                has_risk,
+                &mut schedule,
+            );
             lines.add(share.place, &said)?;
         }
         left = more;

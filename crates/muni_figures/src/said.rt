@@ -38,7 +38,9 @@ pub enum FiguresSaid {
         risk: RiskColumns,
     },
     /// It has none, by the refusal with this number.
-    Refused { number: u32 },
+    Refused {
+        number: u32,
+    },
     /// It is no row that figures can be asked for.
     Bad(RowFault),
 }

@@ -6,7 +6,7 @@ ghost use Rattle.muni_keep.specs.Trades.{by_bytes};
 ghost use Rattle.muni_figures.specs.Issues.{IsScan, NamesRow};
 ghost use Rattle.muni_figures.specs.Rows.{row_of, rows_in};
 
-use crate::asked::{cut, is_row, read_named};
+use crate::asked::{is_row, next_line, read_named};
 use muni_edge::NoMemory;
 use muni_terms::Issue;
 use std::alloc::Global;
@@ -31,7 +31,7 @@ pub(crate) fn scan_block(
     let mut unknown = Vec::new(alloc);
     let mut left = Some(block);
     while let Some(bytes) = left {
-        let (line, more) = cut(bytes, b'\n');
+        let (line, more) = next_line(bytes);
         if is_row(line) {
             rows += 1;
             add_unknown(line, issues, &mut unknown)?;

@@ -27,21 +27,21 @@ pub add-requires-clause-room : goal.add-requires-clause-room
 add-requires-clause-room g c =
     let Answers = IsSaid (IsRightAnswer (g.E.Encloser.ends c.args.calculator.now.encloser.now)) c.args.has_risk (tree.get by_bytes c.args.issues.now) in
     let before = c.loop-left.invariant in
-    let line = c.cut.result.0.now in
-    let left = option_map (λ text. text.now) c.cut.result.1 in
-    let read = read-row c.args.share.now.block.items c.in-Some.bytes.now line left before.rows (rw c.in-Some.is at before.read) c.cut.ensures.parts (size-shorter c.cut.result.1 (length c.in-Some.bytes.now) c.cut.ensures.shorter) (sym c.is_row.ensures ∙ c.if-is_row.true) in
+    let line = c.next_line.result.0.now in
+    let left = option_map (λ text. text.now) c.next_line.result.1 in
+    let read = read-row c.args.share.now.block.items c.in-Some.bytes.now line left before.rows (rw c.in-Some.is at before.read) c.next_line.ensures.parts (size-shorter c.next_line.result.1 (length c.in-Some.bytes.now) c.next_line.ensures.shorter) (sym c.is_row.ensures ∙ c.if-is_row.true) in
     omega (arith, read-within c.args.share.now.block.items line left before.rows read, c.requires, done-rows Answers c.args.share.now.place before.rows c.loop-left.lines.text.items c.loop-left.lines.tally before.done)
 
 pub loop-left-preserved-in_ok-add : goal.loop-left-preserved-in_ok-add
 loop-left-preserved-in_ok-add g c =
     let Answers = IsSaid (IsRightAnswer (g.E.Encloser.ends c.args.calculator.now.encloser.now)) c.args.has_risk (tree.get by_bytes c.args.issues.now) in
     let before = c.loop-left.invariant in
-    let line = c.cut.result.0.now in
-    let left = option_map (λ text. text.now) c.cut.result.1 in
+    let line = c.next_line.result.0.now in
+    let left = option_map (λ text. text.now) c.next_line.result.1 in
     let added = c.in_ok-add.ensures in
     record {
       rows = before.rows ++ row_of line ∷ [];
-      read = read-row c.args.share.now.block.items c.in-Some.bytes.now line left before.rows (rw c.in-Some.is at before.read) c.cut.ensures.parts (size-shorter c.cut.result.1 (length c.in-Some.bytes.now) c.cut.ensures.shorter) (sym c.is_row.ensures ∙ c.if-is_row.true);
+      read = read-row c.args.share.now.block.items c.in-Some.bytes.now line left before.rows (rw c.in-Some.is at before.read) c.next_line.ensures.parts (size-shorter c.next_line.result.1 (length c.in-Some.bytes.now) c.next_line.ensures.shorter) (sym c.is_row.ensures ∙ c.if-is_row.true);
       done = rw (added.text, added.tally)
           (done-more Answers c.args.share.now.place before.rows c.loop-left.lines.text.items c.loop-left.lines.tally (row_of line) c.said_of-said.result before.done
           (rw c.read_line.ensures at c.said_of-said.ensures) (rw added.tally at added.small));

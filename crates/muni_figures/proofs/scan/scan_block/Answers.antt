@@ -14,12 +14,12 @@ loop-left-init c = record { done = []; read = read-none c.args.block.now; counte
 pub loop-left-preserved-in_ok-add_unknown : goal.loop-left-preserved-in_ok-add_unknown
 loop-left-preserved-in_ok-add_unknown c =
     let done = c.loop-left.invariant.done in
-    let line = c.cut.result.0.now in
-    let left = option_map (λ text. text.now) c.cut.result.1 in
+    let line = c.next_line.result.0.now in
+    let left = option_map (λ text. text.now) c.next_line.result.1 in
     let read = rw c.in-Some.is at c.loop-left.invariant.read in
     record {
       done = done ++ row_of line ∷ [];
-      read = read-row c.args.block.now c.in-Some.bytes.now line left done read c.cut.ensures.parts (size-shorter c.cut.result.1 (length c.in-Some.bytes.now) c.cut.ensures.shorter) (sym c.is_row.ensures ∙ c.if-is_row.true);
+      read = read-row c.args.block.now c.in-Some.bytes.now line left done read c.next_line.ensures.parts (size-shorter c.next_line.result.1 (length c.in-Some.bytes.now) c.next_line.ensures.shorter) (sym c.is_row.ensures ∙ c.if-is_row.true);
       counted = omega (arith, c.loop-left.invariant.counted, length_push done (row_of line));
       named = one-named (tree.get by_bytes c.args.issues.now) done (row_of line) c.loop-left.unknown.items c.add_unknown.new.unknown.items c.in_ok-add_unknown.ensures c.loop-left.invariant.named;
     }
