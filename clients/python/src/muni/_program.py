@@ -6,6 +6,7 @@ import os
 import subprocess
 import tempfile
 import threading
+import time
 from collections.abc import Iterator
 from contextlib import suppress
 from typing import IO, Union
@@ -14,6 +15,8 @@ Path = Union[str, "os.PathLike[str]"]
 
 # How many bytes of lines are taken at a time, and how many may wait meanwhile, so that the program goes on.
 _TAKEN, _WAITING = 1 << 18, 1 << 20
+# How many seconds pass until a file that a program writes is looked at again.
+_PAUSE = 0.02
 
 
 class Error(Exception):
@@ -32,19 +35,45 @@ class Ended(Error):
         return type(self), (self.status, self.said)
 
 
-def ran(program: Path, *words: str, rows: bytes = b"", patience: float | None = None) -> bytes:
-    """All that a command writes. It is `Ended` if its status is not 0, and killed after `patience` seconds, which is
-    subprocess.TimeoutExpired."""
+def ran(program: Path, *words: str, rows: bytes = b"") -> bytes:
+    """All that a command writes. It is `Ended` if its status is not 0."""
+    return b"".join(pieces(program, *words, rows=rows))
+
+
+def pieces(program: Path, *words: str, rows: bytes, patience: float | None = None) -> Iterator[bytes]:
+    """What a command writes, some bytes at a time, while it goes on. It is `Ended` behind the last of them if its status
+    is not 0, and killed after `patience` seconds, which is subprocess.TimeoutExpired. Whoever leaves off early ends
+    it."""
     # By files, so that the program never waits for a pipe.
-    with tempfile.TemporaryFile() as sent, tempfile.TemporaryFile() as came:
+    with tempfile.TemporaryFile() as sent, tempfile.TemporaryFile() as came, tempfile.TemporaryFile() as said:
         sent.write(rows)
         sent.seek(0)
-        done = subprocess.run([os.fspath(program), *words], stdin=sent, stdout=came, stderr=subprocess.PIPE,
-                              timeout=patience, check=False)
-        if done.returncode != 0:
-            raise Ended(done.returncode, done.stderr.decode(errors="replace"))
-        came.seek(0)
-        return came.read()
+        process = subprocess.Popen([os.fspath(program), *words], stdin=sent, stdout=came, stderr=said)
+        try:
+            yield from _written(process, came.fileno(), patience)
+        finally:
+            process.kill()
+            process.wait()
+        if process.returncode != 0:
+            said.seek(0)
+            raise Ended(process.returncode, said.read().decode(errors="replace"))
+
+
+def _written(process: subprocess.Popen[bytes], file: int, patience: float | None) -> Iterator[bytes]:
+    """What a process writes to a file, until it ends."""
+    begin, place = time.monotonic(), 0
+    while True:
+        # Asked before the file is read, which has all then.
+        is_over = process.poll() is not None
+        while piece := os.pread(file, _TAKEN, place):
+            yield piece
+            place += len(piece)
+        if is_over:
+            return
+        if patience is not None and time.monotonic() - begin > patience:
+            raise subprocess.TimeoutExpired(process.args, patience)
+        with suppress(subprocess.TimeoutExpired):
+            process.wait(_PAUSE)
 
 
 def lines(program: Path, *words: str, rows: bytes) -> Iterator[list[bytes]]:

@@ -1,6 +1,6 @@
 """A file of rows for `muni figures`, valued in parts by whatever runs commands: Slurm, GNU parallel, or a shell.
 
-    python3 -m muni.parts cut ROWS STORE FOLDER [--bytes=8000000] [--program=muni]
+    python3 -m muni.parts cut ROWS STORE FOLDER [--bytes=4000000] [--program=muni]
     python3 -m muni.parts value FOLDER NUMBER.. [--scratch=FOLDER] [--program=muni] [--patience=SECONDS]
     python3 -m muni.parts join FOLDER RESULT
 
@@ -24,20 +24,22 @@ import subprocess
 import sys
 import tempfile
 import threading
-from collections.abc import Iterator, Sequence
-from contextlib import contextmanager, suppress
+from collections.abc import Callable, Generator, Iterator, Sequence
+from contextlib import closing, contextmanager, suppress
 from dataclasses import asdict, dataclass
 from decimal import Decimal
 from typing import IO
 
-from ._program import Ended, Error, Path, ran
+from ._program import Ended, Error, Path, pieces, ran
 
 # How many bytes a part has, and some more up to the end of a line.
-SIZE = 8_000_000
+SIZE = 4_000_000
 
 _MARK = b"\xef\xbb\xbf"
 _TOTAL = re.compile(rb"TOTAL,(\d+),(-?\d+\.\d\d),(\d+)\n")
 _PRICED = re.compile(rb",figures,.*,(-?\d+\.\d\d)\n")
+# More bytes than the last two lines of an answer have.
+_LAST = 1_000
 
 
 class PartFault(Error):
@@ -127,26 +129,57 @@ def _rows_in(block: bytes) -> int:
 
 def told(answer: bytes, part: Part) -> Total:
     """The total in the last line of an answer, if there is one behind as many lines as the part has rows."""
-    found = _TOTAL.fullmatch(answer, answer.rfind(b"TOTAL,"))
-    lines = answer.count(b"\n") - 1
+    return _told(answer[-_LAST:], answer.count(b"\n") - 1, part)
+
+
+def _told(end: bytes, lines: int, part: Part) -> Total:
+    found = _TOTAL.fullmatch(end, max(0, end.rfind(b"TOTAL,")))
     if not found or int(found[3]) != part.rows or lines != part.rows:
-        raise PartFault(f"{lines} lines for {part.rows} rows, and at the end {answer[-100:].splitlines()[-1:]}")
+        raise PartFault(f"{lines} lines for {part.rows} rows, and at the end {end[-100:].splitlines()[-1:]}")
     return Total(int(found[1]), Decimal(found[2].decode()), part.rows)
 
 
 def checked(answer: bytes, part: Part) -> Total:
     """The same, if the total is also what the lines come to, and the places are those of the part."""
-    total = told(answer, part)
-    priced = _PRICED.findall(answer)
-    cents = sum(map(int, b" ".join(priced).replace(b".", b"").split()))
-    if not answer.count(b",figures,") == len(priced) == total.priced or Decimal(cents).scaleb(-2) != total.money:
-        raise PartFault(f"{len(priced)} lines have figures that come to {cents} cents, and at the end is {total}")
-    if part.rows:
-        ends = [answer.splitlines()[0]] if part.rows == 1 else [answer[:99], answer[:-1].rsplit(b"\n", 2)[-2]]
-        places = [int(line.partition(b",")[0]) for line in ends]
-        if (places[0], places[-1]) != (part.first, part.first + part.rows - 1):
-            raise PartFault(f"the places are {places}, and not {part.rows} from {part.first} on")
-    return total
+    check = Check(part)
+    check.add(answer)
+    return check.total()
+
+
+class Check:
+    """Holds an answer against its last line while it comes, some bytes at a time."""
+
+    def __init__(self, part: Part) -> None:
+        self._part = part
+        self._lines = self._figures = self._priced = self._cents = 0
+        self._first = self._last = self._rest = b""
+
+    def add(self, some: bytes) -> None:
+        """The next bytes. They may end within a line, which is counted when all of it is there."""
+        text = self._rest + some if self._rest else some
+        end = text.rfind(b"\n") + 1
+        priced = _PRICED.findall(text, 0, end)
+        self._figures += text.count(b",figures,", 0, end)
+        self._priced += len(priced)
+        self._cents += sum(map(int, b" ".join(priced).replace(b".", b"").split()))
+        self._first = self._first or text[:min(end, _LAST)]
+        self._last = (self._last + text[max(0, end - _LAST):end])[-_LAST:]
+        self._lines += text.count(b"\n", 0, end)
+        self._rest = text[end:]
+
+    def total(self) -> Total:
+        """The total, if all has come and it is what the lines come to, with the places of the part."""
+        total = _told(self._last + self._rest, self._lines - 1, self._part)
+        figures = self._figures, self._priced
+        if figures != (total.priced, total.priced) or Decimal(self._cents).scaleb(-2) != total.money:
+            raise PartFault(f"{self._priced} lines have figures that come to {self._cents} cents, and at the end is "
+                            f"{total}")
+        if total.rows:
+            ends = self._first, self._last[:-1].rsplit(b"\n", 2)[-2]
+            places = [int(line.partition(b",")[0]) for line in ends]
+            if places != [self._part.first, self._part.first + total.rows - 1]:
+                raise PartFault(f"the places are {places}, and not {total.rows} from {self._part.first} on")
+        return total
 
 
 def issues(store: Path, program: Path = "muni") -> bytes:
@@ -190,15 +223,26 @@ class OwnStore:
         self.remove()
 
 
-def value(rows: bytes, part: Part, store: str, program: Path = "muni",
-          patience: float | None = None) -> tuple[bytes, Total]:
-    """The answer on the rows of a part, which is whole, and its total. A program that takes longer than `patience`
-    seconds is ended."""
+def value(rows: bytes, part: Part, store: str, keep: Callable[[bytes], object], program: Path = "muni",
+          patience: float | None = None) -> Total:
+    """Hands the answer on the rows of a part to `keep`, some bytes at a time, while the program goes on, and gives its
+    total. If it is not whole, that is a PartFault at the end. A program that takes longer than `patience` seconds is
+    ended."""
+    check = Check(part)
+    with closing(_answer(part, store, rows, program, patience)) as answer:
+        for some in answer:
+            check.add(some)
+            keep(some)
+    return check.total()
+
+
+def _answer(part: Part, store: str, rows: bytes, program: Path,
+            patience: float | None) -> Generator[bytes, None, None]:
+    words = "figures", f"--store={store}", f"--from={part.first}"
     try:
-        answer = ran(program, "figures", f"--store={store}", f"--from={part.first}", rows=rows, patience=patience)
+        yield from pieces(program, *words, rows=rows, patience=patience)
     except (Ended, OSError, subprocess.TimeoutExpired) as error:
         raise PartFault(f"{type(error).__name__}: {error}") from error
-    return answer, checked(answer, part)
 
 
 class Folder:
@@ -241,9 +285,8 @@ class Folder:
         path = self.answer(number)
         with suppress(FileNotFoundError, PartFault):
             return checked(path.read_bytes(), plan.parts[number])
-        answer, total = value(plan.rows(number), plan.parts[number], store, program, patience)
-        _write(path, answer)
-        return total
+        with _whole(path) as file:
+            return value(plan.rows(number), plan.parts[number], store, file.write, program, patience)
 
     def join(self, result: Path) -> Total:
         """Writes the lines of all parts and one total to a file. A part without a whole answer is a PartFault."""

@@ -151,8 +151,10 @@ def _value_at(shared: Folder, number: int, kept: tuple[str, bytes], program: Pat
 
 def _answer_at(rows: bytes, part: Part, kept: tuple[str, bytes], program: Path, patience: float | None) -> bytes:
     """The answer on rows, at a worker."""
+    answer: list[bytes] = []
     with _lent(*kept) as store:
-        return value(rows, part, store, program, patience)[0]
+        value(rows, part, store, answer.append, program, patience)
+    return b"".join(answer)
 
 
 # The copies of stores of this worker that no thread has now, by the digests of the stores.
