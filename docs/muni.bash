@@ -19,7 +19,7 @@ _muni_options() {
     list) echo --store --desk ;;
     load) echo --store --desk-limit ;;
     check-store) echo --store ;;
-    figures) echo --store --workers --from --header ;;
+    figures) echo --store --workers --from --header --risk ;;
     esac
 }
 

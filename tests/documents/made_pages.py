@@ -67,7 +67,7 @@ def completions(commands, options):
     """The functions of docs/muni.bash that have the commands, their options and the values of those with a few."""
     cases = "".join("    %s) echo %s ;;\n" % (command.name, " ".join(option.name for option in options[command.name]))
                     for command in commands if any(option.value for option in options[command.name]))
-    flags = [option.name for each in options.values() for option in each if is_flag(option)]
+    flags = dict.fromkeys(option.name for each in options.values() for option in each if is_flag(option))
     values = {option.name: option.form.partition(" ")[2] for each in options.values() for option in each
               if option.form.startswith("words ")}
     return "".join([

@@ -23,9 +23,10 @@ use Rattle.muni_msg.specs.Fields.{day_in, kind_reading, call_reading}
 use Rattle.muni_msg.specs.declared.asked.Asked.{Asked}
 use Rattle.muni_msg.specs.declared.asked.Given.{Given}
 use Rattle.muni_msg.specs.declared.asked.Given.TheVariants.{AtYield, AtPrice, AtRate}
+use Rattle.muni_msg.specs.declared.shown.Shown.{Shown}
 use Rattle.muni_msg.specs.declared.asked.Side.TheVariants.{Buy}
 use Rattle.muni_desk.specs.Words.{◌>>=◌, word, is_option, are_options, are_options_beside, has_word, value_of, values_of}
-use Rattle.muni_desk.specs.QuoteOptions.{date_of, bond_day_count, note_day_count, day_count_of, coupon_of, calls_reading, calls_of, par_of, one_given, given_of, workers_in, workers_of, row_of, asked_of, quote_of, each_word, options, single_options}
+use Rattle.muni_desk.specs.QuoteOptions.{date_of, bond_day_count, note_day_count, day_count_of, coupon_of, calls_reading, calls_of, par_of, one_given, given_of, workers_in, workers_of, row_of, asked_of, quote_of, each_word, risk_word, plain_words, shown_of, options, single_options}
 use Rattle.muni_desk.specs.QuoteOptions as quote
 use Rattle.muni_desk.specs.DrillOptions as drill
 use Rattle.muni_desk.specs.DrillOptions.{drill_of}
@@ -360,37 +361,38 @@ asked-read words asked single said =
     (asked-same words asked said)))
 
 -- ---- `quote`
-abbrev quote_from : IssueRow → Asked → Bool → ℕ → CommandLine
-quote_from row asked each workers = record { command = Quote (record { row = row; asked = asked }) each; workers = workers }
+abbrev quote_from : IssueRow → Asked → Shown → ℕ → CommandLine
+quote_from row asked shown workers = record { command = Quote (record { row = row; asked = asked }) shown; workers = workers }
 
 pub read-quote : (words : List (List ℕ)) (name : List ℕ) (line : CommandLine) → name ≡ codes "quote" → quote_of words ≡ Some line → IsCommandLine (name ∷ words) line
 read-quote words name line named is =
-    let options_read = if-some (are_options_beside each_word options single_options words) (quote.command_line words) line is in
-    let stand = options-read-beside each_word options single_options words options_read.0 in
+    let options_read = if-some (are_options_beside plain_words options single_options words) (quote.command_line words) line is in
+    let stand = options-read-beside plain_words options single_options words options_read.0 in
     let row = bind-some _ (row_of words) line options_read.1 in
     let asked = bind-some _ (asked_of words) line row.2 in
     let workers = bind-some _ (workers_of words) line asked.2 in
-    subst (IsCommandLine (name ∷ words)) (same_Some (quote_from row.0 asked.0 (has_word each_word words) workers.0) line workers.2) (
+    subst (IsCommandLine (name ∷ words)) (same_Some (quote_from row.0 asked.0 (shown_of words) workers.0) line workers.2) (
       named,
       record {
         known = stand.0;
         once = stand.1;
         single = stand.2;
-        wanted = has-read each_word words (has_word each_word words) refl;
+        each = has-read each_word words (has_word each_word words) refl;
+        risk = has-read risk_word words (has_word risk_word words) refl;
         terms = read-row words row.0 row.1;
         asked = read-asked words asked.0 asked.1;
         at_once = read-workers words workers.0 (value_of (codes "--workers=") words) refl workers.1;
       },
     )
 
-pub quote-read : (words : List (List ℕ)) (request : QuoteRequest) (each : Bool) (workers : ℕ) → IsQuote words request each workers → quote_of words ≡ Some (record { command = Quote request each; workers = workers })
-quote-read words request each workers said =
-    let line : CommandLine = record { command = Quote request each; workers = workers } in
-    when-true (are_options_beside each_word options single_options words) (quote.command_line words) line (are-options-beside each_word options single_options words said.known said.once said.single)
+pub quote-read : (words : List (List ℕ)) (request : QuoteRequest) (shown : Shown) (workers : ℕ) → IsQuote words request shown workers → quote_of words ≡ Some (record { command = Quote request shown; workers = workers })
+quote-read words request shown workers said =
+    let line : CommandLine = record { command = Quote request shown; workers = workers } in
+    when-true (are_options_beside plain_words options single_options words) (quote.command_line words) line (are-options-beside plain_words options single_options words said.known said.once said.single)
     (some-bind _ (row_of words) request.row line (row-read words request.row said.single said.terms)
     (some-bind _ (asked_of words) request.asked line (asked-read words request.asked said.single said.asked)
     (some-bind _ (workers_of words) workers line (workers-read words workers (said.single 10 [] (omega arith)) said.at_once)
-    (ap (λ wanted. Some (quote_from request.row request.asked wanted workers)) (read-has each_word words each said.wanted)))))
+    (λ i. Some (quote_from request.row request.asked (record { each = read-has each_word words shown.each said.each i; risk = read-has risk_word words shown.risk said.risk i }) workers)))))
 
 -- ---- `drill`
 abbrev drill_from : ℕ → ℕ → ℕ → CommandLine

@@ -1,5 +1,5 @@
 -- A command is completed if nothing failed.
-use Rattle.std.proofs.Common.{Bool, ◌≡◌, ◌<◌, ◌≤◌, ◌+◌, ◌^◌, ◌⊎◌, inl, inr, ℕ, List, length, Option, Some, None, Result, Ok, Err, IfSome, refl, sym, subst, arith, ℤ}
+use Rattle.std.proofs.Common.{◌≡◌, ◌<◌, ◌≤◌, ◌+◌, ◌^◌, ◌⊎◌, inl, inr, ℕ, List, length, Option, Some, None, Result, Ok, Err, IfSome, refl, sym, subst, arith, ℤ}
 use Rattle.muni_rule.specs.Payments.{PaymentSeries}
 use Rattle.muni_rule.specs.WorthEnds.{WorthEnds}
 use Rattle.muni_edge.specs.Faults.{Rose}
@@ -9,6 +9,7 @@ use Rattle.muni_edge.specs.declared.source.Source as Source
 use Rattle.muni_keep.specs.declared.cabinet.Cabinet as Cabinet
 use Rattle.muni_book_step.specs.Step.{Rules}
 use Rattle.muni_msg.specs.declared.command.Key.{Key}
+use Rattle.muni_msg.specs.declared.shown.Shown.{Shown}
 use Rattle.muni_desk_io.specs.Lent.{Lent}
 use Rattle.muni_desk_io.specs.declared.fault.Fault.{Fault}
 use Rattle.muni_desk_io.specs.declared.fault.Fault.TheVariants.{Read, Write, Store, TooLarge, NoMemory}
@@ -49,10 +50,10 @@ quote_one-answered request status.Done text is = tt
 quote_one-answered request status.Refused text is = tt
 quote_one-answered request end text is = absurd is
 
-quote-answered : (ends : PaymentSeries → ℤ → WorthEnds) (request : QuoteRequest) (each : Bool) (end : Status) (text : List ℕ) → IsQuoteText ends request each end text → EndsWell end
-quote-answered ends request each status.Done text is = tt
-quote-answered ends request each status.Refused text is = tt
-quote-answered ends request each end text is = absurd is
+quote-answered : (ends : PaymentSeries → ℤ → WorthEnds) (request : QuoteRequest) (shown : Shown) (end : Status) (text : List ℕ) → IsQuoteText ends request shown end text → EndsWell end
+quote-answered ends request shown status.Done text is = tt
+quote-answered ends request shown status.Refused text is = tt
+quote-answered ends request shown end text is = absurd is
 
 drill-answered : (ends : PaymentSeries → ℤ → WorthEnds) (request : DrillRequest) (end : Status) (text : List ℕ) → IsDrillText ends request end text → EndsWell end
 drill-answered ends request status.Done text is = tt
@@ -64,7 +65,7 @@ help-answered end text is = absurd is
 
 right-answered : (ends : PaymentSeries → ℤ → WorthEnds) (command : DeskCommand) (answer : Answer) → IsAnswer ends command answer → EndsWell answer.status
 right-answered ends (QuoteOne request) answer is = quote_one-answered request answer.status answer.text.items is
-right-answered ends (Quote request each) answer is = quote-answered ends request each answer.status answer.text.items is
+right-answered ends (Quote request shown) answer is = quote-answered ends request shown answer.status answer.text.items is
 right-answered ends (Drill request) answer is = drill-answered ends request answer.status answer.text.items is
 right-answered ends Help answer is = help-answered answer.status answer.text.items is
 right-answered ends (Import store listed limit) answer is = absurd is
@@ -204,7 +205,7 @@ serve-completed cabinet door R told store port most (Err serve.Door) end old new
 
 pub completed : {I O C K D L : Type 0} (source : Source.Ghosts I) (sink : Sink.Ghosts O) (cabinet : Cabinet.Ghosts C K) (door : Door.Ghosts D L) → CommandsAreCompleted source sink cabinet door
 completed source sink cabinet door ends told (QuoteOne request) end old new before after does none few can = says-answered sink ends (QuoteOne request) end old.output new.output does none.writes
-completed source sink cabinet door ends told (Quote request each) end old new before after does none few can = says-answered sink ends (Quote request each) end old.output new.output does none.writes
+completed source sink cabinet door ends told (Quote request shown) end old new before after does none few can = says-answered sink ends (Quote request shown) end old.output new.output does none.writes
 completed source sink cabinet door ends told (Drill request) end old new before after does none few can = says-answered sink ends (Drill request) end old.output new.output does none.writes
 completed source sink cabinet door ends told Help end old new before after does none few can = says-answered sink ends Help end old.output new.output does none.writes
 completed source sink cabinet door ends told (Import store None limit) end old new before after does none few can =

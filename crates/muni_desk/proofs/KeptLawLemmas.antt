@@ -59,8 +59,8 @@ asks-export name words store want.Counts named said = absurd said.says
 
 pub read-export : (words : List (List ℕ)) (name : List ℕ) (line : CommandLine) → name ≡ codes "export" → export_of words ≡ Some line → IsCommandLine (name ∷ words) line
 read-export words name line named is =
-    let options_read = if-some (are_options_beside issues_word desk_options desk_options words) (export_line words) line is in
-    let stand = options-read-beside issues_word desk_options desk_options words options_read.0 in
+    let options_read = if-some (are_options_beside (issues_word ∷ []) desk_options desk_options words) (export_line words) line is in
+    let stand = options-read-beside (issues_word ∷ []) desk_options desk_options words options_read.0 in
     let store = bind-some _ (store_of words) line options_read.1 in
     let wanted = bind-some _ (wanted_of words) line store.2 in
     let said : IsExport words store.0 wanted.0 =
@@ -76,7 +76,7 @@ read-export words name line named is =
 pub export-read : (words : List (List ℕ)) (store : ArrayVec ℕ) (wanted : Wanted) → IsExport words store wanted → export_of words ≡ Some (record { command = Export store wanted; workers = 1 })
 export-read words store wanted said =
     let line = export_from store wanted in
-    when-true (are_options_beside issues_word desk_options desk_options words) (export_line words) line (are-options-beside issues_word desk_options desk_options words said.known said.once said.single)
+    when-true (are_options_beside (issues_word ∷ []) desk_options desk_options words) (export_line words) line (are-options-beside (issues_word ∷ []) desk_options desk_options words said.known said.once said.single)
     (some-bind _ (store_of words) store line (store-read words store (said.single 0 [] (omega arith)) said.named)
     (some-bind _ (wanted_of words) wanted line (wanted-read words wanted (said.single 1 [] (omega arith)) said.says)
     refl))

@@ -67,7 +67,7 @@ said-read : (name : List ℕ) (words : List (List ℕ)) (command : DeskCommand) 
 unfolding of_kept_of
 said-read name words (QuoteOne request) workers said =
     ap (λ name. command_of (name ∷ words)) said.0 ∙ quote_one-read words request said.1 ∙ (λ i. Some (record { command = QuoteOne request; workers = sym said.2 i }))
-said-read name words (Quote request each) workers said = ap (λ name. command_of (name ∷ words)) said.0 ∙ quote-read words request each workers said.1
+said-read name words (Quote request shown) workers said = ap (λ name. command_of (name ∷ words)) said.0 ∙ quote-read words request shown workers said.1
 said-read name words (Import store listed limit) workers said = ap (λ name. command_of (name ∷ words)) said.0 ∙ import-read words store listed limit workers said.1
 said-read name words (Load store limit) workers said =
     ap (λ name. command_of (name ∷ words)) said.0 ∙ load-read words store limit said.1 ∙ (λ i. Some (record { command = Load store limit; workers = sym said.2 i }))

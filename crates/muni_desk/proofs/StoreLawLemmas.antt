@@ -15,8 +15,8 @@ use Rattle.muni_msg.specs.declared.command.Key.{Key}
 use Rattle.muni_desk_export.specs.declared.wanted.Wanted.TheVariants as want
 use Rattle.muni_figures.specs.declared.command.FiguresOptions.{FiguresOptions}
 use Rattle.muni_desk.specs.Words.{◌>>=◌, are_options, are_options_beside, has_word, value_of}
-use Rattle.muni_desk.specs.QuoteOptions.{workers_of}
-use Rattle.muni_desk.specs.StoreOptions.{import_options, load_options, confirm_options, serve_options, desk_options, figures_options, store_options, all_word, header_word, is_store_name, store_reading, store_of, listed_in, listed_of, limit_in, limit_of, import_line, import_of, load_line, load_of, confirm_line, confirm_one_of, confirm_all_line, confirm_all_of, confirm_of, serve_line, serve_of, positions_line, positions_of, mark_line, mark_of, first_in, first_of, figures_line, figures_of}
+use Rattle.muni_desk.specs.QuoteOptions.{risk_word, workers_of}
+use Rattle.muni_desk.specs.StoreOptions.{import_options, load_options, confirm_options, serve_options, desk_options, figures_options, store_options, all_word, header_word, is_store_name, store_reading, store_of, listed_in, listed_of, limit_in, limit_of, import_line, import_of, load_line, load_of, confirm_line, confirm_one_of, confirm_all_line, confirm_all_of, confirm_of, serve_line, serve_of, positions_line, positions_of, mark_line, mark_of, first_in, first_of, figures_form, figures_line, figures_of, figures_words}
 use Rattle.muni_desk.specs.Help.{help_of}
 use Rattle.muni_desk.specs.OptionLaws.{IsSingle}
 use Rattle.muni_desk.specs.StoreWordLaws.{IsImport, IsLoad, IsConfirm, IsConfirmAll, IsServe, IsPositions, IsStoreAlone, IsFigures, SaysFirst, SaysLimit, SaysPositions, SaysStore}
@@ -152,8 +152,8 @@ confirm_all_from store desk = record { command = Export store (want.Confirmation
 
 read-confirm_all : (words : List (List ℕ)) (name : List ℕ) (line : CommandLine) → name ≡ codes "confirm" → has_word all_word words ≡ true → confirm_all_of words ≡ Some line → IsCommandLine (name ∷ words) line
 read-confirm_all words name line named has is =
-    let options_read = if-some (are_options_beside all_word desk_options desk_options words) (confirm_all_line words) line is in
-    let stand = options-read-beside all_word desk_options desk_options words options_read.0 in
+    let options_read = if-some (are_options_beside (all_word ∷ []) desk_options desk_options words) (confirm_all_line words) line is in
+    let stand = options-read-beside (all_word ∷ []) desk_options desk_options words options_read.0 in
     let store = bind-some _ (store_of words) line options_read.1 in
     let desk = bind-some _ (desk_of words) line store.2 in
     let said : IsConfirmAll words store.0 desk.0 =
@@ -178,7 +178,7 @@ pub confirm_all-read : (words : List (List ℕ)) (store : ArrayVec ℕ) (desk : 
 confirm_all-read words store desk said =
     let line = confirm_all_from store desk in
     ap (λ all. if all then confirm_all_of words else confirm_one_of words) (read-has all_word words true said.has_all)
-    ∙ when-true (are_options_beside all_word desk_options desk_options words) (confirm_all_line words) line (are-options-beside all_word desk_options desk_options words said.known said.once said.single)
+    ∙ when-true (are_options_beside (all_word ∷ []) desk_options desk_options words) (confirm_all_line words) line (are-options-beside (all_word ∷ []) desk_options desk_options words said.known said.once said.single)
     (some-bind _ (store_of words) store line (store-read words store (said.single 0 [] (omega arith)) said.named)
     (some-bind _ (desk_of words) desk line (ok-read (name_reading is_desk_letter 16) words (codes "--desk=") desk (said.single 1 [] (omega arith)) said.desk_named)
     refl))
@@ -312,17 +312,17 @@ first-read : (words : List (List ℕ)) (first : ℕ) → IsSingle words (codes "
 first-read words first single (inl read) = ap first_in (says-found (codes "--from=") read.text words single read.stands) ∙ read.is_read
 first-read words first single (inr lacks) = ap first_in (lacks-none (codes "--from=") words lacks.0) ∙ ap Some (sym lacks.1)
 
-abbrev figures_from : ArrayVec ℕ → ℕ → Bool → ℕ → CommandLine
-figures_from store first has_header workers = record { command = Figures store (record { first = first; has_header = has_header }); workers = workers }
+abbrev figures_from : ArrayVec ℕ → FiguresOptions → ℕ → CommandLine
+figures_from store options workers = record { command = Figures store options; workers = workers }
 
 pub read-figures : (words : List (List ℕ)) (name : List ℕ) (line : CommandLine) → name ≡ codes "figures" → figures_of words ≡ Some line → IsCommandLine (name ∷ words) line
 read-figures words name line named is =
-    let options_read = if-some (are_options_beside header_word figures_options figures_options words) (figures_line words) line is in
-    let stand = options-read-beside header_word figures_options figures_options words options_read.0 in
+    let options_read = if-some (are_options_beside figures_words figures_options figures_options words) (figures_line words) line is in
+    let stand = options-read-beside figures_words figures_options figures_options words options_read.0 in
     let store = bind-some _ (store_of words) line options_read.1 in
     let first = bind-some _ (first_of words) line store.2 in
     let workers = bind-some _ (workers_of words) line first.2 in
-    subst (IsCommandLine (name ∷ words)) (same_Some (figures_from store.0 first.0 (has_word header_word words) workers.0) line workers.2) (
+    subst (IsCommandLine (name ∷ words)) (same_Some (figures_from store.0 (figures_form words first.0) workers.0) line workers.2) (
       named,
       record {
         known = stand.0;
@@ -331,18 +331,19 @@ read-figures words name line named is =
         named = read-store words store.0 store.1;
         placed = read-first words first.0 (value_of (codes "--from=") words) refl first.1;
         headed = has-read header_word words (has_word header_word words) refl;
+        risked = has-read risk_word words (has_word risk_word words) refl;
         at_once = read-workers words workers.0 (value_of (codes "--workers=") words) refl workers.1;
       },
     )
 
 pub figures-read : (words : List (List ℕ)) (store : ArrayVec ℕ) (options : FiguresOptions) (workers : ℕ) → IsFigures words store options workers → figures_of words ≡ Some (record { command = Figures store options; workers = workers })
 figures-read words store options workers said =
-    let line = figures_from store options.first options.has_header workers in
-    when-true (are_options_beside header_word figures_options figures_options words) (figures_line words) line (are-options-beside header_word figures_options figures_options words said.known said.once said.single)
+    let line = figures_from store options workers in
+    when-true (are_options_beside figures_words figures_options figures_options words) (figures_line words) line (are-options-beside figures_words figures_options figures_options words said.known said.once said.single)
     (some-bind _ (store_of words) store line (store-read words store (said.single 0 [] (omega arith)) said.named)
     (some-bind _ (first_of words) options.first line (first-read words options.first (said.single 2 [] (omega arith)) said.placed)
     (some-bind _ (workers_of words) workers line (workers-read words workers (said.single 1 [] (omega arith)) said.at_once)
-    (λ i. Some (figures_from store options.first (read-has header_word words options.has_header said.headed i) workers)))))
+    (λ i. Some (figures_from store (record { first = options.first; has_header = read-has header_word words options.has_header said.headed i; has_risk = read-has risk_word words options.has_risk said.risked i }) workers)))))
 
 -- ---- `help`
 pub read-help : (words : List (List ℕ)) (name : List ℕ) (line : CommandLine) → name ≡ codes "help" → help_of words ≡ Some line → IsCommandLine (name ∷ words) line

@@ -1,6 +1,8 @@
 -- One answer is right for a command.
 use Rattle.std.proofs.Common.{◌≡◌, ℕ, zero, suc, ◌∷◌, [], ◌++◌, List, refl, sym, ap, ◌∙◌, subst, Bool, true, false, Option, Some, None, Result, Ok, Err, ℤ}
 use Rattle.std.specs.Prelude.{MatchResult}
+use Rattle.std.specs.List.{flat_map}
+use Rattle.std.proofs.lemmas.List.{append_assoc, append-nil}
 use Rattle.muni_rule.specs.Payments.{PaymentSeries}
 use Rattle.muni_rule.specs.WorthEnds.{WorthEnds}
 use Rattle.muni_days.specs.Day.{civil}
@@ -12,13 +14,20 @@ use Rattle.muni_msg.specs.declared.figures.Figures.{Figures}
 use Rattle.muni_msg.specs.declared.refusal.Refusal.{Refusal}
 use Rattle.muni_msg.specs.declared.refusal.Refusal.TheVariants.{BadTerms}
 use Rattle.muni_msg.specs.declared.each.EachRedemption.{EachRedemption}
-use Rattle.muni_confirm.specs.Each.{quoted_text}
+use Rattle.muni_msg.specs.declared.shown.Shown.{Shown}
+use Rattle.muni_risk.specs.declared.Risk.{Risk}
+use Rattle.muni_confirm.specs.Each.{each_text}
+use Rattle.muni_confirm.specs.Figures.{figure_text}
+use Rattle.muni_confirm.specs.Risk.{risk_lines}
 use Rattle.muni_confirm.specs.Refusal.{refusal_text}
 use Rattle.muni_book.specs.Answers.{IsRightAnswer}
+use Rattle.muni_book.specs.Details.{IsRiskWanted}
 use Rattle.muni_book.specs.Each.{AreEach, AreWanted}
+use Rattle.muni_book.specs.Risk.{IsRiskOf}
 use Rattle.muni_book.proofs.EachLemmas.{each-unique}
 use Rattle.muni_book.proofs.UniqueLemmas.{answers-unique}
-use Rattle.muni_desk.specs.Answers.{price_line, IsQuoteOneText, IsQuoteText, IsDrillText, IsHelpText, IsAnswer}
+use Rattle.muni_desk.specs.AnswerLaws.{DifferByRisk, AreOneText, AreOneAnswer}
+use Rattle.muni_desk.specs.Answers.{price_line, IsQuoteOneText, IsTextOf, IsQuoteText, IsDrillText, IsHelpText, IsAnswer}
 use Rattle.muni_desk.specs.Drill.{IsDrilled, IsBook}
 use Rattle.muni_desk.specs.NextInterestDate.{is_next}
 use Rattle.muni_desk.specs.Request.{IsAnswerOf}
@@ -88,24 +97,56 @@ of-checked : (ends : PaymentSeries → ℤ → WorthEnds) (row : IssueRow) (aske
 of-checked ends row asked None figures is = is
 of-checked ends row asked (Some fault) figures is = absurd (let never : Ok figures ≡ Err (BadTerms fault) = is in cc)
 
-wanted-same : (ends : PaymentSeries → ℤ → WorthEnds) (request : QuoteRequest) (each : Bool) (figures : Figures) (one other : List EachRedemption) → IsAnswerOf ends request.row request.asked (Ok figures) → AreWanted each (AreEach ends request.row request.asked figures) one → AreWanted each (AreEach ends request.row request.asked figures) other → one ≡ other
-wanted-same ends request true figures one other answered is also = each-unique ends request.row request.asked figures one other (of-checked ends request.row request.asked (fault_of request.row) figures answered) is also
-wanted-same ends request false figures one other answered is also = is ∙ sym also
+each-same : (ends : PaymentSeries → ℤ → WorthEnds) (request : QuoteRequest) (wanted : Bool) (figures : Figures) (one other : List EachRedemption) → IsAnswerOf ends request.row request.asked (Ok figures) → AreWanted wanted (AreEach ends request.row request.asked figures) one → AreWanted wanted (AreEach ends request.row request.asked figures) other → one ≡ other
+each-same ends request true figures one other answered is also = each-unique ends request.row request.asked figures one other (of-checked ends request.row request.asked (fault_of request.row) figures answered) is also
+each-same ends request false figures one other answered is also = is ∙ sym also
 
-quote-same : (ends : PaymentSeries → ℤ → WorthEnds) (request : QuoteRequest) (each : Bool) (status other : Status) (text also : List ℕ) → IsQuoteText ends request each status text → IsQuoteText ends request each other also → IsSame status other text also
-quote-same ends request each Done Done text also is so =
+-- ---- the lines of how the price moves with the yield
+none-risk : (text : List ℕ) → DifferByRisk text text
+none-risk text = record { same = text; risk = None; other_risk = None; text_is = sym (append-nil text); other_is = sym (append-nil text) }
+
+one-text : (wanted : Bool) (text other : List ℕ) → text ≡ other → AreOneText wanted text other
+one-text true text other same = subst (DifferByRisk text) same (none-risk text)
+one-text false text other same = same
+
+risk-apart : (lead : List ℕ) (risk : Option Risk) (each : List ℕ) → lead ++ (each ++ risk_lines risk) ≡ (lead ++ each) ++ risk_lines risk
+risk-apart lead risk each = sym (append_assoc lead each (risk_lines risk))
+
+-- figures and redemption candidates are one, and so are the texts up to these lines
+quoted-same : (wanted : Bool) (Is : Option Risk → Type 0) (lead each : List ℕ) (risk other : Option Risk) → IsRiskWanted wanted Is risk → IsRiskWanted wanted Is other → AreOneText wanted (lead ++ (each ++ risk_lines risk)) (lead ++ (each ++ risk_lines other))
+quoted-same true Is lead each risk other is also = record { same = lead ++ each; risk = risk; other_risk = other; text_is = risk-apart lead risk each; other_is = risk-apart lead other each }
+quoted-same false Is lead each risk other is also = ap (λ r. lead ++ (each ++ risk_lines r)) (is ∙ sym also)
+
+record IsSameQuote (shown : Shown) (end other_end : Status) (text also : List ℕ) : Type 0 where
+  pub ends : end ≡ other_end
+  pub texts : AreOneText shown.risk text also
+
+texts-same : (ends : PaymentSeries → ℤ → WorthEnds) (request : QuoteRequest) (shown : Shown) (figures : Figures) (text also : List ℕ) → IsAnswerOf ends request.row request.asked (Ok figures) → IsTextOf ends request.row request.asked figures shown text → IsTextOf ends request.row request.asked figures shown also → AreOneText shown.risk text also
+texts-same ends request shown figures text also answered is so =
+    let each : is.0.each.items ≡ so.0.each.items = each-same ends request shown.each figures is.0.each.items so.0.each.items answered is.1.each so.1.each in
+    let lead = figure_text figures request.asked.given request.asked.fee in
+    let lines = flat_map each_text so.0.each.items in
+    let first : text ≡ lead ++ (lines ++ risk_lines is.0.risk) = is.2 ∙ ap (λ e. lead ++ (flat_map each_text e ++ risk_lines is.0.risk)) each in
+    subst (λ t. AreOneText shown.risk t also) (sym first)
+    (subst (AreOneText shown.risk (lead ++ (lines ++ risk_lines is.0.risk))) (sym so.2)
+    (quoted-same shown.risk (IsRiskOf request.row request.asked figures) lead lines is.0.risk so.0.risk is.1.risk so.1.risk))
+
+quote-same : (ends : PaymentSeries → ℤ → WorthEnds) (request : QuoteRequest) (shown : Shown) (end other : Status) (text also : List ℕ) → IsQuoteText ends request shown end text → IsQuoteText ends request shown other also → IsSameQuote shown end other text also
+quote-same ends request shown Done Done text also is so =
     let figures : is.figures ≡ so.figures = (let same : Ok is.figures ≡ Ok so.figures = answered-unique ends request.row request.asked (Ok is.figures) (Ok so.figures) is.answered so.answered in cc) in
-    let shown : AreWanted each (AreEach ends request.row request.asked is.figures) so.lines.0 = subst (λ it. AreWanted each (AreEach ends request.row request.asked it) so.lines.0) (sym figures) so.lines.1 in
-    let lines : is.lines.0 ≡ so.lines.0 = wanted-same ends request each is.figures is.lines.0 so.lines.0 is.answered is.lines.1 shown in
-    record { ends = refl; writes = is.lines.2 ∙ (λ i. quoted_text (figures i) request.asked (lines i)) ∙ sym so.lines.2 }
-quote-same ends request each Done Refused text also is so = figures-either is.figures so.0 (answered-unique ends request.row request.asked (Ok is.figures) (Err so.0) is.answered so.1)
-quote-same ends request each Refused Done text also is so = figures-either so.figures is.0 (answered-unique ends request.row request.asked (Ok so.figures) (Err is.0) so.answered is.1)
-quote-same ends request each Refused Refused text also is so =
+    record {
+      ends = refl;
+      texts = texts-same ends request shown is.figures text also is.answered is.lines
+          (subst (λ it. IsTextOf ends request.row request.asked it shown also) (sym figures) so.lines);
+    }
+quote-same ends request shown Done Refused text also is so = figures-either is.figures so.0 (answered-unique ends request.row request.asked (Ok is.figures) (Err so.0) is.answered so.1)
+quote-same ends request shown Refused Done text also is so = figures-either so.figures is.0 (answered-unique ends request.row request.asked (Ok so.figures) (Err is.0) so.answered is.1)
+quote-same ends request shown Refused Refused text also is so =
     let refusal : is.0 ≡ so.0 = (let same : Err is.0 ≡ Err so.0 = answered-unique ends request.row request.asked (Err is.0) (Err so.0) is.1 so.1 in cc) in
-    record { ends = refl; writes = is.2 ∙ ap refusal_text refusal ∙ sym so.2 }
-quote-same ends request each Done other text also is so = absurd so
-quote-same ends request each Refused other text also is so = absurd so
-quote-same ends request each status other text also is so = absurd is
+    record { ends = refl; texts = one-text shown.risk text also (is.2 ∙ ap refusal_text refusal ∙ sym so.2) }
+quote-same ends request shown Done other text also is so = absurd so
+quote-same ends request shown Refused other text also is so = absurd so
+quote-same ends request shown end other text also is so = absurd is
 
 drill-same : (ends : PaymentSeries → ℤ → WorthEnds) (request : DrillRequest) (status other : Status) (text also : List ℕ) → IsDrillText ends request status text → IsDrillText ends request other also → IsSame status other text also
 drill-same ends request Done Done text also is so =
@@ -123,9 +164,11 @@ help-same status other text also is so = absurd is
 answer-by : (answer other : Answer) → IsSame answer.status other.status answer.text.items other.text.items → answer ≡ other
 answer-by answer other same = λ i. record { status = same.ends i; text = record { items = same.writes i } }
 
-pub answer-unique : (ends : PaymentSeries → ℤ → WorthEnds) (command : DeskCommand) (answer other : Answer) → HasNextDate command → IsAnswer ends command answer → IsAnswer ends command other → answer ≡ other
+pub answer-unique : (ends : PaymentSeries → ℤ → WorthEnds) (command : DeskCommand) (answer other : Answer) → HasNextDate command → IsAnswer ends command answer → IsAnswer ends command other → AreOneAnswer command answer other
 answer-unique ends (QuoteOne request) answer other next is also = answer-by answer other (quote_one-same request answer.status other.status answer.text.items other.text.items next is also)
-answer-unique ends (Quote request each) answer other fine is also = answer-by answer other (quote-same ends request each answer.status other.status answer.text.items other.text.items is also)
+answer-unique ends (Quote request shown) answer other fine is also =
+    let same = quote-same ends request shown answer.status other.status answer.text.items other.text.items is also in
+    record { status = same.ends; text = same.texts }
 answer-unique ends (Drill request) answer other few is also = answer-by answer other (drill-same ends request answer.status other.status answer.text.items other.text.items is also)
 answer-unique ends Help answer other fine is also = answer-by answer other (help-same answer.status other.status answer.text.items other.text.items is also)
 answer-unique ends (Import store listed limit) answer other fine is also = absurd is

@@ -10,9 +10,9 @@ use Rattle.std.proofs.lemmas.List.Elements.{All-contains, All-from_recursion, Co
 use Rattle.std.proofs.lemmas.List.Sums.{sum_by-cons}
 use Rattle.std.proofs.lemmas.Option.{none-some, same_Some}
 use Rattle.std.proofs.lemmas.Slice.Eq.{starts_is, bytes_eq-Decides}
-use Rattle.muni_desk.specs.Words.{word, is_option, are_known, are_known_beside, are_single, are_options, are_options_beside, are_once, count_of, has_word, has_word_once, value_of}
+use Rattle.muni_desk.specs.Words.{word, is_option, are_known, are_known_beside, are_single, are_options, are_options_beside, are_once, count_of, has_word, has_word_once, have_words_once, value_of}
 use Rattle.muni_desk.specs.QuoteOptions.{options}
-use Rattle.muni_desk.specs.OptionLaws.{IsOption, IsKnown, IsKnownBeside, IsOnceAtMost, Has, IsSingle, Says, Lacks}
+use Rattle.muni_desk.specs.OptionLaws.{IsOption, IsKnown, IsKnownBeside, IsOnceAtMost, AreOnceAtMost, Has, IsSingle, Says, Lacks}
 
 -- ---- tests
 pub both : (a b : Bool) → a && b ≡ true → (a ≡ true) × (b ≡ true)
@@ -135,12 +135,19 @@ are-options names single words known once = and-true (are_known names words) (ar
 plain-decides : (plain text : List ℕ) → Decides (bytes_eq text plain) (text ≡ plain)
 plain-decides plain text = bytes_eq-Decides text plain
 
-known-beside-decides : (plain : List ℕ) (names : List (List ℕ)) (text : List ℕ) → Decides (bytes_eq text plain || list_any (λ name. is_option name text) names) (IsKnownBeside plain names text)
-known-beside-decides plain names text = Decides-or (bytes_eq text plain) (list_any (λ name. is_option name text) names) (plain-decides plain text) (known-decides names text)
+plains-decide : (plains : List (List ℕ)) (text : List ℕ) → Decides (list_any (λ plain. bytes_eq text plain) plains) (Contains plains text)
+plains-decide plains text =
+    let places = Decides-by_or (λ plain. bytes_eq text plain) (λ plain. text ≡ plain) (list_any (λ plain. bytes_eq text plain)) (λ plain. plain-decides plain text) refl (λ _ _. refl) plains in (
+      λ test. let at = places.0 test in subst (Contains plains) (sym (at.2 [])) (Contains-get_or plains at.0 [] at.1),
+      λ contained. let at = at_from_Contains plains text contained in places.1 (at.0, at.1, λ d. sym (at.2 d)),
+    )
 
-knowns-beside-decide : (plain : List ℕ) (names words : List (List ℕ)) → Decides (are_known_beside plain names words) (All (IsKnownBeside plain names) words)
-knowns-beside-decide plain names words =
-    Decides-by_and (λ text. bytes_eq text plain || list_any (λ name. is_option name text) names) (IsKnownBeside plain names) (are_known_beside plain names) (known-beside-decides plain names) refl (λ _ _. refl) words
+known-beside-decides : (plains names : List (List ℕ)) (text : List ℕ) → Decides (list_any (λ plain. bytes_eq text plain) plains || list_any (λ name. is_option name text) names) (IsKnownBeside plains names text)
+known-beside-decides plains names text = Decides-or (list_any (λ plain. bytes_eq text plain) plains) (list_any (λ name. is_option name text) names) (plains-decide plains text) (known-decides names text)
+
+knowns-beside-decide : (plains names words : List (List ℕ)) → Decides (are_known_beside plains names words) (All (IsKnownBeside plains names) words)
+knowns-beside-decide plains names words =
+    Decides-by_and (λ text. list_any (λ plain. bytes_eq text plain) plains || list_any (λ name. is_option name text) names) (IsKnownBeside plains names) (are_known_beside plains names) (known-beside-decides plains names) refl (λ _ _. refl) words
 
 once-decides : (plain : List ℕ) (words : List (List ℕ)) → Decides (has_word_once plain words) (IsOnceAtMost plain words)
 once-decides plain words = (
@@ -150,16 +157,20 @@ once-decides plain words = (
       grind (arith, nat_tests),
 )
 
-pub options-read-beside : (plain : List ℕ) (names single words : List (List ℕ)) → are_options_beside plain names single words ≡ true → All (IsKnownBeside plain names) words × IsOnceAtMost plain words × All (IsSingle words) single
-options-read-beside plain names single words are =
-    let parts = both (are_known_beside plain names words) (are_once plain single words) are in
-    let others = both (has_word_once plain words) (are_single single words) parts.1 in
-    ((knowns-beside-decide plain names words).0 parts.0, (once-decides plain words).0 others.0, (singles-decide single words).0 others.1)
+words-once-decide : (plains words : List (List ℕ)) → Decides (have_words_once plains words) (AreOnceAtMost plains words)
+words-once-decide plains words =
+    Decides-by_and (λ plain. has_word_once plain words) (λ plain. IsOnceAtMost plain words) (λ all. have_words_once all words) (λ plain. once-decides plain words) refl (λ _ _. refl) plains
 
-pub are-options-beside : (plain : List ℕ) (names single words : List (List ℕ)) → All (IsKnownBeside plain names) words → IsOnceAtMost plain words → All (IsSingle words) single → are_options_beside plain names single words ≡ true
-are-options-beside plain names single words known once singles =
-    and-true (are_known_beside plain names words) (are_once plain single words) ((knowns-beside-decide plain names words).1 known)
-    (and-true (has_word_once plain words) (are_single single words) ((once-decides plain words).1 once) ((singles-decide single words).1 singles))
+pub options-read-beside : (plains names single words : List (List ℕ)) → are_options_beside plains names single words ≡ true → All (IsKnownBeside plains names) words × AreOnceAtMost plains words × All (IsSingle words) single
+options-read-beside plains names single words are =
+    let parts = both (are_known_beside plains names words) (are_once plains single words) are in
+    let others = both (have_words_once plains words) (are_single single words) parts.1 in
+    ((knowns-beside-decide plains names words).0 parts.0, (words-once-decide plains words).0 others.0, (singles-decide single words).0 others.1)
+
+pub are-options-beside : (plains names single words : List (List ℕ)) → All (IsKnownBeside plains names) words → AreOnceAtMost plains words → All (IsSingle words) single → are_options_beside plains names single words ≡ true
+are-options-beside plains names single words known once singles =
+    and-true (are_known_beside plains names words) (are_once plains single words) ((knowns-beside-decide plains names words).1 known)
+    (and-true (have_words_once plains words) (are_single single words) ((words-once-decide plains words).1 once) ((singles-decide single words).1 singles))
 
 has-decides : (plain : List ℕ) (words : List (List ℕ)) → Decides (has_word plain words) (Contains words plain)
 has-decides plain words =

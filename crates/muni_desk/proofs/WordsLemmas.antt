@@ -8,7 +8,7 @@ use Rattle.std.proofs.lemmas.Bool.{eq-eqb}
 use Rattle.std.proofs.lemmas.Bool.Decides.{Decides-eqb}
 use Rattle.std.proofs.lemmas.List.Folds.{list_all-map}
 use Rattle.std.proofs.lemmas.Slice.Eq.{starts_is}
-use Rattle.muni_desk.specs.Words.{is_option, are_known, are_known_beside, are_single, count_of, has_word}
+use Rattle.muni_desk.specs.Words.{is_option, are_known, are_known_beside, are_single, count_of, has_word, has_word_once, have_words_once}
 
 found-map : {X Y : Type 0} (f : X → Y) (x : X) (test : Bool) (rest : Option X) (mapped : Option Y) → mapped ≡ option_map f rest → (if test then Some (f x) else mapped) ≡ option_map f (if test then Some x else rest)
 found-map f x true rest mapped same = refl
@@ -34,8 +34,11 @@ single-strings names words = simp list_all-map
 pub word_strings : (plain : List ℕ) (words : List (String Global)) → has_word plain (map string_bytes words) ≡ list_any (λ word. bytes_eq (string_bytes word) plain) words
 word_strings plain words = list_any-map (λ word. bytes_eq word plain) string_bytes words
 
-pub known_beside_strings : (plain : List ℕ) (names : List (Bor (List ℕ))) (words : List (String Global)) → are_known_beside plain (map (λ name. name.now) names) (map string_bytes words) ≡ list_all (λ word. bytes_eq (string_bytes word) plain || list_any (λ name. is_option name.now (string_bytes word)) names) words
-known_beside_strings plain names words = simp (list_all-map, list_any-map)
+pub known_beside_strings : (plains names : List (Bor (List ℕ))) (words : List (String Global)) → are_known_beside (map (λ plain. plain.now) plains) (map (λ name. name.now) names) (map string_bytes words) ≡ list_all (λ word. list_any (λ plain. bytes_eq (string_bytes word) plain.now) plains || list_any (λ name. is_option name.now (string_bytes word)) names) words
+known_beside_strings plains names words = simp (list_all-map, list_any-map)
+
+pub words_once_strings : (plains : List (Bor (List ℕ))) (words : List (String Global)) → have_words_once (map (λ plain. plain.now) plains) (map string_bytes words) ≡ list_all (λ plain. has_word_once plain.now (map string_bytes words)) plains
+words_once_strings plains words = simp list_all-map
 
 -- a word that starts with a name has its letters
 pub same_letter : (word name : List ℕ) (place : ℕ) → place < length name → starts_with nat_eq word name ≡ true → nat_eq (slice_index_or word place 0) (slice_index_or name place 0) ≡ true

@@ -1,17 +1,18 @@
 -- What the desk says to a command, by the price, the figures or the sums that are right for it.
 -- `ends` are those that the encloser gives to payments and a yield. What is said is no fact of the workers.
-use Rattle.std.specs.Prelude.{◌≡◌, ◌++◌, ◌∷◌, [], Bool, List, ℕ, Ok, Err, ℤ}
+use Rattle.std.specs.Prelude.{◌≡◌, ◌++◌, ◌∷◌, [], List, ℕ, Ok, Err, ℤ}
 use Rattle.muni_rule.specs.Payments.{PaymentSeries}
 use Rattle.muni_rule.specs.WorthEnds.{WorthEnds}
 use Rattle.muni_dec.specs.Decimal.{decimal_text}
 use Rattle.muni_terms.specs.declared.row.IssueRow.{IssueRow}
 use Rattle.muni_msg.specs.declared.asked.Asked.{Asked}
-use Rattle.muni_msg.specs.declared.each.EachRedemption.{EachRedemption}
 use Rattle.muni_msg.specs.declared.figures.Figures.{Figures}
 use Rattle.muni_msg.specs.declared.refusal.Refusal.{Refusal}
-use Rattle.muni_confirm.specs.Each.{quoted_text}
+use Rattle.muni_msg.specs.declared.shown.Shown.{Shown}
+use Rattle.muni_confirm.specs.Details.{quoted_text}
+use Rattle.muni_confirm.specs.declared.details.Details.{Details}
 use Rattle.muni_confirm.specs.Refusal.{refusal_text}
-use Rattle.muni_book.specs.Each.{AreEach, AreWanted}
+use Rattle.muni_book.specs.Details.{AreDetails}
 use Rattle.muni_desk.specs.Drill.{IsSummary}
 use Rattle.muni_desk.specs.Help.{help_text}
 use Rattle.muni_desk.specs.QuoteOne.{IsPriced}
@@ -37,24 +38,24 @@ IsQuoteOneText request Refused text =
     (refusal : Refusal) × IsPriced request (Err refusal) × (text ≡ refusal_text refusal)
 IsQuoteOneText request status text = ⊥
 
--- the lines of figures, with the redemption candidates if they are wanted
-abbrev pub IsTextOf : (ends : PaymentSeries → ℤ → WorthEnds) → IssueRow → Asked → Figures → Bool → List ℕ → Type 0
-IsTextOf ends row asked figures wanted text =
-    (each : List EachRedemption) × AreWanted wanted (AreEach ends row asked figures) each
-    × (text ≡ quoted_text figures asked each)
+-- the lines of figures, with what is to be shown after them
+abbrev pub IsTextOf : (ends : PaymentSeries → ℤ → WorthEnds) → IssueRow → Asked → Figures → Shown → List ℕ → Type 0
+IsTextOf ends row asked figures shown text =
+    (details : Details) × AreDetails ends row asked figures shown details
+    × (text ≡ quoted_text figures asked details)
 
 -- and those are right
-pub record IsQuoted (ends : PaymentSeries → ℤ → WorthEnds) (request : QuoteRequest) (wanted : Bool) (text : List ℕ) : Type 0 where
+pub record IsQuoted (ends : PaymentSeries → ℤ → WorthEnds) (request : QuoteRequest) (shown : Shown) (text : List ℕ) : Type 0 where
   pub figures : Figures
   pub answered : IsAnswerOf ends request.row request.asked (Ok figures)
-  pub lines : IsTextOf ends request.row request.asked figures wanted text
+  pub lines : IsTextOf ends request.row request.asked figures shown text
 
 -- `quote`: the lines show the figures, or the line says the refusal that applies
-abbrev pub IsQuoteText : (ends : PaymentSeries → ℤ → WorthEnds) → QuoteRequest → Bool → Status → List ℕ → Type 0
-IsQuoteText ends request wanted Done text = IsQuoted ends request wanted text
-IsQuoteText ends request wanted Refused text =
+abbrev pub IsQuoteText : (ends : PaymentSeries → ℤ → WorthEnds) → QuoteRequest → Shown → Status → List ℕ → Type 0
+IsQuoteText ends request shown Done text = IsQuoted ends request shown text
+IsQuoteText ends request shown Refused text =
     (refusal : Refusal) × IsAnswerOf ends request.row request.asked (Err refusal) × (text ≡ refusal_text refusal)
-IsQuoteText ends request wanted status text = ⊥
+IsQuoteText ends request shown status text = ⊥
 
 -- `drill`: the lines are the summary
 abbrev pub IsDrillText : (ends : PaymentSeries → ℤ → WorthEnds) → DrillRequest → Status → List ℕ → Type 0
@@ -69,7 +70,7 @@ IsHelpText status text = ⊥
 -- the answer is right; a command over a store is answered from it, and by no text of its own
 abbrev pub IsAnswer : (ends : PaymentSeries → ℤ → WorthEnds) → DeskCommand → Answer → Type 0
 IsAnswer ends (QuoteOne request) answer = IsQuoteOneText request answer.status answer.text.items
-IsAnswer ends (Quote request wanted) answer = IsQuoteText ends request wanted answer.status answer.text.items
+IsAnswer ends (Quote request shown) answer = IsQuoteText ends request shown answer.status answer.text.items
 IsAnswer ends (Import store listed limit) answer = ⊥
 IsAnswer ends (Load store limit) answer = ⊥
 IsAnswer ends (Confirm store key) answer = ⊥

@@ -67,7 +67,7 @@ EndsWellOverStore status = EndsWell status
 
 abbrev pub IsCompleted : DeskCommand → Status → Type 0
 IsCompleted (QuoteOne request) status = EndsWell status
-IsCompleted (Quote request each) status = EndsWell status
+IsCompleted (Quote request shown) status = EndsWell status
 IsCompleted (Import store listed limit) status = EndsWellOverStore status
 IsCompleted (Load store limit) status = EndsWellOverStore status
 IsCompleted (Confirm store key) status = EndsWellOverStore status

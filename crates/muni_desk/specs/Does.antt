@@ -29,7 +29,7 @@ pub record Says {O : Type 0} (sink : Sink.Ghosts O) (IsRight : Answer → Type 0
 -- what the command does, if `told` is what each link of the door exposes
 abbrev pub Does : {I O C K D L : Type 0} → Source.Ghosts I → Sink.Ghosts O → Cabinet.Ghosts C K → Door.Ghosts D L → (ends : PaymentSeries → ℤ → WorthEnds) → (told : L → Traffic) → DeskCommand → Status → (old new : Lent I O C) → (before after : D) → Type 0
 Does source sink cabinet door ends told (QuoteOne request) status old new before after = Says sink (IsAnswer ends (QuoteOne request)) status old.output new.output
-Does source sink cabinet door ends told (Quote request each) status old new before after = Says sink (IsAnswer ends (Quote request each)) status old.output new.output
+Does source sink cabinet door ends told (Quote request shown) status old new before after = Says sink (IsAnswer ends (Quote request shown)) status old.output new.output
 Does source sink cabinet door ends told (Import store None limit) status old new before after = ImportsInto source sink cabinet (book_rules limit ends) store.items status old new
 Does source sink cabinet door ends told (Import store (Some desk) limit) status old new before after = ImportsWith source sink cabinet (book_rules limit ends) store.items desk status old new
 Does source sink cabinet door ends told (Load store limit) status old new before after = LoadsInto source sink cabinet (book_rules limit ends) store.items status old new
@@ -48,7 +48,7 @@ Does source sink cabinet door ends told Help status old new before after = Says 
 -- and the output if nothing is confirmed, listed or marked for a fault of the store.
 abbrev pub Spares : DeskCommand → Status → (input output cabinet door : Type 0) → Type 0
 Spares (QuoteOne request) status input output cabinet door = input × cabinet × door
-Spares (Quote request each) status input output cabinet door = input × cabinet × door
+Spares (Quote request shown) status input output cabinet door = input × cabinet × door
 Spares (Import store listed limit) ReadFault input output cabinet door = output × cabinet × door
 Spares (Import store listed limit) TooLarge input output cabinet door = output × cabinet × door
 Spares (Import store listed limit) status input output cabinet door = door

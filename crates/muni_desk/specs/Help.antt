@@ -12,7 +12,7 @@ help_of (word ∷ words) = None
 abbrev pub help_text : List ℕ
 help_text =
     codes "quote-one COUPON NEXT SETTLE REDEMPTION YIELD\n"
-    ++ (codes "quote --kind --dated --maturity --settle --yield|--price|--rate --first --coupon --call --par --workers --days --each\n"
+    ++ (codes "quote --kind --dated --maturity --settle --yield|--price|--rate --first --coupon --call --par --workers --days --each --risk\n"
     ++ (codes "import --store --workers --positions --desk-limit\n"
     ++ (codes "confirm --store --desk --ref|--all\n"
     ++ (codes "serve --store --port --connections --workers --desk-limit\n"
@@ -23,5 +23,5 @@ help_text =
     ++ (codes "list --store --desk\n"
     ++ (codes "load --store --desk-limit\n"
     ++ (codes "check-store --store\n"
-    ++ (codes "figures --store --workers --from --header\n"
+    ++ (codes "figures --store --workers --from --header --risk\n"
     ++ codes "help\n"))))))))))))

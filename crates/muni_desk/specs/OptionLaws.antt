@@ -1,5 +1,5 @@
 -- What one option says, in the rule's own words.
-use Rattle.std.specs.Prelude.{◌≡◌, ◌≢◌, ◌<◌, ◌⊎◌, ℕ, Bool, true, false, List, [], ◌++◌, length, Contains}
+use Rattle.std.specs.Prelude.{◌≡◌, ◌≢◌, ◌<◌, ◌⊎◌, ℕ, Bool, true, false, List, [], ◌++◌, length, All, Contains}
 use Rattle.muni_desk.specs.Words.{word}
 
 -- a word is the option of a name: the name, and after it a value that is not empty
@@ -14,14 +14,18 @@ pub record IsKnown (names : List (List ℕ)) (text : List ℕ) : Type 0 where
   pub listed : Contains names name
   pub is_its : IsOption name text
 
--- the option of one of these names, or this word, which has no value
-abbrev pub IsKnownBeside : List ℕ → List (List ℕ) → List ℕ → Type 0
-IsKnownBeside plain names text = (text ≡ plain) ⊎ IsKnown names text
+-- one of these words, which have no value, or the option of one of these names
+abbrev pub IsKnownBeside : (plains names : List (List ℕ)) → List ℕ → Type 0
+IsKnownBeside plains names text = Contains plains text ⊎ IsKnown names text
 
 -- a word is at one place at most
 abbrev pub IsOnceAtMost : List ℕ → List (List ℕ) → Type 0
 IsOnceAtMost plain words =
     (i j : ℕ) → i < length words → j < length words → word words i ≡ plain → word words j ≡ plain → i ≡ j
+
+-- and so is each of these
+abbrev pub AreOnceAtMost : List (List ℕ) → List (List ℕ) → Type 0
+AreOnceAtMost plains words = All (λ plain. IsOnceAtMost plain words) plains
 
 -- it is among words, or is not
 abbrev pub Has : List ℕ → List (List ℕ) → Bool → Type 0

@@ -15,6 +15,7 @@ use Rattle.muni_msg.specs.Fields.{day_in, kind_reading, basis_reading, call_read
 use Rattle.muni_msg.specs.declared.asked.Asked.{Asked}
 use Rattle.muni_msg.specs.declared.asked.Given.{Given}
 use Rattle.muni_msg.specs.declared.asked.Side.TheVariants.{Buy}
+use Rattle.muni_msg.specs.declared.shown.Shown.{Shown}
 use Rattle.muni_desk.specs.Words.{◌>>=◌, are_options_beside, has_word, value_of, values_of}
 use Rattle.muni_desk.specs.declared.command.DeskCommand.TheVariants.{Quote}
 use Rattle.muni_desk.specs.declared.command.CommandLine.{CommandLine}
@@ -33,6 +34,17 @@ options = codes "--call=" ∷ single_options
 -- the word by which the figure of each redemption candidate is wanted
 abbrev pub each_word : List ℕ
 each_word = codes "--each"
+
+-- and the word by which it is wanted how the price moves with the yield
+abbrev pub risk_word : List ℕ
+risk_word = codes "--risk"
+
+abbrev pub plain_words : List (List ℕ)
+plain_words = each_word ∷ risk_word ∷ []
+
+-- what is to be shown after the figures
+abbrev pub shown_of : List (List ℕ) → Shown
+shown_of words = record { each = has_word each_word words; risk = has_word risk_word words }
 
 -- a date that an option gives
 abbrev pub date_of : List ℕ → List (List ℕ) → Option Day
@@ -119,15 +131,15 @@ asked_of words = do
   given ← given_of words
   Some (record { cusip = codes "000000000"; par = par; settle = settle; given = given; side = Buy; fee = 0 })
 
--- a request, whether the redemption candidates are wanted, and how many workers may compute
+-- a request, what is to be shown after its figures, and how many workers may compute
 abbrev pub command_line : List (List ℕ) → Option CommandLine
 command_line words = do
   row ← row_of words
   asked ← asked_of words
   workers ← workers_of words
-  Some (record { command = Quote (record { row = row; asked = asked }) (has_word each_word words); workers = workers })
+  Some (record { command = Quote (record { row = row; asked = asked }) (shown_of words); workers = workers })
 
--- what words ask for that are options of the command, and perhaps the word by which each redemption is wanted
+-- what words ask for that are options of the command, and perhaps the words of what is to be shown
 abbrev pub quote_of : List (List ℕ) → Option CommandLine
 quote_of words =
-    if are_options_beside each_word options single_options words then command_line words else None
+    if are_options_beside plain_words options single_options words then command_line words else None

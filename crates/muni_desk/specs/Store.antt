@@ -97,8 +97,8 @@ CountsFaults source sink cabinet result old new =
 -- the figures of rows of any number
 abbrev pub WritesFigures : {I O C K : Type 0} → Source.Ghosts I → Sink.Ghosts O → Cabinet.Ghosts C K → Pricing → List ℕ → FiguresOptions → Status → (old new : Lent I O C) → Type 0
 WritesFigures source sink cabinet Prices store options status old new =
-    EndsAs of_done status (λ result. IfSome (source.left old.input) (λ text. WroteFigures (IsToldOf Prices (cabinet.told old.cabinet store))
-    (header options.has_header) options.first text result (source.left new.input) (sink.bytes old.output) (sink.bytes new.output))
+    EndsAs of_done status (λ result. IfSome (source.left old.input) (λ text. WroteFigures (IsToldOf Prices options.has_risk (cabinet.told old.cabinet store))
+    (header options) options.first text result (source.left new.input) (sink.bytes old.output) (sink.bytes new.output))
     × CountsFaults source sink cabinet result old new
     × OnOk result (source.faults new.input ≡ source.faults old.input) × ReportsWrites sink result old.output new.output)
     × TakesSome source old.input new.input × LeavesAll cabinet old.cabinet new.cabinet

@@ -10,7 +10,7 @@ use Rattle.muni_msg.specs.Names.{is_desk_letter}
 use Rattle.muni_desk_export.specs.declared.wanted.Wanted.{Wanted}
 use Rattle.muni_desk_export.specs.declared.wanted.Wanted.TheVariants as want
 use Rattle.muni_figures.specs.declared.command.FiguresOptions.{FiguresOptions}
-use Rattle.muni_desk.specs.QuoteOptions.{workers_of}
+use Rattle.muni_desk.specs.QuoteOptions.{risk_word, workers_of}
 use Rattle.muni_desk.specs.Words.{◌>>=◌, are_options, are_options_beside, has_word, value_of}
 use Rattle.muni_desk.specs.declared.command.DeskCommand.TheVariants.{Import, Load, Confirm, Serve, Positions, Mark, Figures, Export}
 use Rattle.muni_desk.specs.declared.command.CommandLine.{CommandLine}
@@ -51,6 +51,10 @@ issues_word = codes "--issues"
 
 abbrev pub header_word : List ℕ
 header_word = codes "--header"
+
+-- those of `figures`
+abbrev pub figures_words : List (List ℕ)
+figures_words = header_word ∷ risk_word ∷ []
 
 -- a text names a store: at most 200 bytes, which print and are no blank
 abbrev pub is_store_name : List ℕ → Bool
@@ -139,7 +143,7 @@ confirm_all_line words = do
 
 abbrev pub confirm_all_of : List (List ℕ) → Option CommandLine
 confirm_all_of words =
-    if are_options_beside all_word desk_options desk_options words then confirm_all_line words else None
+    if are_options_beside (all_word ∷ []) desk_options desk_options words then confirm_all_line words else None
 
 abbrev pub confirm_of : List (List ℕ) → Option CommandLine
 confirm_of words = if has_word all_word words then confirm_all_of words else confirm_one_of words
@@ -187,17 +191,22 @@ first_in None = Some 1
 abbrev pub first_of : List (List ℕ) → Option ℕ
 first_of words = first_in (value_of (codes "--from=") words)
 
+-- how figures are written
+abbrev pub figures_form : List (List ℕ) → ℕ → FiguresOptions
+figures_form words first =
+    record { first = first; has_header = has_word header_word words; has_risk = has_word risk_word words }
+
 -- the figures of rows, by the issues of a store
 abbrev pub figures_line : List (List ℕ) → Option CommandLine
 figures_line words = do
   store ← store_of words
   first ← first_of words
   workers ← workers_of words
-  Some (record { command = Figures store (record { first = first; has_header = has_word header_word words }); workers = workers })
+  Some (record { command = Figures store (figures_form words first); workers = workers })
 
 abbrev pub figures_of : List (List ℕ) → Option CommandLine
 figures_of words =
-    if are_options_beside header_word figures_options figures_options words then figures_line words else None
+    if are_options_beside figures_words figures_options figures_options words then figures_line words else None
 
 -- what is wanted: a desk, or the issues alone, or everything if neither is given
 abbrev pub wanted_in : Bool → Option (List ℕ) → Option Wanted
@@ -218,7 +227,7 @@ export_line words = do
 
 abbrev pub export_of : List (List ℕ) → Option CommandLine
 export_of words =
-    if are_options_beside issues_word desk_options desk_options words then export_line words else None
+    if are_options_beside (issues_word ∷ []) desk_options desk_options words then export_line words else None
 
 -- the list of a desk's trades
 abbrev pub list_line : List (List ℕ) → Option CommandLine

@@ -1,5 +1,5 @@
 -- What the words after the names of the commands over a store say, in the rule's own words.
-use Rattle.std.specs.Prelude.{◌≡◌, ◌≤◌, ℕ, true, false, List, length, All, codes, Option, Some, None, Ok}
+use Rattle.std.specs.Prelude.{◌≡◌, ◌≤◌, ℕ, true, false, List, [], ◌∷◌, length, All, codes, Option, Some, None, Ok}
 use Rattle.std.specs.Char.{is_ascii_alphanumeric}
 use Rattle.arrayvec.specs.ArrayVec.{ArrayVec}
 use Rattle.muni_dec.specs.Digits.{number_reading}
@@ -10,7 +10,7 @@ use Rattle.muni_desk_export.specs.declared.wanted.Wanted.{Wanted}
 use Rattle.muni_desk_export.specs.declared.wanted.Wanted.TheVariants as want
 use Rattle.muni_figures.specs.declared.command.FiguresOptions.{FiguresOptions}
 use Rattle.muni_desk.specs.StoreOptions.{import_options, load_options, confirm_options, serve_options, desk_options, figures_options, store_options}
-use Rattle.muni_desk.specs.OptionLaws.{IsKnown, IsKnownBeside, IsOnceAtMost, Has, IsSingle, Says, Reads, Lacks, ReadsOr}
+use Rattle.muni_desk.specs.OptionLaws.{IsKnown, IsKnownBeside, AreOnceAtMost, Has, IsSingle, Says, Reads, Lacks, ReadsOr}
 
 -- the name of a store: at most 200 bytes, each above a blank and at most 126
 pub record SaysStore (words : List (List ℕ)) (store : ArrayVec ℕ) : Type 0 where
@@ -55,8 +55,8 @@ pub record IsConfirm (words : List (List ℕ)) (store : ArrayVec ℕ) (key : Key
 
 -- words after `confirm` for all trades of a desk: a store, the desk and the word `--all`
 pub record IsConfirmAll (words : List (List ℕ)) (store : ArrayVec ℕ) (desk : List ℕ) : Type 0 where
-  pub known : All (IsKnownBeside (codes "--all") desk_options) words
-  pub once : IsOnceAtMost (codes "--all") words
+  pub known : All (IsKnownBeside (codes "--all" ∷ []) desk_options) words
+  pub once : AreOnceAtMost (codes "--all" ∷ []) words
   pub single : All (IsSingle words) desk_options
   pub has_all : Has (codes "--all") words true
   pub named : SaysStore words store
@@ -107,14 +107,16 @@ SaysFirst words first =
     (first ≡ 1)
 
 -- words after `figures`: a store, the place of the first row, and from 1 to 16 workers, and one if no number is
--- given; the names of the columns come first if `--header` is among them
+-- given; the names of the columns come first if `--header` is among them, and each row has sensitivities if
+-- `--risk` is
 pub record IsFigures (words : List (List ℕ)) (store : ArrayVec ℕ) (options : FiguresOptions) (workers : ℕ) : Type 0 where
-  pub known : All (IsKnownBeside (codes "--header") figures_options) words
-  pub once : IsOnceAtMost (codes "--header") words
+  pub known : All (IsKnownBeside (codes "--header" ∷ codes "--risk" ∷ []) figures_options) words
+  pub once : AreOnceAtMost (codes "--header" ∷ codes "--risk" ∷ []) words
   pub single : All (IsSingle words) figures_options
   pub named : SaysStore words store
   pub placed : SaysFirst words options.first
   pub headed : Has (codes "--header") words options.has_header
+  pub risked : Has (codes "--risk") words options.has_risk
   pub at_once :
       ReadsOr words (codes "--workers=") (λ text. number_reading 20 1 16 text ≡ Some workers)
       (workers ≡ 1)
@@ -130,8 +132,8 @@ SaysWanted words other = ⊥
 
 -- words after `export`: a store, and what is wanted of it
 pub record IsExport (words : List (List ℕ)) (store : ArrayVec ℕ) (wanted : Wanted) : Type 0 where
-  pub known : All (IsKnownBeside (codes "--issues") desk_options) words
-  pub once : IsOnceAtMost (codes "--issues") words
+  pub known : All (IsKnownBeside (codes "--issues" ∷ []) desk_options) words
+  pub once : AreOnceAtMost (codes "--issues" ∷ []) words
   pub single : All (IsSingle words) desk_options
   pub named : SaysStore words store
   pub says : SaysWanted words wanted

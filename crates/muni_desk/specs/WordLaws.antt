@@ -17,6 +17,7 @@ use Rattle.muni_msg.specs.declared.asked.Asked.{Asked}
 use Rattle.muni_msg.specs.declared.asked.Given.{Given}
 use Rattle.muni_msg.specs.declared.asked.Given.TheVariants.{AtYield, AtPrice, AtRate}
 use Rattle.muni_msg.specs.declared.asked.Side.TheVariants.{Buy}
+use Rattle.muni_msg.specs.declared.shown.Shown.{Shown}
 use Rattle.muni_desk_export.specs.declared.wanted.Wanted.{Wanted}
 use Rattle.muni_desk_export.specs.declared.wanted.Wanted.TheVariants as want
 use Rattle.muni_desk.specs.Words.{word, is_option}
@@ -29,7 +30,7 @@ use Rattle.muni_desk.specs.declared.command.CommandLine.{CommandLine}
 use Rattle.muni_desk.specs.declared.drill.options.DrillRequest.{DrillRequest}
 use Rattle.muni_desk.specs.declared.quote_one.QuoteOneRequest.{QuoteOneRequest}
 use Rattle.muni_desk.specs.declared.request.QuoteRequest.{QuoteRequest}
-use Rattle.muni_desk.specs.OptionLaws.{IsOption, IsKnown, IsKnownBeside, IsOnceAtMost, Has, IsSingle, Says, Reads, Lacks, ReadsOr}
+use Rattle.muni_desk.specs.OptionLaws.{IsOption, IsKnown, IsKnownBeside, AreOnceAtMost, Has, IsSingle, Says, Reads, Lacks, ReadsOr}
 use Rattle.muni_desk.specs.StoreWordLaws.{IsImport, IsConfirm, IsConfirmAll, IsLoad, IsServe, IsPositions, IsStoreAlone, IsFigures, IsExport, IsList}
 
 -- ---- the options of `quote`
@@ -123,12 +124,13 @@ pub record SaysAsked (words : List (List ℕ)) (asked : Asked) : Type 0 where
   pub fee : asked.fee ≡ 0
 
 -- words after `quote`: from 1 to 16 workers, and one if no number is given; the redemption candidates are
--- wanted if `--each` is among them
-pub record IsQuote (words : List (List ℕ)) (request : QuoteRequest) (each : Bool) (workers : ℕ) : Type 0 where
-  pub known : All (IsKnownBeside (codes "--each") options) words
-  pub once : IsOnceAtMost (codes "--each") words
+-- shown if `--each` is among them, and how the price moves with the yield if `--risk` is
+pub record IsQuote (words : List (List ℕ)) (request : QuoteRequest) (shown : Shown) (workers : ℕ) : Type 0 where
+  pub known : All (IsKnownBeside (codes "--each" ∷ codes "--risk" ∷ []) options) words
+  pub once : AreOnceAtMost (codes "--each" ∷ codes "--risk" ∷ []) words
   pub single : All (IsSingle words) single_options
-  pub wanted : Has (codes "--each") words each
+  pub each : Has (codes "--each") words shown.each
+  pub risk : Has (codes "--risk") words shown.risk
   pub terms : SaysTerms words request.row
   pub asked : SaysAsked words request.asked
   pub at_once :
@@ -176,8 +178,8 @@ abbrev pub IsSaid : List (List ℕ) → DeskCommand → ℕ → Type 0
 IsSaid [] command workers = ⊥
 IsSaid (name ∷ words) (QuoteOne request) workers =
     (name ≡ codes "quote-one") × IsQuoteOne words request × (workers ≡ 1)
-IsSaid (name ∷ words) (Quote request each) workers =
-    (name ≡ codes "quote") × IsQuote words request each workers
+IsSaid (name ∷ words) (Quote request shown) workers =
+    (name ≡ codes "quote") × IsQuote words request shown workers
 IsSaid (name ∷ words) (Import store listed limit) workers =
     (name ≡ codes "import") × IsImport words store listed limit workers
 IsSaid (name ∷ words) (Load store limit) workers =

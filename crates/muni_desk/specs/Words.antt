@@ -42,18 +42,22 @@ has_word plain words = list_any (λ word. bytes_eq word plain) words
 abbrev pub has_word_once : List ℕ → List (List ℕ) → Bool
 has_word_once plain words = nat_le (count_by (λ word. bytes_eq word plain) words) 1
 
--- each word is this one, or the option of one of these names
-abbrev pub are_known_beside : List ℕ → List (List ℕ) → List (List ℕ) → Bool
-are_known_beside plain names words =
-    list_all (λ word. bytes_eq word plain || list_any (λ name. is_option name word) names) words
+-- each word is one of these, or the option of one of these names
+abbrev pub are_known_beside : (plains names : List (List ℕ)) → List (List ℕ) → Bool
+are_known_beside plains names words =
+    list_all (λ word. list_any (λ plain. bytes_eq word plain) plains
+    || list_any (λ name. is_option name word) names) words
 
--- the word and the options are there once at most
-abbrev pub are_once : List ℕ → List (List ℕ) → List (List ℕ) → Bool
-are_once plain single words = has_word_once plain words && are_single single words
+-- the words and the options are there once at most
+abbrev pub have_words_once : List (List ℕ) → List (List ℕ) → Bool
+have_words_once plains words = list_all (λ plain. has_word_once plain words) plains
 
-abbrev pub are_options_beside : List ℕ → (names single : List (List ℕ)) → List (List ℕ) → Bool
-are_options_beside plain names single words =
-    are_known_beside plain names words && are_once plain single words
+abbrev pub are_once : (plains single : List (List ℕ)) → List (List ℕ) → Bool
+are_once plains single words = have_words_once plains words && are_single single words
+
+abbrev pub are_options_beside : (plains names single : List (List ℕ)) → List (List ℕ) → Bool
+are_options_beside plains names single words =
+    are_known_beside plains names words && are_once plains single words
 
 -- the value of the first option of a name
 abbrev pub value_of : List ℕ → List (List ℕ) → Option (List ℕ)

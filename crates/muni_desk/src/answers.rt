@@ -10,12 +10,12 @@ use crate::help::help_text;
 use crate::quote_one::last_period_price;
 use crate::{Answer, QuoteOneRequest, QuoteRequest, Status};
 use arrayvec::ArrayVec;
-use muni_book::{Calculator, each_redemption, figures};
-use muni_confirm::{figure_lines, push_each, refusal_line};
+use muni_book::{Calculator, details, figures};
+use muni_confirm::{figure_lines, push_details, refusal_line};
 use muni_dec::Price3;
 use muni_dec::text::push;
 use muni_edge::Gate;
-use muni_msg::{Asked, Figures, Refusal};
+use muni_msg::{Asked, Figures, Refusal, Shown};
 use muni_multi::Encloser;
 use muni_sched::Schedule;
 use muni_terms::{Issue, check};
@@ -35,9 +35,9 @@ pub fn quote_one_answer(request: &QuoteOneRequest) -> Answer
 pub fn quote_answer<R: Threads + Sync, E: Encloser + Sync, G: Gate + Sync>(
     calculator: &Calculator<'_, R, E, G>,
     request: QuoteRequest,
-    each: bool,
+    shown: Shown,
 ) -> Answer
-    ensures { spec.IsQuoteText (E.ends calculator.now.encloser.now) request each result.status
+    ensures { spec.IsQuoteText (E.ends calculator.now.encloser.now) request shown result.status
         result.text.items }
 {
     let QuoteRequest { row, asked } = request;
@@ -46,29 +46,27 @@ pub fn quote_answer<R: Threads + Sync, E: Encloser + Sync, G: Gate + Sync>(
         Err(fault) => return refused(&Refusal::BadTerms(fault)),
     };
     match figures(calculator, &issue, &asked, &mut Schedule::new()) {
-        Ok(found) => done(quoted(calculator, &issue, &asked, &found, each)),
+        Ok(found) => done(quoted(calculator, &issue, &asked, &found, shown)),
         Err(refusal) => refused(&refusal),
     }
 }
 
-// The text of figures, with the redemption candidates if they are wanted.
+// The text of figures, with what is to be shown after them.
 fn quoted<R: Threads + Sync, E: Encloser + Sync, G: Gate + Sync>(
     calculator: &Calculator<'_, R, E, G>,
     issue: &Issue,
     asked: &Asked,
     found: &Figures,
-    each: bool,
+    shown: Shown,
 ) -> ArrayVec<u8, 10624>
     requires { IsRightAnswer (E.ends calculator.now.encloser.now) issue.now asked.now (Ok found.now) }
-    ensures { spec.IsTextOf (E.ends calculator.now.encloser.now) issue.now asked.now found.now each
+    ensures { spec.IsTextOf (E.ends calculator.now.encloser.now) issue.now asked.now found.now shown
         result.items }
 {
     let mut lines = ArrayVec::new();
     figure_lines(found, &asked.given, asked.fee, &mut lines);
     let mut text = said(&lines);
-    if each {
-        push_each(&mut text, &each_redemption(calculator, issue, asked, found));
-    }
+    push_details(&mut text, &details(calculator, issue, asked, found, shown));
     text
 }
 

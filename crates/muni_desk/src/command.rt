@@ -16,17 +16,17 @@ use arrayvec::ArrayVec;
 use muni_book::Workers;
 use muni_desk_export::Wanted;
 use muni_figures::FiguresOptions;
-use muni_msg::{DeskLimit, DeskName, Key};
+use muni_msg::{DeskLimit, DeskName, Key, Shown};
 
 /// What the desk can be asked for.
 #[derive(Drop)]
 pub enum DeskCommand {
     /// The price of a security in its last interest period.
     QuoteOne(QuoteOneRequest),
-    /// The figures of a security, and those of each redemption candidate by itself if they are wanted.
+    /// The figures of a security, and what is to be shown after them.
     Quote {
         request: QuoteRequest,
-        each: bool,
+        shown: Shown,
     },
     /// To apply the rows of the input to the tables of a store, and to list the positions of a desk
     /// after them if one is named. A name of a store has 1 to 200 printing bytes, and no blank.

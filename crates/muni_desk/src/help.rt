@@ -9,7 +9,7 @@ use muni_book::Workers;
 use muni_dec::text::push;
 
 const TEXT: &[u8] = b"quote-one COUPON NEXT SETTLE REDEMPTION YIELD\n\
-quote --kind --dated --maturity --settle --yield|--price|--rate --first --coupon --call --par --workers --days --each\n\
+quote --kind --dated --maturity --settle --yield|--price|--rate --first --coupon --call --par --workers --days --each --risk\n\
 import --store --workers --positions --desk-limit\n\
 confirm --store --desk --ref|--all\n\
 serve --store --port --connections --workers --desk-limit\n\
@@ -20,7 +20,7 @@ export --store --desk --issues\n\
 list --store --desk\n\
 load --store --desk-limit\n\
 check-store --store\n\
-figures --store --workers --from --header\n\
+figures --store --workers --from --header --risk\n\
 help\n";
 
 /// What is asked for if there are no words.

@@ -13,7 +13,8 @@ use muni_keep::Cabinet;
 pub use words::words_are_read_by_the_rule;
 
 /// A law of the definitions: for words of a command that needs no store they allow one answer, and so
-/// one text to be written, and one way to end.
+/// one text to be written, and one way to end. The lines of `quote --risk` alone may differ, in a last digit
+/// that their accuracy leaves open.
 pub fn the_answer_is_unique()
     ensures { AnswersAreUnique }
 {}

@@ -118,8 +118,8 @@ fn carry_out<
 {
     match command {
         DeskCommand::QuoteOne(request) => say(&quote_one_answer(&request), output),
-        DeskCommand::Quote { request, each } => {
-            say(&quote_answer(calculator, request, each), output)
+        DeskCommand::Quote { request, shown } => {
+            say(&quote_answer(calculator, request, shown), output)
         }
         DeskCommand::Import {
             store,

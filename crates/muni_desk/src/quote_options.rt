@@ -6,13 +6,13 @@ ghost use Rattle.muni_desk.specs.QuoteOptions as spec;
 
 use crate::command::{CommandLine, DeskCommand};
 use crate::request::{NO_CUSIP, QuoteRequest, issue_name};
-use crate::words::{WORKERS, are_options_beside, has_word, value_in, value_of};
+use crate::words::{RISK, WORKERS, are_options_beside, has_word, value_in, value_of};
 use arrayvec::ArrayVec;
 use muni_book::Workers;
 use muni_days::{Basis, Day};
 use muni_dec::digits::read_number;
 use muni_dec::{Coupon, Fee, Par};
-use muni_msg::{Asked, Given, Side, read_basis, read_call, read_given, read_kind};
+use muni_msg::{Asked, Given, Shown, Side, read_basis, read_call, read_given, read_kind};
 use muni_terms::{Call, IssueRow, Kind};
 
 const CALL: &[u8] = b"--call=";
@@ -46,12 +46,12 @@ const NAMES: [&[u8]; 13] = [
     CALL, KIND, DATED, FIRST, MATURITY, COUPON, SETTLE, PAR, YIELD, PRICE, RATE, WORKERS, DAYS,
 ];
 
-/// What words ask for, if they are options of `quote` and perhaps `--each`, in any order.
+/// What words ask for, if they are options of `quote` and perhaps `--each` and `--risk`, in any order.
 #[tactic(auto, using(crate::proofs::WordsLemmas::word_strings))]
 pub fn read_quote(words: &[String]) -> Option<CommandLine>
     ensures { result ≡ spec.quote_of (map string_bytes words.now) }
 {
-    if !are_options_beside(words, EACH, &NAMES, &NAMES[1..]) {
+    if !are_options_beside(words, &[EACH, RISK], &NAMES, &NAMES[1..]) {
         return None;
     }
     let row = read_row(words)?;
@@ -60,7 +60,10 @@ pub fn read_quote(words: &[String]) -> Option<CommandLine>
     Some(CommandLine {
         command: DeskCommand::Quote {
             request: QuoteRequest { row, asked },
-            each: has_word(words, EACH),
+            shown: Shown {
+                each: has_word(words, EACH),
+                risk: has_word(words, RISK),
+            },
         },
         workers,
     })

@@ -7,7 +7,7 @@ ghost use Rattle.muni_desk.specs.StoreOptions as spec;
 
 use crate::command::{CommandLine, DeskCommand};
 use crate::quote_options::read_workers;
-use crate::words::{WORKERS, are_options, are_options_beside, has_word, value_of};
+use crate::words::{RISK, WORKERS, are_options, are_options_beside, has_word, value_of};
 use arrayvec::ArrayVec;
 use muni_book::Workers;
 use muni_dec::digits::read_number;
@@ -116,7 +116,7 @@ fn read_confirm_one(words: &[String]) -> Option<CommandLine>
 fn read_confirm_all(words: &[String]) -> Option<CommandLine>
     ensures { result ≡ spec.confirm_all_of (map string_bytes words.now) }
 {
-    if !are_options_beside(words, ALL, &OF_DESK, &OF_DESK) {
+    if !are_options_beside(words, &[ALL], &OF_DESK, &OF_DESK) {
         return None;
     }
     let store = read_store(words)?;
@@ -191,12 +191,12 @@ pub fn read_mark(words: &[String]) -> Option<CommandLine>
     })
 }
 
-/// What words ask for, where they are options of `figures` and perhaps `--header`, in any order.
+/// What words ask for, where they are options of `figures` and perhaps `--header` and `--risk`, in any order.
 #[tactic(auto, using(crate::proofs::WordsLemmas::word_strings))]
 pub fn read_figures(words: &[String]) -> Option<CommandLine>
     ensures { result ≡ spec.figures_of (map string_bytes words.now) }
 {
-    if !are_options_beside(words, HEADER, &FIGURES, &FIGURES) {
+    if !are_options_beside(words, &[HEADER, RISK], &FIGURES, &FIGURES) {
         return None;
     }
     let store = read_store(words)?;
@@ -205,6 +205,7 @@ pub fn read_figures(words: &[String]) -> Option<CommandLine>
     let options = FiguresOptions {
         first,
         has_header: has_word(words, HEADER),
+        has_risk: has_word(words, RISK),
     };
     Some(CommandLine {
         command: DeskCommand::Figures { store, options },
@@ -226,7 +227,7 @@ fn read_first(words: &[String]) -> Option<u64>
 pub fn read_export(words: &[String]) -> Option<CommandLine>
     ensures { result ≡ spec.export_of (map string_bytes words.now) }
 {
-    if !are_options_beside(words, ISSUES, &OF_DESK, &OF_DESK) {
+    if !are_options_beside(words, &[ISSUES], &OF_DESK, &OF_DESK) {
         return None;
     }
     let store = read_store(words)?;

@@ -9,6 +9,9 @@ ghost use Rattle.muni_desk.specs.Words as spec;
 /// The option of how many workers there are.
 pub const WORKERS: &[u8] = b"--workers=";
 
+/// The word by which sensitivities are asked for.
+pub const RISK: &[u8] = b"--risk";
+
 // The third letter of an option is looked at first. A quote may have many calls, and none of its other
 // options has the third letter of a call.
 const TELLING: usize = 4;
@@ -85,11 +88,17 @@ fn is_word(word: &[u8], plain: &[u8]) -> bool
     word == plain
 }
 
-fn is_known_beside(word: &[u8], plain: &[u8], names: &[&[u8]]) -> bool
-    ensures { result ≡ (bytes_eq word.now plain.now
+fn is_any_word(word: &[u8], plains: &[&[u8]]) -> bool
+    ensures { result ≡ list_any (λ plain. bytes_eq word.now plain.now) plains.now }
+{
+    plains.iter().any(|plain| is_word(word, plain))
+}
+
+fn is_known_beside(word: &[u8], plains: &[&[u8]], names: &[&[u8]]) -> bool
+    ensures { result ≡ (list_any (λ plain. bytes_eq word.now plain.now) plains.now
         || list_any (λ name. spec.is_option name.now word.now) names.now) }
 {
-    is_word(word, plain) || is_any_option(word, names)
+    is_any_word(word, plains) || is_any_option(word, names)
 }
 
 /// Whether a word that has no value is among others.
@@ -105,29 +114,43 @@ fn has_word_once(words: &[String], plain: &[u8]) -> bool
     words.iter().filter(|word| word.as_bytes() == plain).count() <= 1
 }
 
-fn are_known_beside(words: &[String], plain: &[u8], names: &[&[u8]]) -> bool
-    ensures { result ≡ list_all (λ word. bytes_eq (string_bytes word) plain.now
+fn are_known_beside(words: &[String], plains: &[&[u8]], names: &[&[u8]]) -> bool
+    ensures { result ≡ list_all (λ word. list_any
+        (λ plain. bytes_eq (string_bytes word) plain.now) plains.now
         || list_any (λ name. spec.is_option name.now (string_bytes word)) names.now) words.now }
 {
     words
         .iter()
-        .all(|word| is_known_beside(word.as_bytes(), plain, names))
+        .all(|word| is_known_beside(word.as_bytes(), plains, names))
 }
 
-// Whether the word and each option stand once at most.
-fn are_once(words: &[String], plain: &[u8], single: &[&[u8]]) -> bool
-    ensures { result ≡ spec.are_once plain.now (map (λ name. name.now) single.now)
-        (map string_bytes words.now) }
+fn have_words_once(words: &[String], plains: &[&[u8]]) -> bool
+    ensures { result ≡ list_all (λ plain. spec.has_word_once plain.now
+        (map string_bytes words.now)) plains.now }
 {
-    has_word_once(words, plain) && are_single(words, single)
+    plains.iter().all(|plain| has_word_once(words, plain))
 }
 
-/// The same as `are_options`, if one word that has no value may be among them once.
-pub fn are_options_beside(words: &[String], plain: &[u8], names: &[&[u8]], single: &[&[u8]]) -> bool
-    ensures { result ≡ spec.are_options_beside plain.now (map (λ name. name.now) names.now)
+// Whether each of the words and each option stand once at most.
+fn are_once(words: &[String], plains: &[&[u8]], single: &[&[u8]]) -> bool
+    ensures { result ≡ spec.are_once (map (λ plain. plain.now) plains.now)
         (map (λ name. name.now) single.now) (map string_bytes words.now) }
 {
-    are_known_beside(words, plain, names) && are_once(words, plain, single)
+    have_words_once(words, plains) && are_single(words, single)
+}
+
+/// The same as `are_options`, if words that have no value may be among them, each once.
+pub fn are_options_beside(
+    words: &[String],
+    plains: &[&[u8]],
+    names: &[&[u8]],
+    single: &[&[u8]],
+) -> bool
+    ensures { result ≡ spec.are_options_beside (map (λ plain. plain.now) plains.now)
+        (map (λ name. name.now) names.now) (map (λ name. name.now) single.now)
+        (map string_bytes words.now) }
+{
+    are_known_beside(words, plains, names) && are_once(words, plains, single)
 }
 
 fn find_option<'a>(words: &'a [String], name: &[u8]) -> Option<&'a String>

@@ -69,4 +69,4 @@ pub line-follows : (ends : PaymentSeries → ℤ → WorthEnds) (kept : List ℕ
     → said_line place said ≡ decimal place ++ said_fields plain ++ columns_of said ++ 10 ∷ []
 line-follows ends kept place row said plain is also =
     ap (λ fields. decimal place ++ fields ++ 10 ∷ []) (row-follows ends kept row said plain is also)
-    ∙ ap (λ l. decimal place ++ l) (append_assoc (said_fields plain) (columns_of said) (10 ∷ []))
+    ∙ ap (λ l. l ++ 10 ∷ []) (sym (append_assoc (decimal place) (said_fields plain) (columns_of said)))

@@ -87,7 +87,7 @@ pub(crate) fn price_shares<R: Threads + Sync, E: Encloser + Sync, G: Gate + Sync
         calculator.workers.count() as usize,
         &|_worker: usize, share: &mut Share|
             requires { HasPlaces share.now }
-            ensures { IsPricedShare (IsSaid (IsRightAnswer (E.ends alone.entry.encloser.now)) has_risk.entry (tree.get by_bytes issues.entry.now)) share.entry.now share.exit.now }
+            ensures { IsPricedShare (IsSaid (IsRightAnswer (E.ends alone.entry.encloser.now)) has_risk (tree.get by_bytes issues.entry.now)) share.entry.now share.exit.now }
         {
             share.lines = block_lines(&alone, alloc, issues, share, has_risk);
         },

@@ -1,10 +1,11 @@
 //! The lines of figures, confirmations and refusals, the longest among them, worked by hand.
 
 use arrayvec::ArrayVec;
-use muni_confirm::{confirmation, figure_lines, refusal_line};
+use muni_confirm::{confirmation, figure_lines, push_risk, refusal_line};
 use muni_days::{Basis, Day};
 use muni_dec::{Cents, Coupon, Fee, Par, Price, Price3, Yield, Yield3};
 use muni_msg::{Act, Asked, Figures, Given, Kept, Key, Range, Refusal, Side, Terms, Version};
+use muni_risk::{Risk, Sensitivities};
 use muni_terms::{Boundary, Issue, IssueRow, Kind, Label, TermsFault, check};
 use muni_test_samples::{key, worked_figures, worked_issue, worked_terms, worked_version};
 use std::test::Fail;
@@ -27,6 +28,13 @@ PRINCIPAL 92233720368547758.07
 ACCRUED 92233720368547758.07
 COMMISSION 92233720368547758.07
 TOTAL 92233720368547758.07
+";
+
+const LONGEST_RISK: &str = "TOTAL 0.00
+CURRENT YIELD 18446744073709551.615
+DURATION 18446744073709551.615
+CONVEXITY 18446744073709551.615
+DV01 18446744073709.551615
 ";
 
 const LONGEST_NAMES: &str = "CANCELED CONFIRMATION 4294967295
@@ -101,6 +109,25 @@ fn figures_have_their_lines(rt: HostRuntime) -> Result<(), Fail> {
     assert!(rt; is_called_written()?);
     assert!(rt; is_longest_written()?);
     Ok(())
+}
+
+// The longest lines of how a price moves have room.
+#[test]
+fn what_moves_has_its_lines(rt: HostRuntime) {
+    let sensitivities = Sensitivities {
+        duration: u64::MAX,
+        convexity: u64::MAX,
+        dv01: u64::MAX,
+    };
+    let risk = Risk {
+        current_yield: Some(u64::MAX),
+        sensitivities,
+    };
+    let mut text = ArrayVec::<u8, 152>::new();
+    let _ = text.try_extend_from_slice(b"TOTAL 0.00\n");
+    push_risk(&mut text, None);
+    push_risk(&mut text, Some(risk));
+    assert!(rt; text.as_slice() == LONGEST_RISK.as_bytes());
 }
 
 // A note with the longest name.

@@ -1,6 +1,7 @@
 mod faults;
 mod gates;
 mod kept;
+mod quotes;
 mod runs;
 mod watch;
 

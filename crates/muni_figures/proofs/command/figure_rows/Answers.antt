@@ -159,16 +159,16 @@ groups-init g c =
     let bytes = g.O.Sink.bytes in
     let opened = c.in_ok-blocks.ensures in
     let reading = c.in_ok-blocks.blocks.reading in
-    let none = c.new-so_far.ensures.value in
-    let room : place + c.new-so_far.result.rows < 2 ^ 64 = omega (arith, ap (λ (t : Tally). t.rows) none) in
+    let none = c.new-2.ensures.value in
+    let room : place + c.new-2.result.rows < 2 ^ 64 = omega (arith, ap (λ (t : Tally). t.rows) none) in
     record {
       far = rw none
           (so-far-start Answers before place reading c.in_ok-blocks.blocks.held.items opened.came (left c.args.input.now) (left c.open.new.input) (bytes c.args.output.now) (bytes c.write_header.new.output) opened.taken opened.held opened.enough
           (λ ended. (subst (λ r. IsLeft g.I.Source r c.args.input.now c.open.new.input) ended opened.left).0) opened.whole c.in_ok-write_header.ensures.written);
       few = opened.few;
-      small = c.new-so_far.ensures.small;
+      small = c.new-2.ensures.small;
       room = room;
-      found = none-found (g.K.Keeper.tables c.args.keeper.now) (tree.get by_bytes c.new-so_far.result) (λ cusip. search rules);
+      found = none-found (g.K.Keeper.tables c.args.keeper.now) (tree.get by_bytes c.new.result) (λ cusip. search rules);
       tables = refl;
       later = omega arith;
       lent_as = refl;

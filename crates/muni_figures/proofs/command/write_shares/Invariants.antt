@@ -14,7 +14,7 @@ abbrev pub invariant-loop-share : goal.invariant-loop-share
 invariant-loop-share g l = record {
   lines : List ℕ;
   these : Tally;
-  done : AreDone (IsSaid (IsRightAnswer (g.E.Encloser.ends l.fn.valuing.calculator.encloser.now)) l.fn.valuing.options.has_risk (tree.get by_bytes l.fn.so_far.issues)) (l.fn.valuing.options.first + l.fn.so_far.tally.rows) (rows_of_shares (take l.share-index l.fn.shares)) lines these;
+  done : AreDone (IsSaid (IsRightAnswer (g.E.Encloser.ends l.fn.valuing.calculator.now.encloser.now)) l.fn.valuing.options.has_risk (tree.get by_bytes l.fn.so_far.issues)) (l.fn.valuing.options.first + l.fn.so_far.tally.rows) (rows_of_shares (take l.share-index l.fn.shares)) lines these;
   tally : l.tally ≡ tally_sum l.fn.so_far.tally these;
   small : IsSmall l.tally;
   written : HasWritten (g.O.Sink.bytes l.fn.output) (g.O.Sink.bytes l.output) lines;

@@ -15,7 +15,7 @@ loop-left-init g c =
     let Answers = IsSaid (IsRightAnswer (g.E.Encloser.ends c.args.calculator.now.encloser.now)) c.args.has_risk (tree.get by_bytes c.args.issues.now) in
     record {
       rows = [];
-      read = read-none c.args.share.now.block.items;
+      read = rw c.as_slice.ensures.value (read-none c.args.share.now.block.items);
       done = rw (c.new-lines.ensures.text, c.new-lines.ensures.tally) (done-none Answers c.args.share.now.place);
     }
 
