@@ -5,7 +5,6 @@ pandas is imported when a frame is asked about, so the rest of the client does w
 from __future__ import annotations
 
 import importlib
-import itertools
 import os
 from collections.abc import Callable, Iterable, Iterator
 from contextlib import contextmanager
@@ -79,8 +78,7 @@ def _asked(question: Question, frame: Frame, store: Path, workers: int, program:
     answer = Answer(question)
     words = (question.command, f"--store={os.fspath(store)}", f"--workers={workers}")
     for some in lines(program, *words, rows=rows_of(question, frame)):
-        answer.add(some)
-        advance(len(some))
+        advance(answer.add(some))
     return answer.beside(frame)
 
 
@@ -105,7 +103,8 @@ def rows_of(question: Question, frame: Frame) -> bytes:
 
 def texts_of(name: str, column: Any) -> list[str]:
     """The fields of a column, a missing value as an empty one."""
-    values = column.astype(object).where(column.notna(), None).tolist()
+    there, objects = column.notna(), column.astype(object)
+    values: list[Any] = (objects if there.all() else objects.where(there, None)).tolist()
     kinds = set(map(type, values))
     for kind in kinds:
         if issubclass(kind, bool) or not issubclass(kind, (str, int, Decimal, date, Enum, type(None))):
@@ -113,7 +112,7 @@ def texts_of(name: str, column: Any) -> list[str]:
                     if issubclass(kind, float) and None in values else "")
             raise TypeError(f"{name}: a Decimal, an int, a text or a day, not a {kind.__name__}{note}")
     if kinds <= {str}:
-        return list(values)
+        return values
     if Decimal in kinds:
         return list(map(_text, values))
     # Few days stand in many rows.
@@ -148,34 +147,59 @@ class Answer:
         self.question = question
         self.rows = 0
         self.last = ""
+        self._priced, self._money = 0, Decimal()
         self._numpy = importlib.import_module("numpy")
         self._readers = [_Kept(read).__getitem__ if name in question.few else read
                          for name, read in question.told.items()]
         # Pieces of each column. An array, unlike a list, is not walked whenever Python looks for what to free.
-        self._pieces: list[list[Any]] = [[self._array([])] for _ in (*question.told, "refusal")]
+        self._pieces: list[list[Any]] = [[self._array([], 0)] for _ in (*question.told, "refusal")]
 
-    def add(self, some: list[bytes]) -> None:
-        """Adds the next lines, each with its end. The last line of all is the total."""
-        if some[-1].startswith(b"TOTAL,"):
-            self.last = some.pop().decode("ascii").rstrip("\n")
-        has_figures = [b",figures," in line for line in some]
+    def add(self, some: bytes) -> int:
+        """Adds the next lines, each with its end, and gives how many rows they answer. The last line of all is the
+        total."""
+        last = some.rfind(b"\n", 0, -1) + 1
+        if some.startswith(b"TOTAL,", last):
+            self.last, some = some[last:].decode("ascii").rstrip("\n"), some[:last]
+        count = some.count(b"\n")
+        if some.count(b",figures,") == count and some[-1:] in b"\n":
+            columns, refusals = self._figures(some, count), self._numpy.full(count, None, dtype=object)
+        else:
+            lines = some.splitlines(keepends=True)
+            count = len(lines)
+            columns, refusals = self._sorted(lines)
+        for pieces, piece in zip(self._pieces, (*columns, refusals)):
+            pieces.append(piece)
+        self.rows += count
+        return count
+
+    def _sorted(self, lines: list[bytes]) -> tuple[list[Any], Any]:
+        """The columns of lines of which some have figures, and their refusals."""
+        has_figures = [b",figures," in line for line in lines]
+        where = self._numpy.array(has_figures, dtype=bool)
+        refusals = self._array((None if good else self._refusal(line.decode("ascii"))
+                                for good, line in zip(has_figures, lines)), len(lines))
+        columns = []
+        for found in self._figures(b"".join(line for line in lines if b",figures," in line), sum(has_figures)):
+            columns.append(self._numpy.full(len(lines), None, dtype=object))
+            columns[-1][where] = found
+        return columns, refusals
+
+    def _figures(self, lines: bytes, count: int) -> list[Any]:
+        """The columns of so many lines, which have figures."""
         # Three fields stand before the figures: the place, the word and the CUSIP.
         width = len(self._readers) + 3
-        fields = b"".join(itertools.compress(some, has_figures)).decode("ascii").replace("\n", ",").split(",")
-        if len(fields) != width * sum(has_figures) + 1:
-            raise Error(f"a line is cut: {some[-1]!r}")
-        where = self._numpy.array(has_figures, dtype=bool)
-        for place, (reader, pieces) in enumerate(zip(self._readers, self._pieces), 3):
-            piece = self._numpy.full(len(some), None, dtype=object)
-            piece[where] = self._array(list(map(reader, fields[place::width])))
-            pieces.append(piece)
-        self._pieces[-1].append(self._array([None if good else self._refusal(line.decode("ascii"))
-                                             for good, line in zip(has_figures, some)]))
-        self.rows += len(some)
+        fields = lines.decode("ascii").replace("\n", ",").split(",")
+        if len(fields) != width * count + 1:
+            raise Error(f"a line is cut: {lines.splitlines()[-1]!r}")
+        columns = [self._array(map(reader, fields[place::width]), count)
+                   for place, reader in enumerate(self._readers, 3)]
+        self._priced += count
+        self._money += sum(columns[-1].tolist(), Decimal())
+        return columns
 
-    def _array(self, values: list[Any]) -> Any:
-        """The values as they are. numpy.array would ask each whether it is an array itself."""
-        return self._numpy.fromiter(values, dtype=object, count=len(values))
+    def _array(self, values: Iterable[Any], count: int) -> Any:
+        """So many values as they are. numpy.array would ask each whether it is an array itself."""
+        return self._numpy.fromiter(values, dtype=object, count=count)
 
     def _refusal(self, line: str) -> str:
         """The name of a refusal, or which column does not read."""
@@ -189,8 +213,7 @@ class Answer:
         """The frame with the columns behind its own, if the total is that of the lines."""
         pandas = importlib.import_module("pandas")
         *columns, refusals = map(self._numpy.concatenate, self._pieces)
-        totals = [total for total in columns[-1] if total is not None]
-        said = f"TOTAL,{len(totals)},{sum(totals, Decimal()):.2f},{self.rows}"
+        said = f"TOTAL,{self._priced},{self._money:.2f},{self.rows}"
         if self.last != said or self.rows != len(frame):
             raise Error(f"{self.rows} lines for {len(frame)} rows, and {self.last!r} at their end, not {said!r}")
         new = {name: pandas.Series(column, index=frame.index, dtype="Int64" if name == "days" else object)

@@ -14,7 +14,7 @@ from typing import IO, Union
 Path = Union[str, "os.PathLike[str]"]
 
 # How many bytes of lines are taken at a time, and how many may wait meanwhile, so that the program goes on.
-_TAKEN, _WAITING = 1 << 18, 1 << 20
+_TAKEN, _WAITING = 1 << 16, 1 << 20
 # How many seconds pass until a file that a program writes is looked at again.
 _PAUSE = 0.02
 
@@ -41,9 +41,9 @@ def ran(program: Path, *words: str, rows: bytes = b"") -> bytes:
 
 
 def pieces(program: Path, *words: str, rows: bytes, patience: float | None = None) -> Iterator[bytes]:
-    """What a command writes, some bytes at a time, while it goes on. It is `Ended` behind the last of them if its status
-    is not 0, and killed after `patience` seconds, which is subprocess.TimeoutExpired. Whoever leaves off early ends
-    it."""
+    """What a command writes, some bytes at a time, while it goes on. It is `Ended` after the last of them if its status
+    is not 0, and killed after `patience` seconds, which is subprocess.TimeoutExpired. Whoever leaves off early ends it.
+    """
     # By files, so that the program never waits for a pipe.
     with tempfile.TemporaryFile() as sent, tempfile.TemporaryFile() as came, tempfile.TemporaryFile() as said:
         sent.write(rows)
@@ -76,19 +76,19 @@ def _written(process: subprocess.Popen[bytes], file: int, patience: float | None
             process.wait(_PAUSE)
 
 
-def lines(program: Path, *words: str, rows: bytes) -> Iterator[list[bytes]]:
-    """The lines that a command writes, some at a time, while its input is sent. It is `Ended` behind the last of them
-    if its status is not 0. Whoever leaves off early ends it."""
+def lines(program: Path, *words: str, rows: bytes) -> Iterator[bytes]:
+    """The lines that a command writes, some whole ones at a time, while its input is sent. It is `Ended` after the last
+    of them if its status is not 0. Whoever leaves off early ends it."""
     with tempfile.TemporaryFile() as said:
         process = subprocess.Popen([os.fspath(program), *words], stdin=subprocess.PIPE, stdout=subprocess.PIPE,
-                                   stderr=said)
+                                   stderr=said, bufsize=_TAKEN)
         assert process.stdin and process.stdout
         sender = threading.Thread(target=_send, args=(process.stdin, rows))
         sender.start()
         try:
             with process.stdout as output:
                 _widen(output)
-                while some := output.readlines(_TAKEN):
+                while some := output.read(_TAKEN) + output.readline():
                     yield some
             status = process.wait()
         finally:

@@ -81,7 +81,7 @@ def frame_figures(client: Cluster, frame: Frame, store: Path, *, rows: int = ROW
     answer, total = Answer(FIGURES), Total()
     for number, part in enumerate(parts):
         total += told(found[number], part)
-        answer.add(found.pop(number).splitlines(keepends=True))
+        answer.add(found.pop(number))
     answer.last = str(total)
     return answer.beside(frame)
 
