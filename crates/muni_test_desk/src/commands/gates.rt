@@ -25,6 +25,13 @@ const ANSWER: &str = "PRICE 108.584 GIVEN/YIELD 3.000 COMPUTED/\
     REDEMPTION 2034-01-01 100.000000 PAR OPTION/ACCRUED DAYS 0/PRINCIPAL 108.58/ACCRUED 0.00/\
     TOTAL 108.58";
 
+// At par all candidates have the same yield, so none is dropped before the rounds.
+const PAR: &str = "--price=100";
+
+const PAR_ANSWER: &str = "PRICE 100.000 GIVEN/YIELD 4.000 COMPUTED/\
+    REDEMPTION 2034-01-01 100.000000 PAR OPTION/ACCRUED DAYS 0/PRINCIPAL 100.00/ACCRUED 0.00/\
+    TOTAL 100.00";
+
 // What is answered under a watch to a command that is done.
 fn answered<R: Threads + Sync>(
     rt: &R,
@@ -39,14 +46,18 @@ fn answered<R: Threads + Sync>(
     written(alloc, &outcome.output)
 }
 
+fn answer_at(price: &str) -> &'static str {
+    if price == PAR { PAR_ANSWER } else { ANSWER }
+}
+
 // The most candidates that are started side by side, if a number of them is waited for.
 fn side_by_side<R: Threads + Sync>(
     rt: &R,
     alloc: Global,
-    words: &[&str],
+    [line, price, workers]: [&str; 3],
     watch: Watch,
 ) -> Result<u32, Fail> {
-    if answered(rt, alloc, words, &watch)?.as_str() != ANSWER {
+    if answered(rt, alloc, &[line, price, workers], &watch)?.as_str() != answer_at(price) {
         return Err("the answer")?;
     }
     Ok(watch.most.load(Ordering::SeqCst))
@@ -68,13 +79,13 @@ fn seen<R: Threads + Sync>(
 fn as_many_candidates_are_searched_side_by_side_as_there_are_workers(
     rt: HostRuntime,
 ) -> Result<(), Fail> {
-    for (line, workers, wanted) in [
-        (TWO_CANDIDATES, "--workers=2", 2),
-        (TWO_CANDIDATES, "--workers=02", 2),
-        (FOUR_CANDIDATES, "--workers=4", 4),
+    for (line, price, workers, wanted) in [
+        (TWO_CANDIDATES, PRICE, "--workers=2", 2),
+        (TWO_CANDIDATES, PRICE, "--workers=02", 2),
+        (FOUR_CANDIDATES, PAR, "--workers=4", 4),
     ] {
         let watch = Watch::new(wanted, 100_000_000);
-        let most = side_by_side(&rt, rt.alloc(), &[line, PRICE, workers], watch)?;
+        let most = side_by_side(&rt, rt.alloc(), [line, price, workers], watch)?;
         assert_eq!(rt; most, wanted, "{workers}");
     }
     Ok(())
@@ -90,7 +101,7 @@ fn no_more_candidates_are_searched_side_by_side_than_there_are_workers(
         (THREE_CANDIDATES, "--workers=2", 2),
     ] {
         let watch = Watch::new(3, 10_000_000);
-        let found = side_by_side(&rt, rt.alloc(), &[line, PRICE, workers], watch)?;
+        let found = side_by_side(&rt, rt.alloc(), [line, PAR, workers], watch)?;
         assert!(rt; found <= most, "{workers}");
     }
     Ok(())
