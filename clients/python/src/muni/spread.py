@@ -107,17 +107,20 @@ def _submitted(client: Cluster, *task: Any, **how: Any) -> Any:
 
 def _ended(client: Cluster, tasks: Iterator[tuple[Any, ...]], tries: int) -> Iterator[tuple[int, Any]]:
     """Runs tasks, each a function and its words, and gives their numbers and futures as they end well. One that fails
-    is sent to another worker than those at which one has failed, as long as there is another."""
+    is meant for another worker than those at which one has failed, as long as there is another. Dask may send it back
+    all the same, so that it goes on if the others are lost. That is no further try."""
     distributed = importlib.import_module("distributed")
     run = uuid.uuid4().hex
     waiting = distributed.as_completed(loop=client.loop)
     sent: dict[str, tuple[int, tuple[Any, ...]]] = {}
+    times: Counter[int] = Counter()
     faults: Counter[int] = Counter()
     failing: set[str] = set()
 
     def send(number: int, task: tuple[Any, ...], workers: list[str] | None = None) -> None:
-        future = _submitted(client, *task, key=f"muni-{run}-{number}-{faults[number]}", workers=workers,
+        future = _submitted(client, *task, key=f"muni-{run}-{number}-{times[number]}", workers=workers,
                             allow_other_workers=workers is not None)
+        times[number] += 1
         sent[future.key] = number, task
         waiting.add(future)
 
@@ -134,11 +137,12 @@ def _ended(client: Cluster, tasks: Iterator[tuple[Any, ...]], tries: int) -> Ite
             yield number, future
         else:
             fault = future.exception()
-            faults[number] += 1
-            if faults[number] >= tries:
-                raise PartFault(f"part {number}, tried {tries} times: {fault}") from fault
+            was_sent_back = isinstance(fault, WorkerFault) and fault.worker in failing
             failing.update([fault.worker] if isinstance(fault, WorkerFault) else [])
             others = [each for each in client.nthreads() if each not in failing]
+            faults[number] += not (was_sent_back and others)
+            if faults[number] >= tries:
+                raise PartFault(f"part {number}, tried {tries} times: {fault}") from fault
             send(number, task, others or None)
         send_on()
 
