@@ -62,7 +62,7 @@ def test_an_example_of_the_code_gives_what_it_shows(case: doctest.DocTest) -> No
 
 
 def test_no_example_of_the_code_is_left_out() -> None:
-    assert len(EXAMPLES) == 17
+    assert len(EXAMPLES) == 18
 
 
 @pytest.fixture

@@ -69,7 +69,7 @@ export --store --desk --issues
 list --store --desk
 load --store --desk-limit
 check-store --store
-figures --store --workers --from --header
+figures --store --workers --from --header --risk
 help"""),
 }
 CONFIRMATION = """CONFIRMATION 1

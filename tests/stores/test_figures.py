@@ -24,7 +24,9 @@ FIELDS = b"figures,123456AA3,100.725,4.000,2025-01-01,100.000000,MATURITY,90,251
 BAD = b"bad,1"
 # How many rows are valued to see that the memory stays, and the most that it may be, in KB.
 MOST_MEMORY = 64 * 1024
-MANY, MANY_LONG = 100_000, 3_000_000
+MANY, MANY_LONG = 200_000, 3_000_000
+# So many blocks are read before several workers share them out.
+AT_ONCE = 32
 
 
 @pytest.fixture(scope="module")
@@ -227,7 +229,7 @@ def test_issues_that_are_not_kept_take_no_memory(book):
     book.report(ROWS)
     names = [cusip(place).encode() for place in range(100_000)]
     sent = text([name + b",1,2024-04-01,yield,4" for name in names])
-    few, many = (repeated(book, part, 1, "--workers=2") for part in (sent[:len(sent) // 10], sent))
+    few, many = (repeated(book, part, 1, "--workers=1") for part in (sent[:len(sent) // 10], sent))
     assert few.status == many.status == 0
     assert many.memory < few.memory + 2048
     assert book.said("figures", "--workers=4", rows=sent + ROW) == Said(
@@ -239,7 +241,9 @@ def test_memory_does_not_grow_with_the_input(kept, valued, issues, request, work
     """What is written is right too, row by row."""
     is_long = request.config.getoption("--long")
     some = 10 * lines(random.Random(2), issues, 500)
-    few, many = 2, (MANY_LONG if is_long else MANY) // len(some)
+    few = 2 if workers == 1 else 1 + AT_ONCE * BLOCK // len(text(some))
+    many = (MANY_LONG if is_long else MANY) // len(some)
+    assert 3 * few < many
     runs = [repeated(kept, text(some), times, f"--workers={workers}", patience=20 * PATIENCE) for times in (few, many)]
     assert [(run.status, run.digest) for run in runs] == [(0, digest_of(valued, some, times)) for times in (few, many)]
     assert runs[1].memory < MOST_MEMORY
@@ -297,17 +301,17 @@ def test_an_output_that_is_full_has_its_status(kept, rows):
         assert process.returncode == 5
 
 
-def test_an_output_that_nobody_reads_any_more_has_its_status(kept, valued, rows):
+@pytest.mark.parametrize("workers", [1, 2])
+def test_an_output_that_nobody_reads_any_more_has_its_status(kept, valued, rows, tmp_path, workers):
+    file = tmp_path / "rows"
+    file.write_bytes(10 * text(rows))
     reading, writing = os.pipe()
-    process = kept.muni.start("figures", kept.store.word, "--workers=2", stdin=subprocess.PIPE, stdout=writing)
+    with file.open("rb") as sent:
+        process = kept.muni.start("figures", kept.store.word, f"--workers={workers}", stdin=sent, stdout=writing)
     os.close(writing)
-    with process:
-        process.stdin.write(text(rows))
-        process.stdin.flush()
-        front = os.read(reading, 4096)
-        os.close(reading)
-        process.stdin.close()
-        assert process.wait(PATIENCE) == 5
+    front = os.read(reading, 4096)
+    os.close(reading)
+    assert process.wait(PATIENCE) == 5
     assert b"".join(valued.lines(rows)).startswith(front)
 
 
