@@ -1,5 +1,5 @@
 -- Days as the rules see them, and as texts name them.
-use Rattle.std.specs.Prelude.{ℕ, Bool, true, false, ◌≡◌, refl, List, ◌∷◌, ◌++◌, Option, Some, None, Result, Err, ok_or}
+use Rattle.std.specs.Prelude.{ℕ, ◌+◌, ◌*◌, Bool, true, false, ◌≡◌, refl, List, ◌∷◌, ◌++◌, Option, Some, None, Result, Err, ok_or}
 use Rattle.muni_rule.specs.Civil.{Civil, order_of}
 use Rattle.muni_dec.specs.Digits.{last_digits}
 use Rattle.muni_days.specs.Calendar.{is_day}
@@ -15,6 +15,10 @@ civil day = record { year = day.year; month = day.month; day = day.day }
 -- the place of a day in the order of days
 abbrev pub place_of : Day → ℕ
 place_of day = order_of (civil day)
+
+-- a number that rises with the place, and is read at once
+abbrev pub rank_of : Day → ℕ
+rank_of day = day.year * 65_536 + day.month * 256 + day.day
 
 -- the day of three numbers that are a day
 abbrev pub day_of : (date : Civil) → is_day date ≡ true → Day

@@ -17,9 +17,10 @@ use thiserror::Error;
 /// A day of the civil calendar from 1900-01-01 to 2199-12-31. Days are ordered by date.
 #[derive(Clone, Copy, Debug)]
 pub struct Day {
-    year: u16,
-    month: u8,
+    // In this order the three are one number in memory, which rises with the date.
     day: u8,
+    month: u8,
+    year: u16,
     ghost real: { calendar.is_day (record { year = year; month = month; day = day }) ≡ true },
 }
 
@@ -78,7 +79,7 @@ fn read_numbers(text: &[u8]) -> Option<(u64, u64, u64)>
 }
 
 impl Day {
-    ghost use Rattle.muni_days.specs.Day.{civil, place_of, if_day, day_reading, day_text};
+    ghost use Rattle.muni_days.specs.Day.{civil, rank_of, if_day, day_reading, day_text};
 
     /// The first day of the desk, 1900-01-01.
     pub const FIRST: Day = Day {
@@ -156,10 +157,11 @@ impl Day {
         )
     }
 
-    fn place(&self) -> u32
-        ensures { result ≡ place_of self.now }
+    // A number that rises with the date.
+    fn rank(&self) -> u32
+        ensures { result ≡ rank_of self.now }
     {
-        (self.year() * 372 + self.month() * 31 + self.day()) as u32
+        u32::from(self.year) * 65_536 + u32::from(self.month) * 256 + u32::from(self.day)
     }
 }
 
@@ -170,12 +172,12 @@ impl PartialEq for Day {
 
     ghost laws = { Prim.search (comparing, rules) };
 
-    #[tactic(auto, using(crate::proofs::DayLemmas::day_decides))]
+    #[tactic(auto, using(crate::proofs::DayLemmas::day_decides, crate::proofs::OrderLemmas::rank_decides))]
     fn eq(&self, other: &Day) -> bool
         ensures value { result ≡ on place_of nat_eq self.now other.now }
         ensures same { (result ≡ true) ↔ (self.now ≡ other.now) }
     {
-        self.place() == other.place()
+        self.rank() == other.rank()
     }
 }
 
@@ -194,8 +196,9 @@ impl Ord for Day {
 
     ghost matches_eq = { Prim.search (comparing, rules) };
 
+    #[tactic(auto, using(crate::proofs::OrderLemmas::rank_orders))]
     fn cmp(&self, other: &Day) -> Ordering {
-        self.place().cmp(&other.place())
+        self.rank().cmp(&other.rank())
     }
 }
 
