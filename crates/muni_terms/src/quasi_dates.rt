@@ -1,6 +1,6 @@
 //! The calendar of quasi-coupon dates, computed with months.
 
-ghost use Rattle.std.specs.Prelude.{◌≡◌, ◌+◌, ◌*◌, ◌-◌, ◌/◌, ◌<◌, ◌≤◌, Some, pos};
+ghost use Rattle.std.specs.Prelude.{◌≡◌, ◌==◌, ◌+◌, ◌*◌, ◌-◌, ◌/◌, ◌%◌, ◌<◌, ◌≤◌, Some, pos};
 ghost use Rattle.muni_rule.specs.Civil as rule;
 ghost use Rattle.muni_rule.specs.Civil.{order_of};
 ghost use Rattle.muni_rule.specs.QuasiDates as dates;
@@ -38,7 +38,17 @@ fn last_month(anchor: Day, settlement: Day) -> u32
 pub fn is_quasi_date(anchor: Day, date: Day) -> bool
     ensures { result ≡ dates.is_quasi_date (civil anchor) (civil date) }
 {
-    date.day() == anchor.day() && month_index(date) % 6 == month_index(anchor) % 6
+    date.day() == anchor.day() && are_in_step(date, anchor)
+}
+
+// Whether the months of two days are half a year apart, or a whole number of those.
+fn are_in_step(date: Day, anchor: Day) -> bool
+    ensures { result
+        ≡ (rule.month_index (civil date) % 6 == rule.month_index (civil anchor) % 6) }
+{
+    let month = date.month();
+    let other = anchor.month();
+    month == other || month + 6 == other || month == other + 6
 }
 
 /// The number of quasi-coupon dates after one day and not after another.
