@@ -163,6 +163,15 @@ learnt-by ends series price place window Unsure true may from to is before = bef
 pub learnt-window : (ends : PaymentSeries → ℤ → WorthEnds) (series : PaymentSeries) (price place : ℕ) (window : Window) (told : Reading) → MayBeAsked series (ends series) price → 1 ≤ place → place ≤ 105002 → told.clear ≡ is_clear told.verdict (ends_at ends series place) (360000 * price + series.accrued) → IsWindow (place_verdict ends series price) window → IsWindow (place_verdict ends series price) (learnt place told window)
 learnt-window ends series price place window told may from to is before = learnt-by ends series price place window told.verdict told.clear may from to is before
 
+-- nothing is known without a question
+pub unknown-window : (verdict : ℕ → Verdict) → IsWindow verdict (window_at 0 105003)
+unknown-window verdict = record {
+  most = omega arith;
+  some = omega arith;
+  yes = λ other some order. absurd (omega (arith, some, order));
+  no = λ other order most. absurd (omega (arith, order, most));
+}
+
 -- payments that are worth more than the price at a place reach all places up to it
 pub reached-window : (ends : PaymentSeries → ℤ → WorthEnds) (series : PaymentSeries) (price place : ℕ) (window : Window) → MayBeAsked series (ends series) price → 1 ≤ place → place ≤ 105002 → AtLeast (to_come series) (boundary (yield_at place)) (pos (360000 * price + 360)) → IsWindow (place_verdict ends series price) window → IsWindow (place_verdict ends series price) (window_at place window.no)
 reached-window ends series price place window may from to at before = record {

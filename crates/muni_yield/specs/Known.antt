@@ -63,6 +63,13 @@ guided_start series price = record {
   window = window_first series price;
 }
 
+-- the same if nothing is known but that it reaches a place
+abbrev pub guided_reached : PaymentSeries → ℕ → ℕ → GuidedSearch
+guided_reached series price place = record {
+  bracket = start_of series price;
+  window = window_at place 105_003;
+}
+
 -- two ends enclose the worth narrowly at every yield that may be asked for
 pub record IsEnclosedAt (series : PaymentSeries) (y : ℤ) (ends : WorthEnds) : Type 0 where
   pub holds : HoldsWorth (to_come series) y ends

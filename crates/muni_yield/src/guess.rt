@@ -52,13 +52,14 @@ impl RoughYield {
         invested: 1,
     };
 
-    pub(crate) fn of(flows: &Flows, price: Price) -> RoughYield {
+    /// That of payments at a price.
+    pub fn of(flows: &Flows, price: Price) -> RoughYield {
         let redemption = flows.redemption() as i64;
         let price = 360_000 * price.units() as i64;
         let days = 180 * i64::from(flows.n()) - i64::from(flows.a());
         let pull = (redemption - price) * 180;
         let interest = (flows.regular() as i64).wrapping_mul(days);
-        let between = (2 * redemption + 3 * price) / 10_000_000;
+        let between = (2 * redemption + 3 * price) >> 3;
         RoughYield {
             earned: pull.wrapping_add(interest),
             invested: between.wrapping_mul(days),
@@ -73,12 +74,12 @@ impl RoughYield {
 
     /// In 10^-6.
     pub fn millionths(self) -> i64 {
-        part(self.earned, self.invested)
+        part(self.earned, self.invested / 1_250_000)
     }
 }
 
 /// The highest place that is reached, nearly, by Newton's method from a yield in 10^-6.
-pub(crate) fn place_near(flows: &Flows, price: Price, from: i64) -> Place {
+pub fn place_near(flows: &Flows, price: Price, from: i64) -> Place {
     let dirty = (360_000 * price.units() + flows.accrued()) as i64;
     let mut y = from.clamp(LEAST, GREATEST);
     // In 10^-6 / 1024. The boundary of a place that is met nearly is taken as reached.

@@ -1,11 +1,12 @@
 //! A search that knows verdicts without a question.
 
-ghost use Rattle.std.specs.Prelude.{◌≡◌, ◌<◌, ◌≤◌, false, ℕ, IfSome};
+ghost use Rattle.std.specs.Prelude.{◌≡◌, ◌<◌, ◌≤◌, false, ℕ, IfSome, IfNone};
 ghost use Rattle.muni_rule.specs.Payments.{PaymentSeries};
 ghost use Rattle.muni_rule.specs.PrintedYield.{boundary};
 ghost use Rattle.muni_rule.specs.declared.verdict.Verdict.{Verdict};
 ghost use Rattle.muni_yield.specs.Bracket as bracket;
-ghost use Rattle.muni_yield.specs.Known.{IsGuided, guided_start};
+ghost use Rattle.muni_yield.specs.Bracket.{start_of};
+ghost use Rattle.muni_yield.specs.Known.{IsGuided, guided_start, guided_reached};
 ghost use Rattle.muni_yield.specs.Places.{place_verdict, yield_at};
 
 use crate::guess::{RoughYield, place_near};
@@ -13,7 +14,7 @@ use crate::laws::searches_are_in_order;
 use crate::{Bracket, Discounts, Place, Question, Window};
 use muni_dec::Price;
 use muni_multi::{Annuity, Discount, Encloser, Verdict};
-use muni_terms::Flows;
+use muni_terms::{Flows, flows_are_in_range};
 
 /// A bracket, and the verdicts that are known.
 ///
@@ -37,6 +38,34 @@ impl GuidedSearch {
             bracket: Bracket::start(flows, price),
             window,
         }
+    }
+
+    /// The search for payments and what its question tells, or none if the annuity of the question's yield shows that
+    /// they are worth 10^-9 dollars more than the price there. Then nothing is made or enclosed for them.
+    pub fn unless_shown<E: Encloser>(
+        encloser: &E,
+        flows: &Flows,
+        price: Price,
+        question: Question,
+        annuity: &mut Annuity,
+    ) -> Option<GuidedSearch>
+        requires many { 2 ≤ flows.now.n }
+        requires price { 0 < price }
+        requires place { annuity.old.discount.y ≡ boundary (yield_at question) }
+        ensures shown { IfNone result (IsGuided (place_verdict (E.ends encloser.now))
+            (guided_reached flows.now price question)) }
+        ensures start { IfSome result (λ search. search.bracket ≡ start_of flows.now price) }
+        ensures known { IfSome result (IsGuided (place_verdict (E.ends encloser.now))) }
+        ensures same { annuity.new.discount ≡ annuity.old.discount }
+    {
+        flows_are_in_range(flows);
+        if annuity.shows(flows, price) {
+            let _place = question.place();
+            return None;
+        }
+        let mut search = GuidedSearch::start(*flows, price);
+        search.leap(encloser, question, Some(annuity.discount()));
+        Some(search)
     }
 
     /// The two yields, as the answers to the questions leave them.
@@ -140,7 +169,7 @@ impl GuidedSearch {
     pub fn annuity(&self, question: Question) -> Annuity
         ensures { result.discount.y ≡ boundary (yield_at question) }
     {
-        Annuity::none(self.discount_at(question))
+        question.annuity(self.bracket.flows().a())
     }
 
     fn discount_at(&self, question: Question) -> Discount

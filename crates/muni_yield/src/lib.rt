@@ -13,7 +13,7 @@ mod window;
 
 pub use bracket::Bracket;
 pub use discounts::Discounts;
-pub use guess::RoughYield;
+pub use guess::{RoughYield, place_near};
 pub use guided::GuidedSearch;
 pub use outcome::Outcome;
 pub use outside::printed_yield;

@@ -7,7 +7,7 @@ ghost use Rattle.muni_multi.specs.Readings.{is_clear};
 ghost use Rattle.muni_yield.specs.Places as spec;
 
 use muni_dec::{Price, Yield3};
-use muni_multi::{Discount, Encloser, Reading, at_least_at, more_at};
+use muni_multi::{Annuity, Discount, Encloser, Reading, at_least_at, more_at};
 use muni_terms::Flows;
 use std::marker::Model;
 
@@ -173,6 +173,14 @@ impl Question {
         ensures range { IsManyPeriodsBoundary result }
     {
         10 * self.place().thousandths() - 5
+    }
+
+    /// The annuity of its yield on a day of an interest period, without payments.
+    pub fn annuity(self, a: u32) -> Annuity
+        requires { a ≤ 180 }
+        ensures { result.discount.y ≡ rule.boundary (spec.yield_at self) }
+    {
+        Annuity::none(Discount::at(self.boundary(), a))
     }
 
     /// The answer. No discount is computed if the one at hand is that of the question.

@@ -19,8 +19,8 @@ pub struct Window {
 }
 
 impl Window {
-    // What the sum of the payments settles, which is their price at a yield of zero.
-    pub(crate) fn first(flows: &Flows, price: Price) -> Window
+    /// What the sum of the payments settles, which is their price at a yield of zero.
+    pub fn first(flows: &Flows, price: Price) -> Window
         ensures { result ≡ spec.window_first flows.now price }
     {
         let sum = total(flows);
