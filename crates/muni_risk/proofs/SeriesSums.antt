@@ -13,7 +13,7 @@ use Rattle.muni_multi.specs.LastStep.{discount_low, discount_high}
 use Rattle.muni_multi.specs.Horner.{sum_low, sum_high}
 use Rattle.muni_multi.specs.HornerLaws.{discount-is, sum_low-more}
 use Rattle.muni_rule.specs.Sensitivities.{weighted_sum}
-use Rattle.muni_risk.specs.Sums.{factor, days_of, weighted, IsFirstPaid, whole_end}
+use Rattle.muni_risk.specs.Sums.{factor, days_of, weighted, IsFirstPaid}
 use Rattle.muni_risk.specs.declared.sums.Weight.{Weight}
 use Rattle.muni_risk.specs.declared.sums.Weight.TheVariants.{One, Days, DaysTwice}
 use Rattle.muni_risk.proofs.Ends.{IsSum, sums, sum-narrow}
@@ -120,6 +120,11 @@ days_twice-by = record {
   few = λ d few. (let product : d * (d + 180) ≤ 18000 * 18180 = mul-le-mul few (let more : d + 180 ≤ 18180 = omega arith in more) in omega (arith, product));
   some = lit≤ tt;
 }
+
+-- the upper end of what the payments from a place on are worth on the day of the first of them, rounded up to
+-- units of 2^-44
+abbrev pub whole_end : PaymentSeries → ℤ → ℕ → ℕ
+whole_end series y start = (sum_high (weighted One series) (discount_high y) (series.n - start) start + 65535) / 65536
 
 -- what is known of a sum with days and of the whole one, from the first payment that is not 0 on
 pub record AreSums (series : PaymentSeries) (y : ℤ) (s : ℕ) (weight : Weight) (number : ℕ → ℕ) (most whole : ℕ) : Type 0 where

@@ -2,9 +2,9 @@
 
 ghost use Rattle.std.specs.Prelude.{◌≡◌, ◌+◌, ◌-◌, ◌*◌, ◌/◌, ◌^◌, ◌<◌, ◌≤◌};
 ghost use Rattle.muni_rule.specs.Payments.{IsSeries};
-ghost use Rattle.muni_multi.specs.Horner.{sum_low, sum_high, AreDiscountEnds};
+ghost use Rattle.muni_multi.specs.Horner.{AreDiscountEnds};
 ghost use Rattle.muni_risk.specs.Sums as rule;
-ghost use Rattle.muni_risk.specs.Sums.{IsFirstPaid};
+ghost use Rattle.muni_risk.specs.Sums.{IsFirstPaid, IsSumFrom, AreSumsFrom};
 
 use muni_multi::payment_at;
 use muni_span::span::Span;
@@ -50,34 +50,75 @@ pub(crate) fn first_paid(flows: &Flows) -> u32
     last
 }
 
+/// Sums of the payments from a place on, on the day of the first of them: in units of 2^-60 amounts,
+/// and with days of 2^-44 amounts.
+#[derive(Clone, Copy, Debug)]
+pub(crate) struct Sums {
+    /// Of the payments.
+    pub one: Worth,
+    /// Of each times the days to it.
+    pub days: Worth,
+    /// Of each times these days times the days to half a year after it.
+    pub days_twice: Worth,
+}
+
+/// The sums of the payments from a place on.
+pub(crate) fn sums_from(flows: &Flows, discount: Span, start: u32) -> Sums
+    requires discount { AreDiscountEnds discount.lo discount.hi }
+    requires start { start < flows.now.n }
+    ensures bounds { IsSeries flows.now }
+    ensures sums { AreSumsFrom flows.now discount.lo discount.hi start result }
+{
+    let none = exactly(0);
+    let mut sums = Sums {
+        one: none,
+        days: none,
+        days_twice: none,
+    };
+    for k in (start..flows.n()).rev() {
+        sums = Sums {
+            one: with_payment(flows, discount, Weight::One, k, sums.one),
+            days: with_payment(flows, discount, Weight::Days, k, sums.days),
+            days_twice: with_payment(flows, discount, Weight::DaysTwice, k, sums.days_twice),
+        };
+    }
+    sums
+}
+
+/// The sum of all payments times the days to each, from that of the payments from a place on.
+pub(crate) fn days_of_all(flows: &Flows, discount: Span, place: u32, days: Worth) -> Worth
+    requires discount { AreDiscountEnds discount.lo discount.hi }
+    requires place { place < flows.now.n }
+    requires days { IsSumFrom Weight.Days flows.now discount.lo discount.hi place days }
+    ensures { IsSumFrom Weight.Days flows.now discount.lo discount.hi 0 result }
+{
+    let mut days = days;
+    for k in (0..place).rev() {
+        days = with_payment(flows, discount, Weight::Days, k, days);
+    }
+    days
+}
+
+// A sum of the payments from place k on, from that of those after it.
+fn with_payment(flows: &Flows, discount: Span, weight: Weight, k: u32, later: Worth) -> Worth
+    requires discount { AreDiscountEnds discount.lo discount.hi }
+    requires place { k < flows.now.n }
+    requires later { IsSumFrom weight flows.now discount.lo discount.hi (k + 1) later }
+    ensures { IsSumFrom weight flows.now discount.lo discount.hi k result }
+{
+    let payment = exactly(weighted(flows, k, weight));
+    later.scale(discount).add(payment)
+}
+
 fn weighted(flows: &Flows, k: u32, weight: Weight) -> u128
     requires { k < flows.now.n }
+    ensures bounds { IsSeries flows.now }
     ensures value { result ≡ 4096 * rule.weighted weight flows.now k }
     ensures small { result ≤ 82_800_000_000_000 * 327_240_000 * 2 ^ 44 }
 {
     let left = 180 - flows.a();
     let days = u64::from(180 * k + left);
     u128::from(payment_at(flows, k)) * weight.factor(days) * 4096
-}
-
-/// What the payments from a place on, each times its weight, are worth on the day of the first of
-/// them: in units of 2^-60 amounts, and with days of 2^-44 amounts.
-pub(crate) fn discounted_sum(flows: &Flows, discount: Span, weight: Weight, start: u32) -> Worth
-    requires discount { AreDiscountEnds discount.lo discount.hi }
-    requires start { start < flows.now.n }
-    ensures bounds { IsSeries flows.now }
-    ensures lo { result.lo
-        ≡ sum_low (rule.weighted weight flows.now) discount.lo (flows.now.n - start) start }
-    ensures hi { result.hi
-        ≡ sum_high (rule.weighted weight flows.now) discount.hi (flows.now.n - start) start }
-    ensures small { result.hi < 2 ^ 125 }
-{
-    let last = flows.n() - 1;
-    let mut sum = exactly(weighted(flows, last, weight));
-    for k in (start..last).rev() {
-        sum = sum.scale(discount).add(exactly(weighted(flows, k, weight)));
-    }
-    sum
 }
 
 fn exactly(amount: u128) -> Worth
