@@ -5,14 +5,14 @@ use Rattle.std.proofs.lemmas.Bool.Decides.{nat_tests}
 use Rattle.std.proofs.lemmas.List.{append_assoc, append-nil, length-append, length-map, map-append}
 use Rattle.csv.specs.Reading.{strip_bom}
 use Rattle.csv.specs.declared.parser.State.TheVariants as st
-use Rattle.muni_import.specs.Blocks.{CutsOff, IsBegun, IsHeld}
+use Rattle.muni_import.specs.Blocks.{CutsOff, CutsRecords, IsBegun, IsHeld}
 use Rattle.muni_import.specs.Places as place
 use Rattle.muni_import.specs.Places.{EndsLast, NoneEnds, Passes, passed}
 use Rattle.muni_import.specs.Row.{row_of}
-use Rattle.muni_import.specs.Rows.{rows_of}
+use Rattle.muni_import.specs.Rows.{records_of, rows_of}
 use Rattle.muni_import.specs.declared.place.Place.{Place}
 use Rattle.muni_import.specs.declared.place.Place.TheVariants as at
-use Rattle.muni_import.proofs.RecordLemmas.{all, rows-all, split-row, few-row, few-after}
+use Rattle.muni_import.proofs.RecordLemmas.{all, records-all, split-row, few-row, few-after}
 
 -- ---- passing over bytes
 passed-append : (p : Place) (xs ys : List ℕ) → passed p (xs ++ ys) ≡ passed (passed p xs) ys
@@ -117,55 +117,52 @@ opens [] c cuts = first-none c (c == 0xEF) refl cuts
 opens (d ∷ front) c cuts = first-more d front c (d == 0xEF) refl cuts
 
 -- ---- the rows of a text that is cut
-without-mark : (text bytes : List ℕ) → strip_bom text ≡ bytes → rows_of text ≡ map row_of (all st.StartRecord [] [] bytes)
-without-mark text bytes is = rows-all text ∙ ap (λ bytes. map row_of (all st.StartRecord [] [] bytes)) is
+without-mark : (text bytes : List ℕ) → strip_bom text ≡ bytes → records_of text ≡ all st.StartRecord [] [] bytes
+without-mark text bytes is = records-all text ∙ ap (λ bytes. all st.StartRecord [] [] bytes) is
 
-rows-behind : (more : List ℕ) → rows_of (10 ∷ more) ≡ map row_of (all st.StartRecord [] [] more)
+rows-behind : (more : List ℕ) → records_of (10 ∷ more) ≡ all st.StartRecord [] [] more
 rows-behind more = without-mark (10 ∷ more) (10 ∷ more) (unmarked 10 more refl)
 
-cut : (front : List ℕ) (c : ℕ) (more : List ℕ) → (place.step (passed at.Start front) c).1 ≡ true → rows_of ((front ++ c ∷ []) ++ more) ≡ rows_of (front ++ c ∷ []) ++ rows_of (10 ∷ more)
+cut : (front : List ℕ) (c : ℕ) (more : List ℕ) → (place.step (passed at.Start front) c).1 ≡ true → records_of ((front ++ c ∷ []) ++ more) ≡ records_of (front ++ c ∷ []) ++ records_of (10 ∷ more)
 cut front c more cuts =
     let open_text = opens front c cuts in
     let block = open_text.rest ++ c ∷ [] in
     let stripped : strip_bom (front ++ c ∷ []) ≡ block = ap strip_bom (sym (append-nil (front ++ c ∷ []))) ∙ open_text.stripped [] ∙ append-nil block in
-    let these = all st.StartRecord [] [] block in
-    let others = all st.StartRecord [] [] more in
     without-mark ((front ++ c ∷ []) ++ more) (block ++ more) (open_text.stripped more)
-    ∙ ap (map row_of) (split-row open_text.rest c more open_text.cuts)
-    ∙ map-append row_of these others
+    ∙ split-row open_text.rest c more open_text.cuts
     ∙ ap₂ (λ (a b : List _). a ++ b) (sym (without-mark (front ++ c ∷ []) block stripped)) (sym (rows-behind more))
 
 -- ---- the rows of a text that is held
-few-by : (text bytes : List ℕ) → strip_bom text ≡ bytes → length (all st.StartRecord [] [] bytes) ≤ 1 → length (rows_of text) ≤ 1
-few-by text bytes is few = omega (arith, few, ap length (without-mark text bytes is), length-map (all st.StartRecord [] [] bytes) row_of)
+few-by : (text bytes : List ℕ) → strip_bom text ≡ bytes → length (all st.StartRecord [] [] bytes) ≤ 1 → length (records_of text) ≤ 1
+few-by text bytes is few = omega (arith, few, ap length (without-mark text bytes is))
 
-few-third : (rest : List ℕ) → NoneEnds at.AfterTwo rest → length (rows_of (0xEF ∷ 0xBB ∷ rest)) ≤ 1
+few-third : (rest : List ℕ) → NoneEnds at.AfterTwo rest → length (records_of (0xEF ∷ 0xBB ∷ rest)) ≤ 1
 unfolding strip_bom
 few-third [] none = few-by (0xEF ∷ 0xBB ∷ []) (0xEF ∷ 0xBB ∷ []) refl (few-row (0xEF ∷ 0xBB ∷ []) (refl, (refl, tt)))
 few-third (c ∷ rest) none = by (c == 0xBF) refl none
   where
-    by : (marks : Bool) → (c == 0xBF) ≡ marks → ((place.by_mark marks at.Row c).1 ≡ false) × NoneEnds (place.by_mark marks at.Row c).0 rest → length (rows_of (0xEF ∷ 0xBB ∷ c ∷ rest)) ≤ 1
+    by : (marks : Bool) → (c == 0xBF) ≡ marks → ((place.by_mark marks at.Row c).1 ≡ false) × NoneEnds (place.by_mark marks at.Row c).0 rest → length (records_of (0xEF ∷ 0xBB ∷ c ∷ rest)) ≤ 1
     by true is none =
-        subst (λ c. length (rows_of (0xEF ∷ 0xBB ∷ c ∷ rest)) ≤ 1) (sym (same-byte c 0xBF is)) (few-by (0xEF ∷ 0xBB ∷ 0xBF ∷ rest) rest refl (few-row rest none.1))
+        subst (λ c. length (records_of (0xEF ∷ 0xBB ∷ c ∷ rest)) ≤ 1) (sym (same-byte c 0xBF is)) (few-by (0xEF ∷ 0xBB ∷ 0xBF ∷ rest) rest refl (few-row rest none.1))
     by false is none =
         few-by (0xEF ∷ 0xBB ∷ c ∷ rest) (0xEF ∷ 0xBB ∷ c ∷ rest) (unmarked-three c rest is) (few-row (0xEF ∷ 0xBB ∷ c ∷ rest) (refl, (refl, none)))
 
-few-second : (rest : List ℕ) → NoneEnds at.AfterOne rest → length (rows_of (0xEF ∷ rest)) ≤ 1
+few-second : (rest : List ℕ) → NoneEnds at.AfterOne rest → length (records_of (0xEF ∷ rest)) ≤ 1
 unfolding strip_bom
 few-second [] none = few-by (0xEF ∷ []) (0xEF ∷ []) refl (few-row (0xEF ∷ []) (refl, tt))
 few-second (c ∷ rest) none = by (c == 0xBB) refl none
   where
-    by : (marks : Bool) → (c == 0xBB) ≡ marks → ((place.by_mark marks at.AfterTwo c).1 ≡ false) × NoneEnds (place.by_mark marks at.AfterTwo c).0 rest → length (rows_of (0xEF ∷ c ∷ rest)) ≤ 1
-    by true is none = subst (λ c. length (rows_of (0xEF ∷ c ∷ rest)) ≤ 1) (sym (same-byte c 0xBB is)) (few-third rest none.1)
+    by : (marks : Bool) → (c == 0xBB) ≡ marks → ((place.by_mark marks at.AfterTwo c).1 ≡ false) × NoneEnds (place.by_mark marks at.AfterTwo c).0 rest → length (records_of (0xEF ∷ c ∷ rest)) ≤ 1
+    by true is none = subst (λ c. length (records_of (0xEF ∷ c ∷ rest)) ≤ 1) (sym (same-byte c 0xBB is)) (few-third rest none.1)
     by false is none = few-by (0xEF ∷ c ∷ rest) (0xEF ∷ c ∷ rest) (unmarked-two c rest is) (few-row (0xEF ∷ c ∷ rest) (refl, none))
 
-pub few-held : (held : List ℕ) → IsBegun held → length (rows_of held) ≤ 1
+pub few-held : (held : List ℕ) → IsBegun held → length (records_of held) ≤ 1
 unfolding strip_bom
 few-held [] begun = few-by [] [] refl (few-row [] tt)
 few-held (c ∷ rest) begun = by (c == 0xEF) refl begun
   where
-    by : (marks : Bool) → (c == 0xEF) ≡ marks → NoneEnds (if marks then (at.AfterOne, false) else place.before_row c).0 rest → length (rows_of (c ∷ rest)) ≤ 1
-    by true is none = subst (λ c. length (rows_of (c ∷ rest)) ≤ 1) (sym (same-byte c 0xEF is)) (few-second rest none)
+    by : (marks : Bool) → (c == 0xEF) ≡ marks → NoneEnds (if marks then (at.AfterOne, false) else place.before_row c).0 rest → length (records_of (c ∷ rest)) ≤ 1
+    by true is none = subst (λ c. length (records_of (c ∷ rest)) ≤ 1) (sym (same-byte c 0xEF is)) (few-second rest none)
     by false is none = few-by (c ∷ rest) (c ∷ rest) (unmarked c rest is) (few-after c rest none)
 
 begun-start : (xs : List ℕ) → NoneEnds at.Start xs → IsBegun xs
@@ -194,12 +191,12 @@ held-more p to held piece end none is passes = record {
   begun = begun-append held piece is.begun (subst (λ p. NoneEnds p piece) is.stands (whole-piece p to piece end none passes));
 }
 
-no-rows : rows_of [] ≡ []
+no-rows : records_of [] ≡ []
 unfolding strip_bom
-no-rows = rows-all []
+no-rows = records-all []
 
-pub none-cut : (p : Place) (text : List ℕ) → IsHeld p text → CutsOff text [] text
-none-cut p text is = record { rows = λ more. ap (λ l. l ++ rows_of (text ++ more)) (sym no-rows); few = few-held text is.begun }
+pub none-cut : (p : Place) (text : List ℕ) → IsHeld p text → CutsRecords text [] text
+none-cut p text is = record { records = λ more. ap (λ l. l ++ records_of (text ++ more)) (sym no-rows); few = few-held text is.begun }
 
 -- else the text is cut off after the last, and the next row is before it
 abbrev CutsToRow : Place × Bool → Type 0
@@ -262,7 +259,7 @@ held-behind p to held piece end some passes =
       begun = subst (λ p. NoneEnds p passes.begun) row passes.none_more;
     }
 
-pub cut-off : (p to : Place) (held piece : List ℕ) (end : ℕ) → ¬ (end ≡ 0) → IsHeld p held → Passes p piece end to → CutsOff (held ++ piece) (held ++ take end piece) (10 ∷ drop end piece)
+pub cut-off : (p to : Place) (held piece : List ℕ) (end : ℕ) → ¬ (end ≡ 0) → IsHeld p held → Passes p piece end to → CutsRecords (held ++ piece) (held ++ take end piece) (10 ∷ drop end piece)
 cut-off p to held piece end some is passes =
     let last = ended-last p passes.whole end some passes.ended in
     let parts = front-of passes.whole passes.begun piece end passes.joined passes.counted in
@@ -273,10 +270,18 @@ cut-off p to held piece end some is passes =
     let cuts : (place.step (passed at.Start front) last.byte).1 ≡ true = ap (λ p. (place.step p last.byte).1) there ∙ last.is_end in
     let new = held-behind p to held piece end some passes in
     record {
-      rows = λ more.
-          ap (λ l. rows_of (l ++ more)) text
-          ∙ ap rows_of (append_assoc (front ++ last.byte ∷ []) passes.begun more)
+      records = λ more.
+          ap (λ l. records_of (l ++ more)) text
+          ∙ ap records_of (append_assoc (front ++ last.byte ∷ []) passes.begun more)
           ∙ cut front last.byte (passes.begun ++ more) cuts
-          ∙ ap₂ (λ (a b : List ℕ). rows_of a ++ rows_of (10 ∷ (b ++ more))) (sym block ∙ ap (λ l. held ++ l) (sym parts.0)) (sym parts.1);
+          ∙ ap₂ (λ (a b : List ℕ). records_of a ++ records_of (10 ∷ (b ++ more))) (sym block ∙ ap (λ l. held ++ l) (sym parts.0)) (sym parts.1);
       few = few-held (10 ∷ drop end piece) new.begun;
     }
+
+-- where the records are cut, the rows are
+pub cuts-rows : (text block held : List ℕ) → CutsRecords text block held → CutsOff text block held
+unfolding rows_of
+cuts-rows text block held cuts = record {
+  rows = λ more. ap (map row_of) (cuts.records more) ∙ map-append row_of (records_of block) (records_of (held ++ more));
+  few = omega (arith, cuts.few, length-map (records_of held) row_of);
+}

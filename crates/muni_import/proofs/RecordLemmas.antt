@@ -1,5 +1,5 @@
 -- The records of bytes, and where these can be cut.
-use Rattle.std.proofs.Common.{◌≡◌, ◌≤◌, ◌+◌, ◌||◌, ◌==◌, ℕ, zero, suc, List, [], ◌∷◌, ◌++◌, length, map, Bool, true, false, cond, Option, Some, None, refl, ap, inl, inr, arith}
+use Rattle.std.proofs.Common.{◌≡◌, ◌≤◌, ◌+◌, ◌||◌, ◌==◌, ℕ, zero, suc, List, [], ◌∷◌, ◌++◌, length, Bool, true, false, cond, Option, Some, None, refl, ap, inl, inr, arith}
 use Rattle.std.specs.Prelude.{⊤, if◌then◌else◌}
 use Rattle.csv.specs.Machine.{Read, next_record, step, in_field, start_field, start_record, is_end, ends_at_end, fields_after, field_after}
 use Rattle.csv.specs.Reading.{default_config, records_from, records_next, strip_bom}
@@ -8,8 +8,7 @@ use Rattle.csv.specs.declared.parser.State.TheVariants as st
 use Rattle.csv.specs.declared.parser.Action.{Action}
 use Rattle.csv.specs.declared.parser.Action.TheVariants as act
 use Rattle.muni_import.specs.Places as place
-use Rattle.muni_import.specs.Row.{row_of}
-use Rattle.muni_import.specs.Rows.{rows_of}
+use Rattle.muni_import.specs.Rows.{records_of}
 use Rattle.muni_import.specs.declared.place.Place.{Place}
 use Rattle.muni_import.specs.declared.place.Place.TheVariants as at
 use Rattle.muni_import.proofs.MachineLemmas.{IsBetween}
@@ -50,12 +49,12 @@ all-are (suc n) s fields field (c ∷ rest) few =
     (all-are n x.0 [] [] rest (omega (arith, few)))
     (all-are (suc n) x.0 (fields_after x.1 fields field) (field_after x.1 c field) rest (omega (arith, few)))
 
-pub rows-all : (text : List ℕ) → rows_of text ≡ map row_of (all st.StartRecord [] [] (strip_bom text))
-unfolding rows_of records_from
-rows-all text =
+pub records-all : (text : List ℕ) → records_of text ≡ all st.StartRecord [] [] (strip_bom text)
+unfolding records_from
+records-all text =
     let bytes = strip_bom text in
     let turns : length bytes + 1 ≡ suc (length bytes) = omega arith in
-    rw turns (ap (map row_of) (all-are (length bytes) st.StartRecord [] [] bytes (omega arith)))
+    rw turns (all-are (length bytes) st.StartRecord [] [] bytes (omega arith))
 
 -- ---- a place says where the machine stands
 abbrev Stands : Place → State → Type 0

@@ -1,7 +1,7 @@
 -- The rows of a text that comes a piece at a time.
 use Rattle.std.specs.Prelude.{◌≡◌, ◌≤◌, ⊤, ℕ, List, [], ◌∷◌, ◌++◌, length}
 use Rattle.muni_import.specs.Places.{NoneEnds, passed, step}
-use Rattle.muni_import.specs.Rows.{rows_of}
+use Rattle.muni_import.specs.Rows.{records_of, rows_of}
 use Rattle.muni_import.specs.declared.place.Place.{Place}
 use Rattle.muni_import.specs.declared.place.Place.TheVariants.{Start}
 
@@ -10,6 +10,11 @@ use Rattle.muni_import.specs.declared.place.Place.TheVariants.{Start}
 pub record CutsOff (text block held : List ℕ) : Type 0 where
   pub rows : (more : List ℕ) → rows_of (text ++ more) ≡ rows_of block ++ rows_of (held ++ more)
   pub few : length (rows_of held) ≤ 1
+
+-- likewise its records, whatever they are read as
+pub record CutsRecords (text block held : List ℕ) : Type 0 where
+  pub records : (more : List ℕ) → records_of (text ++ more) ≡ records_of block ++ records_of (held ++ more)
+  pub few : length (records_of held) ≤ 1
 
 -- no row ends in a text, unless with its first byte
 abbrev pub IsBegun : List ℕ → Type 0

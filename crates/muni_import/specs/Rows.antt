@@ -4,6 +4,10 @@ use Rattle.csv.specs.Reading.{default_config, records, records_from, strip_bom}
 use Rattle.csv.specs.declared.parser.State.{State}
 use Rattle.muni_import.specs.Row.{Row, row_of}
 
+-- the records of a text: a mark of its byte order is no part of it
+abbrev pub records_of : List ℕ → List (List (List ℕ))
+records_of text = records default_config (strip_bom text)
+
 -- the rows of bytes, read on from a state
 unfoldable pub rows_from : State → List ℕ → List Row
 rows_from state bytes = map row_of (records_from default_config (length bytes + 1) state bytes)

@@ -1,7 +1,7 @@
 //! The rows of a text that comes a piece at a time.
 
 ghost use Rattle.std.specs.Prelude.{◌≡◌, ◌++◌, ◌∷◌, [], IfOk, OnErr};
-ghost use Rattle.muni_import.specs.Blocks.{CutsOff};
+ghost use Rattle.muni_import.specs.Blocks.{CutsOff, CutsRecords};
 
 use crate::place::Place;
 use muni_edge::NoMemory;
@@ -46,6 +46,7 @@ impl RowBlocks {
     /// Out of memory is the only refusal, and nothing is taken then.
     pub fn add(&mut self, piece: &[u8]) -> Result<Vec<u8>, NoMemory>
         ensures cuts { IfOk result (λ block. CutsOff (self.old ++ piece.now) block.items self.new) }
+        ensures records { IfOk result (λ block. CutsRecords (self.old ++ piece.now) block.items self.new) }
         ensures refused { OnErr result (self.new ≡ self.old) }
     {
         let mut place = self.place;
