@@ -23,5 +23,6 @@ pub mod StartLemmas
 pub mod LevelLemmas
 pub mod CountLemmas
 pub mod LookLemmas
+pub mod LookedLemmas
 pub mod RoundsLemmas
 pub mod EachDateLemmas

@@ -1,6 +1,6 @@
 -- What the searches keep holds before the first round, and after each.
-use Rattle.std.proofs.Common.{◌≡◌, ◌<◌, ◌≤◌, ◌+◌, ℕ, zero, suc, List, [], ◌∷◌, All, true, length, Option, Some, None, refl, ap, sym, subst, inl, inr, ⊎_elim, arith, ◌∙◌, ◌⊎◌, ℤ}
-use Rattle.std.specs.Prelude.{unwrap_or}
+use Rattle.std.proofs.Common.{◌≡◌, ◌<◌, ◌≤◌, ◌+◌, ℕ, zero, suc, List, [], ◌∷◌, ◌++◌, All, true, false, length, Option, Some, None, refl, ap, sym, subst, inl, inr, ⊎_elim, arith, ◌∙◌, ◌⊎◌, ℤ}
+use Rattle.std.specs.Prelude.{unwrap_or, is_some}
 use Rattle.std.specs.List.{AllZip}
 use Rattle.std.proofs.lemmas.Int.{ints}
 use Rattle.std.proofs.lemmas.List.{get_or_default}
@@ -164,6 +164,20 @@ found verdicts price c (candidate ∷ list) (it ∷ known) zip (suc j) =
     let next : c + 1 + j ≡ c + suc j = omega arith in
     inr (left.0, found-later price c (to_come_of candidate.shape) (searches_from price (c + 1) list) (c + suc j) (subst (IsSearchedFor (searches_from price (c + 1) list)) next left.1)))
     (found verdicts price (c + 1) list known zip.1 j)
+
+-- one outcome more
+pub ceiling-next : (ceiling : Option ℤ) (known : List (Option CandidateOutcome)) (next : Option CandidateOutcome) → ceiling_first ceiling (known ++ next ∷ []) ≡ lower_of (ceiling_first ceiling known) (missed_first next)
+ceiling-next ceiling [] next = refl
+ceiling-next ceiling (it ∷ known) next = ceiling-next (lower_of ceiling (missed_first it)) known next
+
+lower-none : (ceiling : Option ℤ) → lower_of ceiling None ≡ ceiling
+lower-none None = refl
+lower-none (Some t) = refl
+
+-- one that is not known leaves the ceiling
+pub lower-unknown : (ceiling : Option ℤ) (next : Option CandidateOutcome) → is_some next ≡ false → ceiling ≡ lower_of ceiling (missed_first next)
+lower-unknown ceiling None is = sym (lower-none ceiling)
+lower-unknown ceiling (Some outcome) is = absurd (cc)
 
 -- the ceiling of the outcomes that are known
 printed-ceiling : (finals : List CandidateOutcome) (k : ℕ) (known : Option CandidateOutcome) → (known ≡ Some (at finals k)) ⊎ (known ≡ None) → IsCeiling finals (missed_first known)

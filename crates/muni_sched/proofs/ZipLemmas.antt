@@ -38,7 +38,7 @@ zip-has_one Good Is (x ∷ xs) each all =
     record { value = first.value ∷ rest.value; such = (first.such, rest.such); only = λ ys is. more-only Is x xs ys first rest is }
 
 -- one more item of two lists that agree place by place
-zip-more : {X Y : Type 0} (R : X → Y → Type 0) (xs : List X) (ys : List Y) (x : X) (y : Y) → AllZip R xs ys → R x y → AllZip R (xs ++ x ∷ []) (ys ++ y ∷ [])
+pub zip-more : {X Y : Type 0} (R : X → Y → Type 0) (xs : List X) (ys : List Y) (x : X) (y : Y) → AllZip R xs ys → R x y → AllZip R (xs ++ x ∷ []) (ys ++ y ∷ [])
 zip-more R [] [] x y all one = (one, tt)
 zip-more R [] (v ∷ ys) x y all one = absurd all
 zip-more R (u ∷ xs) [] x y all one = absurd all

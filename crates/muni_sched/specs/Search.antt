@@ -155,6 +155,21 @@ pub record IsLook (verdicts : PaymentSeries → ℕ → ℕ → Verdict) (before
 abbrev pub MayLook : (PaymentSeries → ℕ → ℕ → Verdict) → SearchState → SearchState → Type 0
 MayLook verdicts before after = (after ≡ before) ⊎ IsLook verdicts before after
 
+-- what is known before the first round, with a look or without one
+pub record IsBegun (verdicts : PaymentSeries → ℕ → ℕ → Verdict) (price : ℕ) (list : List Candidate) (search : SearchState) : Type 0 where
+  pub first : SearchState
+  pub started : IsStarted price list first
+  pub look : MayLook verdicts first search
+
+-- Some searches are kept of all that are looked at. The others are known to reach a place, so none of them is needed
+-- if one does not reach it.
+pub record IsLookedAtBut (verdicts : PaymentSeries → ℕ → ℕ → Verdict) (place : ℕ) (searches kept : List OpenSearch) : Type 0 where
+  pub looked : List OpenSearch
+  pub each : AllZip (IsLookedAt verdicts) searches looked
+  pub missed : (before : ℕ) → before ≤ 105_003 → missed_after before looked ≡ missed_after before kept
+  pub needed : (ceiling : Option ℤ) (missed : ℕ) → missed ≤ place
+      → filter (is_needed ceiling missed) looked ≡ filter (is_needed ceiling missed) kept
+
 -- one round: each search is halved, what is known then is recorded, and those are kept that are
 -- still needed
 pub record IsRound (verdicts : PaymentSeries → ℕ → ℕ → Verdict) (before after : SearchState) : Type 0 where

@@ -1,7 +1,10 @@
 //! What the searches of a round ask if they know the answer to their own question. Nothing rests on it.
 
 use crate::search::OpenSearch;
-use muni_yield::{Place, Question, RoughYield, Window};
+use crate::{Candidate, Shape};
+use muni_dec::Price;
+use muni_terms::Flows;
+use muni_yield::{Place, Question, RoughYield, Window, place_near};
 
 /// A question, and the guess that it comes from: the highest place that a candidate reaches.
 #[derive(Clone, Copy, Debug, PartialEq, Eq)]
@@ -19,13 +22,13 @@ impl Aim {
         guess: Place::BELOW,
     };
 
-    /// Next to a guess at the yield of the candidate whose rough yield is the lowest.
-    pub(crate) fn first(searches: &[OpenSearch]) -> Aim {
-        match lowest_roughly(searches) {
-            Some(search) => {
-                let rough = search.guided.rough_yield();
-                let guess = search.guided.guess(rough.millionths());
-                Aim::at(search, guess, None)
+    /// Next to a guess at the yield of the candidate of many payments whose rough yield is the lowest.
+    pub(crate) fn first(list: &[Candidate], price: Price) -> Aim {
+        match first_roughly(list, price) {
+            Some((candidate, flows)) => {
+                let rough = RoughYield::of(flows, price);
+                let guess = place_near(flows, price, rough.millionths());
+                Aim::at(candidate, &Window::first(flows, price), guess, None)
             }
             None => Aim::START,
         }
@@ -36,10 +39,10 @@ impl Aim {
     pub(crate) fn next(&self, searches: &[OpenSearch], is_asked: bool) -> Aim {
         let asked = if is_asked { Some(self.question) } else { None };
         if let Some(search) = self.own(searches) {
-            return Aim::at(search, self.guess_of(search), asked);
+            return Aim::beside(search, self.guess_of(search), asked);
         }
         match lowest_roughly(searches) {
-            Some(search) => Aim::at(search, self.guess_of(search), asked),
+            Some(search) => Aim::beside(search, self.guess_of(search), asked),
             None => *self,
         }
     }
@@ -72,10 +75,13 @@ impl Aim {
         }
     }
 
+    fn beside(search: &OpenSearch, guess: Place, asked: Option<Question>) -> Aim {
+        Aim::at(search.candidate, search.guided.window(), guess, asked)
+    }
+
     // At the place after a guess, or at the guess itself if that one is known or the guess is the least yield. A
     // question that was asked and is too near to tell is passed by.
-    fn at(search: &OpenSearch, guess: Place, asked: Option<Question>) -> Aim {
-        let window = search.guided.window();
+    fn at(candidate: usize, window: &Window, guess: Place, asked: Option<Question>) -> Aim {
         let guess = guess.higher(window.yes()).lower(window.no().before());
         let place = match asked {
             Some(asked) if window.is_open_at(asked) => place_beside(asked.place(), window),
@@ -85,7 +91,7 @@ impl Aim {
         };
         Aim {
             question: Question::near(place),
-            candidate: search.candidate,
+            candidate,
             guess,
         }
     }
@@ -98,6 +104,22 @@ fn place_beside(place: Place, window: &Window) -> Place {
     } else {
         place.next()
     }
+}
+
+// Of those with many payments to come, the candidate whose rough yield is the lowest.
+fn first_roughly(list: &[Candidate], price: Price) -> Option<(usize, &Flows)> {
+    let mut lowest = None;
+    let mut least = RoughYield::HIGHEST;
+    for (candidate, redemption) in list.iter().enumerate() {
+        if let Shape::Many(flows) = &redemption.shape {
+            let rough = RoughYield::of(flows, price);
+            if rough.is_below(least) {
+                lowest = Some((candidate, flows));
+                least = rough;
+            }
+        }
+    }
+    lowest
 }
 
 // Of those with more than one verdict open, the search whose rough yield is the lowest.

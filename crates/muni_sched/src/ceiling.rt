@@ -1,8 +1,8 @@
 //! The least figures that searches know not to be reached.
 
-ghost use Rattle.std.specs.Prelude.{◌≡◌, ◌≤◌, Option, None, All};
+ghost use Rattle.std.specs.Prelude.{◌≡◌, ◌≤◌, Option, All};
 ghost use Rattle.muni_sched.specs.Search as spec;
-ghost use Rattle.muni_sched.specs.Search.{IsSearch, IsKnownYield, missed_first, missed_after, ceiling_after, ceiling_first};
+ghost use Rattle.muni_sched.specs.Search.{IsSearch, IsKnownYield, missed_first, missed_after, ceiling_after};
 
 use crate::CandidateOutcome;
 use crate::search::OpenSearch;
@@ -29,20 +29,8 @@ pub(crate) fn lower_of(ceiling: Option<i32>, other: Option<i32>) -> Option<i32>
     }
 }
 
-/// The least figure that the outcomes known at first show not to be reached.
-pub(crate) fn ceiling_first(known: &[Option<CandidateOutcome>]) -> Option<i32>
-    requires { All IsKnownYield known.now }
-    ensures { result ≡ ceiling_first None known.now }
-{
-    let mut ceiling = None;
-    for outcome in known {
-        ceiling = lower_of(ceiling, missed_first(*outcome));
-    }
-    ceiling
-}
-
-// A yield that is printed is not reached at the next figure.
-fn missed_first(known: Option<CandidateOutcome>) -> Option<i32>
+/// The figure that an outcome shows not to be reached: the one after a yield that is printed.
+pub(crate) fn missed_first(known: Option<CandidateOutcome>) -> Option<i32>
     requires { IsKnownYield known }
     ensures { result ≡ missed_first known }
 {

@@ -89,6 +89,9 @@ impl Ranked for Option<CandidateOutcome> {
 
     // Once nothing is left to ask, one that is not known cannot be the lowest.
     fn rank(&self) -> i32 {
-        self.unwrap_or(CandidateOutcome::Above).rank()
+        match self {
+            Some(outcome) => outcome.rank(),
+            None => ABOVE,
+        }
     }
 }

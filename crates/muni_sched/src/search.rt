@@ -1,19 +1,19 @@
 //! The searches for the yields of all candidates, side by side.
 
-ghost use Rattle.std.specs.Prelude.{◌≡◌, ◌<◌, ◌≤◌, ◌+◌, ◌-◌, [], ◌==◌, false, take, length, All, Option, None, option_map};
-ghost use Rattle.std.specs.List.{filter, AllZip};
+ghost use Rattle.std.specs.Prelude.{◌≡◌, ◌<◌, ◌≤◌, ◌+◌, ◌-◌, ◌==◌, true, false, take, length, All, Option, None, option_map};
+ghost use Rattle.std.specs.List.{filter};
 ghost use Rattle.muni_yield.specs.Places.{place_verdict};
 ghost use Rattle.muni_yield.specs.Settled.{settled_as};
 ghost use Rattle.muni_sched.specs.Candidates.{IsCandidate};
 ghost use Rattle.muni_sched.specs.Search as spec;
-ghost use Rattle.muni_sched.specs.Search.{IsSearch, IsKnownYield, CanRefine, IsStarted, IsRound, AreRounds, MayLook, state, noted, recorded, missed, searches_from};
-ghost use Rattle.muni_sched.specs.YieldOutcome.{IsKnownFirst, many_yield};
+ghost use Rattle.muni_sched.specs.Search.{IsSearch, CanRefine, IsStarted, IsRound, AreRounds, MayLook, IsBegun, state, noted, recorded, missed, searches_from};
+ghost use Rattle.muni_sched.specs.YieldOutcome.{many_yield};
 
 use crate::aim::Aim;
-use crate::ceiling::{ceiling_first, is_at_ceiling, least_ceiling, least_missed, lower_of};
-use crate::look::look_at_each;
+use crate::ceiling::{is_at_ceiling, least_ceiling, least_missed, lower_of};
+use crate::look::{look_at_each, put_unless_shown};
 use crate::round::{Round, add_discounts, ask_each};
-use crate::yield_outcome::{known_first, many_yield};
+use crate::yield_outcome::{many_yield, push_known_first};
 use crate::{Calculator, Candidate, CandidateOutcome, Shape};
 use arrayvec::ArrayVec;
 use muni_dec::Price;
@@ -99,6 +99,39 @@ impl Search {
         }
     }
 
+    /// Begins with more than two candidates, and looks at them before the first round: no search is made for those
+    /// that are shown to reach the aim. If one does not reach it, and so has a lower yield, it answers yes. Else
+    /// it has not begun.
+    pub(crate) fn begin<E: Encloser>(
+        &mut self,
+        encloser: &E,
+        slots: &mut [OpenSearch],
+        list: &[Candidate],
+        price: Price,
+    ) -> bool
+        requires room { 100 ≤ length slots.old }
+        requires few { length list.now ≤ 100 }
+        requires candidates { All IsCandidate list.now }
+        requires price { 0 < price }
+        ensures begun { result ≡ true
+            → IsBegun (place_verdict (E.ends encloser.now)) price list.now (state self.new slots.new) }
+        ensures fits { result ≡ true → self.new.left ≤ length slots.new }
+    {
+        self.aim = Aim::first(list, price);
+        let question = self.aim.question();
+        let left = put_unless_shown(encloser, slots, list, price, question);
+        let searches = &mut slots[..left];
+        self.missed = least_missed(searches, Place::ABOVE);
+        if question.place().is_below(self.missed) {
+            return false;
+        }
+        self.known.clear();
+        self.ceiling = push_known_first(&mut self.known, list, price);
+        self.left = keep_needed(searches, self.ceiling, self.missed);
+        self.aim = self.aim.next(&slots[..self.left], true);
+        true
+    }
+
     /// Begins with the candidates, before the first round, whatever it knew before.
     pub(crate) fn start(&mut self, slots: &mut [OpenSearch], list: &[Candidate], price: Price)
         requires room { 100 ≤ length slots.old }
@@ -109,11 +142,10 @@ impl Search {
         ensures fits { self.new.left ≤ length slots.new }
     {
         self.known.clear();
-        push_known_first(&mut self.known, list, price);
+        self.ceiling = push_known_first(&mut self.known, list, price);
         self.missed = Place::ABOVE;
         self.left = put_searches(slots, list, price);
-        self.ceiling = ceiling_first(self.known.as_slice());
-        self.aim = Aim::first(&slots[..self.left]);
+        self.aim = Aim::first(list, price);
     }
 
     /// Looks at more than two searches before the first round: they learn what the aim asks, and those are dropped
@@ -300,23 +332,6 @@ impl Search {
         } else if search.guided.window().is_wide() {
             self.aim = self.aim.next(&slots[..1], is_asked);
         }
-    }
-}
-
-fn push_known_first(
-    known: &mut ArrayVec<Option<CandidateOutcome>, 100>,
-    list: &[Candidate],
-    price: Price,
-)
-    requires empty { known.old.items ≡ [] }
-    requires few { length list.now ≤ 100 }
-    requires candidates { All IsCandidate list.now }
-    requires price { 0 < price }
-    ensures known { AllZip (IsKnownFirst price) list.now known.new.items }
-    ensures range { All IsKnownYield known.new.items }
-{
-    for candidate in list {
-        known.push(known_first(candidate, price));
     }
 }
 

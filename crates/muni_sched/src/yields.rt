@@ -10,7 +10,8 @@ ghost use Rattle.muni_sched.specs.GivenFigure.{at_price};
 ghost use Rattle.muni_sched.specs.LowAnswers.{low_yield};
 ghost use Rattle.muni_sched.specs.Lowest as spec;
 ghost use Rattle.muni_sched.specs.Ranks.{decided_by};
-ghost use Rattle.muni_sched.specs.Search.{outcomes_of};
+ghost use Rattle.muni_sched.specs.Search.{outcomes_of, state, IsBegun};
+ghost use Rattle.muni_yield.specs.Places.{place_verdict};
 ghost use Rattle.muni_sched.specs.SearchedOut.{AreSearchedOut, CountsRounds};
 ghost use Rattle.muni_sched.specs.declared.outcome.CandidateOutcome.TheVariants.{Unsure};
 
@@ -40,13 +41,36 @@ pub(crate) fn search_yields<R: Threads + Sync, E: Encloser + Sync, G: Gate + Syn
     ensures rounds { CountsRounds (E.ends calculator.now.encloser.now) price list.now 0 result }
     ensures few { result ≤ 19 }
 {
-    search.start(slots, list, price);
-    search.look(calculator, slots);
+    begin(calculator, search, slots, list, price);
     let mut rounds = 0;
     while !search.is_over() {
         rounds = search.advance(calculator, slots, rounds);
     }
     rounds
+}
+
+// A look that begins with all candidates costs less than a search for each and a look at those. One or two candidates are
+// not looked at.
+fn begin<R: Threads + Sync, E: Encloser + Sync, G: Gate + Sync>(
+    calculator: &Calculator<'_, R, E, G>,
+    search: &mut Search,
+    slots: &mut [OpenSearch],
+    list: &[Candidate],
+    price: Price,
+)
+    requires room { 100 ≤ length slots.old }
+    requires few { length list.now ≤ 100 }
+    requires candidates { All IsCandidate list.now }
+    requires price { 0 < price }
+    ensures begun { IsBegun (place_verdict (E.ends calculator.now.encloser.now)) price list.now
+        (state search.new slots.new) }
+    ensures fits { search.new.left ≤ length slots.new }
+{
+    if list.len() > 2 && search.begin(calculator.encloser, slots, list, price) {
+        return;
+    }
+    search.start(slots, list, price);
+    search.look(calculator, slots);
 }
 
 /// The lowest yield that a search found, or why there is none.

@@ -6,7 +6,7 @@ use Rattle.muni_sched.specs.declared.search.OpenSearch.{OpenSearch}
 use Rattle.muni_sched.specs.declared.search.Search.{Search}
 use Rattle.muni_sched.specs.Search.{state, is_over}
 use Rattle.muni_yield.proofs.KnownLemmas.{first-window}
-use Rattle.muni_sched.proofs.SearchLemmas.{can-refine, round-few}
+use Rattle.muni_sched.proofs.SearchLemmas.{round-few}
 use Rattle.muni_sched.proofs.OverLemmas.{over-none}
 use Rattle.muni_sched.specs.Rounds.{brackets_from, rounds}
 use Rattle.muni_sched.proofs.CountLemmas.{IsCounted, counted-first, counted-last}
@@ -14,11 +14,11 @@ use Rattle.muni_sched.proofs.LookLemmas.{looked-final, looked-ceiling, looked-co
 use Rattle.muni_sched.proofs.RoundsLemmas.{IsAfterRounds, rounds-after, rounds-few}
 use Rattle.muni_sched.proofs.StartLemmas.{AreFirstKnown, IsFinal, started-final, searched-out}
 use Rattle.muni_sched.proofs.yields.search_yields.Given as given
-use Rattle.muni_sched.proofs.yields.search_yields.Goals.{After-start, After-is_over}
+use Rattle.muni_sched.proofs.yields.search_yields.Goals.{After-begin, After-is_over}
 use Rattle.muni_sched.proofs.yields.search_yields.Goals as goal
 
--- all that is kept before a look
-begun : (g : given.Over) (c : After-start g) → IsFinal (place_verdict (g.E.Encloser.ends c.args.calculator.now.encloser.now)) c.args.price c.args.list.now 0 (state c.start.new.self c.start.new.slots)
+-- all that is kept before the first round
+begun : (g : given.Over) (c : After-begin g) → IsFinal (place_verdict (g.E.Encloser.ends c.args.calculator.now.encloser.now)) c.args.price c.args.list.now 0 c.begin.ensures.begun.first
 begun g c =
     let verdicts = place_verdict (g.E.Encloser.ends c.args.calculator.now.encloser.now) in
     let ends = g.E.Encloser.ends c.args.calculator.now.encloser.now in
@@ -32,26 +32,22 @@ begun g c =
         narrow = law.narrow c.args.calculator.now.encloser.now series y is many within;
       };
     }) in
-    started-final verdicts c.args.price c.args.list.now (state c.start.new.self c.start.new.slots) first c.requires.price c.requires.candidates c.requires.few c.start.ensures.started
-
-pub look-requires-clause-can : goal.look-requires-clause-can
-look-requires-clause-can g c =
-    let final = begun g (goal.at.look-requires-clause-can g c).After-start in
-    can-refine (place_verdict (g.E.Encloser.ends c.args.calculator.now.encloser.now)) final.finals 0 (state c.start.new.self c.start.new.slots) final.refined
+    started-final verdicts c.args.price c.args.list.now c.begin.ensures.begun.first first c.requires.price c.requires.candidates c.requires.few c.begin.ensures.begun.started
 
 pub loop-search-init : goal.loop-search-init
 loop-search-init g c =
     let verdicts = place_verdict (g.E.Encloser.ends c.args.calculator.now.encloser.now) in
-    let before = state c.start.new.self c.start.new.slots in
-    let start = c.start.ensures.started in
-    let final = begun g (goal.at.loop-search-init g c).After-start in
-    let after = state c.look.new.self c.look.new.slots in
+    let before = c.begin.ensures.begun.first in
+    let start = c.begin.ensures.begun.started in
+    let look = c.begin.ensures.begun.look in
+    let final = begun g (goal.at.loop-search-init g c).After-begin in
+    let after = state c.begin.new.search c.begin.new.slots in
     record {
-      final = looked-final verdicts c.args.price c.args.list.now 0 before after (omega arith) c.look.ensures.look final;
-      fits = c.look.ensures.fits;
+      final = looked-final verdicts c.args.price c.args.list.now 0 before after (omega arith) look final;
+      fits = c.begin.ensures.fits;
       most = omega arith;
-      counted = subst (λ ceiling. IsCounted verdicts c.args.price c.args.list.now ceiling 0 after) (sym (looked-ceiling verdicts before after c.look.ensures.look))
-          (looked-counted verdicts final.finals c.args.price c.args.list.now before.ceiling before after c.requires.price c.requires.candidates start final.refined c.look.ensures.look
+      counted = subst (λ ceiling. IsCounted verdicts c.args.price c.args.list.now ceiling 0 after) (sym (looked-ceiling verdicts before after look))
+          (looked-counted verdicts final.finals c.args.price c.args.list.now before.ceiling before after c.requires.price c.requires.candidates start final.refined look
           (counted-first verdicts c.args.price c.args.list.now before c.requires.price c.requires.candidates start));
     }
 
@@ -60,7 +56,7 @@ over-as : (search : Search) (slots : List OpenSearch) (over : Bool) → search.l
 over-as search slots over fits is = ap (λ n. n == 0) (length-take-le search.left slots fits) ∙ is
 
 -- all that is kept before a round
-kept : (g : given.Over) (c : After-is_over g) → c.is_over.result ≡ false → IsAfterRounds (place_verdict (g.E.Encloser.ends c.args.calculator.now.encloser.now)) c.args.price c.args.list.now c.look.new.self.ceiling c.loop-search.rounds (state c.loop-search.search c.loop-search.slots)
+kept : (g : given.Over) (c : After-is_over g) → c.is_over.result ≡ false → IsAfterRounds (place_verdict (g.E.Encloser.ends c.args.calculator.now.encloser.now)) c.args.price c.args.list.now c.begin.new.search.ceiling c.loop-search.rounds (state c.loop-search.search c.loop-search.slots)
 kept g c some = record { final = c.loop-search.invariant.final; counted = c.loop-search.invariant.counted }
 
 few-yet : (g : given.Over) (c : After-is_over g) → c.is_over.result ≡ false → c.loop-search.rounds < 19
@@ -90,13 +86,13 @@ loop-search-preserved g c =
     let count = c.advance-rounds.result - c.loop-search.rounds in
     let more = c.advance-rounds.ensures.more in
     let number : c.loop-search.rounds + count ≡ c.advance-rounds.result = omega (arith, more) in
-    let after = rounds-after verdicts c.args.price c.args.list.now c.look.new.self.ceiling c.loop-search.rounds count start end c.advance-rounds.ensures.rounds before in
-    let most = rounds-few verdicts c.args.price c.args.list.now c.look.new.self.ceiling c.loop-search.rounds count start end c.advance-rounds.ensures.rounds (omega (arith, few)) before in
+    let after = rounds-after verdicts c.args.price c.args.list.now c.begin.new.search.ceiling c.loop-search.rounds count start end c.advance-rounds.ensures.rounds before in
+    let most = rounds-few verdicts c.args.price c.args.list.now c.begin.new.search.ceiling c.loop-search.rounds count start end c.advance-rounds.ensures.rounds (omega (arith, few)) before in
     record {
       final = subst (λ r. IsFinal verdicts c.args.price c.args.list.now r end) number after.final;
       fits = c.advance-rounds.ensures.fits;
       most = omega (arith, most, number);
-      counted = subst (λ r. IsCounted verdicts c.args.price c.args.list.now c.look.new.self.ceiling r end) number after.counted;
+      counted = subst (λ r. IsCounted verdicts c.args.price c.args.list.now c.begin.new.search.ceiling r end) number after.counted;
     }
 
 pub returns-clause-found : goal.returns-clause-found
@@ -110,11 +106,11 @@ returns-clause-rounds g c =
     let verdicts = place_verdict (g.E.Encloser.ends c.args.calculator.now.encloser.now) in
     let last = state c.loop-search.search c.loop-search.slots in
     let over = over-as c.loop-search.search c.loop-search.slots true c.loop-search.invariant.fits (sym c.is_over.ensures ∙ search rules) in
-    let all = counted-last verdicts c.args.price c.args.list.now c.look.new.self.ceiling c.loop-search.rounds last (over-none last.searches over) c.loop-search.invariant.counted in
+    let all = counted-last verdicts c.args.price c.args.list.now c.begin.new.search.ceiling c.loop-search.rounds last (over-none last.searches over) c.loop-search.invariant.counted in
     record {
-      known = c.start.new.self.known.items;
-      first = c.start.ensures.started.known;
-      counted = omega (arith, all, ap (λ ceiling. rounds 19 verdicts ceiling (brackets_from c.args.price c.args.list.now)) (looked-ceiling verdicts (state c.start.new.self c.start.new.slots) (state c.look.new.self c.look.new.slots) c.look.ensures.look ∙ c.start.ensures.started.ceiling));
+      known = c.begin.ensures.begun.first.known;
+      first = c.begin.ensures.begun.started.known;
+      counted = omega (arith, all, ap (λ ceiling. rounds 19 verdicts ceiling (brackets_from c.args.price c.args.list.now)) (looked-ceiling verdicts c.begin.ensures.begun.first (state c.begin.new.search c.begin.new.slots) c.begin.ensures.begun.look ∙ c.begin.ensures.begun.started.ceiling));
     }
 
 pub returns-clause-few : goal.returns-clause-few
