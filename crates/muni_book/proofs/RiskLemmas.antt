@@ -235,16 +235,16 @@ has-disclosed row asked figures list passed are right =
       },
     )
 
-pub found-disclosed : (ends : PaymentSeries → ℤ → WorthEnds) (row : IssueRow) (asked : Asked) (figures : Figures) (list : List Candidate) (disclosed : Candidate) → fault_of row ≡ None → AreFilledFor row asked list → IsRightAnswer ends row asked (Ok figures)
+pub found-disclosed : (ends : PaymentSeries → ℤ → WorthEnds) (row : IssueRow) (asked : Asked) (figures : Figures) (list : List Candidate) (disclosed : Candidate) → fault_of row ≡ None → AreCandidates row asked.settle list → IsRightAnswer ends row asked (Ok figures)
     → find (is_on figures.redemption) list ≡ Some disclosed → IsDisclosedOf row asked figures list disclosed
-found-disclosed ends row asked figures list disclosed passed filled right found =
-    let has = has-disclosed row asked figures list passed filled.candidates (answered-right ends row asked figures right) in
+found-disclosed ends row asked figures list disclosed passed are right found =
+    let has = has-disclosed row asked figures list passed are (answered-right ends row asked figures right) in
     subst (IsDisclosedOf row asked figures list) (same_Some has.0 disclosed (sym has.1 ∙ found)) has.2
 
-pub none-disclosed : (ends : PaymentSeries → ℤ → WorthEnds) (row : IssueRow) (asked : Asked) (figures : Figures) (list : List Candidate) → fault_of row ≡ None → AreFilledFor row asked list → IsRightAnswer ends row asked (Ok figures)
+pub none-disclosed : (ends : PaymentSeries → ℤ → WorthEnds) (row : IssueRow) (asked : Asked) (figures : Figures) (list : List Candidate) → fault_of row ≡ None → AreCandidates row asked.settle list → IsRightAnswer ends row asked (Ok figures)
     → find (is_on figures.redemption) list ≡ None → ⊥
-none-disclosed ends row asked figures list passed filled right none =
-    let has = has-disclosed row asked figures list passed filled.candidates (answered-right ends row asked figures right) in
+none-disclosed ends row asked figures list passed are right none =
+    let has = has-disclosed row asked figures list passed are (answered-right ends row asked figures right) in
     let never : None ≡ Some has.0 = sym none ∙ has.1 in cc
 
 -- what is found in a list is as all of it
@@ -257,17 +257,12 @@ found-all p Such [] x all found = absurd (let never : None ≡ Some x = found in
 found-all p Such (first ∷ rest) x all found = found-by p Such first rest (p first) x all found (found-all p Such rest x (All-tail Such first rest all))
 
 -- ---- the schedule that is filled
-pub filled-of : (row : IssueRow) (asked : Asked) (list : List Candidate) (done : Result ⊤ Early) → IsFilledFor row asked list done → is_err done ≡ false → AreFilledFor row asked list
-filled-of row asked list (Ok done) filled is = filled
-filled-of row asked list (Err why) filled is = absurd (let never : true ≡ false = is in cc)
-
 never-refused : (figures : Figures) (why : Refusal) → ◌≡◌ {A = Result Figures Refusal} (Ok figures) (Err why) → ⊥
 never-refused figures why is = cc
 
-pub not-refused : (ends : PaymentSeries → ℤ → WorthEnds) (row : IssueRow) (asked : Asked) (figures : Figures) (list : List Candidate) (done : Result ⊤ Early) → IsFilledFor row asked list done → is_err done ≡ true → IsRightAnswer ends row asked (Ok figures) → ⊥
-not-refused ends row asked figures list (Ok done) filled is right = let never : false ≡ true = is in cc
-not-refused ends row asked figures list (Err why) filled is right =
-    never-refused figures (refusal_of why) (answers-unique ends row asked (Ok figures) (Err (refusal_of why)) right (filled ends))
+pub not-refused : (ends : PaymentSeries → ℤ → WorthEnds) (row : IssueRow) (asked : Asked) (figures : Figures) (list : List Candidate) (why : Early) → IsFilledFor row asked list (Err why) → IsRightAnswer ends row asked (Ok figures) → ⊥
+not-refused ends row asked figures list why refused right =
+    never-refused figures (refusal_of why) (answers-unique ends row asked (Ok figures) (Err (refusal_of why)) right (refused ends))
 
 -- ---- a discounted note
 discounted-none : (of : Shape) → IsShapeAtYield of → IsDiscounted of → ⊥

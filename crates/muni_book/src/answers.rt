@@ -1,10 +1,10 @@
 //! The answer to what is asked of an issue: the figures of a trade, with the redemption that gives the
 //! lowest price or the lowest yield, or why there are none.
 
-ghost use Rattle.std.specs.Prelude.{◌≡◌, ◌<◌, ◌≤◌, ◌≤ℤ◌, pos, true, Some, length, All, IfOk, IfSome};
+ghost use Rattle.std.specs.Prelude.{◌≡◌, ◌<◌, ◌≤◌, ◌≤ℤ◌, pos, true, Some, length, All, IfOk, IfSome, OnOk};
 ghost use Rattle.std.specs.List.{slice_get};
 ghost use Rattle.muni_terms.specs.Issue as issues;
-ghost use Rattle.muni_sched.specs.Candidates.{IsCandidate};
+ghost use Rattle.muni_sched.specs.Candidates.{AreCandidates, IsCandidate};
 ghost use Rattle.muni_book.specs.GivenFor.{IsAskable, IsNote};
 ghost use Rattle.muni_book.specs.FilledFor.{IsFilledFor, refusal_of};
 ghost use Rattle.muni_book.specs.Answers as spec;
@@ -35,7 +35,8 @@ struct DaysLeft {
 }
 
 /// The figures of a trade, or the refusal that applies first: of the basis, the settlement, what is
-/// given, and then of the figure that is asked for. The schedule is filled anew.
+/// given, and then of the figure that is asked for. The schedule is filled anew, and figures leave the
+/// candidates in it.
 ///
 /// At a yield the redemption candidate with the lowest price is disclosed, and at a price that with
 /// the lowest yield (MSRB Rule G-15(a)), which is computed from the net price in full: what a buyer
@@ -52,6 +53,8 @@ pub fn figures<R: Threads + Sync, E: Encloser + Sync, G: Gate + Sync>(
     ensures covered { IfOk result (λ figures. asked.now.side ≡ Side.Sell
         → figures.commission ≤ figures.principal) }
     ensures accrued { IfOk result (λ figures. figures.accrued ≤ 60_000_000_000) }
+    ensures candidates { OnOk result
+        (AreCandidates issue.now asked.now.settle schedule.new.candidates) }
 {
     match fill_for(issue, asked, schedule) {
         Ok(()) => match asked.given {
@@ -153,6 +156,7 @@ fn at_price<R: Threads + Sync, E: Encloser + Sync, G: Gate + Sync>(
         (trades.net_price asked.now.side price asked.now.fee) schedule.old.candidates)
         issue.now asked.now result }
     ensures payable { IfOk result (IsPayable asked.now.side) }
+    ensures same { schedule.new.candidates ≡ schedule.old.candidates }
 {
     let net = Price::new(net_price(price, asked.side, asked.fee));
     match schedule.yield_to_worst(calculator, net) {

@@ -1,10 +1,10 @@
 //! How the disclosed price of a trade moves with its yield.
 
-ghost use Rattle.std.specs.Prelude.{◌≡◌, Ok, None, find, IfSome, ℤ};
+ghost use Rattle.std.specs.Prelude.{◌≡◌, Ok, None, find, All, IfSome, ℤ};
 ghost use Rattle.std.specs.Option.{option_map};
 ghost use Rattle.muni_rule.specs.Payments.{PaymentSeries};
 ghost use Rattle.muni_rule.specs.WorthEnds.{WorthEnds};
-ghost use Rattle.muni_sched.specs.Candidates.{IsCandidate};
+ghost use Rattle.muni_sched.specs.Candidates.{AreCandidates, IsCandidate};
 ghost use Rattle.muni_sched.specs.Range.{IsGivenFor};
 ghost use Rattle.muni_book.specs.Answers.{IsRightAnswer};
 ghost use Rattle.muni_book.specs.GivenFor.{IsNote};
@@ -21,23 +21,34 @@ use muni_simple::Shape1;
 use muni_terms::{Issue, IssueRow, Kind};
 
 /// How the price of a trade moves with its yield: of the redemption that is disclosed, at the yield as it is
-/// shown. None for a discounted note. The figures are those of what is asked.
-pub fn risk(issue: &Issue, asked: &Asked, figures: &Figures) -> Option<Risk>
-    ensures { (ends : PaymentSeries → ℤ → WorthEnds)
-        → IsRightAnswer ends issue.now asked.now (Ok figures.now)
-        → IsRiskOf issue.now asked.now figures.now result }
+/// shown. None for a discounted note. The candidates and the figures are those of what is asked.
+pub fn risk(issue: &Issue, candidates: &[Candidate], figures: &Figures) -> Option<Risk>
+    requires { All IsCandidate candidates.now }
+    ensures { (ends : PaymentSeries → ℤ → WorthEnds) (asked : Asked)
+        → AreCandidates issue.now asked.settle candidates.now
+        → IsRightAnswer ends issue.now asked (Ok figures.now)
+        → IsRiskOf issue.now asked figures.now result }
 {
     let row = issue.row();
-    let mut schedule = Schedule::new();
-    if fill_for(issue, asked, &mut schedule).is_err() {
-        return None;
-    }
-    let disclosed = redeemed_on(schedule.candidates(), figures.redemption)?;
+    let disclosed = redeemed_on(candidates, figures.redemption)?;
     let sensitivities = sensitivities(disclosed, as_shown(figures.yld))?;
     Some(Risk {
         current_yield: periodic_yield(row, figures.price),
         sensitivities,
     })
+}
+
+/// The same, of a schedule that is filled for it.
+pub(crate) fn risk_of_asked(issue: &Issue, asked: &Asked, figures: &Figures) -> Option<Risk>
+    ensures { (ends : PaymentSeries → ℤ → WorthEnds)
+        → IsRightAnswer ends issue.now asked.now (Ok figures.now)
+        → IsRiskOf issue.now asked.now figures.now result }
+{
+    let mut schedule = Schedule::new();
+    match fill_for(issue, asked, &mut schedule) {
+        Ok(()) => risk(issue, schedule.candidates(), figures),
+        Err(_) => None,
+    }
 }
 
 fn redeemed_on(list: &[Candidate], day: Day) -> Option<&Candidate>

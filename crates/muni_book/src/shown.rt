@@ -5,7 +5,7 @@ ghost use Rattle.muni_book.specs.Answers.{IsRightAnswer};
 ghost use Rattle.muni_book.specs.Details.{AreDetails};
 
 use crate::each::each_redemption;
-use crate::risks::risk;
+use crate::risks::risk_of_asked;
 use arrayvec::ArrayVec;
 use muni_confirm::Details;
 use muni_edge::Gate;
@@ -32,7 +32,7 @@ pub fn details<R: Threads + Sync, E: Encloser + Sync, G: Gate + Sync>(
         ArrayVec::new()
     };
     let risk = if shown.risk {
-        risk(issue, asked, figures)
+        risk_of_asked(issue, asked, figures)
     } else {
         None
     };

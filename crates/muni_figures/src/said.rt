@@ -1,9 +1,10 @@
 //! What is said of a row.
 
-ghost use Rattle.std.specs.Prelude.{◌≡◌, Ok, ℤ};
+ghost use Rattle.std.specs.Prelude.{◌≡◌, Ok, ℤ, All};
 ghost use Rattle.std.specs.BTreeMap as tree;
 ghost use Rattle.muni_rule.specs.Payments.{PaymentSeries};
 ghost use Rattle.muni_rule.specs.WorthEnds.{WorthEnds};
+ghost use Rattle.muni_sched.specs.Candidates.{AreCandidates, IsCandidate};
 ghost use Rattle.muni_book.specs.Answers.{IsRightAnswer};
 ghost use Rattle.muni_keep.specs.Trades.{by_bytes};
 ghost use Rattle.muni_figures.specs.Said as spec;
@@ -14,7 +15,7 @@ use muni_import::RowFault;
 use muni_msg::{Asked, Figures, Refusal};
 use muni_multi::Encloser;
 use muni_risk::Risk;
-use muni_sched::Schedule;
+use muni_sched::{Candidate, Schedule};
 use muni_terms::Issue;
 use std::collections::BTreeMap;
 use std::thread::Threads;
@@ -80,7 +81,7 @@ fn priced<R: Threads + Sync, E: Encloser + Sync, G: Gate + Sync>(
         Ok(figures) => FiguresSaid::Priced {
             cusip: asked.cusip,
             figures,
-            risk: risk_columns(has_risk, issue, asked, &figures),
+            risk: risk_columns(has_risk, issue, schedule.candidates(), &figures),
         },
         Err(refusal) => FiguresSaid::Refused {
             number: refusal.number(),
@@ -88,14 +89,21 @@ fn priced<R: Threads + Sync, E: Encloser + Sync, G: Gate + Sync>(
     }
 }
 
-// The sensitivities of a row with these figures, if they are asked for.
-fn risk_columns(has_risk: bool, issue: &Issue, asked: &Asked, figures: &Figures) -> RiskColumns
-    ensures { (ends : PaymentSeries → ℤ → WorthEnds)
-        → IsRightAnswer ends issue.now asked.now (Ok figures.now)
-        → spec.AreColumns has_risk issue.now asked.now figures.now result }
+// The sensitivities of a row with these figures and these candidates, if they are asked for.
+fn risk_columns(
+    has_risk: bool,
+    issue: &Issue,
+    candidates: &[Candidate],
+    figures: &Figures,
+) -> RiskColumns
+    requires { All IsCandidate candidates.now }
+    ensures { (ends : PaymentSeries → ℤ → WorthEnds) (asked : Asked)
+        → AreCandidates issue.now asked.settle candidates.now
+        → IsRightAnswer ends issue.now asked (Ok figures.now)
+        → spec.AreColumns has_risk issue.now asked figures.now result }
 {
     if has_risk {
-        RiskColumns::Shown(risk(issue, asked, figures))
+        RiskColumns::Shown(risk(issue, candidates, figures))
     } else {
         RiskColumns::LeftOut
     }
