@@ -1,7 +1,6 @@
 -- The redemption that figures disclose, among the candidates, and the yield that is shown of it.
 use Rattle.std.proofs.Common.{◌≡◌, ℕ, zero, suc, ◌<◌, ◌==◌, Bool, true, false, List, [], ◌∷◌, length, refl, sym, subst, ap, ◌∙◌, arith, ◌⊎◌, ⊎_elim, inl, inr, Option, Some, None, ℤ, pos, negsuc, ◌+ℤ◌, ◌≤ℤ◌, ◌<ℤ◌, Result, Ok, Err}
-use Rattle.std.specs.Prelude.{All, AllPairs, Contains, find, if◌then◌else◌, option_map, ◌*◌, ◌/◌, ◌*ℤ◌, neg_ℤ, ⊤}
-use Rattle.std.specs.Result.{is_err}
+use Rattle.std.specs.Prelude.{All, AllPairs, Contains, find, if◌then◌else◌, option_map, ◌*◌, ◌/◌, ◌*ℤ◌, neg_ℤ}
 use Rattle.std.specs.List.{slice_get, AllZip}
 use Rattle.std.proofs.lemmas.Int.{ints}
 use Rattle.std.proofs.lemmas.Bool.Decides.{nat_tests}
@@ -55,7 +54,7 @@ use Rattle.muni_msg.specs.declared.figures.Figures.{Figures}
 use Rattle.muni_msg.specs.declared.refusal.Refusal.{Refusal}
 use Rattle.muni_book.specs.AnswerLaws.{HaveOutcomesAt}
 use Rattle.muni_book.specs.Answers.{PriceAndYield, found_at_yield, IsFoundAtRate, IsRightAnswer}
-use Rattle.muni_book.specs.FilledFor.{AreFilledFor, IsFilledFor, refusal_of}
+use Rattle.muni_book.specs.FilledFor.{IsFilledFor, refusal_of}
 use Rattle.muni_book.specs.declared.answers.Early.{Early}
 use Rattle.muni_book.specs.GivenFor.{IsDiscounted, IsNote, MayBeGiven}
 use Rattle.muni_book.specs.RightFigures.{AreRightAt, AreRightFigures}
