@@ -1,0 +1,10 @@
+pub mod Stated
+pub mod Money
+pub mod Disclosed
+pub mod OtherTerms
+pub mod Rounded
+pub mod Compounded
+pub mod February
+pub mod Regular
+pub mod Readings
+pub mod Checked
