@@ -28,7 +28,7 @@ redeemed_on day given list =
 pub record IsAmongCandidates (row : IssueRow) (asked : Asked) (day : Day) (found : Option Candidate) : Type 0 where
   pub list : List Candidate
   pub candidates : AreCandidates row asked.settle list
-  pub found : found ≡ redeemed_on day asked.given list
+  pub first : found ≡ redeemed_on day asked.given list
 
 -- the redemption on the day that figures disclose; if the figures are right there is one
 abbrev pub IsDisclosed : IssueRow → Asked → Figures → Option Candidate → Type 0

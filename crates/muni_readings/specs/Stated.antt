@@ -38,9 +38,9 @@ fields = Price ∷ Yield ∷ Redemption ∷ Days ∷ Principal ∷ Accrued ∷ T
 
 -- the first of them in which another figure is stated
 abbrev pub first_difference : Figures → Stated → Option Field
-first_difference figures stated = find (λ field. is_other (is_as_stated field figures stated)) fields
+first_difference figures stated = find (λ of. is_other (is_as_stated of figures stated)) fields
 
 -- some figures have what is stated of a field
 abbrev pub is_given : Option Figures → Field → Stated → Bool
-is_given None field stated = false
-is_given (Some figures) field stated = is_same (is_as_stated field figures stated)
+is_given None of stated = false
+is_given (Some figures) of stated = is_same (is_as_stated of figures stated)

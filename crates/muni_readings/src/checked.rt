@@ -78,7 +78,16 @@ fn is_given(theirs: Option<Figures>, field: Field, stated: &Stated) -> bool
     ensures { result ≡ spec.is_given theirs field stated.now }
 {
     match theirs {
-        Some(figures) => field.is_as_stated(&figures, stated) == Some(true),
+        Some(figures) => is_same(field.is_as_stated(&figures, stated)),
+        None => false,
+    }
+}
+
+fn is_same(same: Option<bool>) -> bool
+    ensures { result ≡ spec.is_same same }
+{
+    match same {
+        Some(same) => same,
         None => false,
     }
 }

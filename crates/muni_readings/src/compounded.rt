@@ -1,6 +1,7 @@
 //! One payment that is left, discounted by the formula for several.
 
 ghost use Rattle.std.specs.Prelude.{◌≡◌, ◌*◌, ◌≤◌, ◌≤ℤ◌, pos, true, IfSome};
+ghost use Rattle.muni_rule.specs.PrintedYield as rule;
 ghost use Rattle.muni_rule.specs.Ranges.{IsManyPeriodsBoundary};
 ghost use Rattle.muni_rule.specs.Verdicts as verdicts;
 ghost use Rattle.muni_rule.specs.WorthEnds.{HoldsWorth, IsNarrow, enclosure_ends};
@@ -173,13 +174,22 @@ fn reached(payment: &Single, price: u64, place: u32) -> Verdict
     requires place { (1 ≤ place) × (place ≤ 105_002) }
     ensures { TellsYield payment.now (pos (360_000 * price)) (yield_at place) result }
 {
-    let worth = compounded_worth(payment, 10 * place as i32 - 50_015);
+    let worth = compounded_worth(payment, boundary_at(place));
     let amount = 360_000 * price + payment.accrued as u64;
     if place > 5_001 {
         at_least_verdict(&worth, amount)
     } else {
         more_verdict(&worth, amount)
     }
+}
+
+// Where the yields that are printed as the one at a place begin, in 10^-6.
+fn boundary_at(place: u32) -> i32
+    requires { (1 ≤ place) × (place ≤ 105_002) }
+    ensures value { result ≡ rule.boundary (yield_at place) }
+    ensures range { IsManyPeriodsBoundary result }
+{
+    10 * place as i32 - 50_015
 }
 
 fn at_least_verdict(worth: &Worth, amount: u64) -> Verdict

@@ -76,10 +76,17 @@ fn same<T: Copy + PartialEq>(figure: T, stated: Option<T>) -> Option<bool>
 pub(crate) fn first_difference(figures: &Figures, stated: &Stated) -> Option<Field>
     ensures { result ≡ spec.first_difference figures.now stated.now }
 {
-    for field in Field::ALL {
-        if field.is_as_stated(figures, stated) == Some(false) {
-            return Some(field);
-        }
+    Field::ALL
+        .iter()
+        .copied()
+        .find(|field| is_other(field.is_as_stated(figures, stated)))
+}
+
+fn is_other(same: Option<bool>) -> bool
+    ensures { result ≡ spec.is_other same }
+{
+    match same {
+        Some(same) => !same,
+        None => false,
     }
-    None
 }

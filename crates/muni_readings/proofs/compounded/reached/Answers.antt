@@ -1,0 +1,27 @@
+use Rattle.std.proofs.Common.{◌≡◌, ◌*◌, ◌+◌, arith}
+use Rattle.std.specs.Prelude.{unsigned_abs}
+use Rattle.std.proofs.lemmas.Int.{ints}
+use Rattle.muni_readings.proofs.CompoundedLemmas.{place-above, place-below}
+use Rattle.muni_readings.proofs.compounded.reached.Goals as goal
+
+pub returns-then-place-gt5001 : goal.returns-then-place-gt5001
+returns-then-place-gt5001 c =
+    let payment = c.args.payment.now in
+    let single = c.requires.single in
+    let least = single.accrued.0 in
+    let most = single.accrued.1 in
+    let worth = c.compounded_worth-worth.ensures in
+    let above = c.if-place-gt5001.true in
+    place-above payment c.args.price c.args.place c.boundary_at.result c.compounded_worth-worth.result.lo c.compounded_worth-worth.result.hi _ c.at_least_verdict.result above c.boundary_at.ensures.value c.boundary_at.ensures.range
+    (record { holds = worth.holds; narrow = worth.narrow; small = worth.small }) (omega (arith, ints, least, most)) c.at_least_verdict.ensures
+
+pub returns-else-place-gt5001 : goal.returns-else-place-gt5001
+returns-else-place-gt5001 c =
+    let payment = c.args.payment.now in
+    let single = c.requires.single in
+    let least = single.accrued.0 in
+    let most = single.accrued.1 in
+    let worth = c.compounded_worth-worth.ensures in
+    let below = c.if-place-gt5001.false in
+    place-below payment c.args.price c.args.place c.boundary_at.result c.compounded_worth-worth.result.lo c.compounded_worth-worth.result.hi _ c.more_verdict.result below c.boundary_at.ensures.value c.boundary_at.ensures.range
+    (record { holds = worth.holds; narrow = worth.narrow; small = worth.small }) (omega (arith, ints, least, most)) c.more_verdict.ensures
