@@ -1,1 +1,4 @@
 pub mod CompoundedLemmas
+pub mod OtherTermsLemmas
+pub mod RegularLemmas
+pub mod DisclosedLemmas

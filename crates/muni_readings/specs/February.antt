@@ -30,11 +30,15 @@ february_days first last =
     pos (days_up_to last (last_counted first.day last.day))
     -ℤ pos (days_up_to first (february_first first))
 
--- the day from which interest has accrued: before the first interest date the dated date, and from it on the last
+-- the day from which a coupon has accrued: before the first interest date the dated date, and from it on the last
 -- quasi-coupon date
-abbrev pub accrual_start_by : Kind → Day → Day → Option Day
-accrual_start_by (kind.Periodic first) dated settlement =
+abbrev pub coupon_start : Day → Day → Day → Option Day
+coupon_start first dated settlement =
     if is_before (civil settlement) (civil first) then Some dated else quasi_day first settlement
+
+-- the day from which interest has accrued, if any is paid
+abbrev pub accrual_start_by : Kind → Day → Day → Option Day
+accrual_start_by (kind.Periodic first) dated settlement = coupon_start first dated settlement
 accrual_start_by kind.Zero dated settlement = None
 accrual_start_by kind.AtRedemption dated settlement = Some dated
 accrual_start_by kind.Discount dated settlement = None

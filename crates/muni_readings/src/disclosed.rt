@@ -1,6 +1,7 @@
 //! The redemption that figures disclose.
 
-ghost use Rattle.std.specs.Prelude.{◌≡◌, true, All, IfSome};
+ghost use Rattle.std.specs.Prelude.{◌≡◌, true, IfSome};
+ghost use Rattle.std.specs.Option.{option_map};
 ghost use Rattle.muni_sched.specs.Candidates.{IsCandidate};
 ghost use Rattle.muni_readings.specs.Disclosed as spec;
 ghost use Rattle.muni_readings.specs.Disclosed.{IsDisclosed};
@@ -24,22 +25,20 @@ pub(crate) fn disclosed(answered: &Answered<'_>, schedule: &mut Schedule) -> Opt
         return None;
     }
     schedule.fill(answered.issue, asked.settle);
-    redeemed_on(
+    match redeemed_on(
         schedule.candidates(),
         answered.figures.redemption,
         asked.given,
-    )
+    ) {
+        Some(found) => Some(*found),
+        None => None,
+    }
 }
 
-fn redeemed_on(list: &[Candidate], day: Day, given: Given) -> Option<Candidate>
-    requires { All IsCandidate list.now }
-    ensures found { result ≡ spec.redeemed_on day given list.now }
-    ensures candidate { IfSome result IsCandidate }
-    ensures given { IfSome result (λ found. spec.is_given_for given found ≡ true) }
+fn redeemed_on(list: &[Candidate], day: Day, given: Given) -> Option<&Candidate>
+    ensures { option_map (λ candidate. candidate.now) result ≡ spec.redeemed_on day given list.now }
 {
-    list.iter()
-        .find(|candidate| candidate.date == day && is_given_for(given, candidate))
-        .copied()
+    list.iter().find(|candidate| candidate.date == day && is_given_for(given, candidate))
 }
 
 fn is_given_for(given: Given, candidate: &Candidate) -> bool

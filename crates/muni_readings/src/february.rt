@@ -1,9 +1,10 @@
 //! Days of accrued interest by a day count with a rule for the end of February.
 
-ghost use Rattle.std.specs.Prelude.{◌≡◌, ◌+◌, ◌*◌, ◌≤◌, ◌≤ℤ◌, pos, IfSome};
+ghost use Rattle.std.specs.Prelude.{◌≡◌, ◌≤◌, ◌≤ℤ◌, pos, true, IfSome};
 ghost use Rattle.muni_rule.specs.Civil as calendar;
 ghost use Rattle.muni_rule.specs.DayCount as rule;
 ghost use Rattle.muni_days.specs.Day.{civil};
+ghost use Rattle.muni_terms.specs.Issue.{settles};
 ghost use Rattle.muni_readings.specs.February as spec;
 
 use crate::Answered;
@@ -48,26 +49,38 @@ fn if_counted(days: i32) -> Option<i32>
     Some(days)
 }
 
-// The day from which interest has accrued.
+// The day from which interest has accrued by 30/360.
 fn accrual_start(issue: &Issue, settlement: Day) -> Option<Day>
+    requires { settles issue.now settlement ≡ true }
     ensures { result
         ≡ spec.accrual_start issue.now.basis issue.now.kind issue.now.dated settlement }
 {
     let row = issue.row();
-    if row.basis != Basis::Thirty360 {
-        return None;
+    match row.basis {
+        Basis::Actual365 => None,
+        Basis::Thirty360 => match row.kind {
+            Kind::Periodic { first } => coupon_start(first, row.dated, settlement),
+            Kind::AtRedemption => Some(row.dated),
+            Kind::Zero | Kind::Discount => None,
+        },
     }
-    match row.kind {
-        Kind::Periodic { first } => {
-            if settlement < first {
-                Some(row.dated)
-            } else {
-                quasi_day(first, settlement)
-            }
-        }
-        Kind::AtRedemption => Some(row.dated),
-        Kind::Zero | Kind::Discount => None,
+}
+
+fn coupon_start(first: Day, dated: Day, settlement: Day) -> Option<Day>
+    requires day { (civil first).day ≤ 28 }
+    requires year { 1901 ≤ (civil settlement).year }
+    ensures { result ≡ spec.coupon_start first dated settlement }
+{
+    if is_before(settlement, first) {
+        return Some(dated);
     }
+    quasi_day(first, settlement)
+}
+
+fn is_before(day: Day, other: Day) -> bool
+    ensures { result ≡ calendar.is_before (civil day) (civil other) }
+{
+    day < other
 }
 
 // The days from one day to another.

@@ -68,11 +68,13 @@ pub(crate) fn by_first_call<R: Threads + Sync, E: Encloser + Sync, G: Gate + Syn
     }
     schedule.fill(answered.issue, settlement);
     let first = schedule.candidates()[0];
-    if first.label == Label::Maturity {
-        return Some(*answered.figures);
+    match first.label {
+        Label::Maturity => Some(*answered.figures),
+        Label::ParOption | Label::Call | Label::Called => {
+            let called = called_for(answered.issue.row(), &first);
+            figures_over(calculator, called, answered.asked, schedule)
+        }
     }
-    let called = called_for(answered.issue.row(), &first);
-    figures_over(calculator, called, answered.asked, schedule)
 }
 
 // The terms by which the issue is redeemed for certain so.

@@ -1,6 +1,6 @@
 //! An odd first coupon taken as a regular one, and the quasi-coupon date before a day.
 
-ghost use Rattle.std.specs.Prelude.{◌≡◌, ◌≤◌, ◌<◌, Ok};
+ghost use Rattle.std.specs.Prelude.{◌≡◌, ◌≤◌, ◌<◌, Ok, IfSome};
 ghost use Rattle.muni_rule.specs.Civil as rule;
 ghost use Rattle.muni_days.specs.Day.{civil};
 ghost use Rattle.muni_terms.specs.Check.{fault_of};
@@ -74,7 +74,8 @@ fn dated_on(row: &IssueRow, dated: Day) -> Option<IssueRow>
 pub(crate) fn quasi_day(anchor: Day, day: Day) -> Option<Day>
     requires day { (civil anchor).day ≤ 28 }
     requires year { 1901 ≤ (civil day).year }
-    ensures { result ≡ spec.quasi_day anchor day }
+    ensures value { result ≡ spec.quasi_day anchor day }
+    ensures day { IfSome result (λ found. (civil found).day ≤ 28) }
 {
     let month = last_month(anchor, day);
     Day::of(

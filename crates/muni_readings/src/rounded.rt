@@ -1,6 +1,6 @@
 //! A computed price rounded to thousandths, and not truncated.
 
-ghost use Rattle.std.specs.Prelude.{◌≡◌, ◌↔◌, ◌+◌, ◌≤◌, ◌≤ℤ◌, pos, true, IsTrue, IfSome};
+ghost use Rattle.std.specs.Prelude.{◌≡◌, ◌↔◌, ◌+◌, ◌*◌, ◌≤◌, ◌≤ℤ◌, pos, true, IsTrue, IfSome};
 ghost use Rattle.muni_rule.specs.Accuracy.{Reaches, price_amount};
 ghost use Rattle.muni_rule.specs.Discount as rule;
 ghost use Rattle.muni_rule.specs.Ranges.{IsDiscountRate};
@@ -113,10 +113,23 @@ fn payment_reaches(payment: &Single, shape: Shape1, y: Yield, price: Price) -> b
     ensures { IsTrue result
         ↔ one.AtLeast (payment_of payment.now) y (price_amount payment.now.basis price) }
 {
-    let growth = growth(payment, shape, y);
     let year = payment.basis.year() as u64;
-    let asked = year * 1_000 * price.units() + payment.accrued as u64;
-    u128::from(asked) * u128::from(growth) <= payment.due as u128 * u128::from(year * 1_000_000)
+    is_worth(
+        payment.due as u64,
+        payment.accrued as u64,
+        growth(payment, shape, y),
+        year * 1_000_000,
+        year * 1_000 * price.units(),
+    )
+}
+
+// Whether due / growth - accrued is at least an amount, where one is no growth.
+fn is_worth(due: u64, accrued: u64, growth: u64, one: u64, amount: u64) -> bool
+    requires accrued { accrued ≤ 1_000_000_000_000_000 }
+    requires amount { amount ≤ 1_000_000_000_000_000 }
+    ensures { IsTrue result ↔ ((amount + accrued) * growth ≤ due * one) }
+{
+    u128::from(amount + accrued) * u128::from(growth) <= u128::from(due) * u128::from(one)
 }
 
 // Whether par less the rate for the days of a year is at least a price.
