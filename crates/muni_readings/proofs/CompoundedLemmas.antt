@@ -74,6 +74,11 @@ has-worth payment y lo hi few within low_is high_is =
       small = worth-small (4096 * due) low lo hi (omega arith) part.low round.floor_under settled.narrow;
     }
 
+-- the same of a yield that is known by another name
+pub worth-at : (payment : Single) (y z : ℤ) (lo hi : ℕ) → z ≡ y → HoldsWorth (compounded payment) z (enclosure_ends lo hi) → IsNarrow (enclosure_ends lo hi) → hi ≤ 8000000000000000000 → HasWorth payment y lo hi
+worth-at payment y z lo hi same holds narrow small =
+    record { holds = subst (λ it. HoldsWorth (compounded payment) it (enclosure_ends lo hi)) same holds; narrow = narrow; small = small }
+
 -- ---- the price
 some-divisor : (y : ℤ) → IsManyPeriodsBoundary y → 0 < discount_divisor y
 some-divisor y within = let least = divisor-least y within in omega arith

@@ -1,4 +1,6 @@
+pub mod CheckedLemmas
 pub mod CompoundedLemmas
+pub mod DisclosedLemmas
 pub mod OtherTermsLemmas
 pub mod RegularLemmas
-pub mod DisclosedLemmas
+pub mod RoundedLemmas

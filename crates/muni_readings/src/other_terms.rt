@@ -62,22 +62,31 @@ pub(crate) fn by_first_call<R: Threads + Sync, E: Encloser + Sync, G: Gate + Syn
         → IsByFirstCall (E.ends calculator.now.encloser.now) answered.now.issue.now
         answered.now.asked.now result }
 {
+    let row = answered.issue.row();
     let settlement = answered.asked.settle;
     if !answered.issue.settles(settlement) {
         return None;
     }
     schedule.fill(answered.issue, settlement);
     let first = schedule.candidates()[0];
-    match first.label {
-        Label::Maturity => Some(*answered.figures),
-        Label::ParOption | Label::Call | Label::Called => {
-            let called = called_for(answered.issue.row(), &first);
-            figures_over(calculator, called, answered.asked, schedule)
-        }
+    let changed = redeemed_at(row, &first);
+    if changed == *row {
+        return Some(*answered.figures);
+    }
+    figures_over(calculator, changed, answered.asked, schedule)
+}
+
+// The terms by which the issue is redeemed for certain as a candidate is, save at its maturity.
+fn redeemed_at(row: &IssueRow, redemption: &Candidate) -> IssueRow
+    ensures { result
+        ≡ spec.redeemed_at redemption.now.label redemption.now.date redemption.now.price row.now }
+{
+    match redemption.label {
+        Label::Maturity => row.copy(),
+        Label::ParOption | Label::Call | Label::Called => called_for(row, redemption),
     }
 }
 
-// The terms by which the issue is redeemed for certain so.
 fn called_for(row: &IssueRow, redemption: &Candidate) -> IssueRow
     ensures { result ≡ spec.called_for redemption.now.date redemption.now.price row.now }
 {

@@ -2,6 +2,7 @@
 
 ghost use Rattle.std.specs.Prelude.{◌≡◌, ◌↔◌, ◌+◌, ◌*◌, ◌≤◌, ◌≤ℤ◌, pos, true, IsTrue, IfSome};
 ghost use Rattle.muni_rule.specs.Accuracy.{Reaches, price_amount};
+ghost use Rattle.muni_rule.specs.DayCount.{year_of};
 ghost use Rattle.muni_rule.specs.Discount as rule;
 ghost use Rattle.muni_rule.specs.Ranges.{IsDiscountRate};
 ghost use Rattle.muni_rule.specs.SinglePayment as one;
@@ -113,14 +114,28 @@ fn payment_reaches(payment: &Single, shape: Shape1, y: Yield, price: Price) -> b
     ensures { IsTrue result
         ↔ one.AtLeast (payment_of payment.now) y (price_amount payment.now.basis price) }
 {
-    let year = payment.basis.year() as u64;
     is_worth(
         payment.due as u64,
         payment.accrued as u64,
         growth(payment, shape, y),
-        year * 1_000_000,
-        year * 1_000 * price.units(),
+        no_growth(payment.basis),
+        amount_of(price, payment.basis),
     )
+}
+
+// One, as growths are counted.
+fn no_growth(basis: Basis) -> u64
+    ensures { result ≡ year_of basis * 1_000_000 }
+{
+    basis.year() as u64 * 1_000_000
+}
+
+// A price as an amount.
+fn amount_of(price: Price, basis: Basis) -> u64
+    ensures value { pos result ≡ price_amount basis price }
+    ensures range { result ≤ 365_000 * price }
+{
+    basis.year() as u64 * 1_000 * price.units()
 }
 
 // Whether due / growth - accrued is at least an amount, where one is no growth.

@@ -1,5 +1,7 @@
-use Rattle.std.proofs.Common.{◌≡◌, Bool, true, false, Option, Some, None, refl, sym, ◌∙◌, subst}
+use Rattle.std.proofs.Common.{◌≡◌, Bool, true, false, Option, Some, None, refl, sym, ap, ◌∙◌, subst, arith, to_z, of_z, w64}
 use Rattle.std.specs.Prelude.{MatchOption, is_some}
+use Rattle.std.proofs.lemmas.Int.{ints}
+use Rattle.muni_rule.specs.Ranges.{side_of, many_periods_yields}
 use Rattle.muni_readings.specs.Compounded.{HasCompoundedPrice}
 use Rattle.muni_readings.proofs.compounded.compounded_at_yield.Goals as goal
 
@@ -10,6 +12,10 @@ none-of (Some x) none = absurd (let never : true ≡ false = none in cc)
 pub returns-in-Some : goal.returns-in-Some
 returns-in-Some c =
     let payment = c.args.payment.now in
+    let units = c.units.ensures.value in
+    let least = c.units.ensures.range.0 in
+    let most = c.units.ensures.range.1 in
+    let same : to_z w64 (of_z w64 c.units.result) ≡ c.args.y = omega (arith, ints, units, least, most) in
     let none = none-of c.side_of.result (sym c.is_some.ensures ∙ c.if-is_some.false) in
-    subst (λ side. MatchOption side (HasCompoundedPrice payment c.args.y c.args.answered.now.asked.now c.args.answered.now.figures.now c.with_price.result) (λ it. c.with_price.result ≡ None)) (sym none ∙ c.side_of.ensures.side)
+    subst (λ side. MatchOption side (HasCompoundedPrice payment c.args.y c.args.answered.now.asked.now c.args.answered.now.figures.now c.with_price.result) (λ it. c.with_price.result ≡ None)) (sym none ∙ (c.side_of.ensures.side ∙ ap (side_of many_periods_yields) same))
     (record { price = Some c.in-Some.price; exact = c.in-Some.ensures.exact; has = c.with_price.ensures })

@@ -1,23 +1,8 @@
-use Rattle.std.proofs.Common.{◌≡◌, ◌*◌, ◌+◌, ◌-◌, ◌/◌, ◌<◌, ◌≤◌, refl, subst, arith, to_z, of_z, w32}
+use Rattle.std.proofs.Common.{◌≡◌, ◌*◌, ◌+◌, ◌-◌, ◌/◌, ◌<◌, ◌≤◌, refl, arith}
 use Rattle.std.specs.Prelude.{unsigned_abs}
 use Rattle.std.proofs.lemmas.Int.{ints}
-use Rattle.muni_rule.specs.WorthEnds.{HoldsWorth, enclosure_ends}
-use Rattle.muni_readings.specs.Compounded.{compounded}
-use Rattle.muni_readings.proofs.CompoundedLemmas.{HasWorth, price-some, price-near, price-below}
+use Rattle.muni_readings.proofs.CompoundedLemmas.{worth-at, price-some, price-near, price-below}
 use Rattle.muni_readings.proofs.compounded.compounded_price.Goals as goal
-
-worth : (c : goal.After-compounded_worth-worth) → HasWorth c.args.payment.now c.args.y c.compounded_worth-worth.result.lo c.compounded_worth-worth.result.hi
-worth c =
-    let worth = c.compounded_worth-worth.ensures in
-    let units = c.units.ensures.value in
-    let least = c.requires.y.0 in
-    let most = c.requires.y.1 in
-    let same : to_z w32 (of_z w32 c.units.result) ≡ c.args.y = omega (arith, ints, units, least, most) in
-    record {
-      holds = subst (λ z. HoldsWorth (compounded c.args.payment.now) z (enclosure_ends c.compounded_worth-worth.result.lo c.compounded_worth-worth.result.hi)) same worth.holds;
-      narrow = worth.narrow;
-      small = worth.small;
-    }
 
 pub returns-then-low-accrued-clause-exact : goal.returns-then-low-accrued-clause-exact
 returns-then-low-accrued-clause-exact c =
@@ -26,9 +11,12 @@ returns-then-low-accrued-clause-exact c =
     let most = c.requires.single.accrued.1 in
     let lo = c.lo.ensures in
     let test = c.if-low-accrued.true in
+    let units = c.units.ensures.value in
+    let least_y = c.requires.y.0 in
+    let most_y = c.requires.y.1 in
     let small = c.compounded_worth-worth.ensures.small in
     let order = c.compounded_worth-worth.result.ordered in
-    price-below payment c.args.y c.compounded_worth-worth.result.lo c.compounded_worth-worth.result.hi (unsigned_abs payment.accrued) c.requires.y (worth c) refl (omega (arith, ints, least, most, lo, test, small, order))
+    price-below payment c.args.y c.compounded_worth-worth.result.lo c.compounded_worth-worth.result.hi (unsigned_abs payment.accrued) c.requires.y (worth-at payment c.args.y _ c.compounded_worth-worth.result.lo c.compounded_worth-worth.result.hi (omega (arith, ints, units, least_y, most_y)) c.compounded_worth-worth.ensures.holds c.compounded_worth-worth.ensures.narrow small) refl (omega (arith, ints, least, most, lo, test, small, order))
 
 pub returns-then-hi-from-clause-exact : goal.returns-then-hi-from-clause-exact
 returns-then-hi-from-clause-exact c =
@@ -41,9 +29,12 @@ returns-then-hi-from-clause-exact c =
     let new = c.new.ensures in
     let enough = c.if-low-accrued.false in
     let test = c.if-hi-from.true in
+    let units = c.units.ensures.value in
+    let least_y = c.requires.y.0 in
+    let most_y = c.requires.y.1 in
     let small = c.compounded_worth-worth.ensures.small in
     let order = c.compounded_worth-worth.result.ordered in
-    price-some payment c.args.y c.compounded_worth-worth.result.lo c.compounded_worth-worth.result.hi (unsigned_abs payment.accrued) c.new.result c.requires.y (worth c) refl
+    price-some payment c.args.y c.compounded_worth-worth.result.lo c.compounded_worth-worth.result.hi (unsigned_abs payment.accrued) c.new.result c.requires.y (worth-at payment c.args.y _ c.compounded_worth-worth.result.lo c.compounded_worth-worth.result.hi (omega (arith, ints, units, least_y, most_y)) c.compounded_worth-worth.ensures.holds c.compounded_worth-worth.ensures.narrow small) refl
     (omega (arith, ints, least, most, lo, enough, small, order))
     (omega (arith, ints, least, most, lo, new, enough, small, order))
     (omega (arith, ints, least, most, lo, hi, from, new, enough, test, small, order))
@@ -58,9 +49,12 @@ returns-else-hi-from-clause-exact c =
     let from = c.from.ensures in
     let enough = c.if-low-accrued.false in
     let test = c.if-hi-from.false in
+    let units = c.units.ensures.value in
+    let least_y = c.requires.y.0 in
+    let most_y = c.requires.y.1 in
     let small = c.compounded_worth-worth.ensures.small in
     let order = c.compounded_worth-worth.result.ordered in
     let accrued = unsigned_abs payment.accrued in
-    price-near payment c.args.y c.compounded_worth-worth.result.lo c.compounded_worth-worth.result.hi accrued ((c.compounded_worth-worth.result.lo / 4096 - accrued) / 360000000 + 1) c.requires.y (worth c) refl
+    price-near payment c.args.y c.compounded_worth-worth.result.lo c.compounded_worth-worth.result.hi accrued ((c.compounded_worth-worth.result.lo / 4096 - accrued) / 360000000 + 1) c.requires.y (worth-at payment c.args.y _ c.compounded_worth-worth.result.lo c.compounded_worth-worth.result.hi (omega (arith, ints, units, least_y, most_y)) c.compounded_worth-worth.ensures.holds c.compounded_worth-worth.ensures.narrow small) refl
     (omega (arith, ints, least, most, lo, enough, small, order))
     (omega (arith, ints, least, most, lo, hi, from, enough, test, small, order))

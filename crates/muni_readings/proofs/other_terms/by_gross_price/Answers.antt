@@ -1,12 +1,14 @@
-use Rattle.std.proofs.Common.{◌≡◌, Some, Ok, refl, sym, ap, subst, ◌∙◌}
+use Rattle.std.proofs.Common.{◌≡◌, true, eqb, Some, Ok, arith, refl, sym, ap, subst, ◌∙◌}
+use Rattle.std.proofs.lemmas.Bool.Decides.{nat_tests}
 use Rattle.muni_book.specs.Answers.{IsRightAnswer}
 use Rattle.muni_readings.proofs.OtherTermsLemmas.{gross-same}
 use Rattle.muni_readings.proofs.other_terms.by_gross_price.Goals as goal
 
 pub returns-then-eq : goal.returns-then-eq
 returns-then-eq g c = λ right.
+    let test : eqb c.args.answered.now.asked.now.fee 0 ≡ true = sym c.eq.ensures ∙ c.if-eq.true in
     gross-same (g.E.Encloser.ends c.args.calculator.now.encloser.now) c.args.answered.now.issue.now c.args.answered.now.asked.now c.args.answered.now.figures.now
-    (c.eq.ensures.same.0 (c.if-eq.true)) right
+    (grind (arith, nat_tests)) right
 
 pub returns-in-Ok : goal.returns-in-Ok
 returns-in-Ok g c = λ right. record {
