@@ -4,3 +4,5 @@ pub mod DisclosedLemmas
 pub mod OtherTermsLemmas
 pub mod RegularLemmas
 pub mod RoundedLemmas
+pub mod LawLemmas
+pub mod StatedLemmas

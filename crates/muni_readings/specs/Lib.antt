@@ -8,3 +8,4 @@ pub mod February
 pub mod Regular
 pub mod Readings
 pub mod Checked
+pub mod Laws

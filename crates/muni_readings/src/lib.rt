@@ -7,6 +7,7 @@ mod checked;
 mod compounded;
 mod disclosed;
 mod february;
+pub mod laws;
 mod money;
 mod other_terms;
 mod reading;
