@@ -1,16 +1,12 @@
 -- One payment that is compounded: its worth, its printed price, and what verdicts say of its printed yield.
-use Rattle.std.proofs.Common.{◌≡◌, ℕ, zero, suc, ◌+◌, ◌-◌, ◌*◌, ◌/◌, ◌^◌, ◌<◌, ◌≤◌, refl, sym, ap, ◌∙◌, subst, arith, lit≤, lit<, ◌⊎◌, ℤ, pos, negsuc, inl, inr, Some, None}
+use Rattle.std.proofs.Common.{◌≡◌, ℕ, zero, suc, ◌+◌, ◌-◌, ◌*◌, ◌/◌, ◌^◌, ◌<◌, ◌≤◌, refl, sym, ap, ◌∙◌, subst, arith, lit<, ◌⊎◌, ℤ, pos, negsuc, inl, inr, Some, None}
 use Rattle.std.specs.Prelude.{◌+ℤ◌, ◌≤ℤ◌, ◌<ℤ◌, unsigned_abs}
 use Rattle.std.proofs.lemmas.Bool.{cases_lt}
 use Rattle.std.proofs.lemmas.Int.{ints}
 use Rattle.std.proofs.Math.Nat.{mul-le-mul_left, le_of_mul-le-mul_right, pow-zero}
-use Rattle.muni_rule.specs.Accuracy.{thousandths}
-use Rattle.muni_rule.specs.Doubt.{IsNear}
-use Rattle.muni_rule.specs.ManyPeriods.{AtLeast, More, discount_divisor, sum_to, discounted_sum, whole_sum}
-use Rattle.muni_rule.specs.Outcomes.{IsBelow, IsAbove, IsPrint}
-use Rattle.muni_rule.specs.Printed.{IsPrintedPrice, IsBelowZero}
-use Rattle.muni_rule.specs.PrintedYield.{boundary, Reached}
-use Rattle.muni_rule.specs.Ranges.{IsManyPeriodsBoundary, many_periods_prints}
+use Rattle.muni_rule.specs.ManyPeriods.{discount_divisor, sum_to, discounted_sum, whole_sum}
+use Rattle.muni_rule.specs.PrintedYield.{boundary}
+use Rattle.muni_rule.specs.Ranges.{IsManyPeriodsBoundary}
 use Rattle.muni_rule.specs.Verdicts.{at_least_verdict, more_verdict}
 use Rattle.muni_rule.specs.WorthEnds.{WorthEnds, HoldsWorth, IsNarrow, enclosure_ends}
 use Rattle.muni_rule.specs.declared.verdict.Verdict.{Verdict}

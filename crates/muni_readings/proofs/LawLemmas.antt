@@ -1,12 +1,11 @@
 -- Laws of the readings.
-use Rattle.std.proofs.Common.{◌≡◌, ℕ, ◌+◌, ◌-◌, ◌*◌, ◌≤◌, Bool, true, false, refl, sym, ap, ◌∙◌, subst, arith, List, [], Some, None, ℤ, pos}
-use Rattle.std.specs.Prelude.{◌+ℤ◌, ◌-ℤ◌, ◌≤ℤ◌, Ok}
-use Rattle.std.specs.List.{slice_get}
+use Rattle.std.proofs.Common.{◌≡◌, ℕ, ◌+◌, ◌-◌, ◌*◌, ◌≤◌, true, false, refl, sym, ap, subst, arith, Some, None, ℤ, pos}
+use Rattle.std.specs.Prelude.{◌-ℤ◌, ◌≤ℤ◌}
 use Rattle.std.proofs.lemmas.Int.{ints}
 use Rattle.std.proofs.lemmas.Bool.Decides.{nat_tests}
 use Rattle.muni_rule.specs.Accuracy.{price_amount, thousandths_by}
 use Rattle.muni_rule.specs.Civil.{Civil}
-use Rattle.muni_rule.specs.DayCount.{days360, first_counted, last_counted, days_up_to}
+use Rattle.muni_rule.specs.DayCount.{first_counted, last_counted, days_up_to}
 use Rattle.muni_rule.specs.ManyPeriods as many
 use Rattle.muni_rule.specs.Printed.{IsClosed}
 use Rattle.muni_rule.specs.SinglePayment as one
@@ -14,17 +13,12 @@ use Rattle.muni_rule.proofs.AtLeastLemmas.{AtLeast-closed, many-closed}
 use Rattle.muni_rule.specs.declared.basis.Basis.{Basis}
 use Rattle.muni_rule.specs.declared.basis.Basis.TheVariants.{Thirty360, Actual365}
 use Rattle.muni_rule.specs.declared.label.Label.{Label}
-use Rattle.muni_rule.specs.declared.label.Label.TheVariants.{Maturity}
 use Rattle.muni_rule.specs.declared.verdict.Verdict.TheVariants.{No}
-use Rattle.muni_terms.specs.Check.{fault_of}
-use Rattle.muni_terms.specs.declared.row.IssueRow.{IssueRow}
 use Rattle.muni_msg.specs.declared.asked.Given.{Given}
-use Rattle.muni_msg.specs.declared.asked.Given.TheVariants.{AtPrice}
-use Rattle.muni_readings.specs.February.{ends_february, february_days, february_first}
+use Rattle.muni_readings.specs.February.{ends_february, february_first}
 use Rattle.muni_readings.specs.OtherTerms.{IsOver, uncalled, redeemed_at}
 use Rattle.muni_readings.specs.Laws.{MaturityOfUncalled, FirstCallOfUncalled, GivenPricesStay, RoundsToNearest, SeriesRoundToNearest, PaymentsRoundToNearest, SeveralAreCompounded, GrossWithoutFee, RegularOfRegular, FebruaryCountsElsewhere, FebruaryCountsLess}
 use Rattle.muni_readings.specs.Rounded.{TellsReached}
-use Rattle.muni_readings.specs.Regular.{regular_terms}
 use Rattle.std.specs.Prelude.{MatchOption}
 use Rattle.muni_readings.proofs.OtherTermsLemmas.{over-same, over-equal, uncalled-same, gross-same}
 

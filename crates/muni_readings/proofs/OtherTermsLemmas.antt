@@ -1,6 +1,6 @@
 -- Answers over other terms.
-use Rattle.std.proofs.Common.{◌≡◌, ℕ, suc, ◌==◌, true, refl, sym, ap, ◌∙◌, subst, arith, length, List, [], ◌∷◌, Option, Some, None, Result, Ok, Err}
-use Rattle.std.specs.Prelude.{MatchOption, option_map}
+use Rattle.std.proofs.Common.{◌≡◌, suc, ◌==◌, true, refl, sym, ap, subst, arith, length, List, [], ◌∷◌, Option, Some, None, Result, Ok, Err}
+use Rattle.std.specs.Prelude.{MatchOption}
 use Rattle.std.proofs.lemmas.Bool.Decides.{nat_tests}
 use Rattle.std.specs.Result.{result_ok}
 use Rattle.muni_terms.specs.Check.{fault_of, unless_fault, checked}

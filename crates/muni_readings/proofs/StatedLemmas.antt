@@ -1,17 +1,15 @@
 -- Figures differ nowhere exactly if each that is stated is the same.
-use Rattle.std.proofs.Common.{◌≡◌, ℕ, Bool, true, false, not, refl, List, [], ◌∷◌, Option, Some, None, ℤ}
+use Rattle.std.proofs.Common.{◌≡◌, Bool, true, false, not, refl, List, [], ◌∷◌, Option, Some, None}
 use Rattle.std.specs.Prelude.{IfSome, find, if◌then◌else◌, nat_eq}
 use Rattle.std.specs.Bool.{Decides}
 use Rattle.std.specs.Ordering.{on, int_eq}
 use Rattle.std.proofs.lemmas.Bool.Decides.{Decides-eqb, Decides-int_eq}
 use Rattle.muni_days.specs.Day.{place_of}
 use Rattle.muni_days.proofs.DayLemmas.{day_decides}
-use Rattle.muni_msg.specs.declared.figures.Figures.{Figures}
 use Rattle.muni_readings.specs.Laws.{RightIsAsStated}
 use Rattle.muni_readings.specs.Stated.{is_stated, is_other, is_as_stated}
 use Rattle.muni_readings.specs.declared.stated.Field.{Field}
 use Rattle.muni_readings.specs.declared.stated.Field.TheVariants.{Price, Yield, Redemption, Days, Principal, Accrued, Total}
-use Rattle.muni_readings.specs.declared.stated.Stated.{Stated}
 
 true-of : (test : Bool) (P : Type 0) → Decides test P → not test ≡ false → P
 true-of true P decides same = decides.0 refl

@@ -1,5 +1,5 @@
 -- ROUNDED: a computed price is rounded to the nearest thousandth of a dollar, and half a thousandth upward.
-use Rattle.std.specs.Prelude.{◌≡◌, ℕ, ◌+◌, ◌*◌, Bool, true, false, MatchOption, Option, Some, None, nat_le, if◌then◌else◌, ℤ, pos}
+use Rattle.std.specs.Prelude.{◌≡◌, ℕ, ◌+◌, ◌*◌, Bool, true, false, MatchOption, Option, Some, None, nat_le, if◌then◌else◌, ℤ}
 use Rattle.muni_rule.specs.Accuracy.{Reaches, price_amount}
 use Rattle.muni_rule.specs.Discount.{discount_price}
 use Rattle.muni_rule.specs.Doubt.{IsDoubtful}

@@ -1,5 +1,5 @@
 -- The figures of a trade that another firm printed, and where others differ from them.
-use Rattle.std.specs.Prelude.{not, Bool, true, false, nat_eq, List, [], ◌∷◌, find, Option, Some, None}
+use Rattle.std.specs.Prelude.{not, Bool, false, nat_eq, List, [], ◌∷◌, find, Option, Some, None}
 use Rattle.std.specs.Ordering.{on, int_eq}
 use Rattle.muni_days.specs.Day.{place_of}
 use Rattle.muni_msg.specs.declared.figures.Figures.{Figures}

@@ -1,4 +1,4 @@
-use Rattle.std.proofs.Common.{◌≡◌, ◌≤◌, ◌∙◌, length, refl, sym, arith, None}
+use Rattle.std.proofs.Common.{◌≤◌, ◌∙◌, length, refl, sym, arith, None}
 use Rattle.std.proofs.lemmas.Option.{slice_get-get_or}
 use Rattle.muni_readings.specs.Checked.{Gives, readings}
 use Rattle.muni_readings.specs.Readings.{IsBy}

@@ -1,4 +1,4 @@
-use Rattle.std.proofs.Common.{◌≡◌, ◌*◌, ◌+◌, ◌-◌, ◌/◌, ◌<◌, ◌≤◌, refl, arith}
+use Rattle.std.proofs.Common.{◌+◌, ◌-◌, ◌/◌, refl, arith}
 use Rattle.std.specs.Prelude.{unsigned_abs}
 use Rattle.std.proofs.lemmas.Int.{ints}
 use Rattle.muni_readings.proofs.CompoundedLemmas.{worth-at, price-some, price-near, price-below}

@@ -1,4 +1,4 @@
-use Rattle.std.proofs.Common.{ℕ, ◌*◌, ◌-◌, ◌<◌, ◌≤◌, pos}
+use Rattle.std.proofs.Common.{◌*◌, ◌-◌, ◌<◌, ◌≤◌, pos}
 use Rattle.muni_rule.specs.declared.verdict.Verdict.TheVariants.{Yes, No}
 use Rattle.muni_yield.specs.Places.{yield_at}
 use Rattle.muni_readings.specs.Compounded.{TellsYield}

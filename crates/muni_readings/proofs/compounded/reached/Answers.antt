@@ -1,5 +1,4 @@
-use Rattle.std.proofs.Common.{◌≡◌, ◌*◌, ◌+◌, subst, arith, to_z, of_z, w32}
-use Rattle.std.specs.Prelude.{unsigned_abs}
+use Rattle.std.proofs.Common.{◌≡◌, subst, arith, to_z, of_z, w32}
 use Rattle.std.proofs.lemmas.Int.{ints}
 use Rattle.muni_rule.specs.WorthEnds.{HoldsWorth, enclosure_ends}
 use Rattle.muni_readings.specs.Compounded.{compounded}

@@ -1,4 +1,4 @@
-use Rattle.std.proofs.Common.{◌≡◌, ◌≤◌, None, sym, subst, arith}
+use Rattle.std.proofs.Common.{◌≡◌, None, sym, subst, arith}
 use Rattle.muni_terms.specs.Check.{fault_of}
 use Rattle.muni_terms.proofs.IssueLemmas.{coupon_settled}
 use Rattle.muni_readings.proofs.february.accrual_start.Goals as goal

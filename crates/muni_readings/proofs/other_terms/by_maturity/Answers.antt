@@ -1,4 +1,4 @@
-use Rattle.std.proofs.Common.{◌≡◌, [], sym, ap, subst, ◌∙◌}
+use Rattle.std.proofs.Common.{◌≡◌, [], sym, subst, ◌∙◌}
 use Rattle.muni_readings.specs.OtherTerms.{uncalled}
 use Rattle.muni_readings.proofs.OtherTermsLemmas.{no-items, uncalled-same, over-equal}
 use Rattle.muni_readings.proofs.other_terms.by_maturity.Goals as goal

@@ -1,6 +1,6 @@
-use Rattle.std.proofs.Common.{◌≡◌, ◌∙◌, ap, sym, arith}
+use Rattle.std.proofs.Common.{◌≡◌, ◌∙◌, arith}
 use Rattle.muni_rule.specs.Civil.{day_in_month}
-use Rattle.muni_days.specs.Day.{civil, if_day}
+use Rattle.muni_days.specs.Day.{if_day}
 use Rattle.muni_readings.proofs.RegularLemmas.{quasi_day-month, found-day}
 use Rattle.muni_readings.proofs.regular.quasi_day.Goals as goal
 

@@ -1,6 +1,6 @@
 use Rattle.std.proofs.Common.{◌≡◌, None, sym, subst, arith}
 use Rattle.muni_terms.specs.Check.{fault_of}
-use Rattle.muni_readings.proofs.RegularLemmas.{IsCouponStart, coupon-start}
+use Rattle.muni_readings.proofs.RegularLemmas.{coupon-start}
 use Rattle.muni_readings.proofs.regular.regular_terms.Goals as goal
 
 pub quasi_day-requires-clause-day : goal.quasi_day-requires-clause-day

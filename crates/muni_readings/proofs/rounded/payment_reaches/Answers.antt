@@ -1,4 +1,4 @@
-use Rattle.std.proofs.Common.{◌≡◌, ap, pos, arith}
+use Rattle.std.proofs.Common.{ap, pos, arith}
 use Rattle.std.proofs.lemmas.Int.{ints}
 use Rattle.muni_rule.specs.Accuracy.{price_amount}
 use Rattle.muni_rule.specs.SinglePayment as one
