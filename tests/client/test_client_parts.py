@@ -3,7 +3,6 @@ from __future__ import annotations
 
 import os
 import pathlib
-import random
 import subprocess
 
 import pytest
@@ -12,35 +11,11 @@ from muni import parts
 from muni.parts import Folder, OwnStore, Part, PartFault, Total
 from support.books import Book
 from support.disks import small_disk
-from support.exported import issue, text_of
 from support.program import Program, program_path
-from support.stores import Store
-from support.valued import MARK, lines
+from support.valued import MARK
 
 PROGRAM = Program(program_path())
 SIZE = 4_000
-
-
-@pytest.fixture(scope="module")
-def book(tmp_path_factory: pytest.TempPathFactory) -> Book:
-    """A store with issues of every kind and a trade."""
-    source = random.Random(5)
-    found = Book(PROGRAM, Store("sqlite", tmp_path_factory.mktemp("parts") / "store"))
-    assert found.said("load", rows=text_of(issue(source, place) for place in range(20))).status == 0
-    return found
-
-
-@pytest.fixture(scope="module")
-def rows() -> bytes:
-    issues = [issue(random.Random(5), place) for place in range(20)]
-    return b"".join(row + b"\n" for row in lines(random.Random(6), issues, 600))
-
-
-@pytest.fixture
-def file(tmp_path: pathlib.Path, rows: bytes) -> pathlib.Path:
-    path = tmp_path / "rows"
-    path.write_bytes(rows)
-    return path
 
 
 @pytest.fixture

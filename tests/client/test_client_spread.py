@@ -3,7 +3,6 @@ hangs. Whatever happens, the lines are those of the program alone."""
 from __future__ import annotations
 
 import pathlib
-import random
 import signal
 import subprocess
 import threading
@@ -16,10 +15,7 @@ import pytest
 from support.books import Book
 from support.dask import Cluster
 from support.disks import small_disk
-from support.exported import issue, text_of
 from support.program import PATIENCE, Program, program_path
-from support.stores import Store
-from support.valued import lines
 
 pytest.importorskip("distributed", reason="distributed is missing")
 pandas: Any = pytest.importorskip("pandas", reason="pandas is missing")
@@ -40,28 +36,6 @@ def cluster(tmp_path_factory: pytest.TempPathFactory) -> Iterator[Cluster]:
     found = Cluster(tmp_path_factory.mktemp("dask"))
     yield found
     found.close()
-
-
-@pytest.fixture(scope="module")
-def book(tmp_path_factory: pytest.TempPathFactory) -> Book:
-    """A store with issues of every kind."""
-    found = Book(PROGRAM, Store("sqlite", tmp_path_factory.mktemp("spread") / "store"))
-    source = random.Random(7)
-    assert found.said("load", rows=text_of(issue(source, place) for place in range(20))).status == 0
-    return found
-
-
-@pytest.fixture(scope="module")
-def rows() -> bytes:
-    issues = [issue(random.Random(7), place) for place in range(20)]
-    return b"".join(row + b"\n" for row in lines(random.Random(8), issues, 500))
-
-
-@pytest.fixture
-def file(tmp_path: pathlib.Path, rows: bytes) -> pathlib.Path:
-    path = tmp_path / "rows"
-    path.write_bytes(rows)
-    return path
 
 
 @pytest.fixture

@@ -5,19 +5,11 @@ import json
 
 import pytest
 
-from support.page import TICKET
-from support.relay import plain
+from support.page import FIGURES, quoted
 
 pytestmark = pytest.mark.xdist_group("page_each")
 
-BY_PRICE = """PRICE 108.584 GIVEN
-YIELD 3.000 COMPUTED
-REDEMPTION 2034-01-01 100.000000 PAR OPTION
-ACCRUED DAYS 0
-PRINCIPAL 27146.00
-ACCRUED 0.00
-TOTAL 27146.00
-EACH 2033-01-01 102.500000 CALL UNDECIDED yield 4.0005
+BY_PRICE = FIGURES + """EACH 2033-01-01 102.500000 CALL UNDECIDED yield 4.0005
 EACH 2034-01-01 100.000000 PAR OPTION YIELD 3.000
 EACH 2034-07-01 100.000000 PAR OPTION ABOVE
 EACH 2044-01-01 100.000000 MATURITY YIELD 3.405
@@ -33,12 +25,6 @@ EACH 2026-07-01 101.000000 CALLED PRICE 105.710
 """
 HEAD = "#figures-each thead tr"
 ROWS = "#figures-each tbody tr"
-
-
-def quoted(page, text: str) -> None:
-    page.relay.rules = [("POST /quotes", plain(200, "OK", text))]
-    page.fill("ticket", **TICKET)
-    assert "Quoted" in page.press("ticket-quote")
 
 
 def test_a_quote_asks_for_each_redemption_that_may_come(page):

@@ -9,11 +9,20 @@ import muni
 from muni import Basis, Side, Trade
 from support import looks
 from support.browser import Browser
-from support.relay import Relay
+from support.relay import Relay, plain
 from support.site import NAME, Site
 
 APRIL = date(2024, 4, 3)
 TICKET = {"cusip": "990034AA8", "par": "25000", "settle": "2024-04-03", "basis": "price", "value": "104.25"}
+# Figures that a relay tells of it.
+FIGURES = """PRICE 108.584 GIVEN
+YIELD 3.000 COMPUTED
+REDEMPTION 2034-01-01 100.000000 PAR OPTION
+ACCRUED DAYS 0
+PRINCIPAL 27146.00
+ACCRUED 0.00
+TOTAL 27146.00
+"""
 CHOSEN = ("basis", "side", "kind", "days")
 WORDS = """
 const told = await import("/page/tell.js");
@@ -227,3 +236,10 @@ def sheet_shown(confirmation: muni.Confirmation) -> dict[str, str]:
     if confirmation.day_count is muni.DayCount.ACTUAL_365:
         rows["Days counted by"] = "actual/365"
     return rows
+
+
+def quoted(page: Page, text: str) -> None:
+    """Asks for a quote, which the relay answers by a text."""
+    page.relay.rules = [("POST /quotes", plain(200, "OK", text))]
+    page.fill("ticket", **TICKET)
+    assert "Quoted" in page.press("ticket-quote")
