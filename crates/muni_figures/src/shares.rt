@@ -1,12 +1,15 @@
 //! The blocks of a group, which workers share.
 
-ghost use Rattle.std.specs.Prelude.{◌≡◌, ◌+◌, ◌<◌, ◌≤◌, ◌^◌, length, All, IfErr, IsErrOf, OnOk};
+ghost use Rattle.std.specs.Prelude.{◌≡◌, ◌+◌, ◌<◌, ◌≤◌, ◌^◌, length, All, IfErr, IfOk, IsErrOf, OnOk};
 ghost use Rattle.std.specs.BTreeMap as tree;
+ghost use denote.Param.Send.{IsSync};
 ghost use Rattle.std.specs.List.{AllZip};
 ghost use Rattle.muni_book.specs.Answers.{IsRightAnswer};
 ghost use Rattle.muni_keep.specs.Trades.{by_bytes};
+ghost use Rattle.muni_figures.specs.Done.{AreDone};
+ghost use Rattle.muni_figures.specs.Issues.{IsScan};
 ghost use Rattle.muni_figures.specs.Said.{IsSaid};
-ghost use Rattle.muni_figures.specs.Shares.{AreNumbered, HasPlaces, IsCounted, IsForPlaces, IsPricedShare, IsSameBlock, IsScanned, NextPlace, rows_of_shares};
+ghost use Rattle.muni_figures.specs.Shares.{AreNumbered, HasPlaces, IsCounted, IsForPlaces, IsPricedShare, IsSameBlock, IsScanned, NextPlace, rows_of_share, rows_of_shares};
 
 use crate::pricing::{BlockLines, block_lines};
 use crate::scan::{Scan, scan_block};
@@ -60,7 +63,7 @@ pub(crate) fn scan_shares<R: Threads + Sync, E: Encloser + Sync, G: Gate + Sync>
         &|_worker: usize, share: &mut Share|
             ensures { IsScanned (tree.get by_bytes issues.entry.now) share.entry.now share.exit.now }
         {
-            share.scan = scan_block(alloc, &share.block, issues);
+            share.scan = own_scan(calculator.rt, calculator.workers, alloc, share, issues);
         },
     );
 }
@@ -77,21 +80,79 @@ pub(crate) fn price_shares<R: Threads + Sync, E: Encloser + Sync, G: Gate + Sync
     requires { All HasPlaces shares.old }
     ensures { AllZip (IsPricedShare (IsSaid (IsRightAnswer (E.ends calculator.now.encloser.now)) has_risk (tree.get by_bytes issues.now))) shares.old shares.new }
 {
-    let alone = Calculator {
-        workers: Workers::ONE,
-        ..*calculator
-    };
     thread::for_each_mut(
         calculator.rt,
         shares,
         calculator.workers.count() as usize,
         &|_worker: usize, share: &mut Share|
             requires { HasPlaces share.now }
-            ensures { IsPricedShare (IsSaid (IsRightAnswer (E.ends alone.entry.encloser.now)) has_risk (tree.get by_bytes issues.entry.now)) share.entry.now share.exit.now }
+            ensures { IsPricedShare (IsSaid (IsRightAnswer (E.ends calculator.entry.now.encloser.now)) has_risk (tree.get by_bytes issues.entry.now)) share.entry.now share.exit.now }
         {
-            share.lines = block_lines(&alone, alloc, issues, share, has_risk);
+            share.lines = own_lines(calculator, alloc, issues, share, has_risk);
         },
     );
+}
+
+// Goes over the rows of a block in a thread of its own, for which this one waits, if there are several workers. A
+// thread that starts another and works too may share its processor with it for long, while another is idle.
+fn own_scan<R: Threads>(
+    rt: &R,
+    workers: Workers,
+    alloc: Global,
+    share: &Share,
+    issues: &BTreeMap<[u8; 9], Issue>,
+) -> Result<Scan, NoMemory>
+    ensures { IfOk result (λ scan. IsScan (tree.get by_bytes issues.now) (rows_of_share share.now) scan) }
+{
+    if workers == Workers::ONE {
+        return scan_block(alloc, &share.block, issues);
+    }
+    let (scan, ()) = thread::join(
+        rt,
+        || -> Result<Scan, NoMemory>
+            ensures { IfOk result (λ scan. IsScan (tree.get by_bytes issues.entry.now) (rows_of_share share.entry.now) scan) }
+        { scan_block(alloc, &share.block, issues) },
+        || {},
+    );
+    scan
+}
+
+// Prices the rows of a block in the same way.
+fn own_lines<R: Threads + Sync, E: Encloser + Sync, G: Gate + Sync>(
+    calculator: &Calculator<'_, R, E, G>,
+    alloc: Global,
+    issues: &BTreeMap<[u8; 9], Issue>,
+    share: &Share,
+    has_risk: bool,
+) -> Result<BlockLines, NoMemory>
+    requires { HasPlaces share.now }
+    ensures { IfOk result (λ lines.
+        AreDone (IsSaid (IsRightAnswer (E.ends calculator.now.encloser.now)) has_risk (tree.get by_bytes issues.now)) share.now.place (rows_of_share share.now) lines.text.items lines.tally) }
+{
+    if calculator.workers == Workers::ONE {
+        return block_lines(calculator, alloc, issues, share, has_risk);
+    }
+    let &Calculator {
+        rt, encloser, gate, ..
+    } = calculator;
+    let (lines, ()) = thread::join(
+        rt,
+        || -> Result<BlockLines, NoMemory>
+            requires { IsSync R.row × IsSync E.row × IsSync G.row × HasPlaces share.now }
+            ensures { IfOk result (λ lines.
+                AreDone (IsSaid (IsRightAnswer (E.ends encloser.entry.now)) has_risk (tree.get by_bytes issues.entry.now)) share.entry.now.place (rows_of_share share.entry.now) lines.text.items lines.tally) }
+        {
+            let alone = Calculator {
+                rt,
+                workers: Workers::ONE,
+                encloser,
+                gate,
+            };
+            block_lines(&alone, alloc, issues, share, has_risk)
+        },
+        || {},
+    );
+    lines
 }
 
 /// Counts the places of the first rows of blocks on from a place.
