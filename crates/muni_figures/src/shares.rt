@@ -133,7 +133,10 @@ fn own_lines<R: Threads + Sync, E: Encloser + Sync, G: Gate + Sync>(
         return block_lines(calculator, alloc, issues, share, has_risk);
     }
     let &Calculator {
-        rt, encloser, gate, ..
+        rt,
+        encloser,
+        gate,
+        ..
     } = calculator;
     let (lines, ()) = thread::join(
         rt,
