@@ -1,7 +1,7 @@
 -- Rows that come in blocks.
 use Rattle.std.proofs.Common.{◌≡◌, ◌≤◌, ◌+◌, ◌⊎◌, ◌∙◌, inl, inr, ℕ, List, [], ◌∷◌, ◌++◌, length, Option, Some, None, Result, Ok, Err, IfSome, refl, sym, ap, subst, arith}
 use Rattle.std.specs.Io.KnownBytes.{Consumes, IsAtEnd}
-use Rattle.std.proofs.lemmas.List.{append_assoc, append-nil, length-append}
+use Rattle.std.proofs.lemmas.List.{append_assoc, append-nil, length-append, length-map}
 use Rattle.muni_edge.specs.Faults.{Rose}
 use Rattle.muni_edge.specs.declared.sink.Sink as Sink
 use Rattle.muni_edge.specs.declared.source.Source as Source
@@ -9,8 +9,8 @@ use Rattle.muni_keep.specs.Tables.{Tables}
 use Rattle.muni_keep.specs.declared.keeper.Keeper as Keeper
 use Rattle.muni_book_step.specs.Step.{Rules}
 use Rattle.muni_import.specs.Blocks.{CutsOff}
-use Rattle.muni_import.specs.Row.{Row}
-use Rattle.muni_import.specs.Rows.{rows_of}
+use Rattle.muni_import.specs.Row.{Row, row_of}
+use Rattle.muni_import.specs.Rows.{records_of, rows_of}
 use Rattle.muni_import.proofs.BlockLemmas.{few-held}
 use Rattle.muni_desk_io.specs.declared.fault.Fault.{Fault}
 use Rattle.muni_desk_io.specs.declared.fault.Fault.TheVariants.{Read, Write, Store, NoMemory, TooLarge}
@@ -112,13 +112,17 @@ taken-none : (first : Option (List ℕ)) → Consumes first first []
 taken-none None = tt
 taken-none (Some text) = refl
 
+none-held : length (rows_of []) ≤ 1
+unfolding rows_of
+none-held = omega (arith, few-held [] tt, length-map (records_of []) row_of)
+
 pub loaded-start : (R : Rules) (first : Option (List ℕ)) (old : Option Tables) (had : Option (List ℕ)) → IsLoaded R [] 0 first first old old had had
 loaded-start R first old had = record {
   rows = [];
   came = [];
   taken = taken-none first;
   cut = λ more. refl;
-  few = few-held [] tt;
+  few = none-held;
   counted = refl;
   done = done-none 1 R old had;
 }

@@ -25,11 +25,11 @@ Gives = Reading → Option Figures → Type 0
 
 -- the first of some readings whose figures have what is stated of a field, if there is one
 abbrev pub IsFirstOf : Gives → Field → Stated → List Reading → Option Reading → Type 0
-IsFirstOf By field stated [] first = first ≡ None
-IsFirstOf By field stated (reading ∷ rest) first =
+IsFirstOf By which stated [] first = first ≡ None
+IsFirstOf By which stated (reading ∷ rest) first =
     (theirs : Option Figures) × By reading theirs
-    × MatchBool (is_given theirs field stated) (first ≡ Some reading)
-    (IsFirstOf By field stated rest first)
+    × MatchBool (is_given theirs which stated) (first ≡ Some reading)
+    (IsFirstOf By which stated rest first)
 
 -- the first of all
 abbrev pub IsFirstReading : Ends → IssueRow → Asked → Figures → Field → Stated → Option Reading → Type 0
