@@ -2,7 +2,6 @@ use crate::trade::{NOTHING, Trade};
 use muni_days::Day;
 use muni_dec::{Cents, Price3, Yield3};
 use muni_readings::{Checked, Field, Reading, Stated};
-use std::test::Fail;
 use std::thread::Threads;
 
 const CALLED: &str =
@@ -49,161 +48,202 @@ fn differs(field: Field, reading: Reading) -> Checked {
     }
 }
 
-fn check<R: Threads + Sync>(rt: &R, case: &str, stated: &Stated) -> Result<Checked, Fail> {
-    Trade::of(case).ok_or("a trade")?.check(rt, stated)
+fn says<R: Threads + Sync>(rt: &R, case: &str, stated: Stated, expected: Checked) -> bool {
+    match Trade::of(case) {
+        Some(trade) => trade.check(rt, &stated) == Some(expected),
+        None => false,
+    }
 }
 
 #[test]
-fn each_reading_is_named_at_its_figure(rt: HostRuntime) -> Result<(), Fail> {
-    assert_eq!(rt; check(&rt, CALLED, &price(108_584))?, Checked::Right);
-    assert_eq!(rt;
-        check(&rt, CALLED, &price(114_957))?,
-        differs(Field::Price, Reading::Maturity)
+fn each_reading_is_named_at_its_figure(rt: HostRuntime) {
+    assert!(rt; says(&rt, CALLED, price(108_584), Checked::Right));
+    assert!(rt;
+        says(
+            &rt,
+            CALLED,
+            price(114_957),
+            differs(Field::Price, Reading::Maturity)
+        )
     );
-    assert_eq!(rt;
-        check(&rt, ZERO, &price(55_368))?,
-        differs(Field::Price, Reading::Rounded)
+    assert!(rt;
+        says(
+            &rt,
+            ZERO,
+            price(55_368),
+            differs(Field::Price, Reading::Rounded)
+        )
     );
-    assert_eq!(rt;
-        check(&rt, LAST_PERIOD, &price(100_240))?,
-        differs(Field::Price, Reading::Compounded)
+    assert!(rt;
+        says(
+            &rt,
+            LAST_PERIOD,
+            price(100_240),
+            differs(Field::Price, Reading::Compounded)
+        )
     );
-    assert_eq!(rt;
-        check(&rt, LONG_FIRST, &price(105_004))?,
-        differs(Field::Price, Reading::Regular)
+    assert!(rt;
+        says(
+            &rt,
+            LONG_FIRST,
+            price(105_004),
+            differs(Field::Price, Reading::Regular)
+        )
     );
     let accrued = Stated {
         accrued: Cents::of(34_444),
         ..NOTHING
     };
-    assert_eq!(rt;
-        check(&rt, FEBRUARY, &accrued)?,
-        differs(Field::Accrued, Reading::February)
+    assert!(rt;
+        says(
+            &rt,
+            FEBRUARY,
+            accrued,
+            differs(Field::Accrued, Reading::February)
+        )
     );
     let gross = Stated {
         yld: Yield3::of(4_136),
         ..NOTHING
     };
-    assert_eq!(rt;
-        check(&rt, COMMISSION, &gross)?,
-        differs(Field::Yield, Reading::Gross)
+    assert!(rt;
+        says(
+            &rt,
+            COMMISSION,
+            gross,
+            differs(Field::Yield, Reading::Gross)
+        )
     );
-    Ok(())
 }
 
 #[test]
-fn a_price_to_the_first_call_is_named(rt: HostRuntime) -> Result<(), Fail> {
-    assert_eq!(rt; check(&rt, CALLED_AT_5, &price(87_448))?, Checked::Right);
-    assert_eq!(rt;
-        check(&rt, CALLED_AT_5, &price(92_205))?,
-        differs(Field::Price, Reading::FirstCall)
+fn a_price_to_the_first_call_is_named(rt: HostRuntime) {
+    assert!(rt; says(&rt, CALLED_AT_5, price(87_448), Checked::Right));
+    assert!(rt;
+        says(
+            &rt,
+            CALLED_AT_5,
+            price(92_205),
+            differs(Field::Price, Reading::FirstCall)
+        )
     );
-    Ok(())
 }
 
 #[test]
-fn a_yield_of_the_last_period_may_be_compounded(rt: HostRuntime) -> Result<(), Fail> {
+fn a_yield_of_the_last_period_may_be_compounded(rt: HostRuntime) {
     let ours = Stated {
         yld: Yield3::of(3_981),
         ..NOTHING
     };
-    assert_eq!(rt; check(&rt, LAST_PERIOD_AT_PRICE, &ours)?, Checked::Right);
+    assert!(rt; says(&rt, LAST_PERIOD_AT_PRICE, ours, Checked::Right));
     let theirs = Stated {
         yld: Yield3::of(4_000),
         ..NOTHING
     };
-    assert_eq!(rt;
-        check(&rt, LAST_PERIOD_AT_PRICE, &theirs)?,
-        differs(Field::Yield, Reading::Compounded)
+    assert!(rt;
+        says(
+            &rt,
+            LAST_PERIOD_AT_PRICE,
+            theirs,
+            differs(Field::Yield, Reading::Compounded)
+        )
     );
-    Ok(())
 }
 
 #[test]
-fn half_a_thousandth_is_rounded_upward(rt: HostRuntime) -> Result<(), Fail> {
-    assert_eq!(rt; check(&rt, TIE, &price(99_999))?, Checked::Right);
-    assert_eq!(rt;
-        check(&rt, TIE, &price(100_000))?,
-        differs(Field::Price, Reading::Rounded)
+fn half_a_thousandth_is_rounded_upward(rt: HostRuntime) {
+    assert!(rt; says(&rt, TIE, price(99_999), Checked::Right));
+    assert!(rt;
+        says(
+            &rt,
+            TIE,
+            price(100_000),
+            differs(Field::Price, Reading::Rounded)
+        )
     );
-    Ok(())
 }
 
 #[test]
-fn of_two_readings_the_first_is_named(rt: HostRuntime) -> Result<(), Fail> {
-    assert_eq!(rt; check(&rt, TWO_CALLS, &price(110_000))?, Checked::Right);
-    assert_eq!(rt;
-        check(&rt, TWO_CALLS, &price(125_000))?,
-        differs(Field::Price, Reading::Maturity)
+fn of_two_readings_the_first_is_named(rt: HostRuntime) {
+    assert!(rt; says(&rt, TWO_CALLS, price(110_000), Checked::Right));
+    assert!(rt;
+        says(
+            &rt,
+            TWO_CALLS,
+            price(125_000),
+            differs(Field::Price, Reading::Maturity)
+        )
     );
-    Ok(())
 }
 
 #[test]
-fn a_figure_of_no_reading_has_none(rt: HostRuntime) -> Result<(), Fail> {
+fn a_figure_of_no_reading_has_none(rt: HostRuntime) {
     let unnamed = Checked::Differs {
         field: Field::Price,
         reading: None,
     };
-    assert_eq!(rt; check(&rt, CALLED, &price(108_585))?, unnamed);
-    assert_eq!(rt; check(&rt, CALLED, &price(114_958))?, unnamed);
-    Ok(())
+    assert!(rt; says(&rt, CALLED, price(108_585), unnamed));
+    assert!(rt; says(&rt, CALLED, price(114_958), unnamed));
 }
 
 #[test]
-fn nothing_stated_is_right(rt: HostRuntime) -> Result<(), Fail> {
-    assert_eq!(rt; check(&rt, CALLED, &NOTHING)?, Checked::Right);
-    Ok(())
+fn nothing_stated_is_right(rt: HostRuntime) {
+    assert!(rt; says(&rt, CALLED, NOTHING, Checked::Right));
 }
 
 #[test]
-fn each_field_is_compared(rt: HostRuntime) -> Result<(), Fail> {
+fn each_field_is_compared(rt: HostRuntime) {
     let redemption = Stated {
         redemption: Day::of(2044, 1, 1),
         ..NOTHING
     };
-    assert_eq!(rt;
-        check(&rt, CALLED, &redemption)?,
-        differs(Field::Redemption, Reading::Maturity)
+    assert!(rt;
+        says(
+            &rt,
+            CALLED,
+            redemption,
+            differs(Field::Redemption, Reading::Maturity)
+        )
     );
     let days = Stated {
         days: Some(31),
         ..NOTHING
     };
-    assert_eq!(rt;
-        check(&rt, FEBRUARY, &days)?,
-        differs(Field::Days, Reading::February)
-    );
+    assert!(rt; says(&rt, FEBRUARY, days, differs(Field::Days, Reading::February)));
     let principal = Stated {
         principal: Cents::of(28_739_250),
         ..NOTHING
     };
-    assert_eq!(rt;
-        check(&rt, CALLED, &principal)?,
-        differs(Field::Principal, Reading::Maturity)
+    assert!(rt;
+        says(
+            &rt,
+            CALLED,
+            principal,
+            differs(Field::Principal, Reading::Maturity)
+        )
     );
     let total = Stated {
         total: Cents::of(10_034_444),
         ..NOTHING
     };
-    assert_eq!(rt;
-        check(&rt, FEBRUARY, &total)?,
-        differs(Field::Total, Reading::February)
+    assert!(rt;
+        says(
+            &rt,
+            FEBRUARY,
+            total,
+            differs(Field::Total, Reading::February)
+        )
     );
-    Ok(())
 }
 
 #[test]
-fn the_first_field_that_differs_is_named(rt: HostRuntime) -> Result<(), Fail> {
+fn the_first_field_that_differs_is_named(rt: HostRuntime) {
     let both = Stated {
         price: Price3::of(114_957),
         yld: Yield3::of(3_001),
         ..NOTHING
     };
-    assert_eq!(rt;
-        check(&rt, CALLED, &both)?,
-        differs(Field::Price, Reading::Maturity)
-    );
+    assert!(rt; says(&rt, CALLED, both, differs(Field::Price, Reading::Maturity)));
     let later = Stated {
         price: Price3::of(108_584),
         yld: Yield3::of(3_001),
@@ -213,6 +253,5 @@ fn the_first_field_that_differs_is_named(rt: HostRuntime) -> Result<(), Fail> {
         field: Field::Yield,
         reading: None,
     };
-    assert_eq!(rt; check(&rt, CALLED, &later)?, unnamed);
-    Ok(())
+    assert!(rt; says(&rt, CALLED, later, unnamed));
 }

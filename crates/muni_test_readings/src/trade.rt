@@ -1,13 +1,12 @@
 use muni_book::figures;
 use muni_dec::{Fee, Par};
 use muni_edge::NoGate;
-use muni_msg::{Asked, Figures, Given, Side};
+use muni_msg::{Asked, Given, Side};
 use muni_multi::Doubling;
 use muni_readings::{Answered, Checked, Stated, check_figures};
 use muni_sched::{Calculator, Schedule, Workers};
 use muni_terms::Issue;
 use muni_test_samples::Sample;
-use std::test::Fail;
 use std::thread::Threads;
 
 /// A trade of the words of a case.
@@ -40,11 +39,11 @@ impl Trade {
         };
         let asked = Asked {
             cusip: *b"123456AA3",
-            par: Par::of(case.number("par=").unwrap_or(100) as u64)?,
+            par: Par::of(case.count("par=").unwrap_or(100) as u64)?,
             settle: case.day("settle=")?,
             given: given(&case)?,
             side,
-            fee: Fee::of(case.number("fee=").unwrap_or(0) as u64)?,
+            fee: Fee::of(case.count("fee=").unwrap_or(0) as u64)?,
         };
         Some(Trade {
             issue: case.issue()?,
@@ -52,8 +51,8 @@ impl Trade {
         })
     }
 
-    /// The figures of the rule.
-    pub(crate) fn figures<R: Threads + Sync>(&self, rt: &R) -> Result<Figures, Fail> {
+    /// What is said of stated figures. None if the rule has no figures.
+    pub(crate) fn check<R: Threads + Sync>(&self, rt: &R, stated: &Stated) -> Option<Checked> {
         let mut schedule = Schedule::new();
         let calculator = Calculator {
             rt,
@@ -61,31 +60,17 @@ impl Trade {
             encloser: &Doubling,
             gate: &NoGate,
         };
-        figures(&calculator, &self.issue, &self.asked, &mut schedule).map_err(|_| Fail::from(
-            "no figures",
-        ))
-    }
-
-    /// What is said of stated figures.
-    pub(crate) fn check<R: Threads + Sync>(
-        &self,
-        rt: &R,
-        stated: &Stated,
-    ) -> Result<Checked, Fail> {
-        let figures = self.figures(rt)?;
-        let mut schedule = Schedule::new();
-        let calculator = Calculator {
-            rt,
-            workers: Workers::new(1),
-            encloser: &Doubling,
-            gate: &NoGate,
-        };
-        let answered = Answered {
-            issue: &self.issue,
-            asked: &self.asked,
-            figures: &figures,
-        };
-        Ok(check_figures(&calculator, &answered, stated, &mut schedule))
+        match figures(&calculator, &self.issue, &self.asked, &mut schedule) {
+            Ok(figures) => {
+                let answered = Answered {
+                    issue: &self.issue,
+                    asked: &self.asked,
+                    figures: &figures,
+                };
+                Some(check_figures(&calculator, &answered, stated, &mut schedule))
+            }
+            Err(_) => None,
+        }
     }
 }
 
