@@ -1,0 +1,12 @@
+pub mod Answer
+pub mod Cache
+pub mod Checked
+pub mod Columns
+pub mod Line
+pub mod Rows
+pub mod Said
+pub mod StatedFigures
+pub mod Tallies
+pub mod Terms
+pub mod Trade
+pub mod Unseen

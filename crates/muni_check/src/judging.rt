@@ -1,0 +1,117 @@
+//! The figures of a row beside those of the rule.
+
+use crate::cache::IssueCache;
+use crate::row::{CheckRow, Fields, read_row};
+use crate::said::{CheckSaid, compared_said, refused_said};
+use crate::trade::Known;
+use muni_book::{Calculator, figures};
+use muni_edge::Gate;
+use muni_keep::{KeepFault, Keeper};
+use muni_msg::{Act, Asked, Key, Refusal};
+use muni_multi::Encloser;
+use muni_readings::{Answered, Stated, check_figures};
+use muni_sched::Schedule;
+use muni_terms::{Issue, IssueRow, check};
+use std::alloc::Global;
+use std::thread::Threads;
+
+/// What rows are judged with.
+#[derive(Drop)]
+pub(crate) struct Judge<'a, R, E, G> {
+    pub calculator: &'a Calculator<'a, R, E, G>,
+    pub alloc: Global,
+    pub issues: IssueCache,
+    pub schedule: Schedule,
+}
+
+impl<'a, R: Threads + Sync, E: Encloser + Sync, G: Gate + Sync> Judge<'a, R, E, G> {
+    pub(crate) fn new(
+        calculator: &'a Calculator<'a, R, E, G>,
+        alloc: Global,
+    ) -> Judge<'a, R, E, G> {
+        Judge {
+            calculator,
+            alloc,
+            issues: IssueCache::new(alloc),
+            schedule: Schedule::new(),
+        }
+    }
+
+    /// What is said of a row, given what is known of its trade.
+    pub(crate) fn judge<K: Keeper>(
+        &mut self,
+        keeper: &mut K,
+        fields: &Fields<'_>,
+        known: &Known,
+    ) -> Result<CheckSaid, KeepFault> {
+        let CheckRow {
+            asked,
+            stated,
+            terms,
+        } = match read_row(fields, known) {
+            Ok(row) => row,
+            Err(fault) => return Ok(CheckSaid::Bad(fault)),
+        };
+        match terms {
+            Some(terms) => Ok(self.by_terms(terms, &asked, &stated)),
+            None => self.by_kept(keeper, &asked, &stated),
+        }
+    }
+
+    // A row with terms of its own, if they pass.
+    fn by_terms(&mut self, terms: IssueRow, asked: &Asked, stated: &Stated) -> CheckSaid {
+        match check(terms) {
+            Ok(issue) => compared(self.calculator, &issue, asked, stated, &mut self.schedule),
+            Err(fault) => refused_said(&Refusal::BadTerms(fault)),
+        }
+    }
+
+    // A row of an issue that is kept, or of none.
+    fn by_kept<K: Keeper>(
+        &mut self,
+        keeper: &mut K,
+        asked: &Asked,
+        stated: &Stated,
+    ) -> Result<CheckSaid, KeepFault> {
+        self.issues.hold(self.alloc, keeper, &asked.cusip)?;
+        match self.issues.issues.get(&asked.cusip) {
+            Some(issue) => Ok(compared(self.calculator, issue, asked, stated, &mut self.schedule)),
+            None => Ok(refused_said(&Refusal::UnknownIssue)),
+        }
+    }
+}
+
+// Stated figures are compared with those that are found, if any are.
+fn compared<R: Threads + Sync, E: Encloser + Sync, G: Gate + Sync>(
+    calculator: &Calculator<'_, R, E, G>,
+    issue: &Issue,
+    asked: &Asked,
+    stated: &Stated,
+    schedule: &mut Schedule,
+) -> CheckSaid {
+    let figures = match figures(calculator, issue, asked, schedule) {
+        Ok(figures) => figures,
+        Err(refusal) => return refused_said(&refusal),
+    };
+    let answered = Answered {
+        issue,
+        asked,
+        figures: &figures,
+    };
+    compared_said(
+        &figures,
+        stated,
+        check_figures(calculator, &answered, stated, schedule),
+    )
+}
+
+/// What is known of a trade by its last version. One that is canceled is missing.
+pub(crate) fn known_of<K: Keeper>(keeper: &mut K, key: &Key) -> Result<Option<Known>, KeepFault> {
+    match keeper.last(key)? {
+        Some((_, version)) => match version.act {
+            Act::Entered | Act::Corrected => Ok(Some(Known::of(&version.terms.asked))),
+            Act::Canceled => Ok(None),
+        },
+        None => Ok(None),
+    }
+}
