@@ -1,6 +1,7 @@
 -- What a check writes, by how it ends.
-use Rattle.std.specs.Prelude.{◌≡◌, ◌⊎◌, ◌≤◌, ◌^◌, ⊥, ℕ, List, [], ◌∷◌, ◌++◌, length, Option, Some, Result, Ok, Err}
+use Rattle.std.specs.Prelude.{◌≡◌, ◌⊎◌, ◌≤◌, ◌^◌, ℕ, List, [], ◌∷◌, ◌++◌, length, Option, Some, Result, Ok, Err}
 use Rattle.std.specs.Io.KnownBytes.{Consumes}
+use Rattle.muni_edge.specs.declared.source.Source.{Ghosts}
 use Rattle.muni_edge.specs.Sink.{HasWritten, Wrote, WrotePart}
 use Rattle.muni_desk_io.specs.declared.fault.Fault.{Fault}
 use Rattle.muni_desk_io.specs.declared.fault.Fault.TheVariants.{Read, Write, Store, NoMemory, TooLarge}
@@ -11,6 +12,10 @@ use Rattle.muni_check.specs.Rows.{named_by, records_of}
 use Rattle.muni_check.specs.declared.column.Column.{Column}
 use Rattle.muni_check.specs.declared.command.CheckEnd.{CheckEnd}
 use Rattle.muni_check.specs.declared.said.CheckSaid.{CheckSaid}
+
+-- some bytes were taken from an input
+abbrev pub TakesSome : {I : Type 0} → Ghosts I → I → I → Type 0
+TakesSome source old new = (came : List ℕ) × Consumes (source.left old) (source.left new) came
 
 -- the lines of the first records of an input; the names of the columns have none
 abbrev pub AreLinesOf : Over → (records : List (List (List ℕ))) → (lines : List ℕ) → Type 0

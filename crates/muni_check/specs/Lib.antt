@@ -2,7 +2,12 @@ pub mod Answer
 pub mod Cache
 pub mod Checked
 pub mod Columns
+pub mod GoesOn
+pub mod Judging
 pub mod Line
+pub mod Named
+pub mod Next
+pub mod Pages
 pub mod Rows
 pub mod Said
 pub mod StatedFigures

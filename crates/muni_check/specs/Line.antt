@@ -7,16 +7,25 @@ use Rattle.muni_days.specs.Day.{civil, day_text}
 use Rattle.muni_msg.specs.declared.figures.Figures.{Figures}
 use Rattle.muni_import.specs.Line.{bad_fields, behind_commas, refused_fields}
 use Rattle.muni_import.specs.declared.row.RowFault.{RowFault}
-use Rattle.muni_readings.specs.declared.field.Field.{Field}
-use Rattle.muni_readings.specs.declared.field.Field.TheVariants as field
+use Rattle.muni_readings.specs.declared.stated.Field.{Field}
+use Rattle.muni_readings.specs.declared.stated.Field.TheVariants as field
 use Rattle.muni_readings.specs.declared.reading.Reading.{Reading}
 use Rattle.muni_readings.specs.declared.reading.Reading.TheVariants as reading
 use Rattle.muni_readings.specs.declared.stated.Stated.{Stated}
 use Rattle.muni_check.specs.Columns.{name_of}
 use Rattle.muni_check.specs.declared.column.Column.TheVariants as column
 use Rattle.muni_check.specs.declared.said.CheckSaid.{CheckSaid}
-use Rattle.muni_check.specs.declared.said.CheckSaid.TheVariants as said
+use Rattle.muni_check.specs.declared.said.CheckSaid.TheVariants as outcome
 use Rattle.muni_check.specs.declared.tally.Tally.{Tally}
+
+-- a refusal has a number from 1 to 15
+abbrev pub HasName : CheckSaid → Type 0
+HasName outcome.Right = ⊤
+HasName (outcome.Differs which figures stated reading) = ⊤
+HasName (outcome.Undecided which) = ⊤
+HasName (outcome.Refused number) = (1 ≤ number) × (number ≤ 15)
+HasName (outcome.Missing reference) = ⊤
+HasName (outcome.Bad fault) = ⊤
 
 -- a figure is named as its column
 abbrev pub field_name : Field → List ℕ
@@ -57,7 +66,7 @@ abbrev pub their_text : Field → Stated → List ℕ
 their_text field.Price stated = text_or_none printed_price_text stated.price
 their_text field.Yield stated = text_or_none printed_yield_text stated.yld
 their_text field.Redemption stated = text_or_none (λ day. day_text (civil day)) stated.redemption
-their_text field.Days stated = text_or_none decimal stated.days
+their_text field.Days stated = text_or_none signed_decimal stated.days
 their_text field.Principal stated = text_or_none money_text stated.principal
 their_text field.Accrued stated = text_or_none money_text stated.accrued
 their_text field.Total stated = text_or_none money_text stated.total
@@ -69,18 +78,18 @@ reading_fields (Some reading) = behind_commas (reading_name reading ∷ [])
 
 -- a figure that differs
 unfoldable pub differs_fields : Field → Figures → Stated → Option Reading → List ℕ
-differs_fields field figures stated reading =
-    behind_commas (codes "differs" ∷ field_name field ∷ our_text field figures ∷ their_text field stated ∷ [])
+differs_fields which figures stated reading =
+    behind_commas (codes "differs" ∷ field_name which ∷ our_text which figures ∷ their_text which stated ∷ [])
     ++ reading_fields reading
 
 -- what is told of a row
 unfoldable pub said_fields : CheckSaid → List ℕ
-said_fields said.Right = behind_commas (codes "right" ∷ [])
-said_fields (said.Differs field figures stated reading) = differs_fields field figures stated reading
-said_fields (said.Undecided field) = behind_commas (codes "undecided" ∷ field_name field ∷ [])
-said_fields (said.Refused number) = refused_fields number
-said_fields (said.Missing reference) = behind_commas (codes "missing" ∷ reference ∷ [])
-said_fields (said.Bad fault) = bad_fields fault
+said_fields outcome.Right = behind_commas (codes "right" ∷ [])
+said_fields (outcome.Differs which figures stated reading) = differs_fields which figures stated reading
+said_fields (outcome.Undecided which) = behind_commas (codes "undecided" ∷ field_name which ∷ [])
+said_fields (outcome.Refused number) = refused_fields number
+said_fields (outcome.Missing reference) = behind_commas (codes "missing" ∷ reference ∷ [])
+said_fields (outcome.Bad fault) = bad_fields fault
 
 -- the line of a row, which begins with its place
 abbrev pub said_line : ℕ → CheckSaid → List ℕ
@@ -93,7 +102,7 @@ said_lines place (said ∷ more) = said_line place said ++ said_lines (place + 1
 
 -- the line of a trade for which no row came
 abbrev pub unseen_line : List ℕ → List ℕ
-unseen_line reference = said_line 0 (said.Missing reference)
+unseen_line reference = said_line 0 (outcome.Missing reference)
 
 abbrev pub unseen_lines : List (List ℕ) → List ℕ
 unseen_lines references = flat_map unseen_line references
@@ -105,4 +114,4 @@ total_line tally =
 
 -- the line of names that are no columns
 abbrev pub names_line : RowFault → List ℕ
-names_line fault = said_line 0 (said.Bad fault)
+names_line fault = said_line 0 (outcome.Bad fault)

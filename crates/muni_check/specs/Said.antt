@@ -15,7 +15,8 @@ use Rattle.muni_msg.specs.declared.version.Act.TheVariants.{Entered, Corrected, 
 use Rattle.muni_msg.specs.declared.version.Version.{Version}
 use Rattle.muni_keep.specs.Tables.{Tables, issue_at, last_at}
 use Rattle.muni_import.specs.declared.row.RowFault.{RowFault}
-use Rattle.muni_readings.specs.declared.field.Field.TheVariants as field
+use Rattle.muni_readings.specs.declared.stated.Field.{Field}
+use Rattle.muni_readings.specs.declared.stated.Field.TheVariants as field
 use Rattle.muni_readings.specs.declared.stated.Stated.{Stated}
 use Rattle.muni_readings.specs.declared.checked.Checked.{Checked}
 use Rattle.muni_readings.specs.declared.checked.Checked.TheVariants as checked
@@ -24,7 +25,7 @@ use Rattle.muni_check.specs.Trade.{known_of, nothing_known}
 use Rattle.muni_check.specs.declared.column.Column.{Column}
 use Rattle.muni_check.specs.declared.row.CheckRow.{CheckRow}
 use Rattle.muni_check.specs.declared.said.CheckSaid.{CheckSaid}
-use Rattle.muni_check.specs.declared.said.CheckSaid.TheVariants as said
+use Rattle.muni_check.specs.declared.said.CheckSaid.TheVariants as outcome
 use Rattle.muni_check.specs.declared.trade.Known.{Known}
 
 -- how figures are found, and how stated ones are compared with them
@@ -33,52 +34,52 @@ pub record Judging : Type 1 where
   pub Compares : IssueRow → Asked → Figures → Stated → Checked → Type 0
 
 -- which figure a rule leaves undecided
-abbrev pub undecided_field : Boundary → CheckSaid
-undecided_field (boundary.Price units) = said.Undecided field.Price
-undecided_field (boundary.Yield units) = said.Undecided field.Yield
+abbrev pub undecided_field : Boundary → Field
+undecided_field (boundary.Price units) = field.Price
+undecided_field (boundary.Yield units) = field.Yield
 
 -- what is said if no figures can be had
 abbrev pub refused_said : Refusal → CheckSaid
-refused_said (refusal.Undecided date at) = undecided_field at
-refused_said other = said.Refused (number_of other)
+refused_said (refusal.Undecided date at) = outcome.Undecided (undecided_field at)
+refused_said other = outcome.Refused (number_of other)
 
 -- what is said of stated figures beside the right ones
 abbrev pub compared_said : Figures → Stated → Checked → CheckSaid
-compared_said figures stated checked.Right = said.Right
-compared_said figures stated (checked.Differs which reading) = said.Differs which figures stated reading
+compared_said figures stated checked.Right = outcome.Right
+compared_said figures stated (checked.Differs which reading) = outcome.Differs which figures stated reading
 
 -- stated figures are compared with those that are found, if any are
-abbrev pub IsComparedWith : Judging → IssueRow → CheckRow → Result Figures Refusal → CheckSaid → Type 0
-IsComparedWith judging issue row (Ok figures) said =
-    (found : Checked) × judging.Compares issue row.asked figures row.stated found
-    × (said ≡ compared_said figures row.stated found)
-IsComparedWith judging issue row (Err why) said = said ≡ refused_said why
+abbrev pub IsComparedWith : Judging → IssueRow → Asked → Stated → Result Figures Refusal → CheckSaid → Type 0
+IsComparedWith judging issue asked stated (Ok figures) said =
+    (found : Checked) × judging.Compares issue asked figures stated found
+    × (said ≡ compared_said figures stated found)
+IsComparedWith judging issue asked stated (Err why) said = said ≡ refused_said why
 
 -- a row of an issue
-abbrev pub IsJudgedBy : Judging → IssueRow → CheckRow → CheckSaid → Type 0
-IsJudgedBy judging issue row said =
-    (answer : Result Figures Refusal) × judging.Prices issue row.asked answer
-    × IsComparedWith judging issue row answer said
+abbrev pub IsJudgedBy : Judging → IssueRow → Asked → Stated → CheckSaid → Type 0
+IsJudgedBy judging issue asked stated said =
+    (answer : Result Figures Refusal) × judging.Prices issue asked answer
+    × IsComparedWith judging issue asked stated answer said
 
 -- a row with terms of its own, if they pass
-abbrev pub IsJudgedByTerms : Judging → CheckRow → Result IssueRow TermsFault → CheckSaid → Type 0
-IsJudgedByTerms judging row (Ok issue) said = IsJudgedBy judging issue row said
-IsJudgedByTerms judging row (Err fault) said = said ≡ refused_said (refusal.BadTerms fault)
+abbrev pub IsJudgedByTerms : Judging → Asked → Stated → Result IssueRow TermsFault → CheckSaid → Type 0
+IsJudgedByTerms judging asked stated (Ok issue) said = IsJudgedBy judging issue asked stated said
+IsJudgedByTerms judging asked stated (Err fault) said = said ≡ refused_said (refusal.BadTerms fault)
 
 -- a row of an issue that is kept, or of none
-abbrev pub IsJudgedByKept : Judging → CheckRow → Option IssueRow → CheckSaid → Type 0
-IsJudgedByKept judging row (Some issue) said = IsJudgedBy judging issue row said
-IsJudgedByKept judging row None said = said ≡ refused_said refusal.UnknownIssue
+abbrev pub IsJudgedByKept : Judging → Asked → Stated → Option IssueRow → CheckSaid → Type 0
+IsJudgedByKept judging asked stated (Some issue) said = IsJudgedBy judging issue asked stated said
+IsJudgedByKept judging asked stated None said = said ≡ refused_said refusal.UnknownIssue
 
 -- a row goes by the terms that it states, and else by the kept issue of its CUSIP
-abbrev pub IsJudged : Judging → (List ℕ → Option IssueRow) → CheckRow → Option IssueRow → CheckSaid → Type 0
-IsJudged judging kept row (Some terms) said = IsJudgedByTerms judging row (checked terms) said
-IsJudged judging kept row None said = IsJudgedByKept judging row (kept row.asked.cusip) said
+abbrev pub IsJudged : Judging → (List ℕ → Option IssueRow) → Asked → Stated → Option IssueRow → CheckSaid → Type 0
+IsJudged judging kept asked stated (Some terms) said = IsJudgedByTerms judging asked stated (checked terms) said
+IsJudged judging kept asked stated None said = IsJudgedByKept judging asked stated (kept asked.cusip) said
 
 -- a row that reads, or one that does not
 abbrev pub IsSaidOfRow : Judging → (List ℕ → Option IssueRow) → Result CheckRow RowFault → CheckSaid → Type 0
-IsSaidOfRow judging kept (Ok row) said = IsJudged judging kept row row.terms said
-IsSaidOfRow judging kept (Err fault) said = said ≡ said.Bad fault
+IsSaidOfRow judging kept (Ok row) said = IsJudged judging kept row.asked row.stated row.terms said
+IsSaidOfRow judging kept (Err fault) said = said ≡ outcome.Bad fault
 
 -- what is known of a trade by its last version; one that is canceled is missing
 abbrev pub if_live : Act → Known → Option Known
@@ -94,7 +95,7 @@ known_by (Some last) = if_live last.1.act (known_of last.1.terms.asked)
 abbrev pub IsSaidOfTrade : Judging → Tables → List Column → List (List ℕ) → (reference : List ℕ) → Option Known → CheckSaid → Type 0
 IsSaidOfTrade judging tables columns fields reference (Some known) said =
     IsSaidOfRow judging (issue_at tables) (row_in columns fields known) said
-IsSaidOfTrade judging tables columns fields reference None said = said ≡ said.Missing reference
+IsSaidOfTrade judging tables columns fields reference None said = said ≡ outcome.Missing reference
 
 -- a row names a trade only if it is of a desk and has a reference
 abbrev pub IsSaidByName : Judging → (desk : Option (List ℕ)) → Tables → List Column → List (List ℕ) → Option (List ℕ) → CheckSaid → Type 0
@@ -108,7 +109,7 @@ IsSaidByName judging None tables columns fields reference said =
 abbrev pub IsSaidAfter : Judging → (desk : Option (List ℕ)) → Tables → List Column → List (List ℕ) → Result (Option (List ℕ)) RowFault → CheckSaid → Type 0
 IsSaidAfter judging desk tables columns fields (Ok reference) said =
     IsSaidByName judging desk tables columns fields reference said
-IsSaidAfter judging desk tables columns fields (Err fault) said = said ≡ said.Bad fault
+IsSaidAfter judging desk tables columns fields (Err fault) said = said ≡ outcome.Bad fault
 
 -- What is said of a row, by the row alone and what the tables keep.
 abbrev pub IsSaid : Judging → (desk : Option (List ℕ)) → Tables → List Column → List (List ℕ) → CheckSaid → Type 0

@@ -52,7 +52,7 @@ has_terms columns fields = not (length (text_in columns fields column.Kind) == 0
 abbrev pub terms_in : List Column → List (List ℕ) → List ℕ → Result (Option IssueRow) RowFault
 terms_in columns fields cusip =
     if has_terms columns fields
-    then issue_in columns fields cusip >>= λ issue. Ok (Some issue) else Ok None
+    then (issue_in columns fields cusip >>= λ issue. Ok (Some issue)) else Ok None
 
 -- the CUSIP of terms that a row states without one
 abbrev pub no_cusip : List ℕ

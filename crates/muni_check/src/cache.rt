@@ -2,9 +2,8 @@
 
 ghost use Rattle.std.specs.Prelude.{◌≡◌, IfSome, OnOk};
 ghost use Rattle.std.specs.BTreeMap as tree;
-ghost use Rattle.std.specs.BTreeSet as set;
 ghost use Rattle.muni_keep.specs.Keeper.{OnlyReads};
-ghost use Rattle.muni_keep.specs.Tables.{issue_at};
+ghost use Rattle.muni_keep.specs.Tables.{Tables};
 ghost use Rattle.muni_keep.specs.Trades.{by_bytes};
 ghost use Rattle.muni_marks.specs.Portfolio.{IsKnown};
 ghost use Rattle.muni_check.specs.Cache.{IsSoundCache};
@@ -28,7 +27,7 @@ pub(crate) struct IssueCache {
 impl IssueCache {
     /// Nothing is known yet.
     pub(crate) fn new(alloc: Global) -> IssueCache
-        ensures { IsSoundCache result }
+        ensures { (tables : Tables) → IsSoundCache tables result }
     {
         IssueCache {
             issues: BTreeMap::new(alloc),

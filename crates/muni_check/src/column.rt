@@ -1,7 +1,6 @@
 //! The columns of an input.
 
-ghost use Rattle.std.specs.Prelude.{◌≡◌, ◌+◌, IfErr, OnOk, Ok, Err};
-ghost use Rattle.arrayvec.specs.ArrayVec.{array_vec_len};
+ghost use Rattle.std.specs.Prelude.{◌≡◌, ◌<◌, IfErr, IfOk, IfSome, OnOk, Ok, Err};
 ghost use Rattle.csv.specs.Records.{fields_of};
 ghost use Rattle.muni_check.specs.Columns as spec;
 
@@ -116,8 +115,9 @@ impl Column {
 }
 
 /// Where a column stands among those of an input, counted from 0.
-pub(crate) fn place_of(columns: &[Column], column: Column) -> Option<usize>
-    ensures { result ≡ spec.place_of columns.now column }
+pub(crate) fn place_of(columns: &Columns, column: Column) -> Option<usize>
+    ensures place { result ≡ spec.place_of columns.now.items column }
+    ensures inside { IfSome result (λ place. place < 22) }
 {
     columns
         .iter()
@@ -135,7 +135,8 @@ fn has_column(columns: &[Column], column: Column) -> bool
 /// A name that is unknown or stands there twice is refused, with its place counted from 1.
 #[tactic(auto, unfolding(crate::specs::Columns::columns_in))]
 pub(crate) fn read_columns(names: &ByteRecord) -> Result<Columns, RowFault>
-    ensures { result ≡ spec.columns_in (fields_of names.now) }
+    ensures named { IfOk result (λ columns. spec.columns_in (fields_of names.now) ≡ Ok columns.items) }
+    ensures refused { IfErr result (λ fault. spec.columns_in (fields_of names.now) ≡ Err fault) }
 {
     let mut columns = ArrayVec::new();
     for name in names {

@@ -1,24 +1,28 @@
 //! The command over rows of figures of any number.
 
-use crate::column::{Columns, read_columns};
-use crate::judging::{Judge, known_of};
+ghost use Rattle.std.specs.Prelude.{◌≡◌, None, Some, IfSome, IsErrOf, OnOk};
+ghost use Rattle.muni_edge.specs.Faults.{Rose};
+ghost use Rattle.muni_keep.specs.Cabinet.{LeavesAll};
+ghost use Rattle.muni_keep.specs.Keeper.{SameKeeper};
+ghost use Rattle.muni_keep.specs.Tables.{no_tables};
+ghost use Rattle.muni_desk_io.specs.Reports.{ReportsReads, ReportsWrites};
+ghost use Rattle.muni_check.specs.Checked.{TakesSome, WroteChecked};
+ghost use Rattle.muni_check.specs.Judging.{over};
+
+use crate::blocks::Blocks;
+use crate::judging::Judge;
 use crate::line::{add_line, total_line};
-use crate::records::read_records;
-use crate::row::{Fields, read_reference};
+use crate::rows::{BlockDone, SoFar, do_block};
 use crate::said::CheckSaid;
-use crate::tally::Tally;
-use crate::trade::Known;
-use crate::unseen::{Named, write_unseen};
-use csv::ByteRecord;
+use crate::unseen::write_unseen;
 use muni_book::Calculator;
 use muni_desk_io::{Fault, write};
-use muni_edge::{Failed, Gate, Sink, Source};
-use muni_import::{RowBlocks, RowFault};
+use muni_edge::{Gate, Sink, Source};
+use muni_import::RowFault;
 use muni_keep::{Cabinet, Keeper, MemKeeper};
-use muni_msg::{DeskName, Key};
+use muni_msg::DeskName;
 use muni_multi::Encloser;
 use std::alloc::Global;
-use std::collections::BTreeSet;
 use std::thread::Threads;
 
 /// How a check ends.
@@ -30,16 +34,6 @@ pub enum CheckEnd {
     NotAllRight,
     /// The first line does not name the columns, and nothing was read after it.
     BadNames,
-}
-
-// What has come of the records so far.
-#[derive(Drop)]
-struct SoFar {
-    // None before the first record.
-    columns: Option<Columns>,
-    tally: Tally,
-    // The references that rows named, if they are of a desk.
-    named: Named,
 }
 
 /// Writes a line on each row of an input of any length, then one on each live trade of the desk for which no row came,
@@ -56,20 +50,41 @@ pub fn check<R: Threads + Sync, I: Source, O: Sink, C: Cabinet, E: Encloser + Sy
     input: &mut I,
     output: &mut O,
     cabinet: &mut C,
-) -> Result<CheckEnd, Fault> {
+) -> Result<CheckEnd, Fault>
+    requires { C.out cabinet.old ≡ None }
+    ensures written { IfSome (I.left input.old) (λ text. WroteChecked
+        (over (E.ends calculator.now.encloser.now) desk.now (C.told cabinet.old store.now))
+        text result (I.left input.new) (O.bytes output.old) (O.bytes output.new)) }
+    ensures takes { TakesSome I.Source input.old input.new }
+    ensures reads { ReportsReads I.Source result input.old input.new }
+    ensures writes { ReportsWrites O.Sink result output.old output.new }
+    ensures read_failed { IsErrOf result Fault.Read → Rose (I.faults input.old) (I.faults input.new) }
+    ensures write_failed { IsErrOf result Fault.Write → Rose (O.faults output.old) (O.faults output.new) }
+    ensures store_failed { IsErrOf result Fault.Store → Rose (C.faults cabinet.old) (C.faults cabinet.new) }
+    ensures leaves { LeavesAll C.Cabinet cabinet.old cabinet.new }
+{
     let mut keeper = cabinet.fetch(store)?;
     let done = check_over(calculator, alloc, desk, &mut keeper, input, output);
     cabinet.give_back(keeper);
     done
 }
 
-/// The same without a store: the rows state the terms of their issues.
+/// The same without a store: nothing is kept, and the rows state the terms of their issues.
 pub fn check_alone<R: Threads + Sync, I: Source, O: Sink, E: Encloser + Sync, G: Gate + Sync>(
     calculator: &Calculator<'_, R, E, G>,
     alloc: Global,
     input: &mut I,
     output: &mut O,
-) -> Result<CheckEnd, Fault> {
+) -> Result<CheckEnd, Fault>
+    ensures written { IfSome (I.left input.old) (λ text. WroteChecked
+        (over (E.ends calculator.now.encloser.now) None (Some no_tables))
+        text result (I.left input.new) (O.bytes output.old) (O.bytes output.new)) }
+    ensures takes { TakesSome I.Source input.old input.new }
+    ensures reads { ReportsReads I.Source result input.old input.new }
+    ensures writes { ReportsWrites O.Sink result output.old output.new }
+    ensures read_failed { IsErrOf result Fault.Read → Rose (I.faults input.old) (I.faults input.new) }
+    ensures write_failed { IsErrOf result Fault.Write → Rose (O.faults output.old) (O.faults output.new) }
+{
     let mut nothing = MemKeeper::new(alloc, &[])?;
     check_over(calculator, alloc, &None, &mut nothing, input, output)
 }
@@ -82,113 +97,33 @@ fn check_over<R: Threads + Sync, K: Keeper, I: Source, O: Sink, E: Encloser + Sy
     keeper: &mut K,
     input: &mut I,
     output: &mut O,
-) -> Result<CheckEnd, Fault> {
-    let mut judge = Judge::new(calculator, alloc);
-    let mut so_far = SoFar {
-        columns: None,
-        tally: Tally::new(),
-        named: BTreeSet::new(alloc),
-    };
-    let mut blocks = RowBlocks::new(alloc);
-    let mut room = [0u8; 16_384];
-    'pieces: for _ in 0..u64::MAX {
-        let count = take_piece(input, &mut room)?;
-        if count == 0 {
-            if let Some(fault) = check_block(
-                &mut judge,
-                &blocks.rest(),
-                desk,
-                &mut so_far,
-                keeper,
-                output,
-            )? {
-                return refuse_names(alloc, fault, output);
-            }
+) -> Result<CheckEnd, Fault>
+    ensures written { IfSome (I.left input.old) (λ text. WroteChecked
+        (over (E.ends calculator.now.encloser.now) desk.now (K.tables keeper.old))
+        text result (I.left input.new) (O.bytes output.old) (O.bytes output.new)) }
+    ensures takes { TakesSome I.Source input.old input.new }
+    ensures reads { ReportsReads I.Source result input.old input.new }
+    ensures writes { ReportsWrites O.Sink result output.old output.new }
+    ensures read_failed { IsErrOf result Fault.Read → Rose (I.faults input.old) (I.faults input.new) }
+    ensures write_failed { IsErrOf result Fault.Write → Rose (O.faults output.old) (O.faults output.new) }
+    ensures same { SameKeeper K.Keeper Fault.Store result keeper.old keeper.new }
+    ensures unchanged { K.tables keeper.new ≡ K.tables keeper.old }
+{
+    let mut judge = Judge::new(calculator, alloc, desk);
+    let mut so_far = SoFar::new(alloc);
+    let mut blocks = Blocks::new(alloc);
+    'blocks: for _ in 0..u64::MAX {
+        let block = blocks.next(alloc, input)?;
+        match do_block(&mut judge, &block, &mut so_far, keeper)? {
+            BlockDone::Lines(lines) => write(&lines, output)?,
+            BlockDone::BadNames(fault) => return refuse_names(alloc, fault, output),
+        }
+        if blocks.ended {
             return finish(alloc, desk, &so_far, keeper, output);
         }
-        let block = blocks.add(&room[..count])?;
-        if let Some(fault) = check_block(&mut judge, &block, desk, &mut so_far, keeper, output)? {
-            return refuse_names(alloc, fault, output);
-        }
     }
-    // Pieces without an end are more than any memory holds.
+    // Blocks without an end are more than any memory holds.
     Err(Fault::NoMemory)
-}
-
-// The next bytes of an input, at the front of the room.
-fn take_piece<I: Source>(input: &mut I, room: &mut [u8]) -> Result<usize, Fault> {
-    match input.take(room) {
-        Ok(count) => Ok(count),
-        Err(Failed) => Err(Fault::Read),
-    }
-}
-
-// Judges the records of a block after those that are done, and writes their lines. Returns the fault of the names of
-// the columns, if they are among the records.
-fn check_block<R: Threads + Sync, K: Keeper, O: Sink, E: Encloser + Sync, G: Gate + Sync>(
-    judge: &mut Judge<'_, R, E, G>,
-    block: &[u8],
-    desk: &Option<DeskName>,
-    so_far: &mut SoFar,
-    keeper: &mut K,
-    output: &mut O,
-) -> Result<Option<RowFault>, Fault> {
-    let records = read_records(judge.alloc, block)?;
-    let mut rows = records.as_slice();
-    if so_far.columns.is_none() {
-        let Some((names, rest)) = rows.split_first() else {
-            return Ok(None);
-        };
-        match read_columns(names) {
-            Ok(columns) => so_far.columns = Some(columns),
-            Err(fault) => return Ok(Some(fault)),
-        }
-        rows = rest;
-    }
-    let mut lines = Vec::new(judge.alloc);
-    if let Some(columns) = &so_far.columns {
-        for record in rows {
-            let fields = Fields {
-                columns: columns.as_slice(),
-                record,
-            };
-            let said = said_of(judge, &fields, desk, &mut so_far.named, keeper)?;
-            so_far.tally.add(&said)?;
-            add_line(&mut lines, so_far.tally.rows, &said)?;
-        }
-    }
-    write(&lines, output)?;
-    Ok(None)
-}
-
-// What is said of a row. The trade that it names, if it is of a desk, is no longer unseen.
-fn said_of<R: Threads + Sync, K: Keeper, E: Encloser + Sync, G: Gate + Sync>(
-    judge: &mut Judge<'_, R, E, G>,
-    fields: &Fields<'_>,
-    desk: &Option<DeskName>,
-    named: &mut Named,
-    keeper: &mut K,
-) -> Result<CheckSaid, Fault> {
-    let reference = match read_reference(fields) {
-        Ok(reference) => reference,
-        Err(fault) => return Ok(CheckSaid::Bad(fault)),
-    };
-    let (Some(desk), Some(reference)) = (desk, reference) else {
-        return Ok(judge.judge(keeper, fields, &Known::nothing())?);
-    };
-    if named.insert(reference.copy()).is_err() {
-        return Err(Fault::NoMemory);
-    }
-    let key = Key {
-        desk: desk.copy(),
-        reference,
-    };
-    match known_of(keeper, &key)? {
-        Some(known) => Ok(judge.judge(keeper, fields, &known)?),
-        None => Ok(CheckSaid::Missing {
-            reference: key.reference,
-        }),
-    }
 }
 
 // The line of names that are no columns.
@@ -214,9 +149,9 @@ fn finish<K: Keeper, O: Sink>(
     if so_far.columns.is_none() {
         return refuse_names(alloc, RowFault::FieldCount, output);
     }
-    let mut tally = so_far.tally;
+    let mut tally = so_far.progress.tally;
     if let Some(desk) = desk {
-        tally.missing += write_unseen(alloc, keeper, desk, &so_far.named, output)?;
+        tally.missing += write_unseen(alloc, keeper, desk, &so_far.progress.named, output)?;
     }
     write(&total_line(&tally), output)?;
     if tally.are_all_right() {

@@ -1,5 +1,16 @@
 //! The figures of a row beside those of the rule.
 
+ghost use Rattle.std.specs.Prelude.{◌≡◌, IfOk, IfSome, OnOk, option_map};
+ghost use Rattle.csv.specs.Records.{fields_of};
+ghost use Rattle.muni_keep.specs.Keeper.{OnlyReads};
+ghost use Rattle.muni_keep.specs.Tables.{Tables, issue_at, last_at};
+ghost use Rattle.muni_terms.specs.Check.{checked};
+ghost use Rattle.muni_check.specs.Cache.{IsSoundCache};
+ghost use Rattle.muni_check.specs.Judging.{rule};
+ghost use Rattle.muni_check.specs.Line.{HasName};
+ghost use Rattle.muni_check.specs.Rows.{row_in};
+ghost use Rattle.muni_check.specs.Said as spec;
+
 use crate::cache::IssueCache;
 use crate::row::{CheckRow, Fields, read_row};
 use crate::said::{CheckSaid, compared_said, refused_said};
@@ -7,7 +18,7 @@ use crate::trade::Known;
 use muni_book::{Calculator, figures};
 use muni_edge::Gate;
 use muni_keep::{KeepFault, Keeper};
-use muni_msg::{Act, Asked, Key, Refusal};
+use muni_msg::{Act, Asked, DeskName, Key, Refusal};
 use muni_multi::Encloser;
 use muni_readings::{Answered, Stated, check_figures};
 use muni_sched::Schedule;
@@ -20,18 +31,27 @@ use std::thread::Threads;
 pub(crate) struct Judge<'a, R, E, G> {
     pub calculator: &'a Calculator<'a, R, E, G>,
     pub alloc: Global,
+    /// The desk whose trades the rows name, if any.
+    pub desk: &'a Option<DeskName>,
     pub issues: IssueCache,
     pub schedule: Schedule,
 }
 
 impl<'a, R: Threads + Sync, E: Encloser + Sync, G: Gate + Sync> Judge<'a, R, E, G> {
+    /// A judge who knows no issue yet.
     pub(crate) fn new(
         calculator: &'a Calculator<'a, R, E, G>,
         alloc: Global,
-    ) -> Judge<'a, R, E, G> {
+        desk: &'a Option<DeskName>,
+    ) -> Judge<'a, R, E, G>
+        ensures sound { (tables : Tables) → IsSoundCache tables result.issues }
+        ensures calculator { result.calculator.now ≡ calculator.now }
+        ensures desk { result.desk.now ≡ desk.now }
+    {
         Judge {
             calculator,
             alloc,
+            desk,
             issues: IssueCache::new(alloc),
             schedule: Schedule::new(),
         }
@@ -43,7 +63,17 @@ impl<'a, R: Threads + Sync, E: Encloser + Sync, G: Gate + Sync> Judge<'a, R, E, 
         keeper: &mut K,
         fields: &Fields<'_>,
         known: &Known,
-    ) -> Result<CheckSaid, KeepFault> {
+    ) -> Result<CheckSaid, KeepFault>
+        requires { IfSome (K.tables keeper.old) (λ t. IsSoundCache t self.old.issues) }
+        ensures said { IfOk result (λ said. IfSome (K.tables keeper.old) (λ t.
+            spec.IsSaidOfRow (rule (E.ends self.old.calculator.now.encloser.now)) (issue_at t)
+            (row_in fields.now.columns.now.items (fields_of fields.now.record.now) known.now) said)) }
+        ensures sound { OnOk result (IfSome (K.tables keeper.old) (λ t. IsSoundCache t self.new.issues)) }
+        ensures name { IfOk result HasName }
+        ensures calculator { self.new.calculator ≡ self.old.calculator }
+        ensures desk { self.new.desk ≡ self.old.desk }
+        ensures reads { OnlyReads K.Keeper result keeper.old keeper.new }
+    {
         let CheckRow {
             asked,
             stated,
@@ -59,7 +89,13 @@ impl<'a, R: Threads + Sync, E: Encloser + Sync, G: Gate + Sync> Judge<'a, R, E, 
     }
 
     // A row with terms of its own, if they pass.
-    fn by_terms(&mut self, terms: IssueRow, asked: &Asked, stated: &Stated) -> CheckSaid {
+    fn by_terms(&mut self, terms: IssueRow, asked: &Asked, stated: &Stated) -> CheckSaid
+        ensures said { spec.IsJudgedByTerms (rule (E.ends self.old.calculator.now.encloser.now)) asked.now stated.now (checked terms) result }
+        ensures name { HasName result }
+        ensures issues { self.new.issues ≡ self.old.issues }
+        ensures calculator { self.new.calculator ≡ self.old.calculator }
+        ensures desk { self.new.desk ≡ self.old.desk }
+    {
         match check(terms) {
             Ok(issue) => compared(self.calculator, &issue, asked, stated, &mut self.schedule),
             Err(fault) => refused_said(&Refusal::BadTerms(fault)),
@@ -72,7 +108,16 @@ impl<'a, R: Threads + Sync, E: Encloser + Sync, G: Gate + Sync> Judge<'a, R, E, 
         keeper: &mut K,
         asked: &Asked,
         stated: &Stated,
-    ) -> Result<CheckSaid, KeepFault> {
+    ) -> Result<CheckSaid, KeepFault>
+        requires { IfSome (K.tables keeper.old) (λ t. IsSoundCache t self.old.issues) }
+        ensures said { IfOk result (λ said. IfSome (K.tables keeper.old) (λ t.
+            spec.IsJudgedByKept (rule (E.ends self.old.calculator.now.encloser.now)) asked.now stated.now (issue_at t asked.now.cusip) said)) }
+        ensures sound { OnOk result (IfSome (K.tables keeper.old) (λ t. IsSoundCache t self.new.issues)) }
+        ensures name { IfOk result HasName }
+        ensures calculator { self.new.calculator ≡ self.old.calculator }
+        ensures desk { self.new.desk ≡ self.old.desk }
+        ensures reads { OnlyReads K.Keeper result keeper.old keeper.new }
+    {
         self.issues.hold(self.alloc, keeper, &asked.cusip)?;
         match self.issues.issues.get(&asked.cusip) {
             Some(issue) => Ok(compared(self.calculator, issue, asked, stated, &mut self.schedule)),
@@ -88,7 +133,10 @@ fn compared<R: Threads + Sync, E: Encloser + Sync, G: Gate + Sync>(
     asked: &Asked,
     stated: &Stated,
     schedule: &mut Schedule,
-) -> CheckSaid {
+) -> CheckSaid
+    ensures said { spec.IsJudgedBy (rule (E.ends calculator.now.encloser.now)) issue.now asked.now stated.now result }
+    ensures name { HasName result }
+{
     let figures = match figures(calculator, issue, asked, schedule) {
         Ok(figures) => figures,
         Err(refusal) => return refused_said(&refusal),
@@ -106,7 +154,10 @@ fn compared<R: Threads + Sync, E: Encloser + Sync, G: Gate + Sync>(
 }
 
 /// What is known of a trade by its last version. One that is canceled is missing.
-pub(crate) fn known_of<K: Keeper>(keeper: &mut K, key: &Key) -> Result<Option<Known>, KeepFault> {
+pub(crate) fn known_of<K: Keeper>(keeper: &mut K, key: &Key) -> Result<Option<Known>, KeepFault>
+    ensures known { IfOk result (λ known. IfSome (K.tables keeper.old) (λ t. known ≡ spec.known_by (last_at t key.now))) }
+    ensures reads { OnlyReads K.Keeper result keeper.old keeper.new }
+{
     match keeper.last(key)? {
         Some((_, version)) => match version.act {
             Act::Entered | Act::Corrected => Ok(Some(Known::of(&version.terms.asked))),

@@ -1,13 +1,16 @@
 //! Figures that another firm printed, read from rows of any number: which are right, and which are not.
 #![tactic(auto)]
 
+mod blocks;
 mod cache;
 mod column;
 mod command;
 mod judging;
 mod line;
+mod named;
 mod records;
 mod row;
+mod rows;
 mod said;
 mod stated;
 mod tally;

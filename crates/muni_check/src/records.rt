@@ -16,16 +16,16 @@ pub(crate) fn read_records(alloc: Global, text: &[u8]) -> Result<Vec<ByteRecord>
         .has_headers(false)
         .flexible(true)
         .from_reader(alloc, text);
-    let mut records = Vec::new(alloc);
-    for record in reader.into_byte_records() {
-        match record {
-            Ok(record) => {
-                if records.push(record).is_err() {
+    let mut rows = Vec::new(alloc);
+    for row in reader.into_byte_records() {
+        match row {
+            Ok(row) => {
+                if rows.push(row).is_err() {
                     return Err(NoMemory);
                 }
             }
             Err(_) => return Err(NoMemory),
         }
     }
-    Ok(records)
+    Ok(rows)
 }

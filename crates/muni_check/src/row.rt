@@ -6,7 +6,7 @@ ghost use Rattle.csv.specs.Records.{fields_of};
 ghost use Rattle.muni_check.specs.Columns as columns;
 ghost use Rattle.muni_check.specs.Rows as spec;
 
-use crate::column::{Column, place_of};
+use crate::column::{Column, Columns, place_of};
 use crate::stated::read_stated;
 use crate::terms::{has_terms, read_terms};
 use crate::trade::{Known, read_asked};
@@ -20,14 +20,14 @@ use muni_terms::IssueRow;
 /// The fields of a row, by the columns of its input.
 #[derive(Clone, Copy)]
 pub(crate) struct Fields<'a> {
-    pub columns: &'a [Column],
+    pub columns: &'a Columns,
     pub record: &'a ByteRecord,
 }
 
 impl<'a> Fields<'a> {
     /// The text of a column. One that the input does not name is empty.
     pub(crate) fn text(&self, column: Column) -> &'a [u8]
-        ensures { result.now ≡ columns.text_in self.now.columns.now (fields_of self.now.record.now) column }
+        ensures { result.now ≡ columns.text_in self.now.columns.now.items (fields_of self.now.record.now) column }
     {
         match place_of(self.columns, column) {
             Some(place) => field(self.record, place as u32 + 1),
@@ -37,7 +37,7 @@ impl<'a> Fields<'a> {
 
     /// The fault of a column that does not read, or that is needed and not there.
     pub(crate) fn fault(&self, column: Column) -> RowFault
-        ensures { result ≡ columns.fault_in self.now.columns.now column }
+        ensures { result ≡ columns.fault_in self.now.columns.now.items column }
     {
         match place_of(self.columns, column) {
             Some(place) => RowFault::BadField {
@@ -59,7 +59,7 @@ pub(crate) struct CheckRow {
 /// The reference that a row states, if it states one. The fields of a row are counted before any is read.
 #[tactic(auto, unfolding(crate::specs::Rows::reference_in))]
 pub(crate) fn read_reference(fields: &Fields<'_>) -> Result<Option<Reference>, RowFault>
-    ensures { result ≡ spec.reference_in fields.now.columns.now (fields_of fields.now.record.now) }
+    ensures { result ≡ spec.reference_in fields.now.columns.now.items (fields_of fields.now.record.now) }
 {
     if fields.record.len() != fields.columns.len() {
         return Err(RowFault::FieldCount);
@@ -77,7 +77,7 @@ pub(crate) fn read_reference(fields: &Fields<'_>) -> Result<Option<Reference>, R
 /// What a row says, given what is known of its trade.
 #[tactic(auto, unfolding(crate::specs::Rows::row_in))]
 pub(crate) fn read_row(fields: &Fields<'_>, known: &Known) -> Result<CheckRow, RowFault>
-    ensures { result ≡ spec.row_in fields.now.columns.now (fields_of fields.now.record.now) known.now }
+    ensures { result ≡ spec.row_in fields.now.columns.now.items (fields_of fields.now.record.now) known.now }
 {
     let asked = read_asked(fields, &known.with_terms(has_terms(fields)))?;
     let stated = read_stated(fields)?;

@@ -1,6 +1,7 @@
 //! What is said of a row.
 
 ghost use Rattle.std.specs.Prelude.{◌≡◌};
+ghost use Rattle.muni_check.specs.Line.{HasName};
 ghost use Rattle.muni_check.specs.Said as spec;
 
 use muni_import::RowFault;
@@ -38,7 +39,8 @@ pub enum CheckSaid {
 
 /// What is said if no figures can be had.
 pub(crate) fn refused_said(refusal: &Refusal) -> CheckSaid
-    ensures { result ≡ spec.refused_said refusal.now }
+    ensures said { result ≡ spec.refused_said refusal.now }
+    ensures name { HasName result }
 {
     match refusal {
         Refusal::Undecided { boundary, .. } => CheckSaid::Undecided {
@@ -61,7 +63,8 @@ fn undecided_field(boundary: Boundary) -> Field
 
 /// What is said of stated figures beside the right ones.
 pub(crate) fn compared_said(figures: &Figures, stated: &Stated, checked: Checked) -> CheckSaid
-    ensures { result ≡ spec.compared_said figures.now stated.now checked }
+    ensures said { result ≡ spec.compared_said figures.now stated.now checked }
+    ensures name { HasName result }
 {
     match checked {
         Checked::Right => CheckSaid::Right,

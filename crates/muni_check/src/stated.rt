@@ -1,6 +1,6 @@
 //! The figures that a row states, as another firm printed them.
 
-ghost use Rattle.std.specs.Prelude.{◌≡◌, ◌<◌, ◌≤◌, ◌^◌, IfSome};
+ghost use Rattle.std.specs.Prelude.{◌≡◌, ◌<◌, ◌≤◌, ◌*◌, ◌^◌, IfSome};
 ghost use Rattle.csv.specs.Records.{fields_of};
 ghost use Rattle.muni_check.specs.StatedFigures as spec;
 ghost use Rattle.muni_msg.specs.Fields.{day_in};
@@ -17,7 +17,7 @@ use muni_readings::Stated;
 /// The figures that a row states. One whose column is empty or not there is not stated.
 #[tactic(auto, unfolding(crate::specs::StatedFigures::stated_in))]
 pub(crate) fn read_stated(fields: &Fields<'_>) -> Result<Stated, RowFault>
-    ensures { result ≡ spec.stated_in fields.now.columns.now (fields_of fields.now.record.now) }
+    ensures { result ≡ spec.stated_in fields.now.columns.now.items (fields_of fields.now.record.now) }
 {
     let price = read_price(fields)?;
     let yld = read_yield(fields)?;
@@ -38,7 +38,7 @@ pub(crate) fn read_stated(fields: &Fields<'_>) -> Result<Stated, RowFault>
 }
 
 fn read_price(fields: &Fields<'_>) -> Result<Option<Price3>, RowFault>
-    ensures { result ≡ spec.figure_in fields.now.columns.now (fields_of fields.now.record.now) Column.Price spec.price_in }
+    ensures { result ≡ spec.figure_in fields.now.columns.now.items (fields_of fields.now.record.now) Column.Price spec.price_in }
 {
     let text = fields.text(Column::Price);
     if text.is_empty() {
@@ -57,7 +57,7 @@ fn price_in(text: &[u8]) -> Option<Price3>
 }
 
 fn read_yield(fields: &Fields<'_>) -> Result<Option<Yield3>, RowFault>
-    ensures { result ≡ spec.figure_in fields.now.columns.now (fields_of fields.now.record.now) Column.Yield spec.yield_in }
+    ensures { result ≡ spec.figure_in fields.now.columns.now.items (fields_of fields.now.record.now) Column.Yield spec.yield_in }
 {
     let text = fields.text(Column::Yield);
     if text.is_empty() {
@@ -85,7 +85,7 @@ fn signed_in(text: &[u8]) -> Option<i64>
 }
 
 fn read_redemption(fields: &Fields<'_>) -> Result<Option<Day>, RowFault>
-    ensures { result ≡ spec.figure_in fields.now.columns.now (fields_of fields.now.record.now) Column.Redemption day_in }
+    ensures { result ≡ spec.figure_in fields.now.columns.now.items (fields_of fields.now.record.now) Column.Redemption day_in }
 {
     let text = fields.text(Column::Redemption);
     if text.is_empty() {
@@ -98,7 +98,7 @@ fn read_redemption(fields: &Fields<'_>) -> Result<Option<Day>, RowFault>
 }
 
 fn read_days(fields: &Fields<'_>) -> Result<Option<i32>, RowFault>
-    ensures { result ≡ spec.figure_in fields.now.columns.now (fields_of fields.now.record.now) Column.Days spec.days_in }
+    ensures { result ≡ spec.figure_in fields.now.columns.now.items (fields_of fields.now.record.now) Column.Days spec.days_in }
 {
     let text = fields.text(Column::Days);
     if text.is_empty() {
@@ -120,7 +120,7 @@ fn days_in(text: &[u8]) -> Option<i32>
 }
 
 fn read_money(fields: &Fields<'_>, column: Column) -> Result<Option<Cents>, RowFault>
-    ensures { result ≡ spec.figure_in fields.now.columns.now (fields_of fields.now.record.now) column spec.money_in }
+    ensures { result ≡ spec.figure_in fields.now.columns.now.items (fields_of fields.now.record.now) column spec.money_in }
 {
     let text = fields.text(column);
     if text.is_empty() {
@@ -143,15 +143,14 @@ fn money_in(text: &[u8]) -> Option<Cents>
 fn decimal_in(text: &[u8], places: usize) -> Option<u64>
     requires { places ≤ 3 }
     ensures value { result ≡ spec.decimal_in places text.now }
-    ensures range { IfSome result (λ units. units < 10 ^ 18) }
+    ensures range { IfSome result (λ units. units < 2 * 10 ^ 18) }
 {
-    let unit = power_of_ten(places);
     match find(text, b'.') {
-        None => Some(whole_in(text)? * unit),
+        None => Some(in_places(whole_in(text)?, places)),
         Some(point) => {
             let whole = whole_in(&text[..point])?;
             let fraction = fraction_in(&text[point + 1..], places)?;
-            Some(whole * unit + fraction)
+            Some(in_places(whole, places) + fraction)
         }
     }
 }
@@ -170,17 +169,20 @@ fn fraction_in(digits: &[u8], places: usize) -> Option<u64>
     ensures range { IfSome result (λ units. units < 10 ^ 6) }
 {
     let fraction = read_number(digits, places, 0, 999)?;
-    Some(fraction * power_of_ten(places - digits.len()))
+    Some(in_places(fraction, places - digits.len()))
 }
 
-fn power_of_ten(count: usize) -> u64
-    requires { count ≤ 3 }
-    ensures { result ≡ 10 ^ count }
+// A number with so many zeros after it.
+fn in_places(number: u64, places: usize) -> u64
+    requires places { places ≤ 3 }
+    requires few { number < 10 ^ 15 }
+    ensures value { result ≡ number * 10 ^ places }
+    ensures range { result ≤ 1_000 * number }
 {
-    match count {
-        0 => 1,
-        1 => 10,
-        2 => 100,
-        _ => 1_000,
+    match places {
+        0 => number,
+        1 => number * 10,
+        2 => number * 100,
+        _ => number * 1_000,
     }
 }

@@ -1,5 +1,8 @@
 //! How many rows there are, and what is said of them.
 
+ghost use Rattle.std.specs.Prelude.{◌≡◌, ◌≤◌, ◌+◌, ◌^◌, OnErr, OnOk, IsOkUnless};
+ghost use Rattle.muni_check.specs.Tallies as spec;
+
 use crate::said::CheckSaid;
 use muni_desk_io::Fault;
 
@@ -15,7 +18,10 @@ pub(crate) struct Tally {
 
 impl Tally {
     /// No row.
-    pub(crate) fn new() -> Tally {
+    pub(crate) fn new() -> Tally
+        ensures value { result ≡ spec.no_tally }
+        ensures small { spec.IsSmall result }
+    {
         Tally {
             rows: 0,
             right: 0,
@@ -27,7 +33,13 @@ impl Tally {
     /// Counts one row more.
     ///
     /// A row has a place below 2^64.
-    pub(crate) fn add(&mut self, said: &CheckSaid) -> Result<(), Fault> {
+    pub(crate) fn add(&mut self, said: &CheckSaid) -> Result<(), Fault>
+        requires { spec.IsSmall self.old }
+        ensures added { OnOk result (self.new ≡ spec.with_said self.old said.now) }
+        ensures small { OnOk result (spec.IsSmall self.new) }
+        ensures full { OnErr result (2 ^ 64 ≤ self.old.rows + 1) }
+        ensures only { IsOkUnless result Fault.TooLarge }
+    {
         self.rows = self.rows.checked_add(1).ok_or(Fault::TooLarge)?;
         match said {
             CheckSaid::Right => self.right += 1,
@@ -39,7 +51,9 @@ impl Tally {
     }
 
     /// Every row is right, and no trade is missing.
-    pub(crate) fn are_all_right(&self) -> bool {
+    pub(crate) fn are_all_right(&self) -> bool
+        ensures { result ≡ spec.are_all_right self.now }
+    {
         self.right == self.rows && self.missing == 0
     }
 }

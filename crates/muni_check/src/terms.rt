@@ -1,9 +1,9 @@
 //! The terms of an issue in the columns of a row.
 
-ghost use Rattle.std.specs.Prelude.{◌≡◌};
-ghost use Rattle.std.specs.Option.{option_map};
+ghost use Rattle.std.specs.Prelude.{◌≡◌, codes};
 ghost use Rattle.csv.specs.Records.{fields_of};
 ghost use Rattle.muni_import.specs.Row as import;
+ghost use Rattle.muni_msg.specs.Fields.{day_in};
 ghost use Rattle.muni_check.specs.Terms as spec;
 
 use crate::column::Column;
@@ -16,24 +16,25 @@ use muni_terms::{IssueRow, Kind};
 
 /// Whether a row states the terms of its issue: it states a kind.
 pub(crate) fn has_terms(fields: &Fields<'_>) -> bool
-    ensures { result ≡ spec.has_terms fields.now.columns.now (fields_of fields.now.record.now) }
+    ensures { result ≡ spec.has_terms fields.now.columns.now.items (fields_of fields.now.record.now) }
 {
     !fields.text(Column::Kind).is_empty()
 }
 
 /// The terms that a row states, if it states any, of an issue with this CUSIP.
 pub(crate) fn read_terms(fields: &Fields<'_>, cusip: [u8; 9]) -> Result<Option<IssueRow>, RowFault>
-    ensures { result ≡ spec.terms_in fields.now.columns.now (fields_of fields.now.record.now) cusip }
+    ensures { result ≡ spec.terms_in fields.now.columns.now.items (fields_of fields.now.record.now) cusip }
 {
-    if !has_terms(fields) {
-        return Ok(None);
+    if has_terms(fields) {
+        Ok(Some(read_issue(fields, cusip)?))
+    } else {
+        Ok(None)
     }
-    Ok(Some(read_issue(fields, cusip)?))
 }
 
 #[tactic(auto, unfolding(crate::specs::Terms::issue_in))]
 fn read_issue(fields: &Fields<'_>, cusip: [u8; 9]) -> Result<IssueRow, RowFault>
-    ensures { result ≡ spec.issue_in fields.now.columns.now (fields_of fields.now.record.now) cusip }
+    ensures { result ≡ spec.issue_in fields.now.columns.now.items (fields_of fields.now.record.now) cusip }
 {
     let (kind, dated, maturity) = read_calendar(fields)?;
     let coupon = read_coupon(kind, fields.text(Column::Coupon)).ok_or(fields.fault(
@@ -65,7 +66,7 @@ fn issue_name() -> ArrayVec<u8, 60>
 }
 
 fn read_calendar(fields: &Fields<'_>) -> Result<(Kind, Day, Day), RowFault>
-    ensures { result ≡ spec.calendar_in fields.now.columns.now (fields_of fields.now.record.now) }
+    ensures { result ≡ spec.calendar_in fields.now.columns.now.items (fields_of fields.now.record.now) }
 {
     if !is_kind(fields.text(Column::Kind)) {
         return Err(fields.fault(Column::Kind));
@@ -77,7 +78,7 @@ fn read_calendar(fields: &Fields<'_>) -> Result<(Kind, Day, Day), RowFault>
 }
 
 fn read_day(fields: &Fields<'_>, column: Column) -> Result<Day, RowFault>
-    ensures { result ≡ spec.term_in fields.now.columns.now (fields_of fields.now.record.now) column day_in }
+    ensures { result ≡ spec.term_in fields.now.columns.now.items (fields_of fields.now.record.now) column day_in }
 {
     Day::read(fields.text(column))
         .ok()
@@ -86,7 +87,7 @@ fn read_day(fields: &Fields<'_>, column: Column) -> Result<Day, RowFault>
 
 // A kind, with the first interest date in a column of its own.
 fn kind_in(fields: &Fields<'_>) -> Option<Kind>
-    ensures { result ≡ spec.kind_in fields.now.columns.now (fields_of fields.now.record.now) }
+    ensures { result ≡ spec.kind_in fields.now.columns.now.items (fields_of fields.now.record.now) }
 {
     let first = fields.text(Column::First);
     let first = if first.is_empty() { None } else { Some(first) };

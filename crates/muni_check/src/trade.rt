@@ -78,13 +78,13 @@ impl Known {
 /// The first column that does not read is told, in the order of `Column`, or one that is needed and not there.
 #[tactic(auto, unfolding(crate::specs::Trade::asked_in))]
 pub(crate) fn read_asked(fields: &Fields<'_>, known: &Known) -> Result<Asked, RowFault>
-    ensures { result ≡ spec.asked_in fields.now.columns.now (fields_of fields.now.record.now) known.now }
+    ensures { result ≡ spec.asked_in fields.now.columns.now.items (fields_of fields.now.record.now) known.now }
 {
     let cusip = read_cusip_or(fields, known)?;
     let side = read_side_or(fields, known)?;
     let par = read_par_or(fields, known)?;
     let settle = read_settle_or(fields, known)?;
-    let given = read_given_or(fields, known.given)?;
+    let given = read_given_or(fields, &known.given)?;
     let fee = read_fee_or(fields, known)?;
     Ok(Asked {
         cusip,
@@ -97,7 +97,7 @@ pub(crate) fn read_asked(fields: &Fields<'_>, known: &Known) -> Result<Asked, Ro
 }
 
 fn read_cusip_or(fields: &Fields<'_>, known: &Known) -> Result<[u8; 9], RowFault>
-    ensures { result ≡ spec.needed_in fields.now.columns.now (fields_of fields.now.record.now) Column.Cusip known.now.cusip cusip_reading }
+    ensures { result ≡ spec.needed_in fields.now.columns.now.items (fields_of fields.now.record.now) Column.Cusip known.now.cusip cusip_reading }
 {
     let text = fields.text(Column::Cusip);
     let cusip = if text.is_empty() {
@@ -109,7 +109,7 @@ fn read_cusip_or(fields: &Fields<'_>, known: &Known) -> Result<[u8; 9], RowFault
 }
 
 fn read_side_or(fields: &Fields<'_>, known: &Known) -> Result<Side, RowFault>
-    ensures { result ≡ spec.needed_in fields.now.columns.now (fields_of fields.now.record.now) Column.Side known.now.side side_reading }
+    ensures { result ≡ spec.needed_in fields.now.columns.now.items (fields_of fields.now.record.now) Column.Side known.now.side side_reading }
 {
     let text = fields.text(Column::Side);
     let side = if text.is_empty() {
@@ -121,7 +121,7 @@ fn read_side_or(fields: &Fields<'_>, known: &Known) -> Result<Side, RowFault>
 }
 
 fn read_par_or(fields: &Fields<'_>, known: &Known) -> Result<Par, RowFault>
-    ensures { result ≡ spec.needed_in fields.now.columns.now (fields_of fields.now.record.now) Column.Par known.now.par (λ text. result_ok (par_reading text)) }
+    ensures { result ≡ spec.needed_in fields.now.columns.now.items (fields_of fields.now.record.now) Column.Par known.now.par (λ text. result_ok (par_reading text)) }
 {
     let text = fields.text(Column::Par);
     let par = if text.is_empty() {
@@ -133,7 +133,7 @@ fn read_par_or(fields: &Fields<'_>, known: &Known) -> Result<Par, RowFault>
 }
 
 fn read_settle_or(fields: &Fields<'_>, known: &Known) -> Result<Day, RowFault>
-    ensures { result ≡ spec.needed_in fields.now.columns.now (fields_of fields.now.record.now) Column.Settle known.now.settle day_in }
+    ensures { result ≡ spec.needed_in fields.now.columns.now.items (fields_of fields.now.record.now) Column.Settle known.now.settle day_in }
 {
     let text = fields.text(Column::Settle);
     let settle = if text.is_empty() {
@@ -145,7 +145,7 @@ fn read_settle_or(fields: &Fields<'_>, known: &Known) -> Result<Day, RowFault>
 }
 
 fn read_fee_or(fields: &Fields<'_>, known: &Known) -> Result<Fee, RowFault>
-    ensures { result ≡ spec.needed_in fields.now.columns.now (fields_of fields.now.record.now) Column.Fee known.now.fee (λ text. result_ok (fee_reading text)) }
+    ensures { result ≡ spec.needed_in fields.now.columns.now.items (fields_of fields.now.record.now) Column.Fee known.now.fee (λ text. result_ok (fee_reading text)) }
 {
     let text = fields.text(Column::Fee);
     let fee = if text.is_empty() {
@@ -157,8 +157,8 @@ fn read_fee_or(fields: &Fields<'_>, known: &Known) -> Result<Fee, RowFault>
 }
 
 // What is given, in the columns of the basis and of the value. A value without a basis is on the known one.
-fn read_given_or(fields: &Fields<'_>, known: Option<Given>) -> Result<Given, RowFault>
-    ensures { result ≡ spec.given_in fields.now.columns.now (fields_of fields.now.record.now) known }
+fn read_given_or(fields: &Fields<'_>, known: &Option<Given>) -> Result<Given, RowFault>
+    ensures { result ≡ spec.given_in fields.now.columns.now.items (fields_of fields.now.record.now) known.now }
 {
     let basis = basis_or(known, fields.text(Column::Basis));
     if !is_basis(basis) {
@@ -167,8 +167,8 @@ fn read_given_or(fields: &Fields<'_>, known: Option<Given>) -> Result<Given, Row
     given_on(known, basis, fields.text(Column::Value)).ok_or(fields.fault(Column::Value))
 }
 
-fn basis_or<'a>(known: Option<Given>, basis: &'a [u8]) -> &'a [u8]
-    ensures { result.now ≡ spec.basis_or known basis.now }
+fn basis_or<'a>(known: &Option<Given>, basis: &'a [u8]) -> &'a [u8]
+    ensures { result.now ≡ spec.basis_or known.now basis.now }
 {
     if basis.is_empty() {
         basis_of(known)
@@ -177,8 +177,8 @@ fn basis_or<'a>(known: Option<Given>, basis: &'a [u8]) -> &'a [u8]
     }
 }
 
-fn basis_of(known: Option<Given>) -> &'static [u8]
-    ensures { result.now ≡ spec.basis_of known }
+fn basis_of(known: &Option<Given>) -> &'static [u8]
+    ensures { result.now ≡ spec.basis_of known.now }
 {
     match known {
         Some(Given::AtYield(_)) => b"yield",
@@ -195,14 +195,14 @@ fn is_basis(text: &[u8]) -> bool
 }
 
 // A value on a basis. An empty one is the known value, if that is on the same basis.
-fn given_on(known: Option<Given>, basis: &[u8], value: &[u8]) -> Option<Given>
-    ensures { result ≡ spec.given_on known basis.now value.now }
+fn given_on(known: &Option<Given>, basis: &[u8], value: &[u8]) -> Option<Given>
+    ensures { result ≡ spec.given_on known.now basis.now value.now }
 {
     if !value.is_empty() {
         return read_given(basis, value);
     }
     if basis == basis_of(known) {
-        known
+        *known
     } else {
         None
     }

@@ -1,16 +1,23 @@
 //! The trades of a desk for which no row came.
 
+ghost use Rattle.std.specs.Prelude.{◌≡◌, ◌<◌, ◌≤◌, ◌^◌, length, IfOk, IsErrOf};
+ghost use Rattle.muni_edge.specs.Faults.{Rose};
+ghost use Rattle.muni_keep.specs.Keeper.{SameKeeper};
+ghost use Rattle.muni_desk_io.specs.Reports.{ReportsWrites};
+ghost use Rattle.muni_check.specs.Line.{unseen_lines};
+ghost use Rattle.muni_check.specs.Named.{has};
+ghost use Rattle.muni_check.specs.Pages.{WritesUnseen};
+ghost use Rattle.muni_check.specs.Unseen as spec;
+
 use crate::line::add_line;
+use crate::named;
+use crate::named::Named;
 use crate::said::CheckSaid;
 use muni_desk_io::{Fault, write};
 use muni_edge::{NoMemory, Sink};
 use muni_keep::Keeper;
-use muni_msg::{Act, DeskName, Line, Reference};
+use muni_msg::{Act, DeskName, Line};
 use std::alloc::Global;
-use std::collections::BTreeSet;
-
-/// The references that rows named.
-pub(crate) type Named = BTreeSet<Reference>;
 
 // The lines of trades of a page for which no row came, and how many they are.
 #[derive(Drop)]
@@ -26,7 +33,14 @@ pub(crate) fn write_unseen<K: Keeper, O: Sink>(
     desk: &DeskName,
     named: &Named,
     output: &mut O,
-) -> Result<u128, Fault> {
+) -> Result<u128, Fault>
+    ensures written { WritesUnseen desk.now (has named.now) (K.tables keeper.old) result (O.bytes output.old) (O.bytes output.new) }
+    ensures few { IfOk result (λ count. count < 2 ^ 70) }
+    ensures writes { ReportsWrites O.Sink result output.old output.new }
+    ensures write_failed { IsErrOf result Fault.Write → Rose (O.faults output.old) (O.faults output.new) }
+    ensures same { SameKeeper K.Keeper Fault.Store result keeper.old keeper.new }
+    ensures unchanged { K.tables keeper.new ≡ K.tables keeper.old }
+{
     let mut after = None;
     let mut count = 0u128;
     'pages: for turn in 0..u64::MAX {
@@ -37,7 +51,7 @@ pub(crate) fn write_unseen<K: Keeper, O: Sink>(
             return Ok(count);
         };
         after = Some(last.reference.copy());
-        let lines = unseen_lines(alloc, page.as_slice(), named)?;
+        let lines = lines_of(alloc, page.as_slice(), named)?;
         write(&lines.text, output)?;
         count += u128::from(lines.count);
     }
@@ -45,13 +59,17 @@ pub(crate) fn write_unseen<K: Keeper, O: Sink>(
     Err(Fault::NoMemory)
 }
 
-fn unseen_lines(alloc: Global, page: &[Line], named: &Named) -> Result<UnseenLines, NoMemory> {
+fn lines_of(alloc: Global, page: &[Line], named: &Named) -> Result<UnseenLines, NoMemory>
+    ensures text { IfOk result (λ lines. lines.text.items ≡ unseen_lines (spec.unseen_of (has named.now) page.now)) }
+    ensures count { IfOk result (λ lines. lines.count ≡ length (spec.unseen_of (has named.now) page.now)) }
+    ensures few { IfOk result (λ lines. lines.count ≤ length page.now) }
+{
     let mut lines = UnseenLines {
         text: Vec::new(alloc),
         count: 0,
     };
     for trade in page {
-        if is_live(trade.version.act) && !named.contains(&trade.reference) {
+        if is_unseen(trade, named) {
             let said = CheckSaid::Missing {
                 reference: trade.reference.copy(),
             };
@@ -62,7 +80,16 @@ fn unseen_lines(alloc: Global, page: &[Line], named: &Named) -> Result<UnseenLin
     Ok(lines)
 }
 
-fn is_live(act: Act) -> bool {
+// A live trade whose reference no row named.
+fn is_unseen(trade: &Line, named: &Named) -> bool
+    ensures { result ≡ spec.is_unseen (has named.now) trade.now }
+{
+    is_live(trade.version.act) && !named::has(named, &trade.reference)
+}
+
+fn is_live(act: Act) -> bool
+    ensures { result ≡ spec.is_live act }
+{
     match act {
         Act::Entered | Act::Corrected => true,
         Act::Canceled => false,

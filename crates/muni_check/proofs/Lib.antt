@@ -1,0 +1,4 @@
+pub mod GoLemmas
+pub mod StateLemmas
+pub mod UnseenLemmas
+pub mod WriteLemmas
