@@ -1,5 +1,6 @@
 -- A command is completed if nothing failed.
 use Rattle.std.proofs.Common.{◌≡◌, ◌<◌, ◌≤◌, ◌+◌, ◌^◌, ◌⊎◌, inl, inr, ℕ, List, length, Option, Some, None, Result, Ok, Err, IfSome, refl, sym, subst, arith, ℤ}
+use Rattle.std.specs.Prelude.{IsErrOf}
 use Rattle.muni_rule.specs.Payments.{PaymentSeries}
 use Rattle.muni_rule.specs.WorthEnds.{WorthEnds}
 use Rattle.muni_edge.specs.Faults.{Rose}
@@ -24,6 +25,11 @@ use Rattle.muni_desk_positions.specs.Imported.{ImportedWith}
 use Rattle.muni_desk_positions.specs.Listed.{Listed}
 use Rattle.muni_desk_positions.specs.Listing.{MayNotSum}
 use Rattle.muni_marks.specs.Marked.{Marked}
+use Rattle.muni_check.specs.Answer.{Over}
+use Rattle.muni_check.specs.Checked.{WroteChecked}
+use Rattle.muni_check.specs.Checked as check
+use Rattle.muni_check.specs.declared.command.CheckEnd.{CheckEnd}
+use Rattle.muni_check.specs.declared.command.CheckEnd.TheVariants.{AllRight, NotAllRight, BadNames}
 use Rattle.muni_figures.specs.Figured.{WroteFigures}
 use Rattle.muni_figures.specs.Figured as figures
 use Rattle.muni_desk_serve.specs.Fault.{Outcome}
@@ -31,12 +37,12 @@ use Rattle.muni_desk_serve.specs.Serves.{Traffic}
 use Rattle.muni_desk_serve.specs.Serving.{ServedStore}
 use Rattle.muni_desk_serve.specs.declared.fault.ServeFault.TheVariants as serve
 use Rattle.muni_desk.specs.Answers.{IsQuoteOneText, IsQuoteText, IsDrillText, IsHelpText, IsAnswer}
-use Rattle.muni_desk.specs.CompletenessLaws.{HasAtMost, HasPlaces, HasRowsAtMost, EndsWell, EndsWellOverStore, CommandsAreCompleted}
+use Rattle.muni_desk.specs.CompletenessLaws.{HasAtMost, HasPlaces, HasRecordPlaces, HasRowsAtMost, EndsWell, EndsWellOverStore, CommandsAreCompleted}
 use Rattle.muni_desk.specs.Does.{Says}
 use Rattle.muni_desk.specs.Store.{CountsFaults}
-use Rattle.muni_desk.specs.Status.{of_answered, of_done, of_served}
+use Rattle.muni_desk.specs.Status.{of_answered, of_checked, of_done, of_served}
 use Rattle.muni_desk.specs.declared.command.DeskCommand.{DeskCommand}
-use Rattle.muni_desk.specs.declared.command.DeskCommand.TheVariants.{QuoteOne, Quote, Import, Load, Confirm, Serve, Positions, Mark, Figures, Export, Drill, Help}
+use Rattle.muni_desk.specs.declared.command.DeskCommand.TheVariants.{QuoteOne, Quote, Import, Load, Confirm, Serve, Positions, Mark, Figures, Check, CheckAlone, Export, Drill, Help}
 use Rattle.muni_desk.specs.declared.drill.options.DrillRequest.{DrillRequest}
 use Rattle.muni_desk.specs.declared.quote_one.QuoteOneRequest.{QuoteOneRequest}
 use Rattle.muni_desk.specs.declared.request.QuoteRequest.{QuoteRequest}
@@ -75,6 +81,8 @@ right-answered ends (Serve store port connections limit) answer is = absurd is
 right-answered ends (Positions store desk) answer is = absurd is
 right-answered ends (Mark store) answer is = absurd is
 right-answered ends (Figures store options) answer is = absurd is
+right-answered ends (Check store desk) answer is = absurd is
+right-answered ends CheckAlone answer is = absurd is
 right-answered ends (Export store wanted) answer is = absurd is
 
 written-or-not : {A B : Type 0} (end right : Status) → EndsWell right → ((end ≡ right) × A) ⊎ ((end ≡ status.WriteFault) × B) → ¬ (end ≡ status.WriteFault) → EndsWell end
@@ -186,6 +194,24 @@ figures-completed source sink cabinet Answers header first (Err Read) end old ne
 figures-completed source sink cabinet Answers header first (Err TooLarge) end old new is wrote counts few input output stored =
     absurd (placeless source first old.input few (of-text (source.left old.input) (λ text many. many.1) wrote))
 
+no-record-places : {I : Type 0} (source : Source.Ghosts I) (input : I) → HasRecordPlaces source input → IfSome (source.left input) check.HasTooManyRows → ⊥
+no-record-places source input (text, is, few) large =
+    let many = subst (λ left. IfSome left check.HasTooManyRows) is large in
+    absurd (omega (arith, few, many))
+
+check-completed : {I O : Type 0} (source : Source.Ghosts I) (sink : Sink.Ghosts O) (rows : Over) (result : Result CheckEnd Fault) (end : Status) (input later : I) (output further : O)
+    → end ≡ of_checked result → IfSome (source.left input) (λ text. WroteChecked rows text result (source.left later) (sink.bytes output) (sink.bytes further))
+    → ¬ (IsErrOf result Read) → ¬ (IsErrOf result Write) → ¬ (IsErrOf result Store) → HasRecordPlaces source input → EndsWellOverStore end
+check-completed source sink rows (Ok AllRight) end input later output further is wrote reads writes stores few = subst EndsWellOverStore (sym is) tt
+check-completed source sink rows (Ok NotAllRight) end input later output further is wrote reads writes stores few = subst EndsWellOverStore (sym is) tt
+check-completed source sink rows (Ok BadNames) end input later output further is wrote reads writes stores few = subst EndsWellOverStore (sym is) tt
+check-completed source sink rows (Err NoMemory) end input later output further is wrote reads writes stores few = subst EndsWellOverStore (sym is) tt
+check-completed source sink rows (Err Store) end input later output further is wrote reads writes stores few = absurd (stores refl)
+check-completed source sink rows (Err Write) end input later output further is wrote reads writes stores few = absurd (writes refl)
+check-completed source sink rows (Err Read) end input later output further is wrote reads writes stores few = absurd (reads refl)
+check-completed source sink rows (Err TooLarge) end input later output further is wrote reads writes stores few =
+    absurd (no-record-places source input few (of-text (source.left input) (λ text many. many.1) wrote))
+
 export-completed : {O : Type 0} (sink : Sink.Ghosts O) (wanted : Wanted) (told : _) (counted : Type 0) (result : Result (Unit {0}) Fault) (end : Status) (before after : O)
     → end ≡ of_done result → WritesKept sink wanted told counted result before after → ¬ (told ≡ None) → ¬ (Rose (sink.faults before) (sink.faults after)) → ¬ counted → EndsWellOverStore end
 export-completed sink wanted told counted (Ok done) end before after is did can output stored = subst EndsWellOverStore (sym is) tt
@@ -224,5 +250,10 @@ completed source sink cabinet door ends told (Mark store) end old new before aft
     mark-completed source sink cabinet _ store.items does.0.0 end old new does.0.1 does.0.2.0 few none.reads none.writes none.stores
 completed source sink cabinet door ends told (Figures store options) end old new before after does none few can =
     figures-completed source sink cabinet _ _ options.first does.0.0 end old new does.0.1 does.0.2.0 does.0.2.1 few none.reads none.writes none.stores
+completed source sink cabinet door ends told (Check store desk) end old new before after does none few can =
+    let counts = does.0.2.1 in
+    check-completed source sink _ does.0.0 end old.input new.input old.output new.output does.0.1 does.0.2.0 (λ is. none.reads (counts.0 is)) (λ is. none.writes (counts.1 is)) (λ is. none.stores (counts.2 is)) few
+completed source sink cabinet door ends told CheckAlone end old new before after does none few can =
+    check-completed source sink _ does.0.0 end old.input new.input old.output new.output does.0.1 does.0.2.0 (λ is. none.reads (does.0.2.1 is)) (λ is. none.writes (does.0.2.2.0 is)) does.0.2.2.1 few
 completed source sink cabinet door ends told (Export store wanted) end old new before after does none few can =
     export-completed sink wanted _ _ does.0.0 end old.output new.output does.0.1 does.0.2.0 can none.writes none.stores

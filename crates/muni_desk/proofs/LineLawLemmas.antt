@@ -11,14 +11,14 @@ use Rattle.muni_desk.specs.DrillOptions.{drill_of}
 use Rattle.muni_desk.specs.Help.{help_of}
 use Rattle.muni_desk.specs.QuoteOne.{quote_one_of}
 use Rattle.muni_desk.specs.QuoteOptions.{quote_of}
-use Rattle.muni_desk.specs.StoreOptions.{import_of, load_of, confirm_of, serve_of, positions_of, mark_of, export_of, list_of, check_store_of, figures_of}
+use Rattle.muni_desk.specs.StoreOptions.{import_of, load_of, confirm_of, serve_of, positions_of, mark_of, export_of, list_of, check_store_of, figures_of, check_of}
 use Rattle.muni_desk.specs.WordLaws.{AsksFor, IsCommandLine, IsSaid}
 use Rattle.muni_desk.specs.declared.command.CommandLine.{CommandLine}
 use Rattle.muni_desk.specs.declared.command.DeskCommand.{DeskCommand}
-use Rattle.muni_desk.specs.declared.command.DeskCommand.TheVariants.{QuoteOne, Quote, Import, Load, Confirm, Serve, Positions, Mark, Figures, Export, Drill, Help}
+use Rattle.muni_desk.specs.declared.command.DeskCommand.TheVariants.{QuoteOne, Quote, Import, Load, Confirm, Serve, Positions, Mark, Figures, Check, CheckAlone, Export, Drill, Help}
 use Rattle.muni_desk.proofs.CommandLawLemmas.{same-text, read-quote, quote-read, read-drill, drill-read, read-quote_one, quote_one-read}
 use Rattle.muni_desk.proofs.KeptLawLemmas.{read-export, export-read, read-list, list-read, read-check_store, check_store-read}
-use Rattle.muni_desk.proofs.StoreLawLemmas.{read-import, import-read, read-load, load-read, read-confirm, confirm-read, confirm_all-read, read-serve, serve-read, read-positions, positions-read, read-mark, mark-read, read-figures, figures-read, read-help, help-read}
+use Rattle.muni_desk.proofs.StoreLawLemmas.{read-import, import-read, read-load, load-read, read-confirm, confirm-read, confirm_all-read, read-serve, serve-read, read-positions, positions-read, read-mark, mark-read, read-figures, figures-read, read-check, check-read, check_alone-read, read-help, help-read}
 
 read-kept-by : (name : List ℕ) (words : List (List ℕ)) (line : CommandLine) (confirmed held exported listed checked : Bool) → bytes_eq name (codes "confirm") ≡ confirmed → bytes_eq name (codes "positions") ≡ held → bytes_eq name (codes "export") ≡ exported → bytes_eq name (codes "list") ≡ listed → bytes_eq name (codes "check-store") ≡ checked → (if confirmed then confirm_of words else (if held then positions_of words else (if exported then export_of words else (if listed then list_of words else (if checked then check_store_of words else None))))) ≡ Some line → IsCommandLine (name ∷ words) line
 read-kept-by name words line true held exported listed checked is_confirm is_positions is_export is_list is_check is = read-confirm words name line (same-text name (codes "confirm") is_confirm) is
@@ -32,16 +32,17 @@ read-of-kept : (name : List ℕ) (words : List (List ℕ)) (line : CommandLine) 
 unfolding of_kept_of
 read-of-kept name words line is = read-kept-by name words line (bytes_eq name (codes "confirm")) (bytes_eq name (codes "positions")) (bytes_eq name (codes "export")) (bytes_eq name (codes "list")) (bytes_eq name (codes "check-store")) refl refl refl refl refl is
 
-read-store-by : (name : List ℕ) (words : List (List ℕ)) (line : CommandLine) (imported loaded served marked figured : Bool) → bytes_eq name (codes "import") ≡ imported → bytes_eq name (codes "load") ≡ loaded → bytes_eq name (codes "serve") ≡ served → bytes_eq name (codes "mark") ≡ marked → bytes_eq name (codes "figures") ≡ figured → (if imported then import_of words else (if loaded then load_of words else (if served then serve_of words else (if marked then mark_of words else (if figured then figures_of words else of_kept_of name words))))) ≡ Some line → IsCommandLine (name ∷ words) line
-read-store-by name words line true loaded served marked figured is_import is_load is_serve is_mark is_figures is = read-import words name line (same-text name (codes "import") is_import) is
-read-store-by name words line false true served marked figured is_import is_load is_serve is_mark is_figures is = read-load words name line (same-text name (codes "load") is_load) is
-read-store-by name words line false false true marked figured is_import is_load is_serve is_mark is_figures is = read-serve words name line (same-text name (codes "serve") is_serve) is
-read-store-by name words line false false false true figured is_import is_load is_serve is_mark is_figures is = read-mark words name line (same-text name (codes "mark") is_mark) is
-read-store-by name words line false false false false true is_import is_load is_serve is_mark is_figures is = read-figures words name line (same-text name (codes "figures") is_figures) is
-read-store-by name words line false false false false false is_import is_load is_serve is_mark is_figures is = read-of-kept name words line is
+read-store-by : (name : List ℕ) (words : List (List ℕ)) (line : CommandLine) (imported loaded served marked figured checked : Bool) → bytes_eq name (codes "import") ≡ imported → bytes_eq name (codes "load") ≡ loaded → bytes_eq name (codes "serve") ≡ served → bytes_eq name (codes "mark") ≡ marked → bytes_eq name (codes "figures") ≡ figured → bytes_eq name (codes "check") ≡ checked → (if imported then import_of words else (if loaded then load_of words else (if served then serve_of words else (if marked then mark_of words else (if figured then figures_of words else (if checked then check_of words else of_kept_of name words)))))) ≡ Some line → IsCommandLine (name ∷ words) line
+read-store-by name words line true loaded served marked figured checked is_import is_load is_serve is_mark is_figures is_check is = read-import words name line (same-text name (codes "import") is_import) is
+read-store-by name words line false true served marked figured checked is_import is_load is_serve is_mark is_figures is_check is = read-load words name line (same-text name (codes "load") is_load) is
+read-store-by name words line false false true marked figured checked is_import is_load is_serve is_mark is_figures is_check is = read-serve words name line (same-text name (codes "serve") is_serve) is
+read-store-by name words line false false false true figured checked is_import is_load is_serve is_mark is_figures is_check is = read-mark words name line (same-text name (codes "mark") is_mark) is
+read-store-by name words line false false false false true checked is_import is_load is_serve is_mark is_figures is_check is = read-figures words name line (same-text name (codes "figures") is_figures) is
+read-store-by name words line false false false false false true is_import is_load is_serve is_mark is_figures is_check is = read-check words name line (same-text name (codes "check") is_check) is
+read-store-by name words line false false false false false false is_import is_load is_serve is_mark is_figures is_check is = read-of-kept name words line is
 
 read-over-store : (name : List ℕ) (words : List (List ℕ)) (line : CommandLine) → over_store_of name words ≡ Some line → IsCommandLine (name ∷ words) line
-read-over-store name words line is = read-store-by name words line (bytes_eq name (codes "import")) (bytes_eq name (codes "load")) (bytes_eq name (codes "serve")) (bytes_eq name (codes "mark")) (bytes_eq name (codes "figures")) refl refl refl refl refl is
+read-over-store name words line is = read-store-by name words line (bytes_eq name (codes "import")) (bytes_eq name (codes "load")) (bytes_eq name (codes "serve")) (bytes_eq name (codes "mark")) (bytes_eq name (codes "figures")) (bytes_eq name (codes "check")) refl refl refl refl refl refl is
 
 read-by : (name : List ℕ) (words : List (List ℕ)) (line : CommandLine) (one quoted drilled helped : Bool) → bytes_eq name (codes "quote-one") ≡ one → bytes_eq name (codes "quote") ≡ quoted → bytes_eq name (codes "drill") ≡ drilled → bytes_eq name (codes "help") ≡ helped → (if one then quote_one_of words else (if quoted then quote_of words else (if drilled then drill_of words else (if helped then help_of words else over_store_of name words)))) ≡ Some line → IsCommandLine (name ∷ words) line
 read-by name words line true quoted drilled helped is_one is_quote is_drill is_help is = read-quote_one words name line (same-text name (codes "quote-one") is_one) is
@@ -79,6 +80,10 @@ said-read name words (Positions store desk) workers said =
 said-read name words (Mark store) workers said =
     ap (λ name. command_of (name ∷ words)) said.0 ∙ mark-read words store said.1 ∙ (λ i. Some (record { command = Mark store; workers = sym said.2 i }))
 said-read name words (Figures store options) workers said = ap (λ name. command_of (name ∷ words)) said.0 ∙ figures-read words store options workers said.1
+said-read name words (Check store desk) workers said =
+    ap (λ name. command_of (name ∷ words)) said.0 ∙ check-read words store desk said.1 ∙ (λ i. Some (record { command = Check store desk; workers = sym said.2 i }))
+said-read name words CheckAlone workers said =
+    ap (λ name. command_of (name ∷ words)) said.0 ∙ check_alone-read words said.1 ∙ (λ i. Some (record { command = CheckAlone; workers = sym said.2 i }))
 said-read name words (Export store wanted) workers said =
     asked-read name words store wanted said.0 ∙ (λ i. Some (record { command = Export store wanted; workers = sym said.1 i }))
 said-read name words (Drill request) workers said = ap (λ name. command_of (name ∷ words)) said.0 ∙ drill-read words request workers said.1

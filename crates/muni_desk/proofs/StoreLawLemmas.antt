@@ -16,13 +16,13 @@ use Rattle.muni_desk_export.specs.declared.wanted.Wanted.TheVariants as want
 use Rattle.muni_figures.specs.declared.command.FiguresOptions.{FiguresOptions}
 use Rattle.muni_desk.specs.Words.{◌>>=◌, are_options, are_options_beside, has_word, value_of}
 use Rattle.muni_desk.specs.QuoteOptions.{risk_word, workers_of}
-use Rattle.muni_desk.specs.StoreOptions.{import_options, load_options, confirm_options, serve_options, desk_options, figures_options, store_options, all_word, header_word, is_store_name, store_reading, store_of, listed_in, listed_of, limit_in, limit_of, import_line, import_of, load_line, load_of, confirm_line, confirm_one_of, confirm_all_line, confirm_all_of, confirm_of, serve_line, serve_of, positions_line, positions_of, mark_line, mark_of, first_in, first_of, figures_form, figures_line, figures_of, figures_words}
+use Rattle.muni_desk.specs.StoreOptions.{import_options, load_options, confirm_options, serve_options, desk_options, figures_options, store_options, all_word, header_word, is_store_name, store_reading, store_of, maybe_desk, maybe_desk_of, limit_in, limit_of, import_line, import_of, load_line, load_of, confirm_line, confirm_one_of, confirm_all_line, confirm_all_of, confirm_of, serve_line, serve_of, positions_line, positions_of, mark_line, mark_of, first_in, first_of, figures_form, check_line, check_of, figures_line, figures_of, figures_words}
 use Rattle.muni_desk.specs.Help.{help_of}
 use Rattle.muni_desk.specs.OptionLaws.{IsSingle}
-use Rattle.muni_desk.specs.StoreWordLaws.{IsImport, IsLoad, IsConfirm, IsConfirmAll, IsServe, IsPositions, IsStoreAlone, IsFigures, SaysFirst, SaysLimit, SaysPositions, SaysStore}
+use Rattle.muni_desk.specs.StoreWordLaws.{IsImport, IsLoad, IsConfirm, IsConfirmAll, IsServe, IsPositions, IsStoreAlone, IsFigures, IsCheck, SaysFirst, SaysLimit, SaysMaybeDesk, SaysStore}
 use Rattle.muni_desk.specs.WordLaws.{IsCommandLine}
 use Rattle.muni_desk.specs.declared.command.CommandLine.{CommandLine}
-use Rattle.muni_desk.specs.declared.command.DeskCommand.TheVariants.{Import, Load, Confirm, Serve, Positions, Mark, Figures, Export, Help}
+use Rattle.muni_desk.specs.declared.command.DeskCommand.TheVariants.{Import, Load, Confirm, Serve, Positions, Mark, Figures, Check, CheckAlone, Export, Help}
 use Rattle.muni_desk.proofs.CommandLawLemmas.{read-ok, ok-read, read-option, option-read, read-workers, workers-read}
 use Rattle.muni_desk.proofs.OptionalLemmas.{bind-some, some-bind, map-some, ok-some, if-some, when-true}
 use Rattle.muni_desk.proofs.WordLawLemmas.{both, options-read, are-options, options-read-beside, are-options-beside, has-read, read-has, has-unknown, found-says, says-found, none-lacks, lacks-none}
@@ -61,28 +61,30 @@ limit-read : (words : List (List ℕ)) (limit : ℕ) → IsSingle words (codes "
 limit-read words limit single (inl read) = ap limit_in (says-found (codes "--desk-limit=") read.text words single read.stands) ∙ read.is_read
 limit-read words limit single (inr lacks) = ap limit_in (lacks-none (codes "--desk-limit=") words lacks.0) ∙ ap Some (sym lacks.1)
 
+-- ---- a desk that may be named
+read-maybe-desk : (words : List (List ℕ)) (option : List ℕ) (desk : Option (List ℕ)) (found : Option (List ℕ)) → value_of option words ≡ found → maybe_desk found ≡ Some desk → SaysMaybeDesk words option desk
+read-maybe-desk words option desk None is read = subst (SaysMaybeDesk words option) (same_Some None desk read) (none-lacks option words is)
+read-maybe-desk words option desk (Some text) is read =
+    let named = map-some Some (result_ok (name_reading is_desk_letter 16 text)) desk read in
+    subst (SaysMaybeDesk words option) named.2
+    (record { text = text; stands = found-says option text words is; is_read = ok-some (name_reading is_desk_letter 16 text) named.0 named.1 })
+
+maybe-desk-read : (words : List (List ℕ)) (option : List ℕ) (desk : Option (List ℕ)) → IsSingle words option → SaysMaybeDesk words option desk → maybe_desk_of option words ≡ Some desk
+maybe-desk-read words option None single lacks = ap maybe_desk (lacks-none option words lacks)
+maybe-desk-read words option (Some desk) single read =
+    ap maybe_desk (says-found option read.text words single read.stands) ∙ ap (λ r. option_map Some (result_ok r)) read.is_read
+
 -- ---- `import`
 abbrev import_from : ArrayVec ℕ → Option (List ℕ) → (limit workers : ℕ) → CommandLine
 import_from store listed limit workers = record { command = Import store listed limit; workers = workers }
 
-read-listed : (words : List (List ℕ)) (listed : Option (List ℕ)) (found : Option (List ℕ)) → value_of (codes "--positions=") words ≡ found → listed_in found ≡ Some listed → SaysPositions words listed
-read-listed words listed None is read = subst (SaysPositions words) (same_Some None listed read) (none-lacks (codes "--positions=") words is)
-read-listed words listed (Some text) is read =
-    let desk = map-some Some (result_ok (name_reading is_desk_letter 16 text)) listed read in
-    subst (SaysPositions words) desk.2
-    (record { text = text; stands = found-says (codes "--positions=") text words is; is_read = ok-some (name_reading is_desk_letter 16 text) desk.0 desk.1 })
-
-listed-read : (words : List (List ℕ)) (listed : Option (List ℕ)) → IsSingle words (codes "--positions=") → SaysPositions words listed → listed_of words ≡ Some listed
-listed-read words None single lacks = ap listed_in (lacks-none (codes "--positions=") words lacks)
-listed-read words (Some desk) single read =
-    ap listed_in (says-found (codes "--positions=") read.text words single read.stands) ∙ ap (λ r. option_map Some (result_ok r)) read.is_read
 
 pub read-import : (words : List (List ℕ)) (name : List ℕ) (line : CommandLine) → name ≡ codes "import" → import_of words ≡ Some line → IsCommandLine (name ∷ words) line
 read-import words name line named is =
     let options_read = if-some (are_options import_options import_options words) (import_line words) line is in
     let stand = options-read import_options import_options words options_read.0 in
     let store = bind-some _ (store_of words) line options_read.1 in
-    let listed = bind-some _ (listed_of words) line store.2 in
+    let listed = bind-some _ (maybe_desk_of (codes "--positions=") words) line store.2 in
     let workers = bind-some _ (workers_of words) line listed.2 in
     let limit = bind-some _ (limit_of words) line workers.2 in
     subst (IsCommandLine (name ∷ words)) (same_Some (import_from store.0 listed.0 limit.0 workers.0) line limit.2) (
@@ -91,7 +93,7 @@ read-import words name line named is =
         known = stand.0;
         single = stand.1;
         named = read-store words store.0 store.1;
-        positions = read-listed words listed.0 (value_of (codes "--positions=") words) refl listed.1;
+        positions = read-maybe-desk words (codes "--positions=") listed.0 (value_of (codes "--positions=") words) refl listed.1;
         room = read-limit words limit.0 (value_of (codes "--desk-limit=") words) refl limit.1;
         at_once = read-workers words workers.0 (value_of (codes "--workers=") words) refl workers.1;
       },
@@ -102,7 +104,7 @@ import-read words store listed limit workers said =
     let line = import_from store listed limit workers in
     when-true (are_options import_options import_options words) (import_line words) line (are-options import_options import_options words said.known said.single)
     (some-bind _ (store_of words) store line (store-read words store (said.single 0 [] (omega arith)) said.named)
-    (some-bind _ (listed_of words) listed line (listed-read words listed (said.single 2 [] (omega arith)) said.positions)
+    (some-bind _ (maybe_desk_of (codes "--positions=") words) listed line (maybe-desk-read words (codes "--positions=") listed (said.single 2 [] (omega arith)) said.positions)
     (some-bind _ (workers_of words) workers line (workers-read words workers (said.single 1 [] (omega arith)) said.at_once)
     (some-bind _ (limit_of words) limit line (limit-read words limit (said.single 3 [] (omega arith)) said.room)
     refl))))
@@ -344,6 +346,46 @@ figures-read words store options workers said =
     (some-bind _ (first_of words) options.first line (first-read words options.first (said.single 2 [] (omega arith)) said.placed)
     (some-bind _ (workers_of words) workers line (workers-read words workers (said.single 1 [] (omega arith)) said.at_once)
     (λ i. Some (figures_from store (record { first = options.first; has_header = read-has header_word words options.has_header said.headed i; has_risk = read-has risk_word words options.has_risk said.risked i }) workers)))))
+
+-- ---- `check`
+abbrev check_from : ArrayVec ℕ → Option (List ℕ) → CommandLine
+check_from store desk = record { command = Check store desk; workers = 1 }
+
+read-check-over : (words : List (List ℕ)) (name : List ℕ) (line : CommandLine) → name ≡ codes "check" → (if are_options desk_options desk_options words then check_line words else None) ≡ Some line → IsCommandLine (name ∷ words) line
+read-check-over words name line named is =
+    let options_read = if-some (are_options desk_options desk_options words) (check_line words) line is in
+    let stand = options-read desk_options desk_options words options_read.0 in
+    let store = bind-some _ (store_of words) line options_read.1 in
+    let desk = bind-some _ (maybe_desk_of (codes "--desk=") words) line store.2 in
+    subst (IsCommandLine (name ∷ words)) (same_Some (check_from store.0 desk.0) line desk.2) (
+      named,
+      record {
+        known = stand.0;
+        single = stand.1;
+        named = read-store words store.0 store.1;
+        of_desk = read-maybe-desk words (codes "--desk=") desk.0 (value_of (codes "--desk=") words) refl desk.1;
+      },
+      refl,
+    )
+
+pub read-check : (words : List (List ℕ)) (name : List ℕ) (line : CommandLine) → name ≡ codes "check" → check_of words ≡ Some line → IsCommandLine (name ∷ words) line
+read-check [] name line named is = subst (IsCommandLine (name ∷ [])) (same_Some (record { command = CheckAlone; workers = 1 }) line is) (named, refl, refl)
+read-check (word ∷ words) name line named is = read-check-over (word ∷ words) name line named is
+
+check-over-read : (words : List (List ℕ)) (store : ArrayVec ℕ) (desk : Option (List ℕ)) → IsCheck words store desk → (if are_options desk_options desk_options words then check_line words else None) ≡ Some (check_from store desk)
+check-over-read words store desk said =
+    let line = check_from store desk in
+    when-true (are_options desk_options desk_options words) (check_line words) line (are-options desk_options desk_options words said.known said.single)
+    (some-bind _ (store_of words) store line (store-read words store (said.single 0 [] (omega arith)) said.named)
+    (some-bind _ (maybe_desk_of (codes "--desk=") words) desk line (maybe-desk-read words (codes "--desk=") desk (said.single 1 [] (omega arith)) said.of_desk)
+    refl))
+
+pub check-read : (words : List (List ℕ)) (store : ArrayVec ℕ) (desk : Option (List ℕ)) → IsCheck words store desk → check_of words ≡ Some (record { command = Check store desk; workers = 1 })
+check-read [] store desk said = absurd said.named.stands
+check-read (word ∷ words) store desk said = check-over-read (word ∷ words) store desk said
+
+pub check_alone-read : (words : List (List ℕ)) → words ≡ [] → check_of words ≡ Some (record { command = CheckAlone; workers = 1 })
+check_alone-read words none = ap check_of none
 
 -- ---- `help`
 pub read-help : (words : List (List ℕ)) (name : List ℕ) (line : CommandLine) → name ≡ codes "help" → help_of words ≡ Some line → IsCommandLine (name ∷ words) line

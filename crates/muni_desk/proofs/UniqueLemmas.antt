@@ -33,7 +33,7 @@ use Rattle.muni_desk.specs.NextInterestDate.{is_next}
 use Rattle.muni_desk.specs.Request.{IsAnswerOf}
 use Rattle.muni_desk.specs.Sums.{Answered, summary_text}
 use Rattle.muni_desk.specs.declared.command.DeskCommand.{DeskCommand}
-use Rattle.muni_desk.specs.declared.command.DeskCommand.TheVariants.{QuoteOne, Quote, Import, Load, Confirm, Serve, Positions, Mark, Export, Drill, Help}
+use Rattle.muni_desk.specs.declared.command.DeskCommand.TheVariants.{QuoteOne, Quote, Import, Load, Confirm, Serve, Positions, Mark, Check, CheckAlone, Export, Drill, Help}
 use Rattle.muni_desk.specs.declared.command.DeskCommand.TheVariants as asks
 use Rattle.muni_desk.specs.declared.drill.options.DrillRequest.{DrillRequest}
 use Rattle.muni_desk.specs.declared.quote_one.QuoteOneRequest.{QuoteOneRequest}
@@ -178,4 +178,6 @@ answer-unique ends (Serve store port connections limit) answer other fine is als
 answer-unique ends (Positions store desk) answer other fine is also = absurd is
 answer-unique ends (Mark store) answer other fine is also = absurd is
 answer-unique ends (asks.Figures store options) answer other fine is also = absurd is
+answer-unique ends (Check store desk) answer other fine is also = absurd is
+answer-unique ends CheckAlone answer other fine is also = absurd is
 answer-unique ends (Export store wanted) answer other fine is also = absurd is

@@ -18,7 +18,7 @@ use Rattle.muni_desk.specs.Help.{help_text}
 use Rattle.muni_desk.specs.QuoteOne.{IsPriced}
 use Rattle.muni_desk.specs.Request.{IsAnswerOf}
 use Rattle.muni_desk.specs.declared.command.DeskCommand.{DeskCommand}
-use Rattle.muni_desk.specs.declared.command.DeskCommand.TheVariants.{QuoteOne, Quote, Import, Load, Confirm, Serve, Positions, Mark, Export, Drill, Help}
+use Rattle.muni_desk.specs.declared.command.DeskCommand.TheVariants.{QuoteOne, Quote, Import, Load, Confirm, Serve, Positions, Mark, Check, CheckAlone, Export, Drill, Help}
 use Rattle.muni_desk.specs.declared.command.DeskCommand.TheVariants as asks
 use Rattle.muni_desk.specs.declared.drill.options.DrillRequest.{DrillRequest}
 use Rattle.muni_desk.specs.declared.quote_one.QuoteOneRequest.{QuoteOneRequest}
@@ -78,6 +78,8 @@ IsAnswer ends (Serve store port connections limit) answer = ⊥
 IsAnswer ends (Positions store desk) answer = ⊥
 IsAnswer ends (Mark store) answer = ⊥
 IsAnswer ends (asks.Figures store options) answer = ⊥
+IsAnswer ends (Check store desk) answer = ⊥
+IsAnswer ends CheckAlone answer = ⊥
 IsAnswer ends (Export store wanted) answer = ⊥
 IsAnswer ends (Drill request) answer = IsDrillText ends request answer.status answer.text.items
 IsAnswer ends Help answer = IsHelpText answer.status answer.text.items

@@ -5,7 +5,7 @@ use Rattle.muni_desk.specs.DrillOptions.{drill_of}
 use Rattle.muni_desk.specs.QuoteOne.{quote_one_of}
 use Rattle.muni_desk.specs.Help.{help_of}
 use Rattle.muni_desk.specs.QuoteOptions.{quote_of}
-use Rattle.muni_desk.specs.StoreOptions.{import_of, load_of, confirm_of, serve_of, positions_of, mark_of, export_of, list_of, check_store_of, figures_of}
+use Rattle.muni_desk.specs.StoreOptions.{import_of, load_of, confirm_of, serve_of, positions_of, mark_of, export_of, list_of, check_store_of, figures_of, check_of}
 use Rattle.muni_desk.specs.declared.command.CommandLine.{CommandLine}
 
 -- the command of that name, and of the words after it, that only writes what a store keeps
@@ -24,7 +24,8 @@ over_store_of name words =
     else (if bytes_eq name (codes "load") then load_of words
     else (if bytes_eq name (codes "serve") then serve_of words
     else (if bytes_eq name (codes "mark") then mark_of words
-    else (if bytes_eq name (codes "figures") then figures_of words else of_kept_of name words))))
+    else (if bytes_eq name (codes "figures") then figures_of words
+    else (if bytes_eq name (codes "check") then check_of words else of_kept_of name words)))))
 
 -- the command of words: the first is its name, and those after it say what it is asked for
 abbrev pub command_of : List (List ℕ) → Option CommandLine

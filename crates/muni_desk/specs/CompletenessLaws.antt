@@ -10,11 +10,12 @@ use Rattle.muni_keep.specs.declared.cabinet.Cabinet as Cabinet
 use Rattle.muni_import.specs.Rows.{rows_of}
 use Rattle.muni_desk_io.specs.Lent.{Lent}
 use Rattle.muni_desk_positions.specs.Listing.{MayNotSum}
+use Rattle.muni_check.specs.Rows as check
 use Rattle.muni_figures.specs.Rows as figures
 use Rattle.muni_desk_serve.specs.Serves.{Traffic}
 use Rattle.muni_desk.specs.Does.{Does}
 use Rattle.muni_desk.specs.declared.command.DeskCommand.{DeskCommand}
-use Rattle.muni_desk.specs.declared.command.DeskCommand.TheVariants.{QuoteOne, Quote, Import, Load, Confirm, Serve, Positions, Mark, Figures, Export, Drill, Help}
+use Rattle.muni_desk.specs.declared.command.DeskCommand.TheVariants.{QuoteOne, Quote, Import, Load, Confirm, Serve, Positions, Mark, Figures, Check, CheckAlone, Export, Drill, Help}
 use Rattle.muni_desk.specs.declared.status.Status.{Status}
 use Rattle.muni_desk.specs.declared.status.Status.TheVariants.{Done, Refused, NoMemory}
 
@@ -38,12 +39,19 @@ abbrev pub HasPlaces : {I : Type 0} → Source.Ghosts I → ℕ → I → Type 0
 HasPlaces source first input =
     (text : List ℕ) × (source.left input ≡ Some text) × (first + length (figures.rows_of text) < 2 ^ 64)
 
+-- or so few records that each has a place
+abbrev pub HasRecordPlaces : {I : Type 0} → Source.Ghosts I → I → Type 0
+HasRecordPlaces source input =
+    (text : List ℕ) × (source.left input ≡ Some text) × (length (check.records_of text) < 2 ^ 64)
+
 -- no more than the command reads
 abbrev pub IsWithinLimit : {I : Type 0} → Source.Ghosts I → DeskCommand → I → Type 0
 IsWithinLimit source (Import store listed limit) input = HasAtMost source 4_194_304 input
 IsWithinLimit source (Load store limit) input = HasRowsAtMost source 4_294_967_295 input
 IsWithinLimit source (Mark store) input = HasAtMost source 1_048_576 input
 IsWithinLimit source (Figures store options) input = HasPlaces source options.first input
+IsWithinLimit source (Check store desk) input = HasRecordPlaces source input
+IsWithinLimit source CheckAlone input = HasRecordPlaces source input
 IsWithinLimit source command input = ⊤
 
 -- what it lists or exports can be read: the tables of the store are exposed, and a desk whose positions it lists
@@ -75,6 +83,8 @@ IsCompleted (Serve store port connections limit) status = EndsWellOverStore stat
 IsCompleted (Positions store desk) status = EndsWellOverStore status
 IsCompleted (Mark store) status = EndsWellOverStore status
 IsCompleted (Figures store options) status = EndsWellOverStore status
+IsCompleted (Check store desk) status = EndsWellOverStore status
+IsCompleted CheckAlone status = EndsWellOverStore status
 IsCompleted (Export store wanted) status = EndsWellOverStore status
 IsCompleted (Drill request) status = EndsWell status
 IsCompleted Help status = EndsWell status

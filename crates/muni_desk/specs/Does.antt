@@ -12,10 +12,10 @@ use Rattle.muni_book.specs.Rules.{book_rules}
 use Rattle.muni_desk_io.specs.Lent.{Lent}
 use Rattle.muni_desk.specs.Answers.{IsAnswer}
 use Rattle.muni_desk_serve.specs.Serves.{Traffic}
-use Rattle.muni_desk.specs.Store.{ImportsInto, ImportsWith, LoadsInto, Confirms, Serves, Lists, Marks, WritesFigures, Exports}
+use Rattle.muni_desk.specs.Store.{ImportsInto, ImportsWith, LoadsInto, Confirms, Serves, Lists, Marks, WritesFigures, ChecksFigures, ChecksAlone, Exports}
 use Rattle.muni_desk.specs.Written.{WritesAnswer, TellsFaults}
 use Rattle.muni_desk.specs.declared.command.DeskCommand.{DeskCommand}
-use Rattle.muni_desk.specs.declared.command.DeskCommand.TheVariants.{QuoteOne, Quote, Import, Load, Confirm, Serve, Positions, Mark, Figures, Export, Drill, Help}
+use Rattle.muni_desk.specs.declared.command.DeskCommand.TheVariants.{QuoteOne, Quote, Import, Load, Confirm, Serve, Positions, Mark, Figures, Check, CheckAlone, Export, Drill, Help}
 use Rattle.muni_desk.specs.declared.status.Answer.{Answer}
 use Rattle.muni_desk.specs.declared.status.Status.{Status}
 use Rattle.muni_desk.specs.declared.status.Status.TheVariants.{ReadFault, StoreFault, NoMemory, TooLarge}
@@ -39,6 +39,8 @@ Does source sink cabinet door ends told (Serve store port connections limit) sta
 Does source sink cabinet door ends told (Positions store desk) status old new before after = Lists sink cabinet store.items desk status old new
 Does source sink cabinet door ends told (Mark store) status old new before after = Marks source sink cabinet (IsRightAnswer ends) store.items status old new
 Does source sink cabinet door ends told (Figures store options) status old new before after = WritesFigures source sink cabinet (IsRightAnswer ends) store.items options status old new
+Does source sink cabinet door ends told (Check store desk) status old new before after = ChecksFigures source sink cabinet ends store.items desk status old new
+Does source sink cabinet door ends told CheckAlone status old new before after = ChecksAlone source sink ends status old new
 Does source sink cabinet door ends told (Export store wanted) status old new before after = Exports sink cabinet store.items wanted status old new
 Does source sink cabinet door ends told (Drill request) status old new before after = Says sink (IsAnswer ends (Drill request)) status old.output new.output
 Does source sink cabinet door ends told Help status old new before after = Says sink (IsAnswer ends Help) status old.output new.output
@@ -67,6 +69,8 @@ Spares (Mark store) StoreFault input output cabinet door = output × door
 Spares (Mark store) NoMemory input output cabinet door = output × door
 Spares (Mark store) status input output cabinet door = door
 Spares (Figures store options) status input output cabinet door = door
+Spares (Check store desk) status input output cabinet door = door
+Spares CheckAlone status input output cabinet door = cabinet × door
 Spares (Export store wanted) status input output cabinet door = input × door
 Spares (Drill request) status input output cabinet door = input × cabinet × door
 Spares Help status input output cabinet door = input × cabinet × door

@@ -24,4 +24,5 @@ help_text =
     ++ (codes "load --store --desk-limit\n"
     ++ (codes "check-store --store\n"
     ++ (codes "figures --store --workers --from --header --risk\n"
-    ++ codes "help\n"))))))))))))
+    ++ (codes "check --store --desk\n"
+    ++ codes "help\n")))))))))))))

@@ -7,6 +7,8 @@ use Rattle.muni_desk_io.specs.declared.fault.Fault.TheVariants as fault
 use Rattle.muni_desk_import.specs.declared.confirmations.Answered.{Answered}
 use Rattle.muni_desk_import.specs.declared.confirmations.Answered.TheVariants.{Confirmed}
 use Rattle.muni_desk_import.specs.declared.confirmations.Answered.TheVariants as answer
+use Rattle.muni_check.specs.declared.command.CheckEnd.{CheckEnd}
+use Rattle.muni_check.specs.declared.command.CheckEnd.TheVariants.{AllRight, NotAllRight, BadNames}
 use Rattle.muni_desk_serve.specs.Fault.{Outcome}
 use Rattle.muni_desk_serve.specs.declared.fault.ServeFault.TheVariants as serve
 
@@ -28,6 +30,13 @@ abbrev pub of_answered : Result Answered Fault → Status
 of_answered (Ok Confirmed) = Done
 of_answered (Ok answer.Refused) = Refused
 of_answered (Err why) = of_fault why
+
+-- of a check of figures
+abbrev pub of_checked : Result CheckEnd Fault → Status
+of_checked (Ok AllRight) = Done
+of_checked (Ok NotAllRight) = Refused
+of_checked (Ok BadNames) = Refused
+of_checked (Err why) = of_fault why
 
 -- of a run of connections
 abbrev pub of_served : Outcome → Status

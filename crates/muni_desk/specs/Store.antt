@@ -1,10 +1,13 @@
 -- What each command over a store does, by its status.
-use Rattle.std.specs.Prelude.{◌≡◌, ℕ, List, Result, IfSome, IsErrOf, OnOk}
+use Rattle.std.specs.Prelude.{◌≡◌, ℕ, ℤ, List, Option, Some, None, Result, IfSome, IsErrOf, OnOk}
+use Rattle.muni_rule.specs.Payments.{PaymentSeries}
+use Rattle.muni_rule.specs.WorthEnds.{WorthEnds}
 use Rattle.muni_edge.specs.Faults.{Rose}
 use Rattle.muni_edge.specs.declared.door.Door as Door
 use Rattle.muni_edge.specs.declared.sink.Sink as Sink
 use Rattle.muni_edge.specs.declared.source.Source as Source
 use Rattle.muni_keep.specs.Cabinet.{LeavesAll, LeavesOthers}
+use Rattle.muni_keep.specs.Tables.{no_tables}
 use Rattle.muni_keep.specs.declared.cabinet.Cabinet as Cabinet
 use Rattle.muni_book_step.specs.Step.{Pricing, Rules}
 use Rattle.muni_msg.specs.declared.command.Key.{Key}
@@ -22,13 +25,15 @@ use Rattle.muni_desk_import.specs.Reported.{Reported}
 use Rattle.muni_desk_positions.specs.Imported.{ImportedWith, DoesNoneOfTooMany}
 use Rattle.muni_desk_positions.specs.Listed.{Listed}
 use Rattle.muni_marks.specs.Marked.{Marked, MarksReported}
+use Rattle.muni_check.specs.Checked.{WroteChecked}
+use Rattle.muni_check.specs.Judging.{over}
 use Rattle.muni_figures.specs.Figured.{WroteFigures}
 use Rattle.muni_figures.specs.Line.{header}
 use Rattle.muni_figures.specs.Said.{IsToldOf}
 use Rattle.muni_figures.specs.declared.command.FiguresOptions.{FiguresOptions}
 use Rattle.muni_desk_serve.specs.Serves.{Traffic}
 use Rattle.muni_desk_serve.specs.Serving.{ServedStore}
-use Rattle.muni_desk.specs.Status.{of_answered, of_done, of_served}
+use Rattle.muni_desk.specs.Status.{of_answered, of_checked, of_done, of_served}
 use Rattle.muni_desk.specs.declared.status.Status.{Status}
 
 -- the status is that of a result, and this holds of the result
@@ -102,6 +107,26 @@ WritesFigures source sink cabinet Prices store options status old new =
     × CountsFaults source sink cabinet result old new
     × OnOk result (source.faults new.input ≡ source.faults old.input) × ReportsWrites sink result old.output new.output)
     × TakesSome source old.input new.input × LeavesAll cabinet old.cabinet new.cabinet
+
+-- the figures that another firm printed are checked over a store, and over a desk of it if one is named
+abbrev pub ChecksFigures : {I O C K : Type 0} → Source.Ghosts I → Sink.Ghosts O → Cabinet.Ghosts C K → (ends : PaymentSeries → ℤ → WorthEnds) → List ℕ → Option (List ℕ) → Status → (old new : Lent I O C) → Type 0
+ChecksFigures source sink cabinet ends store desk status old new =
+    EndsAs of_checked status (λ result. IfSome (source.left old.input) (λ text. WroteChecked (over ends desk (cabinet.told old.cabinet store))
+    text result (source.left new.input) (sink.bytes old.output) (sink.bytes new.output))
+    × CountsFaults source sink cabinet result old new
+    × ReportsReads source result old.input new.input × ReportsWrites sink result old.output new.output)
+    × TakesSome source old.input new.input × LeavesAll cabinet old.cabinet new.cabinet
+
+-- the same without a store: nothing is kept, so each row goes by the terms that it states
+abbrev pub ChecksAlone : {I O C : Type 0} → Source.Ghosts I → Sink.Ghosts O → (ends : PaymentSeries → ℤ → WorthEnds) → Status → (old new : Lent I O C) → Type 0
+ChecksAlone source sink ends status old new =
+    EndsAs of_checked status (λ result. IfSome (source.left old.input) (λ text. WroteChecked (over ends None (Some no_tables))
+    text result (source.left new.input) (sink.bytes old.output) (sink.bytes new.output))
+    × (IsErrOf result Read → Rose (source.faults old.input) (source.faults new.input))
+    × (IsErrOf result Write → Rose (sink.faults old.output) (sink.faults new.output))
+    × ¬ (IsErrOf result Store)
+    × ReportsReads source result old.input new.input × ReportsWrites sink result old.output new.output)
+    × TakesSome source old.input new.input
 
 -- what the store keeps, as it is wanted
 abbrev pub Exports : {I O C K : Type 0} → Sink.Ghosts O → Cabinet.Ghosts C K → List ℕ → Wanted → Status → (old new : Lent I O C) → Type 0

@@ -12,7 +12,7 @@ use Rattle.muni_desk_export.specs.declared.wanted.Wanted.TheVariants as want
 use Rattle.muni_figures.specs.declared.command.FiguresOptions.{FiguresOptions}
 use Rattle.muni_desk.specs.QuoteOptions.{risk_word, workers_of}
 use Rattle.muni_desk.specs.Words.{◌>>=◌, are_options, are_options_beside, has_word, value_of}
-use Rattle.muni_desk.specs.declared.command.DeskCommand.TheVariants.{Import, Load, Confirm, Serve, Positions, Mark, Figures, Export}
+use Rattle.muni_desk.specs.declared.command.DeskCommand.TheVariants.{Import, Load, Confirm, Serve, Positions, Mark, Figures, Check, CheckAlone, Export}
 use Rattle.muni_desk.specs.declared.command.CommandLine.{CommandLine}
 
 -- all options, each at most once
@@ -80,13 +80,13 @@ port_of words = value_of (codes "--port=") words >>= λ text. number_reading 20 
 abbrev pub connections_of : List (List ℕ) → Option ℕ
 connections_of words = value_of (codes "--connections=") words >>= λ text. number_reading 20 1 1_000_000 text
 
--- the desk whose positions are asked for, if those of any are
-abbrev pub listed_in : Option (List ℕ) → Option (Option (List ℕ))
-listed_in (Some text) = option_map Some (result_ok (name_reading is_desk_letter 16 text))
-listed_in None = Some None
+-- the desk that an option names, if it is there
+abbrev pub maybe_desk : Option (List ℕ) → Option (Option (List ℕ))
+maybe_desk (Some text) = option_map Some (result_ok (name_reading is_desk_letter 16 text))
+maybe_desk None = Some None
 
-abbrev pub listed_of : List (List ℕ) → Option (Option (List ℕ))
-listed_of words = listed_in (value_of (codes "--positions=") words)
+abbrev pub maybe_desk_of : (option : List ℕ) → List (List ℕ) → Option (Option (List ℕ))
+maybe_desk_of option words = maybe_desk (value_of option words)
 
 -- how many trades a desk may have: up to 100,000,000, and 100,000 if no number is given
 abbrev pub limit_in : Option (List ℕ) → Option ℕ
@@ -101,7 +101,7 @@ limit_of words = limit_in (value_of (codes "--desk-limit=") words)
 abbrev pub import_line : List (List ℕ) → Option CommandLine
 import_line words = do
   store ← store_of words
-  listed ← listed_of words
+  listed ← maybe_desk_of (codes "--positions=") words
   workers ← workers_of words
   limit ← limit_of words
   Some (record { command = Import store listed limit; workers = workers })
@@ -207,6 +207,19 @@ figures_line words = do
 abbrev pub figures_of : List (List ℕ) → Option CommandLine
 figures_of words =
     if are_options_beside figures_words figures_options figures_options words then figures_line words else None
+
+-- a check of figures over a store, and over the trades of a desk if one is named
+abbrev pub check_line : List (List ℕ) → Option CommandLine
+check_line words = do
+  store ← store_of words
+  desk ← maybe_desk_of (codes "--desk=") words
+  Some (record { command = Check store desk; workers = 1 })
+
+-- without words, a check by the terms that the rows state
+abbrev pub check_of : List (List ℕ) → Option CommandLine
+check_of [] = Some (record { command = CheckAlone; workers = 1 })
+check_of (word ∷ words) =
+    if are_options desk_options desk_options (word ∷ words) then check_line (word ∷ words) else None
 
 -- what is wanted: a desk, or the issues alone, or everything if neither is given
 abbrev pub wanted_in : Bool → Option (List ℕ) → Option Wanted

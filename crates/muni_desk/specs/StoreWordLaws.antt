@@ -18,11 +18,11 @@ pub record SaysStore (words : List (List ℕ)) (store : ArrayVec ℕ) : Type 0 w
   pub few : length store.items ≤ 200
   pub bytes : All (λ b. (33 ≤ b) × (b ≤ 126)) store.items
 
--- the desk whose positions are asked for, if those of any are
-abbrev pub SaysPositions : List (List ℕ) → Option (List ℕ) → Type 0
-SaysPositions words None = Lacks words (codes "--positions=")
-SaysPositions words (Some desk) =
-    Reads words (codes "--positions=") (λ text. name_reading is_desk_letter 16 text ≡ Ok desk)
+-- the desk that an option names, if it is there
+abbrev pub SaysMaybeDesk : List (List ℕ) → (option : List ℕ) → Option (List ℕ) → Type 0
+SaysMaybeDesk words option None = Lacks words option
+SaysMaybeDesk words option (Some desk) =
+    Reads words option (λ text. name_reading is_desk_letter 16 text ≡ Ok desk)
 
 -- how many trades a desk may have: from 1 to 100,000,000, and 100,000 if no number is given
 abbrev pub SaysLimit : List (List ℕ) → ℕ → Type 0
@@ -36,7 +36,7 @@ pub record IsImport (words : List (List ℕ)) (store : ArrayVec ℕ) (listed : O
   pub known : All (IsKnown import_options) words
   pub single : All (IsSingle words) import_options
   pub named : SaysStore words store
-  pub positions : SaysPositions words listed
+  pub positions : SaysMaybeDesk words (codes "--positions=") listed
   pub room : SaysLimit words limit
   pub at_once :
       ReadsOr words (codes "--workers=") (λ text. number_reading 20 1 16 text ≡ Some workers)
@@ -120,6 +120,13 @@ pub record IsFigures (words : List (List ℕ)) (store : ArrayVec ℕ) (options :
   pub at_once :
       ReadsOr words (codes "--workers=") (λ text. number_reading 20 1 16 text ≡ Some workers)
       (workers ≡ 1)
+
+-- words after `check` over a store: the store, and the desk whose trades rows name, if any
+pub record IsCheck (words : List (List ℕ)) (store : ArrayVec ℕ) (desk : Option (List ℕ)) : Type 0 where
+  pub known : All (IsKnown desk_options) words
+  pub single : All (IsSingle words) desk_options
+  pub named : SaysStore words store
+  pub of_desk : SaysMaybeDesk words (codes "--desk=") desk
 
 -- what is wanted of an export: a desk, or the issues alone by the word `--issues`, or everything by neither
 abbrev pub SaysWanted : List (List ℕ) → Wanted → Type 0

@@ -25,13 +25,13 @@ use Rattle.muni_desk.specs.QuoteOptions.{options, single_options}
 use Rattle.muni_desk.specs.DrillOptions as drill
 use Rattle.muni_desk.specs.Command.{command_of}
 use Rattle.muni_desk.specs.declared.command.DeskCommand.{DeskCommand}
-use Rattle.muni_desk.specs.declared.command.DeskCommand.TheVariants.{QuoteOne, Quote, Import, Load, Confirm, Serve, Positions, Mark, Figures, Export, Drill, Help}
+use Rattle.muni_desk.specs.declared.command.DeskCommand.TheVariants.{QuoteOne, Quote, Import, Load, Confirm, Serve, Positions, Mark, Figures, Check, CheckAlone, Export, Drill, Help}
 use Rattle.muni_desk.specs.declared.command.CommandLine.{CommandLine}
 use Rattle.muni_desk.specs.declared.drill.options.DrillRequest.{DrillRequest}
 use Rattle.muni_desk.specs.declared.quote_one.QuoteOneRequest.{QuoteOneRequest}
 use Rattle.muni_desk.specs.declared.request.QuoteRequest.{QuoteRequest}
 use Rattle.muni_desk.specs.OptionLaws.{IsOption, IsKnown, IsKnownBeside, AreOnceAtMost, Has, IsSingle, Says, Reads, Lacks, ReadsOr}
-use Rattle.muni_desk.specs.StoreWordLaws.{IsImport, IsConfirm, IsConfirmAll, IsLoad, IsServe, IsPositions, IsStoreAlone, IsFigures, IsExport, IsList}
+use Rattle.muni_desk.specs.StoreWordLaws.{IsImport, IsConfirm, IsConfirmAll, IsLoad, IsServe, IsPositions, IsStoreAlone, IsFigures, IsCheck, IsExport, IsList}
 
 -- ---- the options of `quote`
 -- the kind, and the first interest date exactly if it is `periodic`
@@ -194,6 +194,10 @@ IsSaid (name ∷ words) (Mark store) workers =
     (name ≡ codes "mark") × IsStoreAlone words store × (workers ≡ 1)
 IsSaid (name ∷ words) (Figures store options) workers =
     (name ≡ codes "figures") × IsFigures words store options workers
+IsSaid (name ∷ words) (Check store desk) workers =
+    (name ≡ codes "check") × IsCheck words store desk × (workers ≡ 1)
+IsSaid (name ∷ words) CheckAlone workers =
+    (name ≡ codes "check") × (words ≡ []) × (workers ≡ 1)
 IsSaid (name ∷ words) (Export store wanted) workers =
     AsksFor name words store wanted × (workers ≡ 1)
 IsSaid (name ∷ words) (Drill request) workers =

@@ -9,7 +9,7 @@ use crate::quote_one::{QuoteOneRequest, read_quote_one};
 use crate::quote_options::read_quote;
 use crate::request::QuoteRequest;
 use crate::store_options::{
-    read_check_store, read_confirm, read_export, read_figures, read_import, read_list, read_load,
+    read_check, read_check_store, read_confirm, read_export, read_figures, read_import, read_list, read_load,
     read_mark, read_positions, read_serve,
 };
 use arrayvec::ArrayVec;
@@ -59,6 +59,14 @@ pub enum DeskCommand {
         store: ArrayVec<u8, 200>,
         options: FiguresOptions,
     },
+    /// Whether figures that another firm printed are right, by the issues that a store keeps, and by the trades of
+    /// a desk if one is named.
+    Check {
+        store: ArrayVec<u8, 200>,
+        desk: Option<DeskName>,
+    },
+    /// Whether they are, each row by the terms of its issue that it states.
+    CheckAlone,
     /// What a store keeps, as it is wanted.
     Export {
         store: ArrayVec<u8, 200>,
@@ -108,6 +116,7 @@ fn read_over_store(name: &str, options: &[String]) -> Option<CommandLine>
         "serve" => read_serve(options),
         "mark" => read_mark(options),
         "figures" => read_figures(options),
+        "check" => read_check(options),
         other => read_of_kept(other, options),
     }
 }

@@ -21,6 +21,7 @@ list --store --desk\n\
 load --store --desk-limit\n\
 check-store --store\n\
 figures --store --workers --from --header --risk\n\
+check --store --desk\n\
 help\n";
 
 /// What is asked for if there are no words.

@@ -12,6 +12,7 @@ use crate::answers::{drill_answer, help_answer, quote_answer, quote_one_answer};
 use crate::command::read;
 use crate::{Answer, CommandLine, DeskCommand, Status};
 use muni_book::{Book, Calculator};
+use muni_check::{check, check_alone};
 use muni_desk_export::write_kept;
 use muni_desk_import::{confirm, import, load};
 use muni_desk_positions::{import_with_positions, positions};
@@ -34,7 +35,8 @@ use std::thread::Threads;
 /// any length. `confirm` writes the confirmation of a trade that a store keeps, or with `--all` those of
 /// all trades of a desk. `serve` answers the requests of connections that come in by a door. `positions`
 /// writes what a desk holds of each security, and `mark` what the rows of a portfolio are worth. `figures`
-/// writes the figures of each row of an input of any length. `export` writes rows of what a store keeps, which a load reads, and `list` a line on each trade of a desk.
+/// writes the figures of each row of an input of any length. `check` says which figures that another firm printed are
+/// right. `export` writes rows of what a store keeps, which a load reads, and `list` a line on each trade of a desk.
 /// `help` names the commands.
 /// Only the commands over a store allocate memory.
 // As many threads look for yields as the words name workers, and the gate is called when they begin
@@ -160,6 +162,12 @@ fn carry_out<
         DeskCommand::Figures { store, options } => Status::of_done(figures(
             calculator, alloc, &store, options, input, output, cabinet,
         )),
+        DeskCommand::Check { store, desk } => Status::of_checked(check(
+            calculator, alloc, &store, &desk, input, output, cabinet,
+        )),
+        DeskCommand::CheckAlone => {
+            Status::of_checked(check_alone(calculator, alloc, input, output))
+        }
         DeskCommand::Export { store, wanted } => {
             Status::of_done(write_kept(alloc, &store, &wanted, output, cabinet))
         }

@@ -1,9 +1,10 @@
 //! How a command ends, and what it says.
 
 ghost use Rattle.std.specs.Prelude.{◌≡◌};
-ghost use Rattle.muni_desk.specs.Status.{number_of, of_answered, of_done, of_fault, of_served};
+ghost use Rattle.muni_desk.specs.Status.{number_of, of_answered, of_checked, of_done, of_fault, of_served};
 
 use arrayvec::ArrayVec;
+use muni_check::CheckEnd;
 use muni_desk_import::Answered;
 use muni_desk_io::Fault;
 use muni_desk_serve::ServeFault;
@@ -15,7 +16,7 @@ pub enum Status {
     Done,
     /// The words are no command.
     Usage,
-    /// The answer is a refusal.
+    /// The answer is a refusal, or not all figures that were checked are right.
     Refused,
     /// The input failed.
     ReadFault,
@@ -49,6 +50,17 @@ impl Status {
         match answered {
             Ok(Answered::Confirmed) => Status::Done,
             Ok(Answered::Refused) => Status::Refused,
+            Err(fault) => Status::of_fault(fault),
+        }
+    }
+
+    /// The status of a check of figures.
+    pub fn of_checked(checked: Result<CheckEnd, Fault>) -> Status
+        ensures { result ≡ of_checked checked }
+    {
+        match checked {
+            Ok(CheckEnd::AllRight) => Status::Done,
+            Ok(CheckEnd::NotAllRight | CheckEnd::BadNames) => Status::Refused,
             Err(fault) => Status::of_fault(fault),
         }
     }

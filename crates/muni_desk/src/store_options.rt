@@ -59,7 +59,7 @@ pub fn read_import(words: &[String]) -> Option<CommandLine>
         return None;
     }
     let store = read_store(words)?;
-    let listed = read_listed(words)?;
+    let listed = read_maybe_desk(words, POSITIONS_OF)?;
     let workers = read_workers(words)?;
     let limit = read_limit(words)?;
     Some(CommandLine {
@@ -72,11 +72,11 @@ pub fn read_import(words: &[String]) -> Option<CommandLine>
     })
 }
 
-// The desk whose positions are asked for, if those of any are.
-fn read_listed(words: &[String]) -> Option<Option<DeskName>>
-    ensures { result ≡ spec.listed_of (map string_bytes words.now) }
+// The desk that an option names, if it is there.
+fn read_maybe_desk(words: &[String], option: &[u8]) -> Option<Option<DeskName>>
+    ensures { result ≡ spec.maybe_desk_of option.now (map string_bytes words.now) }
 {
-    match value_of(words, POSITIONS_OF) {
+    match value_of(words, option) {
         Some(text) => Some(Some(DeskName::read(text).ok()?)),
         None => Some(None),
     }
@@ -210,6 +210,28 @@ pub fn read_figures(words: &[String]) -> Option<CommandLine>
     Some(CommandLine {
         command: DeskCommand::Figures { store, options },
         workers,
+    })
+}
+
+/// What words ask for, if they are options of `check`, in any order. Without any the rows have the terms of
+/// their issues.
+pub fn read_check(words: &[String]) -> Option<CommandLine>
+    ensures { result ≡ spec.check_of (map string_bytes words.now) }
+{
+    if words.is_empty() {
+        return Some(CommandLine {
+            command: DeskCommand::CheckAlone,
+            workers: Workers::ONE,
+        });
+    }
+    if !are_options(words, &OF_DESK, &OF_DESK) {
+        return None;
+    }
+    let store = read_store(words)?;
+    let desk = read_maybe_desk(words, DESK)?;
+    Some(CommandLine {
+        command: DeskCommand::Check { store, desk },
+        workers: Workers::ONE,
     })
 }
 
