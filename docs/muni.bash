@@ -3,7 +3,7 @@
 # their place; from a clone `. docs/muni.bash` loads them.
 
 # Made of the launcher's tables by tests/documents/made_pages.py.
-_muni_commands='quote-one quote import confirm serve drill positions mark export list load check-store figures help'
+_muni_commands='quote-one quote import confirm serve drill positions mark export list load check-store figures check help'
 _muni_flags=' --each --risk --all --issues --header '
 
 _muni_options() {
@@ -20,6 +20,7 @@ _muni_options() {
     load) echo --store --desk-limit ;;
     check-store) echo --store ;;
     figures) echo --store --workers --from --header --risk ;;
+    check) echo --store --desk ;;
     esac
 }
 

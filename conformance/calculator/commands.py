@@ -5,7 +5,7 @@ import enum
 from collections.abc import Callable, Sequence
 from typing import NamedTuple
 
-from calculator import drill, exported, rows, valued
+from calculator import checked, drill, exported, rows, valued
 from calculator.book import Book, Confirm, refused_terms
 from calculator.figures import Choice, Refusal, answers, each_of, likely, quote_one
 from calculator.numerals import shown_figure
@@ -30,6 +30,7 @@ list --store --desk
 load --store --desk-limit
 check-store --store
 figures --store --workers --from --header --risk
+check --store --desk
 help
 """
 
@@ -114,6 +115,9 @@ def over_store(asked: OverStore, book: Book, data: bytes | Callable[[], bytes], 
             text = data if isinstance(data, bytes) else data()
             form = valued.Form(asked.first, asked.has_header, asked.is_risk)
             return said(valued.report(book, text, form, choose))
+        case "check":
+            lines, is_right = checked.report(book, asked.desk, data if isinstance(data, bytes) else data(), choose)
+            return said(lines, Status.DONE if is_right else Status.REFUSED)
         case _:
             text = data if isinstance(data, bytes) else data()
             return Said(Status.TOO_LARGE) if len(text) > MARKED_MAX else said(rows.marks(book, text, choose))

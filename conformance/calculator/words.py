@@ -20,6 +20,8 @@ QUOTED_PAR = 100
 SEEDS = 2**64
 GREATEST_LIMIT = 100_000_000
 GREATEST_PLACE = 2**63 - 1
+# The store of a check without one, which is empty.
+NO_STORE = ""
 # The options without a value.
 PLAIN = ("--each", "--risk", "--all", "--issues", "--header")
 
@@ -189,6 +191,8 @@ def quote(options: Options) -> QuoteTerms:
 
 
 def over_store(name: str, options: Options) -> OverStore:
+    if name == "check" and "store" not in options.values:
+        return OverStore(name, NO_STORE)
     store = options.one("store", store_name)
     match name:
         case "import":
@@ -214,6 +218,8 @@ def over_store(name: str, options: Options) -> OverStore:
             first = options.maybe("from", number(1, GREATEST_PLACE), 1)
             return OverStore(name, store, first=first, has_header=options.plain("header"),
                              is_risk=options.plain("risk"))
+        case "check":
+            return OverStore(name, store, options.maybe("desk", numerals.desk, ""))
         case "mark" | "check-store":
             return OverStore(name, store)
     raise Usage

@@ -70,6 +70,7 @@ list --store --desk
 load --store --desk-limit
 check-store --store
 figures --store --workers --from --header --risk
+check --store --desk
 help"""),
 }
 CONFIRMATION = """CONFIRMATION 1
@@ -118,6 +119,7 @@ FAULTS = [
     ("--store is missing", ("figures", "--header")),
     ("'--from=0' does not read", ("figures", "--store=S", "--from=0")),
     ("--header is given twice", ("figures", "--store=S", "--header", "--header")),
+    ("--desk is given only with --store", ("check", "--desk=A")),
     ("--desk is given twice", ("export", "--store=S", "--desk=A", "--desk=A")),
     ("at most one of --desk and --issues is given", ("export", "--store=S", "--desk=A", "--issues")),
     ("'--[x' is no option of quote", ("quote", "--[x=1")),
@@ -167,6 +169,7 @@ def test_each_status_is_said_on_standard_error(tmp_path):
     with open("/dev/full", "wb") as full:
         check(MUNI.run(*QUOTE, stdout=full), 5, "", "muni: status 5: *")
     check(MUNI.run("mark", f"--store={tmp_path}/S", rows=b"x" * 1_048_577), 9, "", "muni: status 9: *muni figures*")
+    check(MUNI.run("check", rows=b"x\n"), 3, "0,bad,2,1", "muni: status 3: not every row is right*")
 
 
 def test_the_rows_of_a_report_in_a_file_are_counted(tmp_path):

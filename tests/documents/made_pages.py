@@ -172,7 +172,7 @@ def pages():
     formats = read("docs/FORMATS.md")
     for title, names in {"### quote\n": ["quote"], "### drill\n": ["drill"],
                          "### Commands over a store\n": ["import", "confirm", "serve", "positions", "mark", "export",
-                                                         "list", "load", "check-store", "figures"]}.items():
+                                                         "list", "load", "check-store", "figures", "check"]}.items():
         before, found, after = formats.partition(title)
         head = re.search(r"\| option \|.*\n", after)
         end = re.search(r"\n\n", after[head.end():])

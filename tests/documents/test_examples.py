@@ -38,6 +38,12 @@ REQUESTS = (EXAMPLES / "http" / "requests").read_text().splitlines()
 EXCHANGES = [Exchange(int(status), *rest) for status, *rest in map(str.split, REQUESTS)]
 
 
+def test_the_figures_of_a_street_are_checked(muni, tmp_path):
+    said = muni.run("check", rows=(EXAMPLES / "street.csv").read_bytes(), folder=tmp_path)
+    assert said[:2] == (3, (EXAMPLES / "street.report").read_bytes())
+    assert not list(tmp_path.iterdir())
+
+
 @pytest.fixture(scope="module", params=KINDS)
 def book(request: pytest.FixtureRequest, muni: Program, tmp_path_factory) -> tuple[Store, list[Said]]:
     """A store into which the book was imported, and sent again, with what was said of it."""

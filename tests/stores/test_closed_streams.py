@@ -33,12 +33,14 @@ def test_a_closed_input_is_an_input_that_fails(book):
     assert book.store.state() == before
     # It opens the store before it reads, and so begins the log anew.
     assert closed(book, "<&-", "figures") == Said(4, b"")
+    assert closed(book, "<&-", "check") == Said(4, b"")
     assert book.store.file.read_bytes() == file
     assert book.has("T0001")
 
 
 @pytest.mark.parametrize("words", [("export",), ("list", "--desk=ALPHA"), ("confirm", "--desk=ALPHA", "--all"),
-                                   ("check-store",), ("figures",)], ids=lambda words: words[0])
+                                   ("check-store",), ("figures",), ("check", "--desk=ALPHA")],
+                         ids=lambda words: words[0])
 def test_rows_for_a_closed_output_get_into_no_file(book, words):
     book.report(ROWS)
     before = book.store.file.read_bytes()

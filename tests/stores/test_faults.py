@@ -19,6 +19,7 @@ from support.stores import KINDS, REPORT, ROWS, Store
 TRADES = ("T0001", "T0002")
 MARKS = b"123456AA3,25000,2024-04-01,4\n"
 HOLDINGS = b"123456AA3,25000,2024-04-01,yield,4\n123456AA3,10000,2024-04-01,price,100.725\n"
+PRINTED = b"reference,price,total\nT0001,100.725,25493.75\nT0002,100.725,10197.50\n"
 # What a call ends with, but for those that end with an error of the disk alone.
 ERRORS = {"open": (errno.EMFILE, errno.EACCES), "write": (errno.ENOSPC, errno.EPIPE),
           "pwrite": (errno.ENOSPC, errno.EIO), "ftruncate": (errno.EIO, errno.ENOSPC),
@@ -45,6 +46,7 @@ SCENES = {
     "positions": Scene("positions", ("--desk=ALPHA",), b"", "kept"),
     "mark": Scene("mark", (), MARKS, "kept"),
     "figures": Scene("figures", (), HOLDINGS, "kept"),
+    "check": Scene("check", ("--desk=ALPHA",), PRINTED, "kept"),
     "check-store": Scene("check-store", (), b"", "kept"),
     "import-again-without-a-log": Scene("import", (), ROWS, "bare"),
     "confirm-without-a-log": Scene("confirm", ("--desk=ALPHA", "--ref=T0001"), b"", "bare"),
@@ -54,7 +56,8 @@ SCENES = {
 READING = "open read write pread pwrite fdatasync fsync"
 CALLS = {
     "sqlite": {"first-import": READING + " ftruncate", "import-again": READING, "confirm": READING,
-               "positions": READING, "mark": READING, "figures": READING, "check-store": READING + " unlink",
+               "positions": READING, "mark": READING, "figures": READING, "check": READING,
+               "check-store": READING + " unlink",
                "import-again-without-a-log": READING + " rename unlink",
                "confirm-without-a-log": READING + " rename unlink",
                "confirm-by-a-seal": "open write pread pwrite fdatasync fsync",
@@ -106,10 +109,10 @@ def tried(call: str, count: int, is_long: bool) -> Iterator[Fault]:
 
 def wanted_status(scene: Scene, fault: Fault, count: int) -> int:
     """Of the input, the output or the store. An input is read up to its end, by two calls: the first of all, or the last
-    for `figures`, which opens the store before."""
+    for `figures` and `check`, which open the store before."""
     if fault.call == "write":
         return 5
-    inputs = range(count - 1, count + 1) if scene.command == "figures" else range(1, 3)
+    inputs = range(count - 1, count + 1) if scene.command in ("figures", "check") else range(1, 3)
     return 4 if fault.call == "read" and fault.at in inputs and scene.rows else 6
 
 

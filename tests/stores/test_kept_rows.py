@@ -130,6 +130,8 @@ def is_read(book) -> None:
                   ("confirm", "--desk=ALPHA", "--all"), ("check-store",), ("figures",)):
         said = book.said(*words)
         assert (said.status, bool(said.output)) == (0, True)
+    assert book.said("check", "--desk=ALPHA", rows="reference\nT0001\n") == Said(
+        3, b"1,right\n0,missing,T0002\nTOTAL,1,1,0,1\n")
     assert book.store.state() == before
 
 

@@ -31,7 +31,7 @@ def is_refused(book: Book) -> None:
     assert book.said("import", rows=ROWS) == REFUSED
     assert book.confirmed("T0001") == REFUSED
     assert book.said("positions", "--desk=ALPHA") == REFUSED
-    assert book.said("mark") == book.said("figures") == book.said("check-store") == REFUSED
+    assert book.said("mark") == book.said("figures") == book.said("check") == book.said("check-store") == REFUSED
     assert book.said("export") == book.said("export", "--issues") == book.said("export", "--desk=ALPHA") == REFUSED
     assert book.said("list", "--desk=ALPHA") == book.said("confirm", "--desk=ALPHA", "--all") == REFUSED
     assert book.said("serve", "--port=1", "--connections=1") == REFUSED
