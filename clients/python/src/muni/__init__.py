@@ -34,6 +34,7 @@ from datetime import date
 from decimal import Decimal
 from typing import Any, ClassVar, Union
 
+from ._checks import check
 from ._frames import figures, figures_by_part
 from ._program import Ended, Error, Path, ran
 from ._refusals import WORDS
@@ -43,7 +44,7 @@ __all__ = [
     "DayCount", "DeskFull", "Ended", "Error", "Figures", "GivenOutOfRange", "Issue", "Kind", "Label", "Listed", "NoTime", "PAGE",
     "Position", "REFUSALS", "Redemption", "Refused", "Risk", "SettleOutside", "Side", "Status", "Trade", "Unanswered",
     "Undecided", "UnknownIssue", "UnknownTrade", "VersionsFull", "WrongBasis", "WrongNumber", "YieldAbove",
-    "YieldBelow", "export", "figures", "figures_by_part", "read_confirmation", "read_figures", "read_issue",
+    "YieldBelow", "check", "export", "figures", "figures_by_part", "read_confirmation", "read_figures", "read_issue",
     "read_list", "read_positions",
 ]
 
