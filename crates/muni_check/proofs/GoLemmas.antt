@@ -59,9 +59,9 @@ pub names-append : (desk : Option (List ℕ)) (old mid new : References) (names 
 names-append None old mid new names more first second = tt
 names-append (Some desk) old mid new names more first second =
     λ reference.
-        second reference ∙ ap (λ b. is_named more reference || b) (first reference)
-        ∙ or-swap (is_named names reference) (is_named more reference) (has old reference)
-        ∙ ap (λ b. b || has old reference) (sym (list_any-append (λ other. is_same other reference) names more))
+    second reference ∙ ap (λ b. is_named more reference || b) (first reference)
+    ∙ or-swap (is_named names reference) (is_named more reference) (has old reference)
+    ∙ ap (λ b. b || has old reference) (sym (list_any-append (λ other. is_same other reference) names more))
 
 -- the rows up to one more
 pub rows-next : (rows : List Row) (i : ℕ) (row : Row) → i < length rows → row ≡ get_or rows i row → map fields_of (take (i + 1) rows) ≡ map fields_of (take i rows) ++ fields_of row ∷ []

@@ -78,7 +78,6 @@ maybe-desk-read words option (Some desk) single read =
 abbrev import_from : ArrayVec ℕ → Option (List ℕ) → (limit workers : ℕ) → CommandLine
 import_from store listed limit workers = record { command = Import store listed limit; workers = workers }
 
-
 pub read-import : (words : List (List ℕ)) (name : List ℕ) (line : CommandLine) → name ≡ codes "import" → import_of words ≡ Some line → IsCommandLine (name ∷ words) line
 read-import words name line named is =
     let options_read = if-some (are_options import_options import_options words) (import_line words) line is in

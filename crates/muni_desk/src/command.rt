@@ -9,8 +9,8 @@ use crate::quote_one::{QuoteOneRequest, read_quote_one};
 use crate::quote_options::read_quote;
 use crate::request::QuoteRequest;
 use crate::store_options::{
-    read_check, read_check_store, read_confirm, read_export, read_figures, read_import, read_list, read_load,
-    read_mark, read_positions, read_serve,
+    read_check, read_check_store, read_confirm, read_export, read_figures, read_import, read_list,
+    read_load, read_mark, read_positions, read_serve,
 };
 use arrayvec::ArrayVec;
 use muni_book::Workers;
