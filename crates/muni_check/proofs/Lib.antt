@@ -1,4 +1,9 @@
+pub mod CheckLemmas
+pub mod ColumnLemmas
+pub mod EndLemmas
 pub mod GoLemmas
+pub mod LawLemmas
 pub mod StateLemmas
+pub mod ToldLemmas
 pub mod UnseenLemmas
 pub mod WriteLemmas

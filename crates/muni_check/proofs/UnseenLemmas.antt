@@ -5,22 +5,29 @@ use Rattle.std.specs.List.{filter}
 use Rattle.std.proofs.lemmas.List.{at_drop_more, take-append-drop, map-append, append-nil}
 use Rattle.std.proofs.lemmas.List.Elements.{filter-append}
 use Rattle.muni_msg.specs.declared.command.Line.{Line}
+use Rattle.std.specs.FinMap.{entries}
+use Rattle.muni_msg.specs.declared.version.Version.{Version}
+use Rattle.muni_keep.specs.History.{History}
 use Rattle.muni_keep.specs.Tables.{Tables, line, page_at}
 use Rattle.muni_keep.specs.Trades.{own, trades_past}
 use Rattle.muni_keep.proofs.EntriesLemmas.{past-next, all_pass}
 use Rattle.muni_check.specs.Unseen.{is_unseen, unseen_at, unseen_of}
 
 -- ---- the trades of a page
-left-by : (is_named : List ℕ → Bool) (trade : Line) (rest : List Line) (is : Bool) → is_unseen is_named trade ≡ is
-    → unseen_of is_named (trade ∷ rest) ≡ (if is then trade.reference ∷ unseen_of is_named rest else unseen_of is_named rest)
-left-by is_named trade rest true is = rw is refl
-left-by is_named trade rest false is = rw is refl
+pub unseen-append : (is_named : List ℕ → Bool) (page more : List Line) → unseen_of is_named (page ++ more) ≡ unseen_of is_named page ++ unseen_of is_named more
+unseen-append is_named page more =
+    ap (map (λ (trade : Line). trade.reference)) (filter-append (is_unseen is_named) page more)
+    ∙ map-append (λ (trade : Line). trade.reference) (filter (is_unseen is_named) page) (filter (is_unseen is_named) more)
 
-pub unseen-next : (is_named : List ℕ → Bool) (page : List Line) (i : ℕ) (trade : Line) (is : Bool) → i < length page → trade ≡ get_or page i trade → is_unseen is_named trade ≡ is
-    → unseen_of is_named (drop i page) ≡ (if is then trade.reference ∷ unseen_of is_named (drop (i + 1) page) else unseen_of is_named (drop (i + 1) page))
-unseen-next is_named page i trade is inside here test =
-    let next : drop i page ≡ trade ∷ drop (i + 1) page = at_drop_more (λ ys. ys) page i trade inside ∙ ap (λ t. t ∷ drop (i + 1) page) (sym here) in
-    ap (unseen_of is_named) next ∙ left-by is_named trade (drop (i + 1) page) is test
+pub unseen-one : (is_named : List ℕ → Bool) (trade : Line) (is : Bool) → is_unseen is_named trade ≡ is → unseen_of is_named (trade ∷ []) ≡ (if is then trade.reference ∷ [] else [])
+unseen-one is_named trade true is = rw is refl
+unseen-one is_named trade false is = rw is refl
+
+pub unseen-next : (is_named : List ℕ → Bool) (page : List Line) (i : ℕ) (trade : Line) → i < length page → trade ≡ get_or page i trade
+    → unseen_of is_named (drop i page) ≡ unseen_of is_named (trade ∷ []) ++ unseen_of is_named (drop (i + 1) page)
+unseen-next is_named page i trade inside here =
+    at_drop_more (unseen_of is_named) page i trade inside ∙ ap (λ t. unseen_of is_named (t ∷ drop (i + 1) page)) (sym here)
+    ∙ unseen-append is_named (trade ∷ []) (drop (i + 1) page)
 
 -- ---- the pages of a desk
 -- the trades of a desk after a reference, each with its last version
@@ -70,12 +77,8 @@ AreBefore told desk is_named after unseen =
 
 pub before-none : (told : Option Tables) (desk : List ℕ) (is_named : List ℕ → Bool) → AreBefore told desk is_named None []
 before-none None desk is_named = tt
-before-none (Some tables) desk is_named = ap (λ trades. unseen_of is_named (map line trades)) (all_pass _)
-
-unseen-append : (is_named : List ℕ → Bool) (page more : List Line) → unseen_of is_named (page ++ more) ≡ unseen_of is_named page ++ unseen_of is_named more
-unseen-append is_named page more =
-    ap (map (λ (trade : Line). trade.reference)) (filter-append (is_unseen is_named) page more)
-    ∙ map-append (λ (trade : Line). trade.reference) (filter (is_unseen is_named) page) (filter (is_unseen is_named) more)
+before-none (Some tables) desk is_named =
+    ap (λ (trades : List (List ℕ × History Version)). unseen_of is_named (map line trades)) (all_pass (entries (own desk tables.desks)))
 
 pub before-page : (told : Option Tables) (desk : List ℕ) (is_named : List ℕ → Bool) (after : Option (List ℕ)) (page : List Line) (last : Line) (unseen : List (List ℕ))
     → IfSome told (λ t. page ≡ page_at t desk after) → slice_get page (length page - 1) ≡ Some last → AreBefore told desk is_named after unseen

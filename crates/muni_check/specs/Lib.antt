@@ -2,8 +2,10 @@ pub mod Answer
 pub mod Cache
 pub mod Checked
 pub mod Columns
+pub mod Ends
 pub mod GoesOn
 pub mod Judging
+pub mod Laws
 pub mod Line
 pub mod Named
 pub mod Next

@@ -46,6 +46,10 @@ with_said tally said =
       missing = tally.missing + once (is_missing said);
     }
 
+-- with so many missing trades more
+abbrev pub with_missing : Tally → ℕ → Tally
+with_missing tally more = record tally { missing = tally.missing + more }
+
 -- no count of rows is greater than that of all
 pub record IsSmall (tally : Tally) : Type 0 where
   pub right : tally.right ≤ tally.rows

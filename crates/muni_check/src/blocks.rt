@@ -32,6 +32,7 @@ impl Blocks {
     /// Takes the next piece of the input. Returns the records that are whole with it, as a text of their own, and at
     /// the end what is held.
     pub(crate) fn next<I: Source>(&mut self, alloc: Global, input: &mut I) -> Result<Vec<u8>, Fault>
+        requires { self.old.ended ≡ false }
         ensures { GivesBlock I.Source result self.old self.new input.old input.new }
     {
         let mut room = [0u8; 16_384];

@@ -14,8 +14,8 @@ use muni_terms::Issue;
 use std::alloc::Global;
 use std::collections::{BTreeMap, BTreeSet};
 
-// So many CUSIPs are held at most, found and missing ones together.
-const MOST: usize = 4_096;
+// So many found CUSIPs are held at most, and as many missing ones.
+const MOST: usize = 2_048;
 
 /// What is known of the CUSIPs of rows.
 #[derive(Drop)]
@@ -35,16 +35,28 @@ impl IssueCache {
         }
     }
 
-    /// Asks the keeper for the issue of a CUSIP, if it is not known. After so many others these are forgotten first.
+    /// Asks the keeper for the issue of a CUSIP, if it is not known.
     pub(crate) fn hold<K: Keeper>(
         &mut self,
         alloc: Global,
         keeper: &mut K,
         cusip: &[u8; 9],
-    ) -> Result<(), KeepFault> {
-        if self.issues.len() + self.missing.len() >= MOST {
+    ) -> Result<(), KeepFault>
+        requires { IfSome (K.tables keeper.old) (λ t. IsSoundCache t self.old) }
+        ensures sound { OnOk result (IfSome (K.tables keeper.old) (λ t. IsSoundCache t self.new)) }
+        ensures known { OnOk result (IfSome (K.tables keeper.old) (λ t. IsKnown t (tree.get by_bytes self.new.issues) cusip.now)) }
+        ensures reads { OnlyReads K.Keeper result keeper.old keeper.new }
+    {
+        self.make_room(alloc);
+        ask(keeper, cusip, &mut self.issues, &mut self.missing)
+    }
+
+    // Forgets all CUSIPs if no more may be held.
+    fn make_room(&mut self, alloc: Global)
+        ensures { (tables : Tables) → IsSoundCache tables self.old → IsSoundCache tables self.new }
+    {
+        if self.issues.len() >= MOST || self.missing.len() >= MOST {
             *self = IssueCache::new(alloc);
         }
-        ask(keeper, cusip, &mut self.issues, &mut self.missing)
     }
 }

@@ -1,6 +1,6 @@
 //! The columns of an input.
 
-ghost use Rattle.std.specs.Prelude.{◌≡◌, ◌<◌, IfErr, IfOk, IfSome, OnOk, Ok, Err};
+ghost use Rattle.std.specs.Prelude.{◌≡◌, ◌<◌, IfErr, IfOk, IfSome, OnOk, Ok, Err, Some};
 ghost use Rattle.csv.specs.Records.{fields_of};
 ghost use Rattle.muni_check.specs.Columns as spec;
 
@@ -139,10 +139,19 @@ pub(crate) fn read_columns(names: &ByteRecord) -> Result<Columns, RowFault>
     ensures refused { IfErr result (λ fault. spec.columns_in (fields_of names.now) ≡ Err fault) }
 {
     let mut columns = ArrayVec::new();
-    for name in names {
-        add_column(&mut columns, name)?;
+    for place in 0..names.len() {
+        add_column(&mut columns, name_at(names, place))?;
     }
     Ok(columns)
+}
+
+fn name_at(names: &ByteRecord, place: usize) -> &[u8]
+    ensures { result.now ≡ spec.text_at (fields_of names.now) (Some place) }
+{
+    match names.get(place) {
+        Some(name) => name,
+        None => b"",
+    }
 }
 
 // Adds the column of a name.

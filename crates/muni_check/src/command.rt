@@ -1,19 +1,22 @@
 //! The command over rows of figures of any number.
 
-ghost use Rattle.std.specs.Prelude.{◌≡◌, None, Some, IfSome, IsErrOf, OnOk};
+ghost use Rattle.std.specs.Prelude.{◌≡◌, ◌<◌, ◌^◌, [], None, Some, IfOk, IfSome, IsErrOf};
 ghost use Rattle.muni_edge.specs.Faults.{Rose};
 ghost use Rattle.muni_keep.specs.Cabinet.{LeavesAll};
 ghost use Rattle.muni_keep.specs.Keeper.{SameKeeper};
 ghost use Rattle.muni_keep.specs.Tables.{no_tables};
 ghost use Rattle.muni_desk_io.specs.Reports.{ReportsReads, ReportsWrites};
 ghost use Rattle.muni_check.specs.Checked.{TakesSome, WroteChecked};
+ghost use Rattle.muni_check.specs.Ends.{BeginsEnd, BeginsInputEnd, EndsInput, EndsRows, RefusesNames, WritesEnd, WritesMissing, WritesTotal};
 ghost use Rattle.muni_check.specs.Judging.{over};
+ghost use Rattle.muni_check.specs.Tallies.{IsSmall};
 
 use crate::blocks::Blocks;
 use crate::judging::Judge;
 use crate::line::{add_line, total_line};
-use crate::rows::{BlockDone, SoFar, do_block};
+use crate::rows::{BlockDone, Progress, SoFar, do_block};
 use crate::said::CheckSaid;
+use crate::tally::Tally;
 use crate::unseen::write_unseen;
 use muni_book::Calculator;
 use muni_desk_io::{Fault, write};
@@ -131,7 +134,12 @@ fn refuse_names<O: Sink>(
     alloc: Global,
     fault: RowFault,
     output: &mut O,
-) -> Result<CheckEnd, Fault> {
+) -> Result<CheckEnd, Fault>
+    ensures written { WritesEnd (RefusesNames fault) (λ text. text ≡ []) result (O.bytes output.old) (O.bytes output.new) }
+    ensures not_store { ¬ (IsErrOf result Fault.Store) }
+    ensures writes { ReportsWrites O.Sink result output.old output.new }
+    ensures write_failed { IsErrOf result Fault.Write → Rose (O.faults output.old) (O.faults output.new) }
+{
     let mut line = Vec::new(alloc);
     add_line(&mut line, 0, &CheckSaid::Bad(fault))?;
     write(&line, output)?;
@@ -145,15 +153,71 @@ fn finish<K: Keeper, O: Sink>(
     so_far: &SoFar,
     keeper: &mut K,
     output: &mut O,
-) -> Result<CheckEnd, Fault> {
-    if so_far.columns.is_none() {
-        return refuse_names(alloc, RowFault::FieldCount, output);
+) -> Result<CheckEnd, Fault>
+    requires { IsSmall so_far.now.progress.tally }
+    ensures written { WritesEnd (EndsInput desk.now (K.tables keeper.old) so_far.now.columns so_far.now.progress)
+        (BeginsInputEnd desk.now (K.tables keeper.old) so_far.now.columns so_far.now.progress)
+        result (O.bytes output.old) (O.bytes output.new) }
+    ensures writes { ReportsWrites O.Sink result output.old output.new }
+    ensures write_failed { IsErrOf result Fault.Write → Rose (O.faults output.old) (O.faults output.new) }
+    ensures same { SameKeeper K.Keeper Fault.Store result keeper.old keeper.new }
+    ensures unchanged { K.tables keeper.new ≡ K.tables keeper.old }
+{
+    match &so_far.columns {
+        Some(_) => finish_rows(alloc, desk, &so_far.progress, keeper, output),
+        None => refuse_names(alloc, RowFault::FieldCount, output),
     }
-    let mut tally = so_far.progress.tally;
-    if let Some(desk) = desk {
-        tally.missing += write_unseen(alloc, keeper, desk, &so_far.progress.named, output)?;
+}
+
+// The lines of trades for which no row came, and the total.
+fn finish_rows<K: Keeper, O: Sink>(
+    alloc: Global,
+    desk: &Option<DeskName>,
+    progress: &Progress,
+    keeper: &mut K,
+    output: &mut O,
+) -> Result<CheckEnd, Fault>
+    requires { IsSmall progress.now.tally }
+    ensures written { WritesEnd (EndsRows desk.now (K.tables keeper.old) progress.now)
+        (BeginsEnd desk.now (K.tables keeper.old) progress.now)
+        result (O.bytes output.old) (O.bytes output.new) }
+    ensures writes { ReportsWrites O.Sink result output.old output.new }
+    ensures write_failed { IsErrOf result Fault.Write → Rose (O.faults output.old) (O.faults output.new) }
+    ensures same { SameKeeper K.Keeper Fault.Store result keeper.old keeper.new }
+    ensures unchanged { K.tables keeper.new ≡ K.tables keeper.old }
+{
+    let missing = write_missing(alloc, desk, progress, keeper, output)?;
+    write_total(&progress.tally.with_missing(missing), output)
+}
+
+// The lines of the live trades of a desk for which no row came, if there is a desk. Returns how many they are.
+fn write_missing<K: Keeper, O: Sink>(
+    alloc: Global,
+    desk: &Option<DeskName>,
+    progress: &Progress,
+    keeper: &mut K,
+    output: &mut O,
+) -> Result<u128, Fault>
+    ensures written { WritesMissing desk.now (K.tables keeper.old) progress.now result (O.bytes output.old) (O.bytes output.new) }
+    ensures few { IfOk result (λ count. count < 2 ^ 70) }
+    ensures writes { ReportsWrites O.Sink result output.old output.new }
+    ensures write_failed { IsErrOf result Fault.Write → Rose (O.faults output.old) (O.faults output.new) }
+    ensures same { SameKeeper K.Keeper Fault.Store result keeper.old keeper.new }
+    ensures unchanged { K.tables keeper.new ≡ K.tables keeper.old }
+{
+    match desk {
+        Some(desk) => write_unseen(alloc, keeper, desk, &progress.named, output),
+        None => Ok(0),
     }
-    write(&total_line(&tally), output)?;
+}
+
+// The line of the total, and how the check ends.
+fn write_total<O: Sink>(tally: &Tally, output: &mut O) -> Result<CheckEnd, Fault>
+    ensures written { WritesTotal tally.now result (O.bytes output.old) (O.bytes output.new) }
+    ensures writes { ReportsWrites O.Sink result output.old output.new }
+    ensures write_failed { IsErrOf result Fault.Write → Rose (O.faults output.old) (O.faults output.new) }
+{
+    write(&total_line(tally), output)?;
     if tally.are_all_right() {
         Ok(CheckEnd::AllRight)
     } else {

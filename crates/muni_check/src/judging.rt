@@ -1,9 +1,11 @@
 //! The figures of a row beside those of the rule.
 
 ghost use Rattle.std.specs.Prelude.{◌≡◌, IfOk, IfSome, OnOk, option_map};
+ghost use Rattle.std.specs.BTreeMap as tree;
 ghost use Rattle.csv.specs.Records.{fields_of};
 ghost use Rattle.muni_keep.specs.Keeper.{OnlyReads};
 ghost use Rattle.muni_keep.specs.Tables.{Tables, issue_at, last_at};
+ghost use Rattle.muni_keep.specs.Trades.{by_bytes};
 ghost use Rattle.muni_terms.specs.Check.{checked};
 ghost use Rattle.muni_check.specs.Cache.{IsSoundCache};
 ghost use Rattle.muni_check.specs.Judging.{rule};
@@ -74,17 +76,36 @@ impl<'a, R: Threads + Sync, E: Encloser + Sync, G: Gate + Sync> Judge<'a, R, E, 
         ensures desk { self.new.desk ≡ self.old.desk }
         ensures reads { OnlyReads K.Keeper result keeper.old keeper.new }
     {
-        let CheckRow {
-            asked,
-            stated,
-            terms,
-        } = match read_row(fields, known) {
-            Ok(row) => row,
-            Err(fault) => return Ok(CheckSaid::Bad(fault)),
-        };
+        match read_row(fields, known) {
+            Ok(CheckRow {
+                asked,
+                stated,
+                terms,
+            }) => self.judge_row(keeper, &asked, &stated, terms),
+            Err(fault) => Ok(CheckSaid::Bad(fault)),
+        }
+    }
+
+    // A row goes by the terms that it states, and else by the kept issue of its CUSIP.
+    fn judge_row<K: Keeper>(
+        &mut self,
+        keeper: &mut K,
+        asked: &Asked,
+        stated: &Stated,
+        terms: Option<IssueRow>,
+    ) -> Result<CheckSaid, KeepFault>
+        requires { IfSome (K.tables keeper.old) (λ t. IsSoundCache t self.old.issues) }
+        ensures said { IfOk result (λ said. IfSome (K.tables keeper.old) (λ t.
+            spec.IsJudged (rule (E.ends self.old.calculator.now.encloser.now)) (issue_at t) asked.now stated.now terms said)) }
+        ensures sound { OnOk result (IfSome (K.tables keeper.old) (λ t. IsSoundCache t self.new.issues)) }
+        ensures name { IfOk result HasName }
+        ensures calculator { self.new.calculator ≡ self.old.calculator }
+        ensures desk { self.new.desk ≡ self.old.desk }
+        ensures reads { OnlyReads K.Keeper result keeper.old keeper.new }
+    {
         match terms {
-            Some(terms) => Ok(self.by_terms(terms, &asked, &stated)),
-            None => self.by_kept(keeper, &asked, &stated),
+            Some(terms) => Ok(self.by_terms(terms, asked, stated)),
+            None => self.by_kept(keeper, asked, stated),
         }
     }
 
@@ -119,9 +140,21 @@ impl<'a, R: Threads + Sync, E: Encloser + Sync, G: Gate + Sync> Judge<'a, R, E, 
         ensures reads { OnlyReads K.Keeper result keeper.old keeper.new }
     {
         self.issues.hold(self.alloc, keeper, &asked.cusip)?;
+        Ok(self.by_held(asked, stated))
+    }
+
+    // A row of an issue that is held, or of none.
+    fn by_held(&mut self, asked: &Asked, stated: &Stated) -> CheckSaid
+        ensures said { spec.IsJudgedByKept (rule (E.ends self.old.calculator.now.encloser.now)) asked.now stated.now
+            (tree.get by_bytes self.old.issues.issues asked.now.cusip) result }
+        ensures name { HasName result }
+        ensures issues { self.new.issues ≡ self.old.issues }
+        ensures calculator { self.new.calculator ≡ self.old.calculator }
+        ensures desk { self.new.desk ≡ self.old.desk }
+    {
         match self.issues.issues.get(&asked.cusip) {
-            Some(issue) => Ok(compared(self.calculator, issue, asked, stated, &mut self.schedule)),
-            None => Ok(refused_said(&Refusal::UnknownIssue)),
+            Some(issue) => compared(self.calculator, issue, asked, stated, &mut self.schedule),
+            None => refused_said(&Refusal::UnknownIssue),
         }
     }
 }

@@ -6,6 +6,7 @@ mod cache;
 mod column;
 mod command;
 mod judging;
+pub mod laws;
 mod line;
 mod named;
 mod records;

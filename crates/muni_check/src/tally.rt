@@ -1,6 +1,6 @@
 //! How many rows there are, and what is said of them.
 
-ghost use Rattle.std.specs.Prelude.{◌≡◌, ◌≤◌, ◌+◌, ◌^◌, OnErr, OnOk, IsOkUnless};
+ghost use Rattle.std.specs.Prelude.{◌≡◌, ◌<◌, ◌≤◌, ◌+◌, ◌^◌, OnErr, OnOk, IsOkUnless};
 ghost use Rattle.muni_check.specs.Tallies as spec;
 
 use crate::said::CheckSaid;
@@ -48,6 +48,18 @@ impl Tally {
             CheckSaid::Undecided { .. } | CheckSaid::Refused { .. } | CheckSaid::Bad(_) => {}
         }
         Ok(())
+    }
+
+    /// With so many missing trades more.
+    pub(crate) fn with_missing(&self, more: u128) -> Tally
+        requires small { spec.IsSmall self.now }
+        requires few { more < 2 ^ 70 }
+        ensures { result ≡ spec.with_missing self.now more }
+    {
+        Tally {
+            missing: self.missing + more,
+            ..*self
+        }
     }
 
     /// Every row is right, and no trade is missing.

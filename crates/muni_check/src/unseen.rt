@@ -1,6 +1,6 @@
 //! The trades of a desk for which no row came.
 
-ghost use Rattle.std.specs.Prelude.{◌≡◌, ◌<◌, ◌≤◌, ◌^◌, length, IfOk, IsErrOf};
+ghost use Rattle.std.specs.Prelude.{◌≡◌, ◌+◌, ◌<◌, ◌≤◌, ◌^◌, ◌++◌, [], ◌∷◌, length, IfOk, IsErrOf, OnOk};
 ghost use Rattle.muni_edge.specs.Faults.{Rose};
 ghost use Rattle.muni_keep.specs.Keeper.{SameKeeper};
 ghost use Rattle.muni_desk_io.specs.Reports.{ReportsWrites};
@@ -69,15 +69,29 @@ fn lines_of(alloc: Global, page: &[Line], named: &Named) -> Result<UnseenLines, 
         count: 0,
     };
     for trade in page {
-        if is_unseen(trade, named) {
-            let said = CheckSaid::Missing {
-                reference: trade.reference.copy(),
-            };
-            add_line(&mut lines.text, 0, &said)?;
-            lines.count += 1;
-        }
+        add_unseen(&mut lines, trade, named)?;
     }
     Ok(lines)
+}
+
+// Adds the line of a trade, if no row named it.
+fn add_unseen(lines: &mut UnseenLines, trade: &Line, named: &Named) -> Result<(), NoMemory>
+    requires { lines.old.count + 1 < 2 ^ 64 }
+    ensures text { OnOk result (lines.new.text.items
+        ≡ lines.old.text.items ++ unseen_lines (spec.unseen_of (has named.now) (trade.now ∷ []))) }
+    ensures count { OnOk result (lines.new.count
+        ≡ lines.old.count + length (spec.unseen_of (has named.now) (trade.now ∷ []))) }
+    ensures few { OnOk result (lines.new.count ≤ lines.old.count + 1) }
+{
+    if !is_unseen(trade, named) {
+        return Ok(());
+    }
+    let said = CheckSaid::Missing {
+        reference: trade.reference.copy(),
+    };
+    add_line(&mut lines.text, 0, &said)?;
+    lines.count += 1;
+    Ok(())
 }
 
 // A live trade whose reference no row named.

@@ -244,3 +244,17 @@ periodic,2020-08-28,2021-02-28,2030-08-28,4,,,100000,2023-03-31,price,100,,344.4
     assert_eq!(rt; end, CheckEnd::NotAllRight);
     Ok(())
 }
+
+// An input is read 16,384 bytes at a time, so its rows end within a piece and not with it.
+#[test]
+fn rows_go_on_over_the_pieces_of_an_input(rt: HostRuntime) -> Result<(), Fail> {
+    let mut text = String::from_str(rt.alloc(), "cusip,par,settle,basis,value,price\n")?;
+    for _ in 0..1_000 {
+        text.push_str("123456AA3,25000,2024-04-01,\"yield\",4,100.725\r\n")?;
+    }
+    let (end, lines) = checked(&rt, rt.alloc(), None, &text)?;
+    assert_eq!(rt; end, CheckEnd::AllRight);
+    assert!(rt; lines.starts_with("1,right/2,right/"));
+    assert!(rt; lines.ends_with("/999,right/1000,right/TOTAL,1000,1000,0,0"));
+    Ok(())
+}
