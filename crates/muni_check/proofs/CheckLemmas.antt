@@ -152,6 +152,7 @@ stopped-by : (over : Over) (text : List ℕ) (left now : Option (List ℕ)) (end
 stopped-by over text left now ended block held so_far had has fault taken of_rows many = by fault of_rows many
   where
     all = all-records over text left ended block held so_far had has taken
+
     first : IsFirstText over (records_of text) taken.lines
     first = record {
       done = taken.done;
@@ -159,6 +160,7 @@ stopped-by over text left now ended block held so_far had has fault taken of_row
       split = sym (append_assoc taken.done (records_of block) all.0) ∙ sym all.1;
       lines = done-lines over taken.done so_far taken.lines taken.are;
     }
+
     by : (fault : Fault) → IsOfRows fault → (fault ≡ TooLarge → 2 ^ 64 ≤ so_far.progress.tally.rows + length (records_of block)) → WroteChecked over text (Err fault) now had has
     by Store of_rows many = (taken.lines, inl first, taken.written)
     by NoMemory of_rows many = (taken.lines, inl first, taken.written)

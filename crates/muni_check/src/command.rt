@@ -130,11 +130,7 @@ fn check_over<R: Threads + Sync, K: Keeper, I: Source, O: Sink, E: Encloser + Sy
 }
 
 // The line of names that are no columns.
-fn refuse_names<O: Sink>(
-    alloc: Global,
-    fault: RowFault,
-    output: &mut O,
-) -> Result<CheckEnd, Fault>
+fn refuse_names<O: Sink>(alloc: Global, fault: RowFault, output: &mut O) -> Result<CheckEnd, Fault>
     ensures written { WritesEnd (RefusesNames fault) (λ text. text ≡ []) result (O.bytes output.old) (O.bytes output.new) }
     ensures not_store { ¬ (IsErrOf result Fault.Store) }
     ensures writes { ReportsWrites O.Sink result output.old output.new }

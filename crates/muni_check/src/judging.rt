@@ -77,11 +77,13 @@ impl<'a, R: Threads + Sync, E: Encloser + Sync, G: Gate + Sync> Judge<'a, R, E, 
         ensures reads { OnlyReads K.Keeper result keeper.old keeper.new }
     {
         match read_row(fields, known) {
-            Ok(CheckRow {
-                asked,
-                stated,
-                terms,
-            }) => self.judge_row(keeper, &asked, &stated, terms),
+            Ok(
+                CheckRow {
+                    asked,
+                    stated,
+                    terms,
+                },
+            ) => self.judge_row(keeper, &asked, &stated, terms),
             Err(fault) => Ok(CheckSaid::Bad(fault)),
         }
     }

@@ -54,10 +54,12 @@ returns-in_err-write-clause-written g c =
     let text = c.deref-in-pages.ensures.value ∙ rw c.as_slice.ensures.value at c.in_ok-lines.ensures.text in
     let part = rw text at c.in_err-write.ensures.part in
     let p = err_from_is_err_and c.from_residual-in_err-write.result c.from_residual-in_err-write.ensures.1 in
-    rw (p.1, p.2, c.in_err-write.ensures.only)
-    (all, first-unseen told c.args.desk.now named (Some c.in-Some.last.now.reference) all before,
-    subst (HasWrittenPart (g.O.Sink.bytes c.args.output.now) (g.O.Sink.bytes c.write.new.output)) (sym (lines-of-more inv.unseen (unseen_of named page)))
-    (written-part (g.O.Sink.bytes c.args.output.now) (g.O.Sink.bytes c.pages.output) (g.O.Sink.bytes c.write.new.output) (unseen_lines inv.unseen) (unseen_lines (unseen_of named page)) inv.written part))
+    rw (p.1, p.2, c.in_err-write.ensures.only) (
+      all,
+      first-unseen told c.args.desk.now named (Some c.in-Some.last.now.reference) all before,
+      subst (HasWrittenPart (g.O.Sink.bytes c.args.output.now) (g.O.Sink.bytes c.write.new.output)) (sym (lines-of-more inv.unseen (unseen_of named page)))
+          (written-part (g.O.Sink.bytes c.args.output.now) (g.O.Sink.bytes c.pages.output) (g.O.Sink.bytes c.write.new.output) (unseen_lines inv.unseen) (unseen_lines (unseen_of named page)) inv.written part),
+    )
 
 pub pages-preserved : goal.pages-preserved
 pages-preserved g c =
