@@ -3,15 +3,19 @@ use Rattle.std.proofs.Common.{◌≡◌, ◌≤◌, ◌+◌, ◌^◌, ◌∙◌,
 use Rattle.std.specs.Prelude.{IfSome}
 use Rattle.std.specs.Io.KnownBytes.{Consumes, IsAtEnd}
 use Rattle.std.proofs.lemmas.List.{append_assoc, append-nil, length-append}
-use Rattle.muni_edge.specs.Sink.{HasWritten, HasWrittenPart, Wrote, WrotePart}
+use Rattle.muni_edge.specs.Sink.{HasWritten, HasWrittenPart}
 use Rattle.muni_keep.specs.Tables.{Tables}
 use Rattle.muni_import.specs.declared.row.RowFault.{RowFault}
 use Rattle.muni_desk_io.specs.declared.fault.Fault.{Fault}
 use Rattle.muni_desk_io.specs.declared.fault.Fault.TheVariants.{Read, Write, Store, NoMemory, TooLarge}
-use Rattle.muni_check.specs.Answer.{AreUnseen, IsAnswer, IsAnswerIn, Over}
+use Rattle.muni_desk_io.proofs.TakenLemmas.{taken-then}
+use Rattle.muni_check.specs.Answer.{IsAnswer, Over}
 use Rattle.muni_check.specs.Checked.{IsFirstText, WroteChecked}
-use Rattle.muni_check.specs.GoesOn.{DoesBlock, IsOfRows}
-use Rattle.muni_check.specs.Next.{Cuts, EndsAt}
+use Rattle.muni_check.specs.GoesOn.{DoesBlock, HasBadNames, IsOfRows}
+use Rattle.std.specs.Global.{Vec}
+use Rattle.muni_check.specs.Ends.{RefusesNames, WritesEnd}
+use Rattle.muni_check.specs.Next.{Cuts}
+use Rattle.muni_check.specs.declared.command.CheckEnd.{CheckEnd}
 use Rattle.muni_check.specs.Rows.{records_of}
 use Rattle.muni_check.specs.declared.rows.BlockDone.TheVariants.{Lines, BadNames}
 use Rattle.muni_check.specs.declared.rows.SoFar.{SoFar}
@@ -34,7 +38,7 @@ pub record IsAt (over : Over) (first left : Option (List ℕ)) (held : List ℕ)
   pub written : HasWritten had has lines
 
 -- what is left of an input whose bytes are known
-text-left : (text : List ℕ) (left : Option (List ℕ)) (came : List ℕ) → Consumes (Some text) left came → (rest : List ℕ) × (left ≡ Some rest) × (text ≡ came ++ rest)
+pub text-left : (text : List ℕ) (left : Option (List ℕ)) (came : List ℕ) → Consumes (Some text) left came → (rest : List ℕ) × (left ≡ Some rest) × (text ≡ came ++ rest)
 text-left text None came taken = absurd taken
 text-left text (Some rest) came taken = (rest, refl, taken)
 
@@ -94,15 +98,9 @@ abbrev pub IsLeftAt : (ended : Bool) → Option (List ℕ) → Type 0
 IsLeftAt false left = Unit {0}
 IsLeftAt true left = IsAtEnd left
 
-consumes-more : (first mid left : Option (List ℕ)) (came piece : List ℕ) → Consumes first mid came → Consumes mid left piece → Consumes first left (came ++ piece)
-consumes-more None mid left came piece one more = tt
-consumes-more (Some text) None left came piece one more = absurd one
-consumes-more (Some text) (Some rest) None came piece one more = absurd more
-consumes-more (Some text) (Some rest) (Some end) came piece one more =
-    one ∙ ap (λ l. came ++ l) more ∙ sym (append_assoc came piece end)
-
 cut-by : (ended : Bool) (left : Option (List ℕ)) (came piece block held new : List ℕ) (done : List (List (List ℕ))) → ((more : List ℕ) → records_of (came ++ more) ≡ done ++ records_of (held ++ more))
     → Cuts ended (held ++ piece) block new → IsLeftAt ended left → IsCut ended (came ++ piece) done block new left
+unfolding records_of
 cut-by false left came piece block held new done split cuts end = (
   λ more.
       ap records_of (append_assoc came piece more) ∙ split (piece ++ more)
@@ -118,7 +116,7 @@ pub block-taken : (over : Over) (first mid left : Option (List ℕ)) (ended : Bo
     → Consumes mid left piece → Cuts ended (held ++ piece) block new → IsLeftAt ended left → IsTaken over first left ended block new so_far had has
 block-taken over first mid left ended piece block held new so_far had has at_ taken cuts end = record {
   came = at_.came ++ piece;
-  taken = consumes-more first mid left at_.came piece at_.taken taken;
+  taken = taken-then first mid left at_.came piece (at_.came ++ piece) at_.taken taken refl;
   done = at_.done;
   cut = cut-by ended left at_.came piece block held new at_.done at_.split cuts end;
   lines = at_.lines;
@@ -146,27 +144,95 @@ rows-few over [] so_far lines are = omega (arith, ap (λ (t : Tally). t.rows) ar
 rows-few over (names ∷ rows) so_far lines are =
     omega (arith, ap (λ (t : Tally). t.rows) are.goes.counted, rows-after are.start.tally are.goes.said, ap (λ (t : Tally). t.rows) are.starts.tally, as-long _ rows are.goes.said are.goes.each)
 
-stopped-by : (over : Over) (text : List ℕ) (left now : Option (List ℕ)) (ended : Bool) (block held : List ℕ) (so_far : SoFar) (had has : Option (List ℕ)) (fault : Fault) → IsTaken over (Some text) left ended block held so_far had has
-    → IsOfRows fault → (fault ≡ TooLarge → 2 ^ 64 ≤ so_far.progress.tally.rows + length (records_of block))
+stopped-by : (over : Over) (text : List ℕ) (left now had has : Option (List ℕ)) (ended : Bool) (block held : List ℕ) (so_far : SoFar) (tail : List (List (List ℕ))) (fault : Fault) → (taken : IsTaken over (Some text) left ended block held so_far had has)
+    → records_of text ≡ (taken.done ++ records_of block) ++ tail → IsFirstText over (records_of text) taken.lines → IsOfRows fault → (fault ≡ TooLarge → 2 ^ 64 ≤ so_far.progress.tally.rows + length (records_of block))
     → WroteChecked over text (Err fault) now had has
-stopped-by over text left now ended block held so_far had has fault taken of_rows many = by fault of_rows many
-  where
-    all = all-records over text left ended block held so_far had has taken
+stopped-by over text left now had has ended block held so_far tail Store taken all first of_rows many = (taken.lines, inl first, taken.written)
+stopped-by over text left now had has ended block held so_far tail NoMemory taken all first of_rows many = (taken.lines, inl first, taken.written)
+stopped-by over text left now had has ended block held so_far tail TooLarge taken all first of_rows many = (
+  (taken.lines, inl first, taken.written),
+  omega (arith, many refl, rows-few over taken.done so_far taken.lines taken.are, ap length all, length-append (taken.done ++ records_of block) tail, length-append taken.done (records_of block)),
+)
+stopped-by over text left now had has ended block held so_far tail Read taken all first of_rows many = absurd of_rows
+stopped-by over text left now had has ended block held so_far tail Write taken all first of_rows many = absurd of_rows
 
-    first : IsFirstText over (records_of text) taken.lines
-    first = record {
+-- ---- a block does not name columns
+bad-start : (over : Over) (done records : List (List (List ℕ))) (old new : SoFar) (lines : List ℕ) (fault : RowFault) → AreDone over done old lines → DoesBlock over records old new (BadNames fault)
+    → (done ≡ []) × (lines ≡ []) × HasBadNames records fault
+bad-start over [] records old new lines fault are does = (refl, are.1, rw are.0 at does)
+bad-start over (names ∷ rows) records old new lines fault are does = absurd (rw are.kept at does)
+
+bad-answer : (over : Over) (records tail : List (List (List ℕ))) (fault : RowFault) (end : CheckEnd) (text : List ℕ) → HasBadNames records fault → RefusesNames fault end text → IsAnswer over (records ++ tail) end text
+bad-answer over [] tail fault end text bad refuses = absurd bad
+bad-answer over (names ∷ rows) tail fault end text bad refuses = rw bad refuses
+
+pub no-lines : (over : Over) (records : List (List (List ℕ))) (text : List ℕ) → text ≡ [] → IsFirstText over records text
+no-lines over records text none = record { done = []; left = records; split = refl; lines = none }
+
+refused-by : (over : Over) (records tail : List (List (List ℕ))) (left : Option (List ℕ)) (input : List ℕ) (had mid has : Option (List ℕ)) (fault : RowFault) (result : Result CheckEnd Fault)
+    → records_of input ≡ records ++ tail → HasBadNames records fault → HasWritten had mid [] → WritesEnd (RefusesNames fault) (λ text. text ≡ []) result mid has
+    → WroteChecked over input result left had has
+refused-by over records tail left input had mid has fault (Ok end) is bad first (line, refuses, written) =
+    (line, rw is (bad-answer over records tail fault end line bad refuses), written-more had mid has [] line first written)
+refused-by over records tail left input had mid has fault (Err Write) is bad first (line, inl none, part) =
+    (line, inl (inl (no-lines over (records_of input) line none)), written-part had mid has [] line first part)
+refused-by over records tail left input had mid has fault (Err Write) is bad first (line, inr (end, refuses), part) =
+    (line, inr (end, rw is (bad-answer over records tail fault end line bad refuses)), written-part had mid has [] line first part)
+refused-by over records tail left input had mid has fault (Err Store) is bad first (line, none, written) =
+    (line, inl (no-lines over (records_of input) line none), written-more had mid has [] line first written)
+refused-by over records tail left input had mid has fault (Err NoMemory) is bad first (line, none, written) =
+    (line, inl (no-lines over (records_of input) line none), written-more had mid has [] line first written)
+refused-by over records tail left input had mid has fault (Err Read) is bad first writes = absurd writes
+refused-by over records tail left input had mid has fault (Err TooLarge) is bad first writes = absurd writes
+
+pub names-refused : (over : Over) (first left now : Option (List ℕ)) (ended : Bool) (block held : List ℕ) (old new : SoFar) (had mid has : Option (List ℕ)) (fault : RowFault) (result : Result CheckEnd Fault)
+    → IsTaken over first left ended block held old had mid → DoesBlock over (records_of block) old new (BadNames fault) → WritesEnd (RefusesNames fault) (λ text. text ≡ []) result mid has
+    → IfSome first (λ text. WroteChecked over text result now had has)
+names-refused over None left now ended block held old new had mid has fault result taken does writes = tt
+names-refused over (Some text) left now ended block held old new had mid has fault result taken does writes =
+    let all = all-records over text left ended block held old had mid taken in
+    let bad = bad-start over taken.done (records_of block) old new taken.lines fault taken.are does in
+    refused-by over (records_of block) all.0 now text had mid has fault result (all.1 ∙ ap (λ l. (l ++ records_of block) ++ all.0) bad.0) bad.2 (subst (HasWritten had mid) bad.1 taken.written) writes
+
+-- ---- a block is done
+pub block-stopped : (over : Over) (first left now : Option (List ℕ)) (ended : Bool) (block held : List ℕ) (so_far : SoFar) (had has : Option (List ℕ)) (fault : Fault) → IsTaken over first left ended block held so_far had has
+    → IsOfRows fault → (fault ≡ TooLarge → 2 ^ 64 ≤ so_far.progress.tally.rows + length (records_of block))
+    → IfSome first (λ text. WroteChecked over text (Err fault) now had has)
+block-stopped over None left now ended block held so_far had has fault taken of_rows many = tt
+block-stopped over (Some text) left now ended block held so_far had has fault taken of_rows many =
+    let all = all-records over text left ended block held so_far had has taken in
+    stopped-by over text left now had has ended block held so_far all.0 fault taken all.1
+    (record {
       done = taken.done;
       left = records_of block ++ all.0;
       split = sym (append_assoc taken.done (records_of block) all.0) ∙ sym all.1;
       lines = done-lines over taken.done so_far taken.lines taken.are;
-    }
+    })
+    of_rows many
 
-    by : (fault : Fault) → IsOfRows fault → (fault ≡ TooLarge → 2 ^ 64 ≤ so_far.progress.tally.rows + length (records_of block)) → WroteChecked over text (Err fault) now had has
-    by Store of_rows many = (taken.lines, inl first, taken.written)
-    by NoMemory of_rows many = (taken.lines, inl first, taken.written)
-    by TooLarge of_rows many = (
-      (taken.lines, inl first, taken.written),
-      omega (arith, many refl, rows-few over taken.done so_far taken.lines taken.are, ap length all.1, length-append (taken.done ++ records_of block) all.0, length-append taken.done (records_of block)),
+pub block-unwritten : (over : Over) (first left now : Option (List ℕ)) (ended : Bool) (block held : List ℕ) (old new : SoFar) (had mid has : Option (List ℕ)) (lines : Vec ℕ)
+    → IsTaken over first left ended block held old had mid → DoesBlock over (records_of block) old new (Lines lines) → HasWrittenPart mid has lines.items
+    → IfSome first (λ text. WroteChecked over text (Err Write) now had has)
+block-unwritten over None left now ended block held old new had mid has lines taken does part = tt
+block-unwritten over (Some text) left now ended block held old new had mid has lines taken does part =
+    let all = all-records over text left ended block held old had mid taken in
+    let are = block-done over taken.done (records_of block) old new taken.lines lines taken.are does in (
+      taken.lines ++ lines.items,
+      inl (inl (record { done = taken.done ++ records_of block; left = all.0; split = sym all.1; lines = done-lines over (taken.done ++ records_of block) new (taken.lines ++ lines.items) are })),
+      written-part had mid has taken.lines lines.items taken.written part,
     )
-    by Read of_rows many = absurd of_rows
-    by Write of_rows many = absurd of_rows
+
+pub block-next : (over : Over) (first left : Option (List ℕ)) (ended : Bool) (block held : List ℕ) (old new : SoFar) (had mid has : Option (List ℕ)) (lines : Vec ℕ) → ended ≡ false
+    → IsTaken over first left ended block held old had mid → DoesBlock over (records_of block) old new (Lines lines) → HasWritten mid has lines.items → IsAt over first left held new had has
+block-next over first left ended block held old new had mid has lines goes_on taken does written =
+    let cut = rw goes_on at taken.cut in
+    record {
+      came = taken.came;
+      taken = taken.taken;
+      done = taken.done ++ records_of block;
+      split = cut.0;
+      few = cut.1;
+      lines = taken.lines ++ lines.items;
+      are = block-done over taken.done (records_of block) old new taken.lines lines taken.are does;
+      written = written-more had mid has taken.lines lines.items taken.written written;
+    }

@@ -1,8 +1,11 @@
+pub mod AnswerLemmas
 pub mod CheckLemmas
 pub mod ColumnLemmas
 pub mod EndLemmas
+pub mod FetchedLemmas
 pub mod GoLemmas
 pub mod LawLemmas
+pub mod OverLemmas
 pub mod StateLemmas
 pub mod ToldLemmas
 pub mod UnseenLemmas

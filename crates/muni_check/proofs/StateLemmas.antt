@@ -1,11 +1,17 @@
 -- The records of an input that are done, a block after another.
-use Rattle.std.proofs.Common.{◌≡◌, ◌+◌, ◌∙◌, ◌||◌, ◌&&◌, ℕ, List, [], ◌∷◌, ◌++◌, length, map, Bool, true, false, Option, Some, None, Ok, refl, sym, ap, ap₂, subst, arith}
+use Rattle.std.proofs.Common.{◌≡◌, ◌+◌, ◌∙◌, ◌||◌, ◌&&◌, ℕ, List, [], ◌∷◌, ◌++◌, length, map, cond, Bool, true, false, Option, Some, None, Ok, refl, sym, ap, ap₂, subst, arith}
 use Rattle.std.specs.Prelude.{if◌then◌else◌, not, IfSome}
+use Rattle.std.specs.Global.{Vec}
 use Rattle.std.specs.List.{count_by, filter}
 use Rattle.std.proofs.lemmas.List.{append-nil}
+use Rattle.std.proofs.lemmas.List.Sums.{sum_by-cons}
 use Rattle.arrayvec.specs.ArrayVec.{ArrayVec}
 use Rattle.muni_msg.specs.declared.command.Line.{Line}
-use Rattle.muni_keep.specs.Tables.{Tables}
+use Rattle.std.specs.FinMap.{entries}
+use Rattle.muni_keep.specs.Tables.{Tables, line}
+use Rattle.muni_keep.specs.Trades.{own}
+use Rattle.muni_check.specs.Ends.{AreUnseenOf}
+use Rattle.muni_check.proofs.ToldLemmas.{if-always, if-told}
 use Rattle.muni_check.specs.Answer.{AreChecked, AreUnseen, Over}
 use Rattle.muni_check.specs.Columns.{columns_in}
 use Rattle.muni_check.specs.Checked.{AreLinesOf}
@@ -13,7 +19,7 @@ use Rattle.muni_check.specs.GoesOn.{DoesBlock, GoesOn, tally_after}
 use Rattle.muni_check.specs.Line.{said_lines}
 use Rattle.muni_check.specs.Named.{AddsNames, has}
 use Rattle.muni_check.specs.Rows.{named_by}
-use Rattle.muni_check.specs.Tallies.{is_different, is_missing, is_right, no_tally, once, tally_of, with_said}
+use Rattle.muni_check.specs.Tallies.{is_different, is_missing, is_right, no_tally, once, tally_of, with_missing, with_said}
 use Rattle.muni_check.specs.Unseen.{is_live, is_named, is_unseen, unseen_at, unseen_in, unseen_of}
 use Rattle.muni_check.specs.declared.column.Column.{Column}
 use Rattle.muni_check.specs.declared.rows.BlockDone.{BlockDone}
@@ -22,7 +28,7 @@ use Rattle.muni_check.specs.declared.rows.Progress.{Progress}
 use Rattle.muni_check.specs.declared.rows.SoFar.{SoFar}
 use Rattle.muni_check.specs.declared.said.CheckSaid.{CheckSaid}
 use Rattle.muni_check.specs.declared.tally.Tally.{Tally}
-use Rattle.muni_check.proofs.GoLemmas.{goes-joined}
+use Rattle.muni_check.proofs.GoLemmas.{goes-joined, rows-after}
 
 -- no row has come
 pub record IsStart (progress : Progress) : Type 0 where
@@ -43,11 +49,14 @@ AreDone over [] so_far lines = (so_far.columns ≡ None) × (lines ≡ []) × Is
 AreDone over (names ∷ rows) so_far lines = AreDoneWith over names rows so_far lines
 
 -- the records of a block after them
-begin-done : (over : Over) (records : List (List (List ℕ))) (old new : SoFar) (lines after : List ℕ) → AreDone over [] old lines
-    → DoesBlock over records old new (Lines (record { items = after })) → AreDone over records new (lines ++ after)
+begin-done : (over : Over) (records : List (List (List ℕ))) (old new : SoFar) (lines : List ℕ) (after : Vec ℕ) → AreDone over [] old lines
+    → DoesBlock over records old new (Lines after) → AreDone over records new (lines ++ after.items)
 begin-done over [] old new lines after is does =
-    let begins = rw is.0 at does in
-    rw (begins.0, begins.1, is.1) (is.0, refl, is.2)
+    let begins = rw is.0 at does in (
+      ap (λ (s : SoFar). s.columns) begins.0,
+      ap₂ (λ (a b : List ℕ). a ++ b) is.1 begins.1,
+      subst (λ (s : SoFar). IsStart s.progress) (sym begins.0) is.2,
+    )
 begin-done over (names ∷ rows) old new lines after is does =
     let begins = rw is.0 at does in
     record {
@@ -59,18 +68,18 @@ begin-done over (names ∷ rows) old new lines after is does =
       goes = rw is.1 begins.rows_go_on;
     }
 
-pub block-done : (over : Over) (done records : List (List (List ℕ))) (old new : SoFar) (lines after : List ℕ) → AreDone over done old lines
-    → DoesBlock over records old new (Lines (record { items = after })) → AreDone over (done ++ records) new (lines ++ after)
+pub block-done : (over : Over) (done records : List (List (List ℕ))) (old new : SoFar) (lines : List ℕ) (after : Vec ℕ) → AreDone over done old lines
+    → DoesBlock over records old new (Lines after) → AreDone over (done ++ records) new (lines ++ after.items)
 block-done over [] records old new lines after are does = begin-done over records old new lines after are does
 block-done over (names ∷ rows) records old new lines after are does =
     let more = rw are.kept at does in
     record {
       columns = are.columns;
       named = are.named;
-      kept = more.0 ∙ are.kept;
+      kept = more.0;
       start = are.start;
       starts = are.starts;
-      goes = goes-joined over are.columns.items rows records are.start old.progress new.progress lines after are.goes more.1;
+      goes = goes-joined over are.columns.items rows records are.start old.progress new.progress lines after.items are.goes more.1;
     }
 
 -- the lines of the rows that are done
@@ -87,23 +96,20 @@ done-lines over (names ∷ rows) so_far lines are =
     (are.columns.items, are.named, are.goes.said, lines-checked over are.columns.items rows are.start so_far.progress lines are.starts are.goes)
 
 -- the tally of the rows that are done
-count-more : (test : CheckSaid → Bool) (said : CheckSaid) (more : List CheckSaid) (n : ℕ) → n + once (test said) + count_by test more ≡ n + count_by test (said ∷ more)
-count-more test said more n = omega arith
+counted-by : (test : CheckSaid → Bool) (said : CheckSaid) (more : List CheckSaid) → count_by test (said ∷ more) ≡ once (test said) + count_by test more
+counted-by test said more = sum_by-cons (λ s. cond (test s) 1 0) said more
 
-pub tally-counts : (tally : Tally) (said : List CheckSaid)
-    → tally_after tally said ≡ record { rows = tally.rows + length said; right = tally.right + count_by is_right said; differ = tally.differ + count_by is_different said; missing = tally.missing + count_by is_missing said }
-tally-counts tally [] =
-    let rows : tally.rows ≡ tally.rows + 0 = omega arith in
-    let right : tally.right ≡ tally.right + 0 = omega arith in
-    let differ : tally.differ ≡ tally.differ + 0 = omega arith in
-    let missing : tally.missing ≡ tally.missing + 0 = omega arith in
-    cc
-tally-counts tally (said ∷ more) =
-    let rows : tally.rows + 1 + length more ≡ tally.rows + length (said ∷ more) = omega arith in
-    let right = count-more is_right said more tally.right in
-    let differ = count-more is_different said more tally.differ in
-    let missing = count-more is_missing said more tally.missing in
-    tally-counts (with_said tally said) more ∙ rw (rows, right, differ, missing) refl
+right-after : (tally : Tally) (said : List CheckSaid) → (tally_after tally said).right ≡ tally.right + count_by is_right said
+right-after tally [] = omega arith
+right-after tally (said ∷ more) = omega (arith, right-after (with_said tally said) more, counted-by is_right said more)
+
+differ-after : (tally : Tally) (said : List CheckSaid) → (tally_after tally said).differ ≡ tally.differ + count_by is_different said
+differ-after tally [] = omega arith
+differ-after tally (said ∷ more) = omega (arith, differ-after (with_said tally said) more, counted-by is_different said more)
+
+missing-after : (tally : Tally) (said : List CheckSaid) → (tally_after tally said).missing ≡ tally.missing + count_by is_missing said
+missing-after tally [] = omega arith
+missing-after tally (said ∷ more) = omega (arith, missing-after (with_said tally said) more, counted-by is_missing said more)
 
 -- the trades that no row named
 filter-same : (p q : Line → Bool) (trades : List Line) → ((trade : Line) → p trade ≡ q trade) → filter p trades ≡ filter q trades
@@ -113,3 +119,29 @@ filter-same p q (trade ∷ trades) same = rw (same trade, filter-same p q trades
 pub unseen-same : (one other : List ℕ → Bool) (trades : List Line) → ((reference : List ℕ) → one reference ≡ other reference) → unseen_of one trades ≡ unseen_of other trades
 unseen-same one other trades same =
     ap (map (λ (trade : Line). trade.reference)) (filter-same (is_unseen one) (is_unseen other) trades (λ trade. ap (λ b. is_live trade.version.act && not b) (same trade.reference)))
+
+or-false : (b : Bool) → b || false ≡ b
+or-false true = refl
+or-false false = refl
+
+-- the rows that are done name the references that are held
+pub unseen-named : (told : Option Tables) (desk : Option (List ℕ)) (start progress : Progress) (names unseen : List (List ℕ)) → IsStart start → AddsNames desk start.named progress.named names
+    → AreUnseenOf desk told progress unseen → IfSome told (λ tables. unseen ≡ unseen_in tables desk names)
+unseen-named told None start progress names unseen starts adds are = if-always told (λ tables. unseen ≡ unseen_in tables None names) (λ tables. are)
+unseen-named told (Some desk) start progress names unseen starts adds are =
+    if-told told (λ tables. unseen ≡ unseen_at tables desk (has progress.named)) (λ tables. unseen ≡ unseen_in tables (Some desk) names)
+    (λ tables is.
+    is ∙ unseen-same (has progress.named) (is_named names) (map line (entries (own desk tables.desks)))
+    (λ reference. adds reference ∙ ap (λ b. is_named names reference || b) (starts.named reference) ∙ or-false (is_named names reference)))
+    are
+
+-- the tally of all rows, with the trades for which none came
+pub tally-all : (start progress : Progress) (said : List CheckSaid) (unseen : List (List ℕ)) → IsStart start → progress.tally ≡ tally_after start.tally said
+    → with_missing progress.tally (length unseen) ≡ tally_of said unseen
+tally-all start progress said unseen starts counted =
+    let is : progress.tally ≡ tally_after no_tally said = counted ∙ ap (λ t. tally_after t said) starts.tally in
+    let rows : (tally_after no_tally said).rows ≡ length said = omega (arith, rows-after no_tally said) in
+    let right : (tally_after no_tally said).right ≡ count_by is_right said = omega (arith, right-after no_tally said) in
+    let differ : (tally_after no_tally said).differ ≡ count_by is_different said = omega (arith, differ-after no_tally said) in
+    let missing : (tally_after no_tally said).missing ≡ count_by is_missing said = omega (arith, missing-after no_tally said) in
+    rw is (rw (rows, right, differ, missing) refl)

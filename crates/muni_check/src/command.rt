@@ -87,9 +87,15 @@ pub fn check_alone<R: Threads + Sync, I: Source, O: Sink, E: Encloser + Sync, G:
     ensures writes { ReportsWrites O.Sink result output.old output.new }
     ensures read_failed { IsErrOf result Fault.Read → Rose (I.faults input.old) (I.faults input.new) }
     ensures write_failed { IsErrOf result Fault.Write → Rose (O.faults output.old) (O.faults output.new) }
+    ensures not_store { ¬ (IsErrOf result Fault.Store) }
 {
     let mut nothing = MemKeeper::new(alloc, &[])?;
-    check_over(calculator, alloc, &None, &mut nothing, input, output)
+    match check_over(calculator, alloc, &None, &mut nothing, input, output) {
+        Ok(end) => Ok(end),
+        // A keeper in memory fails only if no memory is left.
+        Err(Fault::Store) => Err(Fault::NoMemory),
+        Err(fault) => Err(fault),
+    }
 }
 
 // The rows of an input over a keeper.
@@ -115,7 +121,7 @@ fn check_over<R: Threads + Sync, K: Keeper, I: Source, O: Sink, E: Encloser + Sy
     let mut judge = Judge::new(calculator, alloc, desk);
     let mut so_far = SoFar::new(alloc);
     let mut blocks = Blocks::new(alloc);
-    'blocks: for _ in 0..u64::MAX {
+    'pieces: for _ in 0..u64::MAX {
         let block = blocks.next(alloc, input)?;
         match do_block(&mut judge, &block, &mut so_far, keeper)? {
             BlockDone::Lines(lines) => write(&lines, output)?,

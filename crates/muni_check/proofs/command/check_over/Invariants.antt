@@ -7,9 +7,9 @@ use Rattle.muni_check.proofs.CheckLemmas.{IsAt}
 use Rattle.muni_check.proofs.command.check_over.Given as goal
 
 -- the blocks so far are done
-abbrev pub invariant-blocks : goal.invariant-blocks
-invariant-blocks g l = record {
-  at_ : IsAt (over (g.E.Encloser.ends l.fn.calculator.now.encloser.now) l.desk (g.K.Keeper.tables l.fn.keeper)) (g.I.Source.left l.fn.input) (g.I.Source.left l.input) l.blocks.held l.so_far (g.O.Sink.bytes l.fn.output) (g.O.Sink.bytes l.output);
+abbrev pub invariant-pieces : goal.invariant-pieces
+invariant-pieces g l = record {
+  at_ : IsAt (over (g.E.Encloser.ends l.fn.calculator.encloser.now) l.desk (g.K.Keeper.tables l.fn.keeper)) (g.I.Source.left l.fn.input) (g.I.Source.left l.input) l.blocks.held l.so_far (g.O.Sink.bytes l.fn.output) (g.O.Sink.bytes l.output);
   ended : l.blocks.ended ≡ false;
   small : IsSmall l.so_far.progress.tally;
   sound : IfSome (g.K.Keeper.tables l.fn.keeper) (λ t. IsSoundCache t l.judge.issues);
