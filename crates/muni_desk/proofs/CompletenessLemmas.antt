@@ -254,6 +254,6 @@ completed source sink cabinet door ends told (Check store desk) end old new befo
     let counts = does.0.2.1 in
     check-completed source sink _ does.0.0 end old.input new.input old.output new.output does.0.1 does.0.2.0 (λ is. none.reads (counts.0 is)) (λ is. none.writes (counts.1 is)) (λ is. none.stores (counts.2 is)) few
 completed source sink cabinet door ends told CheckAlone end old new before after does none few can =
-    check-completed source sink _ does.0.0 end old.input new.input old.output new.output does.0.1 does.0.2.0 (λ is. none.reads (does.0.2.1 is)) (λ is. none.writes (does.0.2.2.0 is)) does.0.2.2.1 few
+    check-completed source sink _ does.0.0 end old.input new.input old.output new.output does.0.1 does.0.2.0 (λ is. none.reads (does.0.2.1 is)) (λ is. none.writes (does.0.2.2 is)) does.0.2.3 few
 completed source sink cabinet door ends told (Export store wanted) end old new before after does none few can =
     export-completed sink wanted _ _ does.0.0 end old.output new.output does.0.1 does.0.2.0 can none.writes none.stores

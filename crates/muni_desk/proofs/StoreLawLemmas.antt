@@ -380,7 +380,7 @@ check-over-read words store desk said =
     refl))
 
 pub check-read : (words : List (List ℕ)) (store : ArrayVec ℕ) (desk : Option (List ℕ)) → IsCheck words store desk → check_of words ≡ Some (record { command = Check store desk; workers = 1 })
-check-read [] store desk said = absurd said.named.stands
+check-read [] store desk said = absurd (omega (arith, said.named.stands.among.1))
 check-read (word ∷ words) store desk said = check-over-read (word ∷ words) store desk said
 
 pub check_alone-read : (words : List (List ℕ)) → words ≡ [] → check_of words ≡ Some (record { command = CheckAlone; workers = 1 })
