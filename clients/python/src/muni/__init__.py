@@ -47,7 +47,7 @@ __all__ = [
     "read_list", "read_positions",
 ]
 
-__version__ = "1.8.0"
+__version__ = "1.8.1"
 
 Amount = Union[Decimal, int]
 
