@@ -37,7 +37,7 @@ def check(frame: Frame, store: Path | None = None, *, desk: str | None = None, p
     a row leaves out of it is looked up. A field is a Decimal, an int, a text, a day or an Enum of the client; a float is
     a TypeError. A missing value is not stated. Other columns stay as they are and are not looked at.
 
-    The frame that is returned has the same index, rows and columns, and behind them `verdict`: `right`, `differs`,
+    The frame that is returned has the same index, rows and columns, and after them `verdict`: `right`, `differs`,
     `undecided`, `refused`, `missing` or `bad`. Of a row that differs `differs` is the first column that does, `ours`
     the figure of the rule, and `reading` the name of the formula that gives theirs, or None. `reason` is the name of a
     refusal, the column that is undecided, or the first column that does not read. The references of the desk's live
