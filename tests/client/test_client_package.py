@@ -121,8 +121,8 @@ def test_a_wheel_has_the_module_its_types_and_the_version(tmp_path: pathlib.Path
     wheels = list((tmp_path / "out").glob("*.whl"))
     assert [each.name for each in wheels] == [f"muni-{VERSION}-py3-none-any.whl"], told.stderr
     names = {each for each in zipfile.ZipFile(wheels[0]).namelist() if "dist-info" not in each}
-    assert names == {f"muni/{each}" for each in ("__init__.py", "_frames.py", "_program.py", "_refusals.py", "parts.py",
-                                                 "py.typed", "spread.py")}
+    assert names == {f"muni/{each}" for each in ("__init__.py", "_checks.py", "_frames.py", "_program.py", "_refusals.py",
+                                                 "parts.py", "py.typed", "spread.py")}
     # It can be imported as it is.
     told = python("-c", "import muni; print(muni.__version__, muni.__file__)", folder=tmp_path, path=wheels[0])
     assert told.stdout == f"{VERSION} {wheels[0]}/muni/__init__.py\n"

@@ -23,7 +23,7 @@ KIT = (ROOT / "dist/muni.sources").read_text().splitlines()[0].removeprefix("kit
 DEPLOY = sorted(each.name for each in (ROOT / "deploy").iterdir())
 UNITS = [name for name in DEPLOY if name.endswith(".service")]
 PAGES = ["README.md", "docs/FORMATS.md", "docs/TUTORIAL.md", "clients/python/README.md", "examples/README.md"]
-COMMANDS = ("quote|quote-one|import|confirm|serve|drill|positions|mark|export|list|load|check-store|figures|help|"
+COMMANDS = ("quote|quote-one|import|confirm|serve|drill|positions|mark|export|list|load|check-store|check|figures|help|"
             "--help|--version")
 
 # Files of the repository, and what an install calls them below share/.
@@ -136,7 +136,7 @@ def test_an_installed_page_names_the_installed_command(spaced, page):
 
 def test_no_installed_page_says_the_script_and_nothing_that_tries_the_repository_is_there(spaced):
     folder = spaced.prefix / "share/doc/muni"
-    named = r"\./muni (quote|import|confirm|serve|positions|mark|export|list|load|check-store|figures)"
+    named = r"\./muni (quote|import|confirm|serve|positions|mark|export|list|load|check-store|figures|check)"
     assert [page for page in folder.rglob("*.md") if re.search(named, page.read_text())] == []
     assert not (folder / "docs/pictures/make").exists() and not (folder / "tests").exists()
 

@@ -71,7 +71,7 @@ def _rows(frame: Frame, names: list[str]) -> bytes:
 
 
 def _said(program: Path, words: list[str], rows: bytes) -> bytes:
-    found = []
+    found: list[bytes] = []
     try:
         found.extend(pieces(program, *words, rows=rows))
     except Ended as ended:
@@ -81,7 +81,7 @@ def _said(program: Path, words: list[str], rows: bytes) -> bytes:
 
 
 def _beside(frame: Frame, names: list[str], lines: list[str]) -> Frame:
-    """The frame with the columns behind its own, if there is a line on each row and the total is theirs."""
+    """The frame with the columns after its own, if there is a line on each row and the total is theirs."""
     pandas = importlib.import_module("pandas")
     told = [line.split(",") for line in lines]
     rows, unseen, last = told[:len(frame)], told[len(frame):-1], lines[-1] if lines else ""
