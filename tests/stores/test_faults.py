@@ -66,6 +66,7 @@ CALLS = {
                 "import-again": "open read write pread fdatasync flock", "confirm": "open write pread fdatasync flock",
                 "positions": "open write pread fdatasync flock", "mark": "open read write pread fdatasync flock",
                 "figures": "open read write pread fdatasync flock",
+                "check": "open read write pread fdatasync flock",
                 "check-store": "open write pread fdatasync flock",
                 "serve": "open pread pwrite fdatasync fsync flock socket bind listen accept recv send"},
 }
