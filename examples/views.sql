@@ -1,19 +1,26 @@
 -- Views over a store of SQLite, for sqlite3 and for spreadsheets: names in place of numbers, and figures with their
--- points. They are put into a store once, while no program has it:
+-- points. They are put into a store while no program has it, and replace those of the same names:
 --
 --     sqlite3 S <examples/views.sql
 --     sqlite3 -header -csv S 'SELECT * FROM live_trades' >trades.csv
 --
 -- The desk passes over views. It does not read them, and what they show is what its tables have.
 
+DROP VIEW IF EXISTS trades_by_reference_date;
+DROP VIEW IF EXISTS blotter;
+DROP VIEW IF EXISTS desk_positions;
+DROP VIEW IF EXISTS live_trades;
+DROP VIEW IF EXISTS trade_versions;
+DROP VIEW IF EXISTS live_versions;
+
 -- The last version of each trade that is not canceled, as the desk's table has it.
-CREATE VIEW IF NOT EXISTS live_versions AS
-SELECT * FROM versions_2 AS version
-WHERE version.act <> 2 AND version.number = (SELECT MAX(other.number) FROM versions_2 AS other
+CREATE VIEW live_versions AS
+SELECT * FROM versions_3 AS version
+WHERE version.act <> 2 AND version.number = (SELECT MAX(other.number) FROM versions_3 AS other
     WHERE other.desk = version.desk AND other.reference = version.reference);
 
--- Every version of every trade, to read.
-CREATE VIEW IF NOT EXISTS trade_versions AS
+-- Every version of every trade, to read, with the terms of its issue by which it was figured.
+CREATE VIEW trade_versions AS
 SELECT
     version.desk,
     version.reference,
@@ -44,18 +51,18 @@ SELECT
     printf('%d.%02d', version.commission / 100, version.commission % 100) AS commission,
     printf('%s%d.%02d', CASE WHEN version.total < 0 THEN '-' ELSE '' END,
         abs(version.total) / 100, abs(version.total) % 100) AS total
-FROM versions_2 AS version
-JOIN issues_2 AS issue ON issue.cusip = version.cusip;
+FROM versions_3 AS version
+JOIN issues_3 AS issue ON issue.cusip = version.cusip AND issue.number = version.issue;
 
 -- The same of the last version of each trade that is not canceled.
-CREATE VIEW IF NOT EXISTS live_trades AS
+CREATE VIEW live_trades AS
 SELECT trade.*
 FROM live_versions
 JOIN trade_versions AS trade USING (desk, reference, number);
 
 -- A line for each desk and CUSIP with live trades, as `muni positions` has it: how many trades, the par bought, sold
 -- and left, and the money paid less the money received. The side is that of the party that is confirmed.
-CREATE VIEW IF NOT EXISTS desk_positions AS
+CREATE VIEW desk_positions AS
 SELECT
     desk, cusip, issue, trades, bought, sold, bought - sold AS position,
     printf('%s%d.%02d', CASE WHEN cents < 0 THEN '-' ELSE '' END, abs(cents) / 100, abs(cents) % 100) AS money
@@ -69,14 +76,15 @@ FROM (
         SUM(CASE version.side WHEN 1 THEN version.par ELSE 0 END) AS sold,
         SUM(CASE version.side WHEN 0 THEN version.total ELSE -version.total END) AS cents
     FROM live_versions AS version
-    JOIN issues_2 AS issue ON issue.cusip = version.cusip
+    JOIN issues_3 AS issue ON issue.cusip = version.cusip
+    WHERE issue.number = (SELECT MAX(last.number) FROM issues_3 AS last WHERE last.cusip = version.cusip)
     GROUP BY version.desk, version.cusip
 )
 ORDER BY desk, cusip;
 
 -- A line for each day of settlement and desk: its live trades, the par bought and sold, the money to pay and to receive.
 -- The store keeps no day or time of entry.
-CREATE VIEW IF NOT EXISTS blotter AS
+CREATE VIEW blotter AS
 SELECT
     settle, desk, trades, bought, sold,
     printf('%s%d.%02d', CASE WHEN paid < 0 THEN '-' ELSE '' END, abs(paid) / 100, abs(paid) % 100) AS paid,
@@ -97,7 +105,7 @@ ORDER BY settle, desk;
 
 -- The same by the day with which references begin, as 20240403A0001 begins with 2024-04-03: that of the trade, if the desk
 -- gives its references so. A trade whose reference does not begin with a day of the calendar is not in it.
-CREATE VIEW IF NOT EXISTS trades_by_reference_date AS
+CREATE VIEW trades_by_reference_date AS
 SELECT
     day, desk, trades, bought, sold,
     printf('%s%d.%02d', CASE WHEN paid < 0 THEN '-' ELSE '' END, abs(paid) / 100, abs(paid) % 100) AS paid,

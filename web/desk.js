@@ -1,10 +1,12 @@
 // The page of the desk: which desk is open, and the ways between the panels.
 import { ask } from "./ask.js";
+import { startChecks } from "./checks.js";
 import { $, element } from "./dom.js";
 import { dress, read } from "./fields.js";
 import { goToIssue, startIssue } from "./issue.js";
-import { choosePositions, chooseTrades, clearPositions, refreshPositions, startPositions } from "./positions.js";
+import { clearPositions, refreshPositions, startPositions } from "./positions.js";
 import { clearSheet, startSheet } from "./sheet.js";
+import { chooseTab, goToTab, startTabs } from "./tabs.js";
 import { propose, quoteIssue, startTicket, takeTrade } from "./ticket.js";
 import { clearTrades, focusTrades, readFirstPage, showTrade, startTrades } from "./trades.js";
 
@@ -59,10 +61,11 @@ async function openFirstDesk() {
 const TARGETS = {
   ticket: () => $("ticket-cusip").focus(),
   trades: () => {
-    chooseTrades();
+    chooseTab("trades");
     focusTrades();
   },
-  positions: choosePositions,
+  positions: () => goToTab("positions"),
+  check: () => goToTab("check"),
   issue: () => $("issue-cusip").focus(),
 };
 
@@ -97,6 +100,8 @@ startTicket({ desk: deskAtHand, atHand: () => desk, showTrade: showAct, addIssue
 startIssue(quoteIssue);
 startTrades(() => desk);
 startPositions(() => desk);
+startChecks(() => desk);
+startTabs(refreshPositions);
 dress(house);
 house.addEventListener("submit", event => {
   event.preventDefault();

@@ -27,6 +27,7 @@ export const FORMS = {
   cusip: letters(/^[0-9A-Z]{9}$/, "nine digits and capital letters"),
   name: letters(/^[ -~]{1,60}$/, "1 to 60 characters, without accents"),
   number: letters(/^[0-9]{1,9}$/, "the number after the version that you have seen, 1 to 9 digits"),
+  terms: letters(/^[1-9][0-9]?$/, "the number of the terms of the issue that the trade is figured by, 1 to 99"),
   day: { words: "a day of the calendar as 2024-04-03, 1900-01-01 to 2199-12-31", takes: isDay },
   settle: { words: "a day of the calendar as 2024-04-03, from the dated date on and before maturity", takes: isDay },
   par: decimal(0, "1", "1000000000", "whole dollars"),

@@ -23,6 +23,12 @@ export function givenOf(confirmation) {
   return { basis: lines.get("PRICE").endsWith(" GIVEN") ? "price" : "yield", value: "", fee: "" };
 }
 
+// The number of the terms of its issue by which a version was figured, or "" if it is not known.
+export function termsOf(confirmation) {
+  const number = confirmation.number - (confirmation.isCanceled ? 1 : 0);
+  return sent.get(keyOf(confirmation.desk, confirmation.reference, number))?.issue ?? "";
+}
+
 export const printedOf = (basis, lines) => split(lines.get(LINES[basis]))[0];
 
 // What a confirmation does not tell in full.

@@ -1,10 +1,11 @@
-// A new issue with its call schedule.
+// An issue with its call schedule: a new one, or one that is kept and is amended.
+import { changesOfTerms } from "./amendments.js";
 import { ask } from "./ask.js";
 import { $, element } from "./dom.js";
 import { dress, dressField, FORMS, mark, read, unmark } from "./fields.js";
 import { sure } from "./sure.js";
-import { readIssue } from "./texts.js";
-import { FAULTS, hush, hushGood, refuse, refuseNew, say, tellSent, waitingIn } from "./tell.js";
+import { readTerms } from "./texts.js";
+import { FAULTS, hush, hushGood, refuseNew, say, tellSent, waitingIn } from "./tell.js";
 
 const form = $("issue");
 const told = $("issue-told");
@@ -16,6 +17,8 @@ const CERTAIN = "!";
 const NAMES = ["cusip", "name", "kind", "dated", "first", "maturity", "coupon", "days"];
 let isBusy = false;
 let quoteIssue = null;
+// All terms that were read, in the order of their numbers.
+let kept = [];
 
 const hasCalls = () => ["periodic", "zero"].includes(form.elements.kind.value);
 
@@ -98,7 +101,7 @@ function readCalls() {
     }
     const kind = kindOf(row);
     unmark(kind);
-    calls.push({ date: date.value, price: price.value, mark: kind.value, words: kind.selectedOptions[0].textContent });
+    calls.push({ date: date.value, price: price.value, mark: kind.value });
   }
   first?.focus();
   return first ? null : calls;
@@ -114,8 +117,13 @@ function kindChanged() {
   $("issue-calls").disabled = !hasCalls();
 }
 
-const labelOf = name => form.elements[name].labels[0].textContent;
-const wordOf = name => form.elements[name].selectedOptions?.[0].textContent ?? form.elements[name].value;
+// The terms in words, as a question shows them.
+const words = {
+  label: name => form.elements[name].labels[0].textContent,
+  value: (name, value) => [...form.elements[name].options ?? []].find(each => each.value === value)?.textContent ??
+    (value || "none"),
+  call: call => call ? `${call.date} at ${call.price}, ${KINDS.find(([, value]) => value === call.mark)[0]}` : "none",
+};
 
 function markFault(answer) {
   const [number, day] = answer.rest.split(" ");
@@ -132,23 +140,66 @@ function markFault(answer) {
   if (row) mark(fieldsOf(row)[number === "8" ? 1 : 0], words);
 }
 
-async function add() {
-  const typed = read(form, NAMES);
+// The terms that are typed with their calls, or null if one has not its form.
+function typedTerms() {
+  const terms = read(form, NAMES);
   const calls = hasCalls() ? readCalls() : [];
-  if (!typed || !calls) return;
-  if (calls.length) typed.calls = calls.map(call => ({ date: call.date, price: call.price + call.mark }));
-  const rows = Object.keys(typed).filter(name => name !== "calls").map(name => [labelOf(name), wordOf(name)]);
-  rows.push(...calls.map(({ date, price, words }, place) => [`Call ${place + 1}`, `${date} at ${price}, ${words}`]));
-  if (!await sure("Add this issue? It is never changed or removed.", rows, "Add issue")) return;
+  return terms && calls && { terms, calls };
+}
+
+// Sends what is typed. Says what came, and what of it if it is kept.
+async function send(path, { terms, calls }, more, what) {
+  const body = { ...terms, ...more };
+  if (calls.length) body.calls = calls.map(({ date, price, mark: kind }) => ({ date, price: price + kind }));
   hush(told);
-  const answer = await ask("/issues", typed, waitingIn(told));
+  const answer = await ask(path, body, waitingIn(told));
   if (answer.kind !== "done") {
-    refuse(told, answer);
+    refuseNew(told, answer, "An issue", path === "/issues" ? "added" : "amended");
     if (answer.number === 4) markFault(answer);
     return;
   }
-  say(told, "good", [answer.text.trim(), ...tellSent(answer), "It is kept with these terms."],
-    ["Quote it", () => quoteIssue(typed.cusip)]);
+  offer([]);
+  say(told, "good", [answer.text.trim(), ...tellSent(answer), what], ["Quote it", () => quoteIssue(terms.cusip)]);
+}
+
+async function add() {
+  const typed = typedTerms();
+  if (!typed) return;
+  const rows = Object.entries(typed.terms).map(([name, value]) => [words.label(name), words.value(name, value)]);
+  rows.push(...typed.calls.map((call, place) => [`Call ${place + 1}`, words.call(call)]));
+  if (await sure("Add this issue? It is never removed.", rows, "Add issue")) {
+    await send("/issues", typed, {}, "It is kept with these terms.");
+  }
+}
+
+// All terms that are kept of a CUSIP, or null. What else comes is told.
+async function keptOf(cusip) {
+  hush(told);
+  const answer = await ask(`/issues/${cusip}`, null, waitingIn(told));
+  if (answer.kind !== "done") {
+    refuseNew(told, answer, "Terms of an issue");
+    return null;
+  }
+  hush(told);
+  return readTerms(answer.text);
+}
+
+async function amend() {
+  const typed = typedTerms();
+  const found = typed && await keptOf(typed.terms.cusip);
+  if (!found) return;
+  const { cusip } = typed.terms;
+  const rows = changesOfTerms(found.at(-1), typed, words);
+  if (!rows.length) {
+    say(told, "note", ["Nothing was amended", `These are the last terms of ${cusip}, which are kept under number ` +
+      `${found.length}.`]);
+    return;
+  }
+  const title = `Amend ${cusip}? What was traded stays as it is: it was figured by the terms of before.`;
+  if (await sure(title, rows, "Amend issue", { head: ["", "Now", "Then"] })) {
+    await send("/amendments", typed, { number: String(found.length + 1) },
+      "Quotes and new trades go by these terms. A trade of before is figured by them once it is corrected.");
+  }
 }
 
 // Puts terms and calls into the form, in the place of all that is there.
@@ -169,24 +220,36 @@ function fill(terms, calls) {
 
 function clear() {
   fill({}, []);
+  offer([]);
   hush(told);
   form.elements.cusip.focus();
 }
 
-// Reads the terms that are kept of the CUSIP into the form.
-async function readTerms() {
-  const typed = read(form, ["cusip"]);
-  if (!typed) return;
-  hush(told);
-  const answer = await ask(`/issues/${typed.cusip}`, null, waitingIn(told));
-  if (answer.kind !== "done") {
-    refuseNew(told, answer, "Terms of an issue");
-    return;
-  }
-  const { terms, calls } = readIssue(answer.text);
+// Offers the numbers of the terms that were read, if there are several.
+function offer(found) {
+  kept = found;
+  $("issue-numbers").hidden = kept.length < 2;
+  $("issue-terms").replaceChildren(...kept.map((_, place) => element("option", String(place + 1))));
+}
+
+// Puts the terms with a number into the form.
+function show(number) {
+  const { terms, calls } = kept[number - 1];
   fill(terms, calls);
-  say(told, "good", [`These are the terms that are kept of ${typed.cusip}`, "They are never changed."],
-    ["Quote it", () => quoteIssue(typed.cusip)]);
+  $("issue-terms").value = number;
+  const which = number === kept.length ? `Number ${number}, the last ones.`
+    : `Number ${number} of ${kept.length}: not those by which quotes and new trades go.`;
+  say(told, "good", [`These are the terms that are kept of ${terms.cusip}`, which],
+    ["Quote it", () => quoteIssue(terms.cusip)]);
+}
+
+// Reads the terms that are kept of the CUSIP into the form, the last ones first.
+async function readKept() {
+  const typed = read(form, ["cusip"]);
+  const found = typed && await keptOf(typed.cusip);
+  if (!found) return;
+  offer(found);
+  show(found.length);
 }
 
 // One request at a time.
@@ -211,11 +274,16 @@ export function startIssue(quote) {
   dress(form);
   growCalls();
   kindChanged();
-  form.addEventListener("input", () => hushGood(told));
+  form.addEventListener("input", ({ target }) => {
+    hushGood(told);
+    if (target.name === "cusip") offer([]);
+  });
   form.elements.kind.addEventListener("change", kindChanged);
   body.addEventListener("input", growCalls);
   body.addEventListener("paste", pasteCalls);
-  $("issue-read").addEventListener("click", () => alone(readTerms));
+  $("issue-read").addEventListener("click", () => alone(readKept));
+  $("issue-amend").addEventListener("click", () => alone(amend));
+  $("issue-terms").addEventListener("change", ({ target }) => show(Number(target.value)));
   $("issue-clear").addEventListener("click", clear);
   form.addEventListener("submit", event => {
     event.preventDefault();

@@ -1,14 +1,13 @@
 // The positions of the desk, in the place of its trades if their tab is chosen.
 import { ask } from "./ask.js";
 import { $, element } from "./dom.js";
+import { isShown } from "./tabs.js";
 import { grouped, readPositions } from "./texts.js";
 import { hush, refuseNew, waitingIn } from "./tell.js";
 
 const told = $("positions-told");
 const place = $("positions-place");
 const body = $("positions-list").tBodies[0];
-const tabs = [...document.querySelectorAll("#trades [role=tab]")];
-const panelOf = tab => $(tab.getAttribute("aria-controls"));
 let desk = () => "";
 let round = 0;
 
@@ -48,36 +47,9 @@ export function clearPositions() {
 }
 
 // Reads them anew if they are shown.
-export const refreshPositions = () => panelOf($("tab-positions")).hidden || read();
+export const refreshPositions = () => isShown("positions") && read();
 
-function choose(tab) {
-  for (const each of tabs) {
-    const isChosen = each === tab;
-    each.setAttribute("aria-selected", String(isChosen));
-    each.tabIndex = isChosen ? 0 : -1;
-    panelOf(each).hidden = !isChosen;
-  }
-  refreshPositions();
-}
-
-export const chooseTrades = () => choose($("tab-trades"));
-export function choosePositions() {
-  choose($("tab-positions"));
-  $("tab-positions").focus();
-}
-
-// The tabs are walked by Left and Right, and Tab goes from the chosen one into its panel.
 export function startPositions(deskAtHand) {
   desk = deskAtHand;
   $("positions-again").addEventListener("click", read);
-  for (const tab of tabs) {
-    tab.addEventListener("click", () => choose(tab));
-    tab.addEventListener("keydown", event => {
-      if (event.key !== "ArrowLeft" && event.key !== "ArrowRight") return;
-      event.preventDefault();
-      const other = tabs.find(each => each !== tab);
-      choose(other);
-      other.focus();
-    });
-  }
 }

@@ -1,5 +1,5 @@
 // What is shown of a trade before it is entered, corrected or canceled.
-import { givenOf, isNone, printedOf } from "./given.js";
+import { givenOf, isNone, printedOf, termsOf } from "./given.js";
 import { grouped, scaled, split } from "./texts.js";
 
 const WORDS = { price: "a price", yield: "a yield", rate: "a discount rate" };
@@ -9,6 +9,8 @@ const plain = par => grouped(String(BigInt(par)));
 
 // What a commission is: per 100 if that is known, else the dollars that the confirmation has.
 const feeWords = fee => isNone(fee) ? "none" : `${fee} per 100`;
+
+const termsWords = number => number ? `number ${number}` : "the last ones";
 
 export function rowsOfTrade(confirmation) {
   const { lines } = confirmation;
@@ -38,7 +40,8 @@ export function rowsOfEntry(typed, lines) {
     ["Redemption", `${day} at ${price}, ${label.join(" ").toLowerCase()}`],
     ["Total", grouped(lines.get("TOTAL"))],
   ];
-  return isNone(typed.fee) ? rows : [...rows, ["Commission", feeWords(typed.fee)]];
+  if (!isNone(typed.fee)) rows.push(["Commission", feeWords(typed.fee)]);
+  return typed.issue ? [...rows, ["Terms of the issue", termsWords(typed.issue)]] : rows;
 }
 
 // Whether a commission per 100 makes these dollars, to the cent.
@@ -64,6 +67,13 @@ function changeOfGiven(last, given, typed) {
   return isSame ? [] : [["Given", wordsOf(given.basis, given.value), then]];
 }
 
+// A version is figured by the last terms if it names none, whatever the version before was figured by.
+function changeOfTerms(last, typed) {
+  const now = termsOf(last);
+  if (now === (typed.issue ?? "")) return [];
+  return [["Terms of the issue", now ? termsWords(now) : "not told", termsWords(typed.issue)]];
+}
+
 // What a correction changes of the last version: each with what it is now and then.
 export function changesOf(last, typed) {
   const given = givenOf(last);
@@ -73,5 +83,6 @@ export function changesOf(last, typed) {
     ["CUSIP", last.lines.get("CUSIP"), typed.cusip],
     ["Settlement", last.lines.get("SETTLEMENT"), typed.settle],
   ].filter(([, now, then]) => now !== then);
-  return [...rows, ...changeOfGiven(last, given, typed), ...changeOfFee(last, given, typed)];
+  rows.push(...changeOfGiven(last, given, typed), ...changeOfFee(last, given, typed), ...changeOfTerms(last, typed));
+  return rows;
 }

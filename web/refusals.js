@@ -3,7 +3,7 @@
 export const REFUSALS = {
   1: ["UnknownIssue", "no issue of this CUSIP is kept", "check the CUSIP, or add the issue first"],
   2: ["UnknownTrade", "the desk keeps no trade of this reference", "check the desk and the reference, in which capitals and small letters differ"],
-  3: ["Conflict", "this CUSIP, or this number of the trade, is kept with other contents or by another act; what is sent again as it was is answered as before", {"issue": "compare the terms, since what is kept is never changed", "trade": "correct it under the next number, or enter it under another reference"}],
+  3: ["Conflict", "this number of the terms of the issue, or of the trade, is kept with other contents or by another act, or the trade by other terms of its issue; what is sent again as it was is answered as before", {"issue": "compare the terms, since those that are kept are never changed. If they are wrong, or have changed, amend the issue under the next number", "trade": "correct it under the next number, or enter it under another reference"}],
   4: ["BadTerms", "the terms fail a test, so the desk cannot price the issue", "mend the terms"],
   5: ["SettleOutside", "the settlement is before the dated date, or not before maturity or the day for which the issue has been called", "check the settlement"],
   6: ["GivenOutOfRange", "what is given, or a price with its commission, lies below or above its range, or the price at this yield would be below zero", "look for a slipped point, or a price where a yield belongs"],
@@ -12,8 +12,8 @@ export const REFUSALS = {
   9: ["NoTime", "the day count leaves no day up to this redemption, so there is no yield", "settle on another day; if interest is paid, a yield may be given"],
   10: ["Undecided", "at a yield, the exact price lies on the boundary that is named or within 10^-9 dollars of it; at a price, the exact price at the boundary that is named is the net price given or within 10^-9 dollars of it. So it cannot be told which of two printed figures it is", "give another yield or price, the last digit suffices"],
   11: ["Canceled", "the trade is canceled, and nothing follows a cancel", "enter a new trade under another reference"],
-  12: ["WrongNumber", "the number is neither one that is kept nor the next one", "read the last version, which may be another's correction, and send the number that is named"],
-  13: ["VersionsFull", "the trade has 99 versions", "cancel it, which is still taken, and enter a new one"],
+  12: ["WrongNumber", "the number, of a version or of terms of an issue, is neither one that is kept nor the next one; or a trade is to go by terms of its issue that are not kept", "read the last version, which may be another's correction, or the last terms of the issue, and send the number that is named. A trade goes by terms that are kept: their numbers are below it"],
+  13: ["VersionsFull", "the trade has 99 versions, or the issue 99 terms", "cancel the trade, which is still taken, and enter a new one. The last terms of an issue stay"],
   14: ["DeskFull", "the desk has as many trades as it may have: 100,000, if it was given no other number", "enter the trade under another desk"],
   15: ["WrongBasis", "a rate for any issue but a discounted note, a yield for one, or a commission beside a yield or a rate", "give a price, or what this kind of issue is asked by"],
 };

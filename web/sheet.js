@@ -1,6 +1,7 @@
 // The confirmation as a sheet.
 import { ask } from "./ask.js";
 import { $, element } from "./dom.js";
+import { termsOf } from "./given.js";
 import { grouped, readConfirmation, split } from "./texts.js";
 import { hush, refuse, say, waitingIn } from "./tell.js";
 import { offerVersions, startVersions } from "./versions.js";
@@ -91,6 +92,7 @@ function draw(confirmation) {
       row("Dated date", lines.get("DATED")),
       row("Maturity", lines.get("MATURITY")),
       basis,
+      termsOf(confirmation) && row("Terms", `number ${termsOf(confirmation)}`),
     ]),
     part("Figures", figures),
     ...remarks(confirmation).map(words => element("p", words, "note")),

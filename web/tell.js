@@ -35,7 +35,7 @@ const RANGES = "A given yield is from -5 to 100 percent with more than six month
 // What stands after the name on the desk's line, in words.
 const DETAILS = {
   3: rest => rest === "issue"
-    ? "This CUSIP is kept with other terms. The desk does not tell which: compare yours with their source."
+    ? "Other terms are kept under this number. Read terms shows them: compare yours with their source."
     : `Version ${rest.split(" ")[1]} of this trade is kept with other contents.`,
   4: rest => {
     const [number, day] = rest.split(" ");
@@ -119,8 +119,8 @@ export function hushGood(box) {
 
 export const refuse = (box, answer, ...buttons) => say(box, "bad", tell(answer), ...buttons);
 // The same of a request that a desk of an earlier version does not know.
-export function refuseNew(box, answer, what) {
-  if (isUnknownPath(answer)) say(box, "note", [`${what} cannot be shown here`, OLDER]);
+export function refuseNew(box, answer, what, is = "shown") {
+  if (isUnknownPath(answer)) say(box, "note", [`${what} cannot be ${is} here`, OLDER]);
   else refuse(box, answer);
 }
 export const waitingIn = box => what => say(box, "wait", tellWaiting(what));

@@ -1,4 +1,5 @@
 // The lines of the desk's texts, and numbers as texts. Nothing is rounded here: figures stay the desk's.
+import { readCsv } from "./csv.js";
 
 const NAMES = [
   "CORRECTED CONFIRMATION", "CANCELED CONFIRMATION", "CONFIRMATION", "DESK", "REFERENCE", "BOUGHT", "SOLD",
@@ -45,17 +46,19 @@ export function readPositions(text) {
   return text.split("\n").slice(0, -1).map(line => line.split(" "));
 }
 
-// The terms of an issue by the names of their fields. Decimals have no zeros at the end, as they are typed.
-export function readIssue(row) {
-  const plain = (text, places) => unscaled(scaled(text, places), places);
-  const fields = [...row.trim().matchAll(/(?:^|,)(?:"((?:[^"]|"")*)"|([^",]*))/g)]
-    .map(([, quoted, bare]) => quoted?.replaceAll('""', '"') ?? bare);
-  const [, cusip, name, kind, dated, first, maturity, coupon, calls, days] = fields;
-  return {
-    terms: { cusip, name, kind, dated, first, maturity, days, coupon: Number(coupon) ? plain(coupon, 7) : "" },
-    calls: [...calls.matchAll(/(\S+):([\d.]+)([+!]?)/g)]
-      .map(([, date, price, mark]) => ({ date, price: plain(price, 6), mark })),
-  };
+const plain = (text, places) => unscaled(scaled(text, places), places);
+
+// All terms of an issue in the order of their numbers, from 1 on: each by the names of the fields, and its calls.
+// Decimals have no zeros at the end, as they are typed.
+export function readTerms(rows) {
+  return readCsv(rows).map(([row, cusip, ...fields]) => {
+    const [name, kind, dated, first, maturity, coupon, calls, days] = row === "amend" ? fields.slice(1) : fields;
+    return {
+      terms: { cusip, name, kind, dated, first, maturity, days, coupon: Number(coupon) ? plain(coupon, 7) : "" },
+      calls: [...calls.matchAll(/(\S+):([\d.]+)([+!]?)/g)]
+        .map(([, date, price, mark]) => ({ date, price: plain(price, 6), mark })),
+    };
+  });
 }
 
 const EACH = /^EACH (\S+) ([\d.]+) (MATURITY|PAR OPTION|CALLED|CALL) (?:(?:PRICE|YIELD) (-?[\d.]+)|(.+))$/;
@@ -71,6 +74,21 @@ const RISK = /^(CURRENT YIELD|DURATION|CONVEXITY|DV01) ([\d.]+)$/;
 // How the price moves with the yield, if the lines have it: names and numbers, in their order.
 export function readRisk(text) {
   return text.split("\n").map(line => line.match(RISK)).filter(Boolean).map(([, name, value]) => [name, value]);
+}
+
+// What is said of a row of another firm's figures. A place that counts columns is that of a file with all of them.
+export function readVerdict(text) {
+  const [, verdict, ...rest] = text.trim().split(",");
+  switch (verdict) {
+    case "differs": {
+      const [column, ours, theirs, reading = ""] = rest;
+      return { verdict, column, ours, theirs, reading };
+    }
+    case "undecided": return { verdict, column: rest[0] };
+    case "refused": return { verdict, number: rest[0] };
+    case "bad": return { verdict, kind: rest[0], number: rest[1] };
+    default: return { verdict };
+  }
 }
 
 // `104.250 GIVEN` in two.

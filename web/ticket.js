@@ -3,7 +3,7 @@ import { ask } from "./ask.js";
 import { startCurve } from "./curve.js";
 import { $ } from "./dom.js";
 import { dress, read, unmark } from "./fields.js";
-import { givenOf, missingWords, remember } from "./given.js";
+import { givenOf, missingWords, remember, termsOf } from "./given.js";
 import { changesOf, rowsOfEntry, rowsOfTrade } from "./questions.js";
 import { curve, isQuoted, quote, stale } from "./quote.js";
 import { nextReference, today } from "./references.js";
@@ -102,14 +102,20 @@ function typedOf(names, optional) {
 
 const notDone = what => say(told, "note", [`Nothing was ${what}`, "What was typed is as it was."]);
 
+// The desk's quote goes by the last terms.
+const termsNotes = ({ issue }) => issue
+  ? [`A quote goes by the last terms of the issue. The trade goes by number ${issue}, and its figures may be others.`]
+  : [];
+
 async function enter() {
-  const body = typedOf(TRADED, ["fee"]);
+  const body = typedOf([...TRADED, "issue"], ["fee", "issue"]);
   if (!body) return;
-  if (!isQuoted()) {
+  if (!isQuoted() || body.issue) {
     const quoted = await quote(buttons);
     if (!quoted) return;
     const title = "Enter this trade? It was not quoted as it stands.";
-    const isSure = await sure(title, rowsOfEntry(body, quoted.lines), "Enter trade", { notes: quoted.notes });
+    const notes = [...quoted.notes, ...termsNotes(body)];
+    const isSure = await sure(title, rowsOfEntry(body, quoted.lines), "Enter trade", { notes });
     if (!isSure) {
       notDone("entered");
       return;
@@ -128,7 +134,7 @@ function numbered(body, last) {
 }
 
 async function correct() {
-  const typed = typedOf([...TRADED, "number"], ["fee", "number"]);
+  const typed = typedOf([...TRADED, "number", "issue"], ["fee", "number", "issue"]);
   const last = typed && await look(typed);
   if (!last) return;
   const body = numbered(typed, last);
@@ -176,7 +182,7 @@ export async function propose(desk) {
 }
 
 async function newReference() {
-  form.elements.reference.value = form.elements.number.value = "";
+  for (const name of ["reference", "number", "issue"]) form.elements[name].value = "";
   stale();
   hush(told);
   await propose(opened.atHand());
@@ -204,6 +210,7 @@ export function takeTrade(version, last) {
     settle: lines.get("SETTLEMENT"),
     side: version.side,
     ...given,
+    issue: termsOf(version),
   });
   const words = given.value === "" ? missingWords(given.basis, lines) : ["All is as it was given, in full."];
   if (last.isCanceled) {
@@ -232,7 +239,7 @@ function clear() {
 }
 
 export function quoteIssue(cusip) {
-  fill({ cusip });
+  fill({ cusip, issue: "" });
   form.elements.par.focus();
 }
 
@@ -243,9 +250,10 @@ function chooseProposed({ target }) {
 
 function changed({ target: { name } }) {
   if (name === "basis") basisChanged();
-  // The number belongs to the trade whose last version was seen.
+  // The number belongs to the trade whose last version was seen, and that of terms to their issue.
   if (name === "reference") form.elements.number.value = "";
-  if (name !== "reference" && name !== "number") stale();
+  if (name === "cusip") form.elements.issue.value = "";
+  if (!["reference", "number", "issue"].includes(name)) stale();
 }
 
 // `opened` has the desk at hand, which is asked for if none is open or not; what shows a trade in the list; and what

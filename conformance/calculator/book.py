@@ -12,6 +12,7 @@ from calculator.terms import Issue, fault_of
 # How many trades a desk may have if nothing else is said.
 USUAL_LIMIT = 100_000
 MOST_VERSIONS = 99
+MOST_TERMS = 99
 LISTED = 50
 
 
@@ -19,10 +20,20 @@ class AddIssue(NamedTuple):
     issue: Issue
 
 
+class Amend(NamedTuple):
+    """Other terms of an issue, with their number."""
+
+    number: int
+    issue: Issue
+
+
 class Enter(NamedTuple):
+    """A trade, and the number of the terms of its issue by which it is figured, or none for the last ones."""
+
     desk: str
     reference: str
     asked: Asked
+    terms: int | None = None
 
 
 class Correct(NamedTuple):
@@ -30,6 +41,7 @@ class Correct(NamedTuple):
     reference: str
     number: int
     asked: Asked
+    terms: int | None = None
 
 
 class Cancel(NamedTuple):
@@ -58,7 +70,7 @@ class Quote(NamedTuple):
     is_risk: bool = False
 
 
-Command = AddIssue | Enter | Correct | Cancel | Confirm | ListTrades | Quote
+Command = AddIssue | Amend | Enter | Correct | Cancel | Confirm | ListTrades | Quote
 
 
 class Act(enum.StrEnum):
@@ -73,10 +85,17 @@ class Version(NamedTuple):
     act: Act
     asked: Asked
     figures: Figures
+    # The number of the terms of its issue by which it was figured.
+    terms: int = 1
 
 
 class Added(NamedTuple):
     cusip: str
+
+
+class Amended(NamedTuple):
+    cusip: str
+    number: int
 
 
 class Confirmed(NamedTuple):
@@ -100,7 +119,7 @@ class Listed(NamedTuple):
     trades: list[tuple[str, int, Version]]
 
 
-Reply = Added | Confirmed | Quoted | Listed | Refusal
+Reply = Added | Amended | Confirmed | Quoted | Listed | Refusal
 
 
 @dataclasses.dataclass
@@ -123,13 +142,20 @@ class Position:
 
 
 class Book:
-    """Issues by their CUSIPs, and the versions of each trade by its desk and its reference. `limit` is how many trades
-    a desk may have. It is not kept with them: each command over the book sets it."""
+    """The terms of each issue by its CUSIP, and the versions of each trade by its desk and its reference. `limit` is how
+    many trades a desk may have. It is not kept with them: each command over the book sets it."""
 
     def __init__(self, limit: int = USUAL_LIMIT) -> None:
         self.limit = limit
-        self.issues: dict[str, Issue] = {}
+        self.issues: dict[str, list[Issue]] = {}
         self.desks: dict[str, dict[str, list[Version]]] = {}
+
+    def terms(self, cusip: str) -> list[Issue]:
+        return self.issues.get(cusip, [])
+
+    def issue(self, cusip: str) -> Issue | None:
+        """An issue by its last terms."""
+        return self.issues[cusip][-1] if cusip in self.issues else None
 
     def versions(self, desk: str, reference: str) -> list[Version]:
         return self.desks.get(desk, {}).get(reference, [])
@@ -139,6 +165,8 @@ class Book:
         match command:
             case AddIssue(issue):
                 return self.add(issue)
+            case Amend(number, issue):
+                return self.amend(number, issue)
             case Quote():
                 return self.quoted(command, choose)
             case ListTrades(desk, after):
@@ -146,22 +174,22 @@ class Book:
             case Confirm(desk, reference):
                 count = len(self.versions(desk, reference))
                 return self.confirmed(desk, reference, count) if count else Refusal(Refused.UNKNOWN_TRADE)
-            case Enter(desk, reference, asked):
-                return self.enter(desk, reference, asked, choose)
-            case Correct(desk, reference, number, asked):
-                return self.correct(desk, reference, number, asked, choose)
+            case Enter():
+                return self.enter(command, choose)
+            case Correct():
+                return self.correct(command, choose)
             case Cancel(desk, reference, number):
                 return self.cancel(desk, reference, number)
 
     def quote(self, asked: Asked, choose: Choice) -> Figures | Refusal:
-        issue = self.issues.get(asked.cusip)
+        issue = self.issue(asked.cusip)
         return choose(answers(issue, asked)) if issue else Refusal(Refused.UNKNOWN_ISSUE)
 
     def quoted(self, question: Quote, choose: Choice) -> Quoted | Refusal:
         asked, found = question.asked, self.quote(question.asked, choose)
         if isinstance(found, Refusal):
             return found
-        issue = self.issues[asked.cusip]
+        issue = self.issues[asked.cusip][-1]
         each = each_of(issue, asked, choose) if question.is_each else []
         return Quoted(asked, found, each, risk_of(issue, asked, found, choose) if question.is_risk else None)
 
@@ -169,9 +197,26 @@ class Book:
         refusal = refused_terms(issue)
         if refusal:
             return refusal
-        if self.issues.setdefault(issue.cusip, issue) != issue:
+        if self.issues.setdefault(issue.cusip, [issue])[0] != issue:
             return Refusal(Refused.CONFLICT, "issue")
         return Added(issue.cusip)
+
+    def amend(self, number: int, issue: Issue) -> Reply:
+        refusal = refused_terms(issue)
+        if refusal:
+            return refusal
+        kept = self.terms(issue.cusip)
+        if not kept:
+            return Refusal(Refused.UNKNOWN_ISSUE)
+        if 1 <= number <= len(kept):
+            is_same = kept[number - 1] == issue
+            return Amended(issue.cusip, number) if is_same else Refusal(Refused.CONFLICT, "issue")
+        if len(kept) >= MOST_TERMS:
+            return Refusal(Refused.VERSIONS_FULL)
+        if number != len(kept) + 1:
+            return wrong_number(kept)
+        kept.append(issue)
+        return Amended(issue.cusip, number)
 
     def listed(self, desk: str, after: str) -> Listed:
         trades = self.desks.get(desk, {})
@@ -186,24 +231,37 @@ class Book:
 
     def confirmed(self, desk: str, reference: str, number: int) -> Confirmed:
         version = self.versions(desk, reference)[number - 1]
-        return Confirmed(self.issues[version.asked.cusip], desk, reference, number, version)
+        issue = self.issues[version.asked.cusip][version.terms - 1]
+        return Confirmed(issue, desk, reference, number, version)
 
-    def enter(self, desk: str, reference: str, asked: Asked, choose: Choice) -> Reply:
-        kept = self.versions(desk, reference)
+    def enter(self, sent: Enter, choose: Choice) -> Reply:
+        kept = self.versions(sent.desk, sent.reference)
         if kept:
-            return self.again(desk, reference, 1, kept[0].asked == asked)
-        if asked.cusip not in self.issues:
-            return Refusal(Refused.UNKNOWN_ISSUE)
-        if len(self.desks.get(desk, {})) >= self.limit:
+            return self.again(sent.desk, sent.reference, 1, is_of(kept[0], sent))
+        refusal = self.refused_issue(sent)
+        if refusal:
+            return refusal
+        if len(self.desks.get(sent.desk, {})) >= self.limit:
             return Refusal(Refused.DESK_FULL)
-        return self.put(desk, reference, Act.ENTERED, asked, choose)
+        return self.put(sent, Act.ENTERED, choose)
 
-    def correct(self, desk: str, reference: str, number: int, asked: Asked, choose: Choice) -> Reply:
-        kept = self.versions(desk, reference)
-        if 1 <= number <= len(kept):
-            version = kept[number - 1]
-            return self.again(desk, reference, number, version.act == Act.CORRECTED and version.asked == asked)
-        return refused_number(kept, number, MOST_VERSIONS) or self.put(desk, reference, Act.CORRECTED, asked, choose)
+    def correct(self, sent: Correct, choose: Choice) -> Reply:
+        kept = self.versions(sent.desk, sent.reference)
+        if 1 <= sent.number <= len(kept):
+            version = kept[sent.number - 1]
+            is_same = version.act == Act.CORRECTED and is_of(version, sent)
+            return self.again(sent.desk, sent.reference, sent.number, is_same)
+        return (refused_number(kept, sent.number, MOST_VERSIONS) or self.refused_issue(sent)
+                or self.put(sent, Act.CORRECTED, choose))
+
+    def refused_issue(self, sent: Enter | Correct) -> Refusal | None:
+        """The refusal of a trade whose issue, or the terms of it that it names, are not kept."""
+        kept = self.terms(sent.asked.cusip)
+        if not kept:
+            return Refusal(Refused.UNKNOWN_ISSUE)
+        if sent.terms is not None and not 1 <= sent.terms <= len(kept):
+            return wrong_number(kept)
+        return None
 
     def cancel(self, desk: str, reference: str, number: int) -> Reply:
         kept = self.versions(desk, reference)
@@ -219,13 +277,15 @@ class Book:
         """What is sent again as it was is answered as before."""
         return self.confirmed(desk, reference, number) if is_same else Refusal(Refused.CONFLICT, f"version {number}")
 
-    def put(self, desk: str, reference: str, act: Act, asked: Asked, choose: Choice) -> Reply:
-        found = self.quote(asked, choose)
+    def put(self, sent: Enter | Correct, act: Act, choose: Choice) -> Reply:
+        issues = self.issues[sent.asked.cusip]
+        terms = len(issues) if sent.terms is None else sent.terms
+        found = choose(answers(issues[terms - 1], sent.asked))
         if isinstance(found, Refusal):
             return found
-        kept = self.desks.setdefault(desk, {}).setdefault(reference, [])
-        kept.append(Version(act, asked, found))
-        return self.confirmed(desk, reference, len(kept))
+        kept = self.desks.setdefault(sent.desk, {}).setdefault(sent.reference, [])
+        kept.append(Version(act, sent.asked, found, terms))
+        return self.confirmed(sent.desk, sent.reference, len(kept))
 
     def positions(self, desk: str) -> dict[str, Position]:
         """The positions of a desk by their CUSIPs, in their order."""
@@ -244,6 +304,15 @@ def refused_terms(issue: Issue) -> Refusal | None:
     return Refusal(Refused.BAD_TERMS, f"{bad.fault.value} {bad.call}" if bad.call else str(bad.fault.value))
 
 
+def is_of(version: Version, sent: Enter | Correct) -> bool:
+    """Whether a version is what a trade asks for that is sent again."""
+    return version.asked == sent.asked and sent.terms in (None, version.terms)
+
+
+def wrong_number(kept: list[Issue] | list[Version]) -> Refusal:
+    return Refusal(Refused.WRONG_NUMBER, str(len(kept) + 1))
+
+
 def refused_number(kept: list[Version], number: int, most: int) -> Refusal | None:
     """The refusal of a version that is not the next one of a trade."""
     if not kept:
@@ -253,5 +322,5 @@ def refused_number(kept: list[Version], number: int, most: int) -> Refusal | Non
     if len(kept) >= most:
         return Refusal(Refused.VERSIONS_FULL)
     if number != len(kept) + 1:
-        return Refusal(Refused.WRONG_NUMBER, str(len(kept) + 1))
+        return wrong_number(kept)
     return None

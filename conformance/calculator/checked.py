@@ -7,7 +7,7 @@ from collections.abc import Callable
 from typing import TypeVar
 
 from calculator import fields, numerals
-from calculator.book import Act, Book, refused_terms
+from calculator.book import Act, Book, Version, refused_terms
 from calculator.figures import Asked, Choice, Figures, Given, Refusal, Refused, Side, answers, likely
 from calculator.numerals import Unreadable, shown_figure, shown_money
 from calculator.readings import reading_of
@@ -159,22 +159,22 @@ class Check:
             if len(record) != len(self.columns):
                 raise Unread(BadRow())
             reference = row.stated("reference", numerals.reference)
-            known = None
+            last = None
             if self.desk and reference is not None:
                 self.named.add(reference)
                 versions = self.book.versions(self.desk, reference)
                 if not versions or versions[-1].act is Act.CANCELED:
                     self.tally.missing += 1
                     return f"{place},missing,{reference}"
-                known = versions[-1].asked
-            return self.judged(place, row, known)
+                last = versions[-1]
+            return self.judged(place, row, last)
         except Unread as unread:
             return bad_line(place, unread.bad)
 
-    def judged(self, place: int, row: Row, known: Asked | None) -> str:
-        asked = asked_by(row, known)
+    def judged(self, place: int, row: Row, last: Version | None) -> str:
+        asked = asked_by(row, last and last.asked)
         stated = {column: row.stated(column, READERS[column]) for column in STATED}
-        issue = issue_by(row, asked.cusip) if row.text("kind") else self.book.issues.get(asked.cusip)
+        issue = issue_by(row, asked.cusip) if row.text("kind") else self.issue_for(asked.cusip, last)
         if issue is None:
             return refused_line(place, Refusal(Refused.UNKNOWN_ISSUE))
         ours = refused_terms(issue) or self.choose(answers(issue, asked))
@@ -183,6 +183,12 @@ class Check:
                 return f"{place},undecided,{'price' if asked.given is Given.YIELD else 'yield'}"
             return refused_line(place, ours)
         return self.compared(place, issue, asked, ours, stated)
+
+    def issue_for(self, cusip: str, last: Version | None) -> Issue | None:
+        """The issue of a row: by the terms by which its trade was figured, or of another CUSIP by the last ones."""
+        if last is not None and last.asked.cusip == cusip:
+            return self.book.terms(cusip)[last.terms - 1]
+        return self.book.issue(cusip)
 
     def compared(self, place: int, issue: Issue, asked: Asked, ours: Figures, stated: dict[str, object]) -> str:
         for column, theirs in stated.items():

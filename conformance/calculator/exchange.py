@@ -6,9 +6,9 @@ import re
 from collections.abc import Iterator
 from typing import NamedTuple
 
-from calculator import exported, fields, json_text, numerals
-from calculator.book import (AddIssue, Added, Book, Cancel, Command, Confirm, Confirmed, Correct, Enter, Listed,
-                             ListTrades, Quote, Quoted, Reply)
+from calculator import checked, exported, fields, json_text, numerals
+from calculator.book import (AddIssue, Added, Amend, Amended, Book, Cancel, Command, Confirm, Confirmed, Correct,
+                             Enter, Listed, ListTrades, Quote, Quoted, Reply)
 from calculator.figures import Asked, Choice, Refusal, Refused, Side, likely
 from calculator.heads import Head, Incomplete, Malformed, head
 from calculator.json_text import BadJson
@@ -20,7 +20,7 @@ from calculator.texts import (confirmation, each_lines, figure_lines, list_line,
 HEAD_MAX = 16_384
 FIELDS_MAX = 64
 BODY_MAX = 65_536
-POSTED = ("/issues", "/trades", "/corrections", "/cancels", "/quotes")
+POSTED = ("/issues", "/amendments", "/trades", "/corrections", "/cancels", "/quotes", "/checks")
 PHRASES = {200: "OK", 400: "Bad Request", 404: "Not Found", 405: "Method Not Allowed", 409: "Conflict",
            411: "Length Required", 413: "Payload Too Large", 422: "Unprocessable Entity",
            431: "Request Header Fields Too Large", 503: "Service Unavailable"}
@@ -57,9 +57,17 @@ class LookAtLatest(NamedTuple):
     desk: str
 
 
+class CheckOfRow(NamedTuple):
+    """A check of one row, which keeps nothing."""
+
+    desk: str
+    columns: list[str]
+    record: list[str]
+
+
 # A look at the tables, which keeps nothing.
 Look = LookAtIssue | LookAtVersion | LookAtPositions | LookAtLatest
-Reading = Command | Look | Bad | Short
+Reading = Command | Look | CheckOfRow | Bad | Short
 
 
 class Refusing(Exception):
@@ -90,7 +98,7 @@ def readings(data: bytes) -> list[Reading]:
         return [refusing.reading]
 
 
-def request(found: Head, rest: bytes) -> Command | Look:
+def request(found: Head, rest: bytes) -> Command | Look | CheckOfRow:
     """What a request asks for that has a whole head."""
     path = found.target.partition(b"?")[0].decode("latin-1")
     if path not in POSTED:
@@ -180,17 +188,30 @@ class Members:
             yield Call(numerals.day(each["date"]), *fields.marked_price(each["price"]))
 
 
-def posted(path: str, body: bytes) -> Command:
+def posted(path: str, body: bytes) -> Command | CheckOfRow:
     members = Members(json_text.value(body))
+    if path == "/checks":
+        return row_of(members)
     if path == "/issues":
         return AddIssue(issue(members))
+    if path == "/amendments":
+        return Amend(fields.number(members["number"]), issue(members))
     if path == "/quotes":
         return Quote(asked(members, Side.BUY, 0), members.is_true("each"), members.is_true("risk"))
     key = numerals.desk(members["desk"]), numerals.reference(members["reference"])
     if path == "/cancels":
         return Cancel(*key, fields.number(members["number"]))
     trade = asked(members, fields.side(members["side"]), fields.fee(members.get("fee")))
-    return Enter(*key, trade) if path == "/trades" else Correct(*key, fields.number(members["number"]), trade)
+    terms = fields.number(members["issue"]) if "issue" in members else None
+    if path == "/trades":
+        return Enter(*key, trade, terms)
+    return Correct(*key, fields.number(members["number"]), trade, terms)
+
+
+def row_of(members: Members) -> CheckOfRow:
+    columns = [column for column in checked.COLUMNS if column in members]
+    desk = numerals.desk(members["desk"]) if "desk" in members else ""
+    return CheckOfRow(desk, columns, [members[column] for column in columns])
 
 
 def issue(members: Members) -> Issue:
@@ -222,6 +243,8 @@ def answer_of(book: Book, reading: Reading, choose: Choice) -> bytes:
         return answer(reading.status, f"{reading.status} {PHRASES[reading.status]}\n", reading.allow)
     if isinstance(reading, Look):
         return answer_of_look(book, reading)
+    if isinstance(reading, CheckOfRow):
+        return answer(200, checked.Check(book, reading.desk, reading.columns, choose).line(reading.record) + "\n")
     return answer_of_reply(book.apply(reading, choose))
 
 
@@ -230,7 +253,7 @@ def answer_of_look(book: Book, look: Look) -> bytes:
         case LookAtIssue(cusip):
             if cusip not in book.issues:
                 return answer_of_reply(Refusal(Refused.UNKNOWN_ISSUE))
-            return answer(200, text_of([exported.row(exported.issue(book.issues[cusip]))]))
+            return answer(200, text_of(exported.issues(book.issues[cusip])))
         case LookAtVersion(desk, reference, number):
             if not 1 <= number <= len(book.versions(desk, reference)):
                 return answer_of_reply(Refusal(Refused.UNKNOWN_TRADE))
@@ -245,6 +268,8 @@ def answer_of_reply(reply: Reply) -> bytes:
     match reply:
         case Added(cusip):
             return answer(200, f"ADDED {cusip}\n")
+        case Amended(cusip, number):
+            return answer(200, f"AMENDED {cusip} {number}\n")
         case Confirmed():
             return answer(200, text_of(confirmation(reply)))
         case Quoted(asked_, figures, each, risk):

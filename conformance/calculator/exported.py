@@ -30,8 +30,15 @@ def export(book: Book, desk: str = "", is_issues: bool = False) -> list[str]:
     """The rows of all that is kept, of one desk with the issues that it names, or of the issues alone."""
     cusips = named(book, desk) if desk else set(book.issues)
     desks = [] if is_issues else [desk] if desk else sorted(book.desks)
-    return [row(issue(book.issues[cusip])) for cusip in sorted(cusips)] + [
+    return [each for cusip in sorted(cusips) for each in issues(book.issues[cusip])] + [
         row(fields) for each in desks for fields in trades(book, each)]
+
+
+def issues(kept: list[Issue]) -> list[str]:
+    """The rows of all terms of an issue."""
+    first, *rest = map(terms, kept)
+    return [row(["issue", *first]), *(row(["amend", cusip, number, *fields])
+                                      for number, (cusip, *fields) in enumerate(rest, 2))]
 
 
 def named(book: Book, desk: str) -> set[str]:
@@ -39,23 +46,29 @@ def named(book: Book, desk: str) -> set[str]:
     return {version.asked.cusip for versions in book.desks.get(desk, {}).values() for version in versions}
 
 
-def issue(kept: Issue) -> list[object]:
+def terms(kept: Issue) -> list[object]:
     calls = " ".join(f"{call.day}:{shown_price(call.price)}{call.mark}" for call in kept.calls)
     days = "actual/365" if kept.basis == DayBasis.ACTUAL_365 else "30/360"
-    return ["issue", kept.cusip, kept.name, kept.kind, kept.dated, kept.first or "", kept.maturity,
+    return [kept.cusip, kept.name, kept.kind, kept.dated, kept.first or "", kept.maturity,
             shown(kept.coupon, 7), calls, days]
 
 
 def trades(book: Book, desk: str) -> Iterator[list[object]]:
     """The fields of each version of each trade of a desk."""
     for reference, versions in sorted(book.desks.get(desk, {}).items()):
-        for number, (act, kept, _) in enumerate(versions, 1):
+        for number, version in enumerate(versions, 1):
+            act, kept = version.act, [*asked(version.asked), *named_terms(book, version)]
             if act == Act.ENTERED:
-                yield ["trade", desk, reference, *asked(kept)]
+                yield ["trade", desk, reference, *kept]
             elif act == Act.CORRECTED:
-                yield ["correct", desk, reference, number, *asked(kept)]
+                yield ["correct", desk, reference, number, *kept]
             else:
                 yield ["cancel", desk, reference, number]
+
+
+def named_terms(book: Book, version: Version) -> list[int]:
+    """The number of the terms by which a version was figured, if they are not the last ones."""
+    return [] if version.terms == len(book.terms(version.asked.cusip)) else [version.terms]
 
 
 def asked(kept: Asked) -> list[object]:
@@ -79,6 +92,6 @@ def line(reference: str, number: int, version: Version) -> list[object]:
 
 
 def counted(book: Book) -> list[str]:
-    """The lines of a check: how many issues are kept, and of each desk with trades how many versions."""
+    """The lines of a check: how many terms of issues are kept, and of each desk with trades how many versions."""
     desks = [(desk, sum(map(len, trades.values()))) for desk, trades in sorted(book.desks.items()) if trades]
-    return [f"ISSUES {len(book.issues)}", *(f"DESK {desk} {count}" for desk, count in desks), "SOUND"]
+    return [f"ISSUES {sum(map(len, book.issues.values()))}", *(f"DESK {desk} {count}" for desk, count in desks), "SOUND"]

@@ -48,8 +48,13 @@ def value(what: Given, text: str) -> int:
 
 
 def number(text: str) -> int:
-    """The number of a version."""
+    """The number of a version, or of terms of an issue."""
     return int(numerals.name(text, "[0-9]{1,9}"))
+
+
+def terms(text: str) -> int | None:
+    """The number of the terms by which a trade is figured, or none for the last ones."""
+    return number(text) if text else None
 
 
 def day_basis(text: str) -> DayBasis:

@@ -6,7 +6,7 @@ from collections.abc import Callable, Iterator
 from typing import NamedTuple, TypeVar
 
 from calculator import fields, numerals
-from calculator.book import AddIssue, Added, Book, Cancel, Command, Confirmed, Correct, Enter, Reply
+from calculator.book import AddIssue, Added, Amend, Amended, Book, Cancel, Command, Confirmed, Correct, Enter, Reply
 from calculator.figures import Asked, Choice, Given, Refusal, likely
 from calculator.numerals import Unreadable, shown_figure, shown_money
 from calculator.terms import Issue
@@ -15,8 +15,8 @@ Read = TypeVar("Read")
 BYTE_ORDER_MARK = "\u00ef\u00bb\u00bf"
 # A field in quotes, in which two stand for one, with what follows the last of them; or one without.
 FIELD = re.compile(r'"((?:[^"]++|"")*+)"?([^,\r\n]*+)|([^,\r\n]*+)')
-# The numbers of fields that a row has with its name; the last field of some may be left out.
-SIZES = {"issue": (9, 10), "trade": (9, 10), "correct": (10, 11), "cancel": (4,)}
+# The numbers of fields that a row has with its name; the last fields of some may be left out.
+SIZES = {"issue": (9, 10), "amend": (10, 11), "trade": (9, 10, 11), "correct": (10, 11, 12), "cancel": (4,)}
 
 
 class BadRow(NamedTuple):
@@ -71,18 +71,23 @@ def row(record: list[str]) -> Command | BadRow:
     columns = Columns(record)
     try:
         if record[0] == "issue":
-            return AddIssue(issue(columns))
+            return AddIssue(issue(columns, columns.next(fields.cusip)))
+        if record[0] == "amend":
+            cusip, number = columns.next(fields.cusip), columns.next(fields.number)
+            return Amend(number, issue(columns, cusip))
         key = columns.next(numerals.desk), columns.next(numerals.reference)
         if record[0] == "trade":
-            return Enter(*key, asked(columns))
+            return Enter(*key, asked(columns), terms(columns))
         number = columns.next(fields.number)
-        return Cancel(*key, number) if record[0] == "cancel" else Correct(*key, number, asked(columns))
+        if record[0] == "cancel":
+            return Cancel(*key, number)
+        return Correct(*key, number, asked(columns), terms(columns))
     except Unreadable:
         return BadRow(columns.column)
 
 
-def issue(columns: Columns) -> Issue:
-    cusip, name, kind = columns.next(fields.cusip), columns.next(fields.issue_name), columns.next(fields.kind)
+def issue(columns: Columns, cusip: str) -> Issue:
+    name, kind = columns.next(fields.issue_name), columns.next(fields.kind)
     dated = columns.next(numerals.day)
     first = columns.next(lambda text: fields.first_interest(kind, text))
     maturity = columns.next(numerals.day)
@@ -99,6 +104,11 @@ def asked(columns: Columns) -> Asked:
     return Asked(cusip, par, settlement, given, value, side, columns.rest(fields.fee, 0))
 
 
+def terms(columns: Columns) -> int | None:
+    """The number of the terms of the issue of a trade, if one is named."""
+    return columns.rest(fields.terms, None)
+
+
 def report_line(place: int, came: Reply | BadRow) -> str:
     """The line on a row of an import."""
     match came:
@@ -106,6 +116,8 @@ def report_line(place: int, came: Reply | BadRow) -> str:
             return bad_line(place, came)
         case Added(cusip):
             return f"{place},added,{cusip}"
+        case Amended(cusip, number):
+            return f"{place},amended,{cusip},{number}"
         case Refusal():
             return refused_line(place, came)
         case Confirmed(_, _, reference, number, version):

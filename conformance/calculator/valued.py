@@ -85,7 +85,7 @@ def report(book: Book, data: bytes, form: Form = Form(), choose: Choice = likely
         elif isinstance(came, Refusal):
             found.append(refused_line(place, came))
         else:
-            risk = risk_columns(risk_of(book.issues[read.cusip], read, came, choose)) if form.is_risk else ""
+            risk = risk_columns(risk_of(book.issues[read.cusip][-1], read, came, choose)) if form.is_risk else ""
             found.append(line_of(place, read.cusip, came) + risk)
             count, total = count + 1, total + came.total
     return [*form.header(), *found, f"TOTAL,{count},{shown_money(total)},{len(found)}"]

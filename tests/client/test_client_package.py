@@ -23,9 +23,9 @@ from support.server import Server, free_port, reached
 FOLDER = ROOT / "clients/python"
 VERSION = (ROOT / "VERSION").read_text().strip()
 TYPED = ("clients/python/src/muni", "clients/python/compare.py", "tests/client/test_client_desk.py",
-         "tests/client/test_client_cuts.py", "tests/client/test_client_each.py", "tests/client/test_client_kept.py",
-         "tests/client/test_client_frames.py", "tests/client/test_client_parts.py", "tests/client/test_client_risk.py",
-         "tests/client/test_client_spread.py")
+         "tests/client/test_client_checked.py", "tests/client/test_client_cuts.py", "tests/client/test_client_each.py",
+         "tests/client/test_client_kept.py", "tests/client/test_client_frames.py", "tests/client/test_client_parts.py",
+         "tests/client/test_client_risk.py", "tests/client/test_client_spread.py")
 BONDS = 100
 
 
@@ -62,7 +62,7 @@ def test_an_example_of_the_code_gives_what_it_shows(case: doctest.DocTest) -> No
 
 
 def test_no_example_of_the_code_is_left_out() -> None:
-    assert len(EXAMPLES) == 18
+    assert len(EXAMPLES) == 19
 
 
 @pytest.fixture

@@ -276,7 +276,7 @@ def test_why_a_store_fails_is_told_from_its_file(tmp_path, name, why):
 
 def test_what_a_check_could_not_read_is_told_of(tmp_path):
     MUNI.run("import", "--store=S", rows=ROWS, folder=tmp_path)
-    sql(tmp_path / "S", "UPDATE versions_2 SET act = 99")
+    sql(tmp_path / "S", "UPDATE versions_3 SET act = 99")
     check(MUNI.run("check-store", "--store=S", folder=tmp_path), 6, "ISSUES 1",
           "muni: status 6: the store failed: what follows the last line does not read: *")
 

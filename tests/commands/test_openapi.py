@@ -21,7 +21,7 @@ from support.tables import bytes_of, cases
 jsonschema = pytest.importorskip("jsonschema")
 yaml = pytest.importorskip("yaml")
 
-COMMANDS = ("issue", "trade", "correct", "cancel", "quote")
+COMMANDS = ("issue", "amend", "trade", "correct", "cancel", "quote", "check")
 REFUSALS = json.loads((ROOT / "docs/refusals.json").read_text())["refusals"]
 
 

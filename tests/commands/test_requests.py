@@ -52,11 +52,14 @@ COMMANDS = {
     # A note of five years, a name of a byte above 126, and forty calls at one date have faulty terms.
     "issue": [(409, "REFUSED 3 Conflict issue\n"), (422, "REFUSED 4 BadTerms 9\n"),
               (422, "REFUSED 4 BadTerms 10\n"), (422, "REFUSED 4 BadTerms 7 2024-01-01\n")],
+    "amend": [(404, "REFUSED 1 UnknownIssue\n"), (409, "REFUSED 3 Conflict issue\n"),
+              (409, "REFUSED 12 WrongNumber 2\n"), (422, "REFUSED 4 BadTerms 6 2024-01-02\n")],
     "trade": [(409, "REFUSED 3 Conflict version 1\n")],
     "correct": [(409, "REFUSED 3 Conflict version 2\n")],
     "cancel": [(200, CANCELED), (409, "REFUSED 11 Canceled\n")],
     "confirm": [(200, CANCELED), (404, "REFUSED 2 UnknownTrade\n")],
     "quote": [(200, FIGURES)],
+    "check": [(200, "1,right\n"), (200, "1,missing,t\n"), (200, "1,bad,1\n")],
     "list": [(200, ""), (200, "t 2 CANCELED 25000 100.725 4.000\n")],
 }
 PHRASES = {200: "OK", 400: "Bad Request", 404: "Not Found", 405: "Method Not Allowed", 409: "Conflict",
@@ -144,4 +147,4 @@ def test_a_request_that_is_cut_off_after_each_of_its_bytes_has_no_answer(server)
 
 
 def test_no_line_of_the_tables_is_left_out():
-    assert (len(REQUESTS), len(REPLIES)) == (213, 17)
+    assert (len(REQUESTS), len(REPLIES)) == (292, 17)

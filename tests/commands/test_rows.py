@@ -22,12 +22,14 @@ cancel,ALPHA,T0001,3
 ANSWERS = {
     "empty": {
         "issue": r"added,.*|refused,4,BadTerms|refused,3,Conflict",
+        "amend": r"amended,.*|refused,4,BadTerms|refused,1,UnknownIssue",
         "trade": r"refused,1,UnknownIssue|confirmed,.*,1,.*",
         "correct": r"refused,2,UnknownTrade|confirmed,.*,2,.*",
         "cancel": r"refused,2,UnknownTrade|confirmed,.*,3,.*",
     },
     "kept": {
         "issue": r"added,.*|refused,4,BadTerms|refused,3,Conflict",
+        "amend": r"amended,.*|refused,4,BadTerms|refused,1,UnknownIssue|refused,3,Conflict|refused,12,WrongNumber",
         "trade": r"refused,3,Conflict|confirmed,.*,1,.*",
         "correct": r"refused,3,Conflict|refused,11,Canceled|confirmed,.*,2,.*",
         "cancel": r"refused,3,Conflict|refused,11,Canceled|confirmed,.*,3,.*",

@@ -11,7 +11,8 @@ from support.server import ended, free_port, reached, received
 from support.stores import KINDS
 from support.tables import bytes_of, cases
 
-TABLES = ("stores", "confirmations", "exports", "figures", "check", "one_trade", "portfolios", "positions", "versions")
+TABLES = ("stores", "amendments", "confirmations", "exports", "figures", "check", "one_trade", "portfolios", "positions",
+          "terms", "versions")
 LINES = [(table, case) for table in TABLES for case in cases(table)]
 
 # The greatest input of a command that reads one, and what it answers to so many letters.

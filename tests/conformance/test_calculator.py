@@ -54,7 +54,7 @@ def test_a_table_of_command_lines_is_answered(table):
         assert commands.run(words) == (int(status), bytes_of(shown)), f"{table}, line {case.line}"
 
 
-@pytest.mark.parametrize("table", ["exports", "figures"])
+@pytest.mark.parametrize("table", ["amendments", "exports", "figures", "terms"])
 def test_a_table_of_commands_over_a_store_is_answered(table):
     for case in cases(table):
         words, sent, status, shown = case.parts

@@ -45,6 +45,10 @@ DAY: list[tuple[str, str, str]] = [
     (f"trade,ALPHA,T0004,{ASKED}", "", ""),
     (f"correct,ALPHA,T0004,02,{ASKED},", "", ""),
     ("cancel,ALPHA,T0004,3", "", ""),
+    # Other terms of an issue, a trade by the first ones, and one by the last
+    ("amend,123456AB1,02,RIVERTON 5S 2030,periodic,2020-01-01,2020-07-01,2030-01-01,5,2025-01-01:100+", "", ""),
+    ("trade,ALPHA,T0006,123456AB1,buy,25000,2024-04-01,yield,4,,1", "", ""),
+    ("trade,ALPHA,T0007,123456AB1,buy,25000,2024-04-01,yield,4,0", "", ""),
     # Sent again
     (ISSUE, "", ""),
     (f'trade,"ALPHA","T0001",{ASKED}', "", ""),
@@ -53,6 +57,11 @@ DAY: list[tuple[str, str, str]] = [
     ("cancel,ALPHA,T0009,2", "refused, UnknownTrade", "Check the desk and the reference"),
     (ISSUE + "2022-01-01:101+", "refused, Conflict", "Compare the terms"),
     (f"trade,ALPHA,T0001,{ASKED}5", "refused, Conflict", "Correct it under the next number"),
+    ("amend,123456AB1,1,RIVERTON 5S 2030,periodic,2020-01-01,2020-07-01,2030-01-01,4,", "refused, Conflict",
+     "Compare the terms"),
+    ("amend,123456AB1,4,RIVERTON 5S 2030,periodic,2020-01-01,2020-07-01,2030-01-01,4,", "refused, WrongNumber",
+     "which `export --issues` shows"),
+    (f"{NEW}{ASKED},,2", "refused, WrongNumber", "A trade goes by terms that are kept"),
     ('issue,123456AA3,"RIVERTON\n\n""WATER"", 5S",periodic,2020-01-01,2020-07-01,2025-01-01,5,',
      "refused, BadTerms", "Mend the terms. A report does not say which test fails"),
     (f"{NEW}123456AA3,buy,25000,2025-01-01,yield,4", "refused, SettleOutside", "not before maturity"),
@@ -63,10 +72,11 @@ DAY: list[tuple[str, str, str]] = [
     (f"{NEW}990000010,buy,25000,2024-01-01,yield,50", "refused, Undecided", "the last digit suffices."),
     ("cancel,ALPHA,T0002,3", "refused, Canceled", "Enter a new trade under another reference."),
     ("cancel,ALPHA,T0001,7", "refused, WrongNumber", "one more than that of the last version"),
-    (f"correct,ALPHA,T0003,100,{ASKED}", "refused, VersionsFull", "Cancel it"),
+    (f"correct,ALPHA,T0003,100,{ASKED}", "refused, VersionsFull", "Cancel the trade"),
     (f"{NEW}123456AA3,buy,25000,2024-04-01,rate,4", "refused, WrongBasis", "Give a price"),
     # Rows that are none
-    ("type,desk,reference", "bad, no name", 'Its first field "type" is none of issue, trade, correct and cancel.'),
+    ("type,desk,reference", "bad, no name",
+     'Its first field "type" is none of issue, amend, trade, correct and cancel.'),
     (f"Trade,ALPHA,T0005,{ASKED}", "bad, no name", 'Its first field "Trade" is none of'),
     ('"trade,ALPHA,T0005', "bad, no name", ""),
 ]
@@ -74,9 +84,9 @@ DAY: list[tuple[str, str, str]] = [
 UNCLOSED = DAY.pop()
 DAY += [
     (f"trade,ALPHA,T0005,{ASKED},0.5,,", "bad, another number of fields", "Cut off the empty fields at its end"),
-    ("trade,ALPHA,T0005,123456AA3,buy,25,000,2024-04-01,yield,4,0.5", "bad, another number of fields",
-     "A row `trade` has 9 or 10 fields with its name, and this one has 11."),
-    ("trade,ALPHA,T0005,123456AA3,buy,25,000,2024-04-01,yield,4,0.5", "bad, another number of fields",
+    ("trade,ALPHA,T0005,123456AA3,buy,25,000,2024-04-01,yield,4,0.5,1", "bad, another number of fields",
+     "A row `trade` has 9 to 11 fields with its name, and this one has 12."),
+    ("trade,ALPHA,T0005,123456AA3,buy,25,000,2024-04-01,yield,4,0.5,1", "bad, another number of fields",
      "Put a field that has a comma in quotes"),
     ("cancel,ALPHA,T0001", "bad, another number of fields", "has 4 fields with its name, and this one has 3."),
     ("cancel,ALPHA,T0001", "bad, another number of fields", "Add the fields that are missing"),
@@ -220,10 +230,10 @@ def test_rows_are_shown_as_they_are_byte_for_byte(joined):
 
 def test_the_columns_are_those_of_the_formats():
     page = (ROOT / "docs/FORMATS.md").read_text()
-    table = re.findall(r"^\| `(\w+)`, (\d+)(?: or (\d+))?(?: fields)? \| ([A-Z, ]+) \|$", page, re.M)
+    table = re.findall(r"^\| `(\w+)`, (\d+)(?: (?:or|to) (\d+))?(?: fields)? \| ([A-Z, ]+) \|$", page, re.M)
     assert PARTS["COLUMNS"] == {name: tuple(fields.split(", ")) for name, _, _, fields in table}
     assert {name: PARTS["sizes_of"](name) for name in PARTS["COLUMNS"]} == {
-        name: [int(size) for size in sizes if size] for name, *sizes, _ in table}
+        name: list(range(int(least), int(most or least) + 1)) for name, least, most, _ in table}
     assert set(PARTS["FORMS"]) == {field for fields in PARTS["COLUMNS"].values() for field in fields} | {
         "VALUE price", "VALUE yield", "VALUE rate"}
 
@@ -308,7 +318,7 @@ def test_the_rows_of_any_text_are_those_of_its_report(muni: Program):
         assert plain[begin:].strip(b"\r\n") == b""
         told = PARTS["join"](rows, report)
         words = [line.split(",")[1] for line in report.splitlines()]
-        assert told.counts == {"kept": words.count("added") + words.count("confirmed"),
+        assert told.counts == {"kept": sum(words.count(word) for word in ("added", "amended", "confirmed")),
                                "refused": words.count("refused"), "bad": words.count("bad")}
         assert told.left == [] and told.text.count("\nWhat to do: ") >= told.counts["refused"] + told.counts["bad"]
 

@@ -1,5 +1,5 @@
-"""Books of desks that are drawn at random: imports, and the positions, confirmations and marks of what they keep. A
-store of sqlite and a journal answer the same, and an exact calculator does too."""
+"""Books of desks that are drawn at random: imports, amendments of issues among them, and the positions, confirmations,
+marks and exports of what they keep. A store of sqlite and a journal answer the same, and an exact calculator does too."""
 from __future__ import annotations
 
 import pathlib
@@ -76,7 +76,9 @@ def marked_row(draw: Draw) -> bytes:
 
 
 # What each book is asked at its end.
-ENDING = [Step("positions", [f"--desk={desk}"], []) for desk in DESKS]
+ENDING = [*(Step(command, [f"--desk={desk}", *words], []) for desk in DESKS
+            for command, *words in (("positions",), ("confirm", "--all"))),
+          Step("export", [], []), Step("check-store", [], [])]
 
 desks = st.sampled_from(DESKS)
 # How many trades a desk may have. A book has up to 30 in each of two desks.

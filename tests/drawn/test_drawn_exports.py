@@ -53,7 +53,7 @@ def test_an_export_moves_a_book_to_a_journal_and_back(muni, rows, end):
             assert set(came) <= {b"added", b"confirmed"} and len(came) == wanted.output.count(b"\n")
             assert book.said("export") == wanted
         if wanted.output:
-            for table in ("issues_2", "versions_2"):
+            for table in ("issues_3", "versions_3"):
                 # The first columns are the key.
                 statement = f"SELECT * FROM {table} ORDER BY 1, 2, 3"
                 assert last.sql(statement) == first.sql(statement)

@@ -56,6 +56,8 @@ REQUESTS = {
     "a correction": post("/corrections", {**TRADE, "reference": "T0001", "par": "30000", "number": "2"}),
     "a cancel": post("/cancels", {"desk": "ALPHA", "reference": "T0002", "number": "2"}),
     "a quote": post("/quotes", ASKED),
+    "a check": post("/checks", {**ASKED, "price": "100.725", "total": "25493.75"}),
+    "a check of a trade": post("/checks", {"desk": "ALPHA", "reference": "T0001", "price": "100.725"}),
     "a confirmation": get("/trades/ALPHA/T0001"),
     "a list": get("/lists/ALPHA"),
     "a list after a trade": get("/lists/ALPHA/T0001"),

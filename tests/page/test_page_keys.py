@@ -11,10 +11,11 @@ from support import looks
 
 pytestmark = pytest.mark.xdist_group("page_keys")
 
-PANELS = {"g": "figures", "c": "curve", "s": "sheet", "l": "list", "p": "tab-positions", "i": "issue", "t": "ticket"}
+PANELS = {"g": "figures", "c": "curve", "s": "sheet", "l": "list", "p": "tab-positions", "k": "tab-check",
+          "i": "issue", "t": "ticket"}
 HAS_FOCUS = "return document.getElementById(arguments[0]).contains(document.activeElement)"
 STOPS = ["ticket-par", "ticket-settle", "ticket-basis", "ticket-value", "ticket-quote", "ticket-curve",
-         "ticket-reference", "ticket-side", "ticket-fee", "ticket-number", "ticket-enter"]
+         "ticket-reference", "ticket-side", "ticket-fee", "ticket-number", "ticket-issue", "ticket-enter"]
 LISTED = """
 return [...document.querySelectorAll("#trades-list th button")].some(each => each.innerText === arguments[0]);
 """
@@ -57,7 +58,7 @@ class Hand:
         self.press("s")
         self.tab()
         self.press(*"0.375")
-        self.tab(2)
+        self.tab(3)
         self.press(Keys.ENTER)
         self.answer()
         return self.page.shows("ticket-told", "kept")

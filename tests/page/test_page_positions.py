@@ -67,7 +67,9 @@ def test_the_tabs_are_walked_by_keys(page):
     page.browser.press(Keys.ARROW_LEFT)
     assert (page.focus(), shown(page)) == ("tab-trades", [True, False])
     assert page.texts("[role=tab][aria-selected=true]") == ["Trades"]
-    page.browser.press(Keys.ARROW_LEFT, Keys.TAB)
+    page.browser.press(Keys.ARROW_LEFT)
+    assert (page.focus(), shown(page)) == ("tab-check", [False, False])
+    page.browser.press(Keys.ARROW_RIGHT, Keys.ARROW_RIGHT, Keys.TAB)
     assert page.focus() == "positions-again"
     page.browser.press("l", holding=Keys.ALT)
     assert shown(page) == [True, False]

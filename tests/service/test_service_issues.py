@@ -38,5 +38,24 @@ def test_an_issue_that_is_not_kept_and_what_is_no_cusip_are_not_found(site, path
     assert site.ask("GET", path, user="otto")[::2] == (404, text)
 
 
+AMENDMENT = json.dumps(json.loads(ISSUE) | {"number": "2", "calls": [{"date": "2035-08-01", "price": "100+"}]})
+
+
+def test_an_issue_is_amended_by_who_may_and_its_terms_are_read_by_all(site):
+    add_issue(site)
+    assert site.ask("POST", "/amendments", AMENDMENT).status == 403
+    assert site.ask("POST", "/amendments", AMENDMENT, user=None).status == 401
+    assert site.ask("POST", "/amendments", AMENDMENT, user="rita")[::2] == (200, f"AMENDED {TERMS['cusip']} 2\n")
+    rows = site.ask("GET", f"/issues/{TERMS['cusip']}", user="otto").text.splitlines()
+    assert [row.split(",")[0] for row in rows] == ["issue", "amend"]
+    assert rows[1].startswith(f"amend,{TERMS['cusip']},2,") and rows[1].endswith(",2035-08-01:100.000000+,30/360")
+
+
+def test_the_path_of_amendments_takes_a_post_alone(site):
+    answer = site.ask("GET", "/amendments", user="rita")
+    assert (answer.status, answer.fields["Allow"]) == (405, "POST")
+    assert site.ask("POST", "/amendments/990034AA8", AMENDMENT, user="rita").status == 404
+
+
 def test_who_may_read_the_terms_of_an_issue_may_not_add_one_by_their_path(site):
     assert site.ask("POST", "/issues/990000010", ISSUE).status == 405

@@ -34,6 +34,12 @@ def add(site: Site, cusip: str, coupon: str = COUPONS[0]) -> tuple[int, str]:
     return answer.status, answer.text
 
 
+def amend(site: Site, cusip: str, coupon: str, number: int) -> tuple[int, str]:
+    body = json.dumps(json.loads(issue(cusip, coupon)) | {"number": str(number)})
+    answer = site.ask("POST", "/amendments", body, user="rita")
+    return answer.status, answer.text
+
+
 def added(cusip: str) -> tuple[int, str]:
     return 200, f"ADDED {cusip}\n"
 
@@ -50,6 +56,37 @@ def test_the_terms_that_come_first_are_kept_everywhere_and_others_are_refused(si
     assert add(site, cusip, second) == CONFLICT
     assert add(site, cusip, first) == added(cusip)
     assert kept(site, cusip) == [f"{float(first):.7f}"] * 4
+
+
+def amended(cusip: str, number: int) -> tuple[int, str]:
+    return 200, f"AMENDED {cusip} {number}\n"
+
+
+def all_terms(site: Site, cusip: str) -> set[str]:
+    """What the stores keep of an issue."""
+    return {ask_store(site, store, "GET", f"/issues/{cusip}").text for store in STORES}
+
+
+def test_an_amendment_is_kept_everywhere_and_others_under_its_number_are_refused(site):
+    cusip = "990000044"
+    assert add(site, cusip) == added(cusip)
+    assert amend(site, cusip, "5", 2) == amended(cusip, 2)
+    assert amend(site, cusip, "6", 2) == CONFLICT
+    assert amend(site, cusip, "5", 2) == amended(cusip, 2)
+    [text] = all_terms(site, cusip)
+    assert [row.split(",")[0] for row in text.splitlines()] == ["issue", "amend"]
+
+
+def test_sent_again_an_amendment_is_completed_that_a_store_did_not_get(site):
+    cusip = "990000051"
+    assert add(site, cusip) == added(cusip)
+    with away(site, "quotes1"):
+        assert amend(site, cusip, "5", 2) == AGAIN
+    assert len(all_terms(site, cusip)) == 2
+    assert amend(site, cusip, "6", 3) == (409, "REFUSED 12 WrongNumber 2\n")
+    assert amend(site, cusip, "5", 2) == amended(cusip, 2)
+    assert amend(site, cusip, "6", 3) == amended(cusip, 3)
+    assert len(all_terms(site, cusip)) == 1
 
 
 def test_of_two_that_come_at_once_one_is_kept_everywhere(site):

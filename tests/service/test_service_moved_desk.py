@@ -18,7 +18,7 @@ pytestmark = pytest.mark.xdist_group("moved desk")
 
 DESK = "RETAIL"
 ISSUES, QUOTES = "/issues issues", "/quotes quotes"
-TABLE = f"SELECT * FROM versions_2 WHERE desk = '{DESK}' ORDER BY reference, number"
+TABLE = f"SELECT * FROM versions_3 WHERE desk = '{DESK}' ORDER BY reference, number"
 
 
 class Moved(NamedTuple):

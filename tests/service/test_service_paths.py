@@ -79,7 +79,8 @@ def test_who_has_no_desk_reads_no_list(site):
 @pytest.mark.parametrize(("method", "path", "allowed"), [
     ("DELETE", "/trades/ALPHA/P1", "GET"), ("HEAD", "/lists/ALPHA", "GET"), ("PUT", "/trades", "POST"),
     ("GET", "/quotes", "POST"), ("POST", "/trades/ALPHA/P1/1", "GET"), ("POST", "/positions/ALPHA", "GET"),
-    ("POST", "/latest/ALPHA", "GET"), ("POST", "/issues/990034AA8", "GET"), ("GET", "/issues", "POST")])
+    ("POST", "/latest/ALPHA", "GET"), ("POST", "/issues/990034AA8", "GET"), ("GET", "/issues", "POST"),
+    ("GET", "/checks", "POST"), ("GET", "/amendments", "POST")])
 def test_another_method_is_told_which_one_is_allowed(site, method, path, allowed):
     answer = site.ask(method, path)
     assert (answer.status, answer.fields["Allow"]) == (405, allowed)

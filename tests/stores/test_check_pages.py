@@ -13,7 +13,7 @@ from support.program import Said
 from support.seals import sealed
 from support.stores import ROWS
 
-INDEX = "sqlite_autoindex_versions_2_1"
+INDEX = "sqlite_autoindex_versions_3_1"
 KEY = ",\n  PRIMARY KEY (desk, reference, number)"
 
 
@@ -74,28 +74,28 @@ def with_the_index_hidden(book: Book, change: Callable[[], object]) -> None:
     before = book.sql("SELECT * FROM sqlite_schema")
     [(place, root)] = book.sql(f"SELECT rowid, rootpage FROM sqlite_schema WHERE name = '{INDEX}'")
     book.sql(f"PRAGMA writable_schema = ON;\nDELETE FROM sqlite_schema WHERE name = '{INDEX}';\n"
-             f"UPDATE sqlite_schema SET sql = replace(sql, '{KEY}', '') WHERE name = 'versions_2'")
+             f"UPDATE sqlite_schema SET sql = replace(sql, '{KEY}', '') WHERE name = 'versions_3'")
     change()
     book.sql("PRAGMA writable_schema = ON;\n"
              f"UPDATE sqlite_schema SET sql = replace(sql, '\n) STRICT', '{KEY}\n) STRICT') "
-             "WHERE name = 'versions_2';\n"
+             "WHERE name = 'versions_3';\n"
              "INSERT INTO sqlite_schema (rowid, type, name, tbl_name, rootpage) "
-             f"VALUES ({place}, 'index', '{INDEX}', 'versions_2', {root})")
+             f"VALUES ({place}, 'index', '{INDEX}', 'versions_3', {root})")
     assert book.sql("SELECT * FROM sqlite_schema") == before
 
 
 def without_its_key(book: Book) -> None:
     """The row of T0002 stands in the table and has no key in the index."""
-    [row] = book.sql("SELECT rowid, * FROM versions_2 WHERE reference = 'T0002'")
-    names = ["rowid", *(name for _, name, *_ in book.sql("PRAGMA table_info(versions_2)"))]
-    book.sql("DELETE FROM versions_2 WHERE reference = 'T0002'")
+    [row] = book.sql("SELECT rowid, * FROM versions_3 WHERE reference = 'T0002'")
+    names = ["rowid", *(name for _, name, *_ in book.sql("PRAGMA table_info(versions_3)"))]
+    book.sql("DELETE FROM versions_3 WHERE reference = 'T0002'")
     with_the_index_hidden(book, lambda: book.sql(
-        f"INSERT INTO versions_2 ({', '.join(names)}) VALUES ({', '.join(map(repr, row))})"))
+        f"INSERT INTO versions_3 ({', '.join(names)}) VALUES ({', '.join(map(repr, row))})"))
 
 
 def without_its_row(book: Book) -> None:
     """The key of T0002 stands in the index and has no row in the table."""
-    with_the_index_hidden(book, lambda: book.sql("DELETE FROM versions_2 WHERE reference = 'T0002'"))
+    with_the_index_hidden(book, lambda: book.sql("DELETE FROM versions_3 WHERE reference = 'T0002'"))
 
 
 @pytest.mark.parametrize("change", [without_its_key, without_its_row])
@@ -104,7 +104,7 @@ def test_an_index_that_is_not_of_its_table_is_refused(database, change, has_seal
     """If a seal is believed, the trade beside it is still answered."""
     database.report(ROWS.decode() + trade("T0003"))
     change(database)
-    assert database.sql("SELECT COUNT(*) FROM versions_2 NOT INDEXED") == [(3 if change is without_its_key else 2,)]
+    assert database.sql("SELECT COUNT(*) FROM versions_3 NOT INDEXED") == [(3 if change is without_its_key else 2,)]
     assert database.sql("PRAGMA integrity_check") != [("ok",)]
     if has_seal:
         sealed(database.store)
@@ -144,7 +144,7 @@ def test_what_is_no_seal_is_written_anew(database, seal):
 def test_a_file_that_lists_more_is_checked_and_gets_no_seal(database):
     database.report(ROWS)
     database.store.seal.unlink()
-    database.sql("CREATE INDEX by_settlement ON versions_2 (settle)")
+    database.sql("CREATE INDEX by_settlement ON versions_3 (settle)")
     assert checked(database) == sound(1, ALPHA=2)
     assert not database.store.seal.exists()
     assert database.sql("PRAGMA integrity_check") == [("ok",)]

@@ -19,14 +19,16 @@ from support.stores import KINDS, ROWS, Store
 NOTE = "issue,990081AB7,MARLOW NOTES,at-redemption,2024-02-29,,2025-02-28,3.9,,actual/365\n"
 
 # Rows that no other command finds or misses.
-LOST = ["UPDATE versions_2 SET number = 0 WHERE reference = 'T0002'",
-        "UPDATE versions_2 SET number = -5 WHERE reference = 'T0002'",
-        "UPDATE versions_2 SET number = 2 WHERE reference = 'T0002'",
-        "UPDATE versions_2 SET reference = '' WHERE reference = 'T0002'",
-        "UPDATE versions_2 SET desk = '' WHERE reference = 'T0002'",
-        "UPDATE issues_2 SET cusip = '' WHERE cusip = '990081AB7'",
-        "CREATE TEMP TABLE one AS SELECT * FROM versions_2 WHERE reference = 'T0002';\n"
-        "UPDATE one SET number = 0;\nINSERT INTO versions_2 SELECT * FROM one"]
+LOST = ["UPDATE versions_3 SET number = 0 WHERE reference = 'T0002'",
+        "UPDATE versions_3 SET number = -5 WHERE reference = 'T0002'",
+        "UPDATE versions_3 SET number = 2 WHERE reference = 'T0002'",
+        "UPDATE versions_3 SET reference = '' WHERE reference = 'T0002'",
+        "UPDATE versions_3 SET desk = '' WHERE reference = 'T0002'",
+        "UPDATE issues_3 SET cusip = '' WHERE cusip = '990081AB7'",
+        "UPDATE issues_3 SET number = 0 WHERE cusip = '990081AB7'",
+        "UPDATE issues_3 SET number = 2 WHERE cusip = '990081AB7'",
+        "CREATE TEMP TABLE one AS SELECT * FROM versions_3 WHERE reference = 'T0002';\n"
+        "UPDATE one SET number = 0;\nINSERT INTO versions_3 SELECT * FROM one"]
 
 # Columns of a version and of an issue that do not read.
 UNREAD = ["act = 99", "side = 2", "par = 0", "settle = '2024-02-30'", "yld = 1000000", "label = 4", "total = -1"]
@@ -89,7 +91,7 @@ def test_many_issues_and_trades_are_counted_as_they_were_put_in(muni, tmp_path, 
     assert len(desks) > 1
     assert checked(book) == sound(60, **desks)
     if kind == "sqlite":
-        assert list(desks.items()) == book.sql("SELECT desk, COUNT(*) FROM versions_2 GROUP BY desk ORDER BY desk")
+        assert list(desks.items()) == book.sql("SELECT desk, COUNT(*) FROM versions_3 GROUP BY desk ORDER BY desk")
 
 
 def test_what_is_in_the_log_of_a_server_that_was_killed_is_read(book, serve):
@@ -147,7 +149,7 @@ def test_a_store_that_a_server_has_is_refused(book, serve):
 def test_a_database_that_sqlite_reads_is_refused(database):
     database.report(ROWS)
     with contextlib.closing(sqlite3.connect(database.store.path, isolation_level=None)) as reader:
-        reader.execute("SELECT COUNT(*) FROM versions_2").fetchall()
+        reader.execute("SELECT COUNT(*) FROM versions_3").fetchall()
         assert checked(database) == REFUSED
     assert checked(database) == sound(1, ALPHA=2)
 
@@ -186,7 +188,7 @@ def three(database):
 @pytest.mark.parametrize("change", UNREAD)
 def test_a_desk_with_a_version_that_does_not_read_has_no_line(three, change):
     """It is the one after the last line, and no desk after it is told."""
-    three.sql(f"UPDATE versions_2 SET {change} WHERE desk = 'B' AND reference = 'T00299'")
+    three.sql(f"UPDATE versions_3 SET {change} WHERE desk = 'B' AND reference = 'T00299'")
     assert checked(three) == Said(6, told(2, A=2))
     # What the other commands say of it.
     assert three.said("list", "--desk=B").status == 6
@@ -195,20 +197,20 @@ def test_a_desk_with_a_version_that_does_not_read_has_no_line(three, change):
 
 @pytest.mark.parametrize(("desk", "lines"), [("A", told(2)), ("B", told(2, A=2)), ("C", told(2, A=2, B=301))])
 def test_the_lines_end_before_the_desk_that_does_not_read(three, desk, lines):
-    three.sql(f"UPDATE versions_2 SET act = 99 WHERE desk = '{desk}'")
+    three.sql(f"UPDATE versions_3 SET act = 99 WHERE desk = '{desk}'")
     assert checked(three) == Said(6, lines)
 
 
 def test_a_row_that_is_mended_reads_again(three):
-    three.sql("UPDATE versions_2 SET act = 99 WHERE desk = 'B' AND reference = 'T00007'")
+    three.sql("UPDATE versions_3 SET act = 99 WHERE desk = 'B' AND reference = 'T00007'")
     assert checked(three) == Said(6, told(2, A=2))
-    three.sql("UPDATE versions_2 SET act = 0 WHERE desk = 'B' AND reference = 'T00007'")
+    three.sql("UPDATE versions_3 SET act = 0 WHERE desk = 'B' AND reference = 'T00007'")
     assert checked(three) == sound(2, A=2, B=301, C=1)
 
 
 def test_a_version_before_the_last_one_is_read_too(three):
     """A confirmation and a list need the last version alone."""
-    three.sql("UPDATE versions_2 SET act = 99 WHERE reference = 'T00150' AND number = 1")
+    three.sql("UPDATE versions_3 SET act = 99 WHERE reference = 'T00150' AND number = 1")
     assert three.said("list", "--desk=B").status == 0
     assert three.said("confirm", "--desk=B", "--ref=T00150").status == 0
     assert checked(three) == Said(6, told(2, A=2))
@@ -216,7 +218,7 @@ def test_a_version_before_the_last_one_is_read_too(three):
 
 @pytest.mark.parametrize("change", UNREAD_OF_ISSUE)
 def test_issues_of_which_one_does_not_read_have_no_line(three, change):
-    three.sql(f"UPDATE issues_2 SET {change} WHERE cusip = '123456AA3'")
+    three.sql(f"UPDATE issues_3 SET {change} WHERE cusip = '123456AA3'")
     assert checked(three) == REFUSED
     assert three.said("export", "--issues").status == 6
     assert three.said("list", "--desk=A").status == 0
@@ -228,7 +230,7 @@ def test_a_row_that_no_command_finds_is_no_sound_store(database, change, index):
     """A store that lists an index of its own is read by statements."""
     database.report(ROWS.decode() + NOTE)
     if index:
-        database.sql("CREATE INDEX by_settlement ON versions_2 (settle)")
+        database.sql("CREATE INDEX by_settlement ON versions_3 (settle)")
     assert checked(database) == sound(2, ALPHA=2)
     database.sql(change)
     assert database.sql("PRAGMA integrity_check") == [("ok",)]

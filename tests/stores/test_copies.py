@@ -17,7 +17,7 @@ from support.server import Server
 from support.stores import Store
 
 EMPTY_LOG = 41
-WINDOW = "CREATE VIEW ranks AS SELECT reference, row_number() OVER (ORDER BY par) FROM versions_2"
+WINDOW = "CREATE VIEW ranks AS SELECT reference, row_number() OVER (ORDER BY par) FROM versions_3"
 
 
 def copied(book: Book, folder: pathlib.Path, *endings: str) -> Book:
@@ -34,7 +34,7 @@ def log_size(book: Book) -> int:
 
 def count_of(book: Book) -> object:
     """How many versions sqlite finds."""
-    return book.sql("SELECT COUNT(*) FROM versions_2")[0][0]
+    return book.sql("SELECT COUNT(*) FROM versions_3")[0][0]
 
 
 def killed_after_a_trade(book: Book) -> None:
@@ -89,7 +89,7 @@ def test_a_look_by_sqlite(database):
 def test_a_look_by_sqlite_keeps_a_store_until_it_ends(database):
     database.report(trades(3))
     with contextlib.closing(sqlite3.connect(database.store.path, isolation_level=None)) as reader:
-        reader.execute("SELECT COUNT(*) FROM versions_2").fetchall()
+        reader.execute("SELECT COUNT(*) FROM versions_3").fetchall()
         assert database.said("positions", "--desk=ALPHA").status == 6
     assert database.held() == 3
 
@@ -98,13 +98,13 @@ def test_a_store_that_is_read_from_another_database(database, tmp_path):
     database.report(trades(3))
     with contextlib.closing(sqlite3.connect(tmp_path / "own")) as own:
         own.execute("ATTACH ? AS store", (str(database.store.path),))
-        assert own.execute("SELECT COUNT(*) FROM store.versions_2").fetchall() == [(3,)]
+        assert own.execute("SELECT COUNT(*) FROM store.versions_3").fetchall() == [(3,)]
 
 
 @pytest.mark.parametrize(("statement", "undone"), [
     (WINDOW, "DROP VIEW ranks"),
     ("CREATE TABLE versions (a)", "DROP TABLE versions"),
-    ("CREATE TRIGGER t AFTER INSERT ON versions_2 BEGIN SELECT 1; END", "DROP TRIGGER t"),
+    ("CREATE TRIGGER t AFTER INSERT ON versions_3 BEGIN SELECT 1; END", "DROP TRIGGER t"),
 ], ids=["window", "table", "trigger"])
 def test_what_must_not_be_added(database, statement, undone):
     database.report(trades(3))
@@ -114,7 +114,7 @@ def test_what_must_not_be_added(database, statement, undone):
     assert database.held() == 3
 
 
-@pytest.mark.parametrize("statement", ["CREATE INDEX by_cusip ON versions_2 (cusip)", "VACUUM", "ANALYZE"])
+@pytest.mark.parametrize("statement", ["CREATE INDEX by_cusip ON versions_3 (cusip)", "VACUUM", "ANALYZE"])
 def test_what_may_be_added(database, statement):
     database.report(trades(3))
     database.sql(statement)
@@ -144,7 +144,7 @@ def test_a_store_that_may_not_be_written(readable, tmp_path):
                           capture_output=True, timeout=PATIENCE, **user)
     assert (came.returncode, came.stdout) in ((6, b""), (0, b"123456AA3 3 75000 0 75000 76481.25\n"))
     with contextlib.closing(sqlite3.connect(f"file:{readable.store.path}?immutable=1", uri=True)) as opened:
-        assert opened.execute("SELECT COUNT(*) FROM versions_2").fetchall() == [(3,)]
+        assert opened.execute("SELECT COUNT(*) FROM versions_3").fetchall() == [(3,)]
     assert log_size(readable) == EMPTY_LOG
     assert copied(readable, tmp_path / "mine", "").held() == 3
 

@@ -152,7 +152,7 @@ def test_many_issues_and_trades_move_to_a_journal_and_back(memory, large):
     assert exported(journal) == rows
     imported(back, exported(journal))
     assert exported(back) == rows
-    for table, order in (("issues_2", "cusip"), ("versions_2", "desk, reference, number")):
+    for table, order in (("issues_3", "cusip, number"), ("versions_3", "desk, reference, number")):
         statement = f"SELECT * FROM {table} ORDER BY {order}"
         assert back.sql(statement) == database.sql(statement)
 
@@ -250,7 +250,7 @@ def test_an_output_that_nobody_reads_has_its_status(book):
 @pytest.mark.parametrize("command", [("export",), ("list", "--desk=ALPHA")], ids=lambda words: words[0])
 def test_a_row_of_a_database_that_does_not_read_is_a_fault(database, command):
     database.report(ROWS)
-    database.sql("UPDATE versions_2 SET par = 0 WHERE reference = 'T0002'")
+    database.sql("UPDATE versions_3 SET par = 0 WHERE reference = 'T0002'")
     assert database.said(*command).status == 6
     assert database.said("export", "--issues") == Said(0, ISSUE.encode())
 

@@ -328,7 +328,7 @@ def test_an_issue_that_does_not_read_ends_the_lines_before_it(database):
     """It is named in the third block, and each block is written before the next one is read."""
     other = f"issue,{cusip(1)},OTHER,zero,2020-01-01,,2030-01-01,,\n"
     database.report(ROWS + other.encode())
-    database.sql(f"UPDATE issues_2 SET dated = '2020-02-30' WHERE cusip = '{cusip(1)}'")
+    database.sql(f"UPDATE issues_3 SET dated = '2020-02-30' WHERE cusip = '{cusip(1)}'")
     assert database.said("figures", rows=ROW) == Said(0, told(FIELDS))
     before = [padded(1000)] * (2 * (BLOCK + PIECE) // 1000)
     said = database.said("figures", "--workers=1", rows=text([*before, ROW.replace(b"123456AA3", cusip(1).encode())]))

@@ -35,11 +35,11 @@ def fill_database(book: Book, count: int) -> None:
     """Copies the trade under further references of six digits, which no command does in so short a time."""
     needs_strict_tables()
     with contextlib.closing(sqlite3.connect(book.store.file)) as database, database:
-        columns = [name for _, name, *_ in database.execute("PRAGMA table_info(versions_2)")]
+        columns = [name for _, name, *_ in database.execute("PRAGMA table_info(versions_3)")]
         place = columns.index("reference")
-        [version] = database.execute("SELECT * FROM versions_2").fetchall()
+        [version] = database.execute("SELECT * FROM versions_3").fetchall()
         marks = ", ".join("?" * len(columns))
-        database.executemany(f"INSERT INTO versions_2 VALUES ({marks})",
+        database.executemany(f"INSERT INTO versions_3 VALUES ({marks})",
                              ((*version[:place], f"{each:06}", *version[place + 1:]) for each in range(1, count)))
 
 

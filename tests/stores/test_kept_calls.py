@@ -2,16 +2,13 @@
 bytes of a journal."""
 from __future__ import annotations
 
-from collections.abc import Iterator
-from datetime import date
-
 import pytest
 
 from support.program import Said
+from support.slots import Terms, bodies, bytes_of_day
 from support.stores import ROWS
 
 REFUSED = Said(6, b"")
-MARKS = {"": 0, "+": 1, "!": 2}
 TERMS = "CITY OF EXAMPLE 5S 2034,periodic,2020-01-01,2020-07-01,2034-01-01,5"
 # The calls of an issue as they are given, and as the column of sqlite has them.
 CALLS = {
@@ -35,39 +32,16 @@ def issue(cusip: str, calls: str) -> str:
 ISSUES = "".join(issue(cusip, given) for cusip, (given, _) in CALLS.items())
 
 
-def bytes_of_day(text: str) -> bytes:
-    day = date.fromisoformat(text)
-    return day.year.to_bytes(2, "big") + bytes([day.month, day.day])
-
-
 def body_of(cusip: str) -> bytes:
     """The body of an issue by docs/FORMATS.md."""
-    kept = CALLS[cusip][1]
-    is_marked = "+" in kept or "!" in kept
     name, *_ = TERMS.split(",")
-    body = bytes([3 if is_marked else 1]) + cusip.encode() + bytes([len(name)]) + name.encode() + b"\0\0"
-    body += b"".join(map(bytes_of_day, ("2020-01-01", "2020-07-01", "2034-01-01")))
-    body += (50_000_000).to_bytes(4, "big") + bytes([len(kept.split())])
-    for call in kept.split():
-        day, price = call.split(":")
-        units = price.rstrip("+!")
-        body += bytes_of_day(day) + int(units.replace(".", "")).to_bytes(4, "big")
-        body += bytes([MARKS[price.removeprefix(units)]]) if is_marked else b""
-    return body
-
-
-def bodies(data: bytes) -> Iterator[bytes]:
-    """The bodies of the open slots of a journal."""
-    place = 0
-    while data[place] == 1:
-        end = place + 5 + int.from_bytes(data[place + 1:place + 5], "big")
-        yield data[place + 5:end]
-        place = end
+    terms = Terms(cusip, name, ("2020-01-01", "2020-07-01", "2034-01-01"), 50_000_000, CALLS[cusip][1])
+    return terms.body(1)
 
 
 def test_sqlite_has_the_mark_after_the_price(database):
     database.report(ISSUES)
-    assert dict(database.sql("SELECT cusip, calls FROM issues_2")) == {
+    assert dict(database.sql("SELECT cusip, calls FROM issues_3")) == {
         cusip: kept for cusip, (_, kept) in CALLS.items()}
 
 
@@ -81,7 +55,7 @@ def test_an_issue_with_a_mark_is_a_record_of_its_own_kind(journal):
 
 def test_sqlite_has_the_label_of_a_redemption_that_is_called(database):
     database.report(ISSUES + TRADES)
-    assert database.sql("SELECT reference, redemption, at_price, label FROM versions_2 ORDER BY reference") == [
+    assert database.sql("SELECT reference, redemption, at_price, label FROM versions_3 ORDER BY reference") == [
         (reference, "2026-07-01", 101_000_000, 3) for reference in CONFIRMED]
 
 
@@ -122,23 +96,23 @@ def test_forty_calls_with_marks_are_kept(book):
                                    "2026-07-01:100.000000! 2030-07-01:100.000000"])
 def test_a_row_of_an_issue_with_a_mark_that_is_none_does_not_read(database, calls):
     database.report(ISSUES)
-    database.sql(f"UPDATE issues_2 SET calls = '{calls}' WHERE cusip = '990034AA8'")
+    database.sql(f"UPDATE issues_3 SET calls = '{calls}' WHERE cusip = '990034AA8'")
     mark = "990034AA8,1000,2024-01-01,4\n"
     assert database.said("mark", rows=mark) == REFUSED
-    database.sql("UPDATE issues_2 SET calls = '2030-07-01:100.000000+' WHERE cusip = '990034AA8'")
+    database.sql("UPDATE issues_3 SET calls = '2030-07-01:100.000000+' WHERE cusip = '990034AA8'")
     assert database.said("mark", rows=mark).text.startswith("1,marked,990034AA8,105.")
 
 
 def test_a_label_that_is_none_does_not_read(database):
     database.report(ISSUES + TRADES)
-    database.sql("UPDATE versions_2 SET label = 4 WHERE reference = 'C1'")
+    database.sql("UPDATE versions_3 SET label = 4 WHERE reference = 'C1'")
     assert database.confirmed("C1") == REFUSED
     assert CONFIRMED["C2"] in database.confirmed("C2").text.splitlines()
 
 
 # The place of the mark of the first issue's call, which ends its slot, and that of the kind of its record.
-@pytest.mark.parametrize(("place", "byte"), [(4 + len(body_of("990034AA8")), 3), (5, 4), (5, 1)],
-                         ids=["a mark of 3", "a record of kind 4", "a record without marks that is too long"])
+@pytest.mark.parametrize(("place", "byte"), [(4 + len(body_of("990034AA8")), 3), (5, 6), (5, 1)],
+                         ids=["a mark of 3", "a record of kind 6", "a record without marks that is too long"])
 def test_a_journal_with_a_mark_that_is_none_is_refused(journal, place, byte):
     journal.report(ISSUES + TRADES)
     data = bytearray(journal.store.file.read_bytes())

@@ -9,8 +9,8 @@ from support.program import Said
 from support.stores import REPORT, ROWS
 
 EMPTY_LOG = 41
-FIGURES = "25000|2024-04-01|0|40000|100725|4000|2025-01-01|100000000|0|90|2518125|31250|2549375|0|0"
-OTHER_FIGURES = "10000|2024-04-01|1|100725000|100725|4001|2025-01-01|100000000|0|90|1007250|12500|1019750|0|0"
+FIGURES = "25000|2024-04-01|0|40000|100725|4000|2025-01-01|100000000|0|90|2518125|31250|2549375|0|0|1"
+OTHER_FIGURES = "10000|2024-04-01|1|100725000|100725|4001|2025-01-01|100000000|0|90|1007250|12500|1019750|0|0|1"
 
 # The issue by docs/FORMATS.md: its gate, its length, and its body.
 SLOT = (b"\x01\x00\x00\x00\x34\x01123456AA3\x16RIVERTON WATER 5S 2025\x00\x00\x07\xe4\x01\x01\x07\xe4\x07\x01"
@@ -31,17 +31,17 @@ def test_a_store_that_is_not_there_is_an_empty_one(book):
 
 def test_sqlite_reads_the_rows(database):
     database.report(ROWS)
-    lines = ["|".join(map(str, row)) for row in database.sql("SELECT * FROM versions_2 ORDER BY reference")]
+    lines = ["|".join(map(str, row)) for row in database.sql("SELECT * FROM versions_3 ORDER BY reference")]
     assert lines == ["ALPHA|T0001|1|0|123456AA3|0|" + FIGURES, "ALPHA|T0002|1|0|123456AA3|1|" + OTHER_FIGURES]
-    lines = ["|".join(map(str, row)) for row in database.sql("SELECT * FROM issues_2")]
-    assert lines == ["123456AA3|RIVERTON WATER 5S 2025|0|2020-01-01|2020-07-01|2025-01-01|50000000||0"]
+    lines = ["|".join(map(str, row)) for row in database.sql("SELECT * FROM issues_3")]
+    assert lines == ["123456AA3|1|RIVERTON WATER 5S 2025|0|2020-01-01|2020-07-01|2025-01-01|50000000||0"]
     assert database.sql("PRAGMA integrity_check") == [("ok",)]
 
 
 def test_a_dump_of_sqlite_has_each_trade(database):
     database.report(ROWS)
     with contextlib.closing(sqlite3.connect(database.store.path)) as opened:
-        assert sum('INSERT INTO "versions_2"' in line for line in opened.iterdump()) == 2
+        assert sum('INSERT INTO "versions_3"' in line for line in opened.iterdump()) == 2
 
 
 def test_a_journal_has_its_slots_and_a_closed_gate_at_the_end(journal):

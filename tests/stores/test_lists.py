@@ -101,6 +101,6 @@ def test_a_trade_whose_issue_is_missing_has_the_refusal_in_its_place(database):
                     b"trade,ALPHA,T0001A,990000010,buy,25000,2024-04-01,yield,4\n")
     before = listed(database, "ALPHA")
     each = [confirmed_of(database, "ALPHA", reference) for reference in ("T0001", "T0002")]
-    database.sql("DELETE FROM issues_2 WHERE cusip = '990000010'")
+    database.sql("DELETE FROM issues_3 WHERE cusip = '990000010'")
     assert all_confirmed(database, "ALPHA") == "\n".join([each[0], UNKNOWN_ISSUE, each[1]])
     assert listed(database, "ALPHA") == before

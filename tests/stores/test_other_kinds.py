@@ -83,7 +83,7 @@ def test_a_database_of_nothing_becomes_a_store(database):
     database.sql("PRAGMA user_version = 0;\nVACUUM")
     assert database.store.file.exists()
     assert database.report(ROWS) == REPORT
-    assert database.sql("SELECT COUNT(*) FROM versions_2") == [(2,)]
+    assert database.sql("SELECT COUNT(*) FROM versions_3") == [(2,)]
 
 
 @pytest.mark.parametrize("name", [":memory:", "file:named"])

@@ -5,16 +5,16 @@ from support.program import Said
 from support.stores import REPORT, ROWS
 
 REFUSED = Said(6, b"")
-SPOILED = """INSERT INTO issues_2 VALUES ('000000000', 'City of Example', 0, '2020-01-01', '2020-07-01',
+SPOILED = """INSERT INTO issues_3 VALUES ('000000000', 1, 'City of Example', 0, '2020-01-01', '2020-07-01',
     '2035-01-01', 0, '', 0);
-INSERT INTO versions_2 VALUES ('ALPHA', 'DATE', 1, 0, '123456AA3', 1, 25000, '2024-02-30', 0, 40000,
-    100725, 4000, '2030-01-01', 102500000, 2, 90, 2518125, 31250, 2549375, 0, 0);
-INSERT INTO versions_2 VALUES ('ALPHA', 'PAR', 1, 0, '123456AA3', 1, 0, '2024-04-01', 0, 40000,
-    100725, 4000, '2030-01-01', 102500000, 2, 90, 2518125, 31250, 2549375, 0, 0);
-INSERT INTO versions_2 VALUES ('ALPHA', 'YIELD', 1, 0, '123456AA3', 1, 25000, '2024-04-01', 0, 40000,
-    100725, 1000000, '2030-01-01', 102500000, 2, 90, 2518125, 31250, 2549375, 0, 0);
-INSERT INTO versions_2 VALUES ('ALPHA', 'TOTAL', 1, 0, '123456AA3', 1, 25000, '2024-04-01', 0, 40000,
-    100725, 4000, '2030-01-01', 102500000, 2, 90, 2518125, 31250, -1, 0, 0)"""
+INSERT INTO versions_3 VALUES ('ALPHA', 'DATE', 1, 0, '123456AA3', 1, 25000, '2024-02-30', 0, 40000,
+    100725, 4000, '2030-01-01', 102500000, 2, 90, 2518125, 31250, 2549375, 0, 0, 1);
+INSERT INTO versions_3 VALUES ('ALPHA', 'PAR', 1, 0, '123456AA3', 1, 0, '2024-04-01', 0, 40000,
+    100725, 4000, '2030-01-01', 102500000, 2, 90, 2518125, 31250, 2549375, 0, 0, 1);
+INSERT INTO versions_3 VALUES ('ALPHA', 'YIELD', 1, 0, '123456AA3', 1, 25000, '2024-04-01', 0, 40000,
+    100725, 1000000, '2030-01-01', 102500000, 2, 90, 2518125, 31250, 2549375, 0, 0, 1);
+INSERT INTO versions_3 VALUES ('ALPHA', 'TOTAL', 1, 0, '123456AA3', 1, 25000, '2024-04-01', 0, 40000,
+    100725, 4000, '2030-01-01', 102500000, 2, 90, 2518125, 31250, -1, 0, 0, 1)"""
 FIGURES = ("CONFIRMATION", "DESK", "REFERENCE", "BOUGHT", "SOLD", "CUSIP", "SETTLEMENT", "PRICE", "YIELD",
            "REDEMPTION", "ACCRUED", "PRINCIPAL", "TOTAL")
 SIZE = 272
@@ -29,9 +29,9 @@ def spoiled(database):
 
 def test_a_row_reads_again_when_it_is_mended(database):
     database.report(ROWS)
-    database.sql("UPDATE versions_2 SET par = 0 WHERE reference = 'T0001'")
+    database.sql("UPDATE versions_3 SET par = 0 WHERE reference = 'T0001'")
     assert database.confirmed("T0001") == REFUSED
-    database.sql("UPDATE versions_2 SET par = 25000 WHERE reference = 'T0001'")
+    database.sql("UPDATE versions_3 SET par = 25000 WHERE reference = 'T0001'")
     assert database.has("T0001")
 
 

@@ -14,21 +14,21 @@ from support.seals import sealed
 from support.server import Server
 from support.stores import REPORT, ROWS, Store
 
-INDEX = "CREATE INDEX by_settlement ON versions_2 (settle)"
+INDEX = "CREATE INDEX by_settlement ON versions_3 (settle)"
 ISSUE = "issue,990034AA8,TOWN OF SAMPLE,zero,2020-01-01,,2035-01-01,,\n"
+AMENDMENT = ("amend,123456AA3,{number},RIVERTON WATER 5S 2025,periodic,2020-01-01,2020-07-01,2025-01-01,{coupon},\n")
 CHANGES = (trade("T0003") + "correct,ALPHA,T0001,2,123456AA3,buy,30000,2024-04-01,yield,4\n"
            "cancel,ALPHA,T0002,2\n" + ISSUE + "trade,BETA,T0001,123456AA3,sell,5000,2024-04-01,price,100\n")
 
 
-def spoiled(book: Book) -> int:
-    """Changes a byte in the last page of the file, which has rows that `T0001` is not among, and says where."""
-    size = book.store.path.stat().st_size
+def spoiled(book: Book) -> None:
+    """Changes the kind of the last page of the file, which has nothing of `T0001`."""
+    place = book.store.path.stat().st_size - 4096
     with open(book.store.path, "r+b") as file:
-        file.seek(size - 20)
+        file.seek(place)
         old = file.read(1)
-        file.seek(size - 20)
+        file.seek(place)
         file.write(bytes([old[0] ^ 0x55]))
-    return size - 20
 
 
 def is_audited(book: Book) -> bool:
@@ -49,20 +49,20 @@ def test_sqlite_finds_each_put_in_the_table_and_in_its_index(database):
         assert b"refused" not in database.report(row)
         assert database.sql("PRAGMA integrity_check") == [("ok",)]
     # Answered from the index alone, and from the rows alone.
-    from_index = "SELECT desk, reference, number FROM versions_2 INDEXED BY sqlite_autoindex_versions_2_1"
-    from_rows = "SELECT desk, reference, number FROM versions_2 NOT INDEXED"
+    from_index = "SELECT desk, reference, number FROM versions_3 INDEXED BY sqlite_autoindex_versions_3_1"
+    from_rows = "SELECT desk, reference, number FROM versions_3 NOT INDEXED"
     assert sorted(database.sql(from_index)) == sorted(database.sql(from_rows))
     assert len(database.sql(from_rows)) == 6
-    rowids = [row[0] for row in database.sql("SELECT rowid FROM versions_2 ORDER BY rowid")]
+    rowids = [row[0] for row in database.sql("SELECT rowid FROM versions_3 ORDER BY rowid")]
     assert rowids == list(range(1, 7))
 
 
 def test_a_row_that_sqlite_puts_is_found_and_followed(database):
     """Of rowids that sqlite has left out the next is one more than the last."""
     database.report(ROWS)
-    database.sql("UPDATE versions_2 SET rowid = 70 WHERE reference = 'T0002'")
+    database.sql("UPDATE versions_3 SET rowid = 70 WHERE reference = 'T0002'")
     database.report(trade("T0003"))
-    assert database.sql("SELECT rowid FROM versions_2 WHERE reference = 'T0003'") == [(71,)]
+    assert database.sql("SELECT rowid FROM versions_3 WHERE reference = 'T0003'") == [(71,)]
     assert database.confirmed("T0002").status == 0 and database.has("T0003")
 
 
@@ -73,12 +73,36 @@ def test_a_store_that_lists_something_more_is_kept_by_statements(database, state
     assert b"refused" not in database.report(CHANGES)
     assert database.sql("PRAGMA integrity_check") == [("ok",)]
     assert database.report(ROWS) == REPORT
-    assert len(database.sql("SELECT * FROM versions_2 ORDER BY settle")) == 6
+    assert len(database.sql("SELECT * FROM versions_3 ORDER BY settle")) == 6
+
+
+@pytest.mark.parametrize("statement", ("SELECT 1", INDEX), ids=("trees", "statements"))
+def test_terms_are_found_by_their_numbers(database, statement):
+    """A trade is confirmed by the terms by which it was figured, a new one goes by the last ones or by those it names."""
+    database.report(ROWS)
+    database.sql(statement)
+    was = database.confirmed("T0001")
+    for number, coupon in (2, "4.5"), (3, "4.25"):
+        row = AMENDMENT.format(number=number, coupon=coupon)
+        for _ in range(2):
+            assert database.report(row) == f"1,amended,123456AA3,{number}\n".encode()
+    database.report(ISSUE + trade("T0003") + trade("T0004").replace(",4\n", ",4,,1\n"))
+    assert database.confirmed("T0001") == was
+    shown = [database.confirmed(reference).text.splitlines()[6] for reference in ("T0001", "T0003", "T0004")]
+    assert shown == ["COUPON 5.0000000", "COUPON 4.2500000", "COUPON 5.0000000"]
+    assert database.sql("SELECT reference, issue FROM versions_3 ORDER BY reference") == [
+        ("T0001", 1), ("T0002", 1), ("T0003", 3), ("T0004", 1)]
+    from_index = "SELECT cusip, number FROM issues_3 INDEXED BY sqlite_autoindex_issues_3_1 ORDER BY cusip, number"
+    assert database.sql(from_index) == [("123456AA3", 1), ("123456AA3", 2), ("123456AA3", 3), ("990034AA8", 1)]
+    assert [line.split(",")[:3] for line in database.said("export", "--issues").text.splitlines()] == [
+        ["issue", "123456AA3", "RIVERTON WATER 5S 2025"], ["amend", "123456AA3", "2"], ["amend", "123456AA3", "3"],
+        ["issue", "990034AA8", "TOWN OF SAMPLE"]]
+    assert database.said("check-store").text.endswith("\nSOUND\n")
 
 
 def test_a_view_is_no_reason_for_statements(database):
     database.report(ROWS)
-    database.sql("CREATE VIEW live AS SELECT * FROM versions_2 WHERE act <> 2")
+    database.sql("CREATE VIEW live AS SELECT * FROM versions_3 WHERE act <> 2")
     database.report(trade("T0003"))
     assert len(database.sql("SELECT * FROM live")) == 3
 
@@ -123,9 +147,9 @@ def test_rows_that_sqlite_writes_are_seen_at_once(database):
     database.report(ROWS)
     for at in range(20):
         assert database.has("T0001")
-        database.sql(f"UPDATE versions_2 SET reference = 'T{at:04}X' WHERE reference = 'T0001'")
+        database.sql(f"UPDATE versions_3 SET reference = 'T{at:04}X' WHERE reference = 'T0001'")
         assert not database.has("T0001") and database.has(f"T{at:04}X")
-        database.sql(f"UPDATE versions_2 SET reference = 'T0001' WHERE reference = 'T{at:04}X'")
+        database.sql(f"UPDATE versions_3 SET reference = 'T0001' WHERE reference = 'T{at:04}X'")
 
 
 def test_a_seal_is_written_again_after_a_kill(database):
@@ -208,8 +232,8 @@ def test_old_and_new_rows_side_by_side(database):
     for number in (2, 3, 4):
         database.report("".join(f"correct,ALPHA,T{at:05},{number},123456AA3,buy,{1000 * number},2024-04-01,yield,4\n"
                                 for at in range(1, 60)))
-    held = database.sql("SELECT COUNT(DISTINCT reference) FROM versions_2 WHERE desk = 'ALPHA'")[0][0]
+    held = database.sql("SELECT COUNT(DISTINCT reference) FROM versions_3 WHERE desk = 'ALPHA'")[0][0]
     assert database.held() == held
     assert len(database.said("list", "--desk=ALPHA").output.splitlines()) == held + 1
     with pytest.raises(sqlite3.OperationalError):
-        database.sql("CREATE TABLE versions_2 (desk)")
+        database.sql("CREATE TABLE versions_3 (desk)")

@@ -3,6 +3,7 @@ import collections
 import contextlib
 import csv
 import pathlib
+import shutil
 import sqlite3
 from collections.abc import Iterator
 from typing import NamedTuple
@@ -88,7 +89,7 @@ def test_a_live_trade_is_what_its_confirmation_says(viewed):
 
 
 def test_the_positions_of_each_desk_are_those_of_the_view(viewed):
-    desks = viewed.sql("SELECT DISTINCT desk FROM versions_2 ORDER BY desk")
+    desks = viewed.sql("SELECT DISTINCT desk FROM versions_3 ORDER BY desk")
     assert desks
     for (desk,) in desks:
         rows = viewed.sql("SELECT cusip, trades, bought, sold, position, money FROM desk_positions "
@@ -129,6 +130,37 @@ def test_trades_are_grouped_by_the_day_with_which_their_references_begin(muni, t
     assert book.sql("SELECT * FROM trades_by_reference_date") == [
         ("2024-04-03", "RETAIL", 2, 0, 50_000, "0.00", "52292.70"),
         ("2024-04-04", "RETAIL", 1, 0, 25_000, "0.00", "26146.35")]
+
+
+def test_a_trade_is_shown_with_the_terms_by_which_it_was_figured(muni, tmp_path):
+    book = viewed_book(muni, tmp_path)
+    shown = "SELECT desk, reference, number, issue, coupon FROM trade_versions WHERE cusip = '990034AA8' ORDER BY 1, 2, 3"
+    was = book.sql(shown)
+    assert was
+    assert book.report("amend,990034AA8,2,ELM GROVE 4S 2039,periodic,2023-08-01,2024-02-01,2039-08-01,4,\n") == \
+        b"1,amended,990034AA8,2\n"
+    assert book.sql(shown) == was
+    assert book.report("trade," + ",".join(TRADE.values()) + "\n").startswith(b"1,confirmed,V0001,1,")
+    assert [row for row in book.sql(shown) if row not in was] == [
+        ("RETAIL", "V0001", 1, "ELM GROVE 4S 2039", "4.0000000")]
+    names = book.sql("SELECT DISTINCT issue FROM desk_positions WHERE cusip = '990034AA8'")
+    assert names == [("ELM GROVE 4S 2039",)]
+
+
+def test_the_views_of_an_earlier_store_are_made_anew(muni, tmp_path):
+    """They read the tables that were taken away, and the file of views replaces them."""
+    needs_strict_tables()
+    book = Book(muni, Store("sqlite", tmp_path / "store"))
+    shutil.copy(ROOT / "tests/stores/kept/1.9.0/store", book.store.file)
+    book.sql("CREATE VIEW live_versions AS SELECT * FROM versions_2 WHERE act <> 2")
+    assert book.said("positions", "--desk=INST").status == 0
+    with pytest.raises(sqlite3.OperationalError):
+        book.sql("SELECT * FROM live_versions")
+    assert book.said("positions", "--desk=INST").status == 0
+    with contextlib.closing(sqlite3.connect(book.store.path)) as database:
+        database.executescript((ROOT / "examples/views.sql").read_text(encoding="ascii"))
+    assert len(book.sql("SELECT * FROM live_trades")) == 6
+    assert book.said("positions", "--desk=INST").status == 0
 
 
 def test_the_desk_works_over_a_store_with_views(muni, tmp_path, serve, report):

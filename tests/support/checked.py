@@ -73,7 +73,7 @@ def shown(figures: Figures) -> dict[str, str]:
 def printed(source: random.Random, issue: Row, reading: Reading | None) -> Printed | None:
     """The figures of some trade by another formula, if they are not those of the rule, or by the rule."""
     wanted = traded(source, issue)
-    kept, asked = issue_of(Columns(issue)), asked_of(Columns(["trade", *wanted]))
+    kept, asked = issue_of(Columns(issue, 2), issue[1]), asked_of(Columns(["trade", *wanted]))
     ours = answers(kept, asked).exact
     if not isinstance(ours, Figures):
         return None

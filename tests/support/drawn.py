@@ -135,6 +135,17 @@ def issue(draw: Draw) -> list[bytes]:
             coupon, calls, days]
 
 
+def amendment(draw: Draw) -> list[bytes]:
+    """Other terms of an issue, or the same ones."""
+    _, cusip, *terms = issue(draw)
+    return [b"amend", cusip, b"%d" % draw(any_of(1, 2, 2, 2, 2, 3, 3, 4)), *terms]
+
+
+def named_terms(draw: Draw) -> list[bytes]:
+    """The number of the terms by which a trade is figured, which mostly is left out."""
+    return [draw(any_of(b"", b"1", b"1", b"2", b"3"))] if draw(one_in(4)) else []
+
+
 def asked(draw: Draw) -> list[bytes]:
     basis = draw(any_of(b"yield", b"yield", b"price", b"price", b"rate"))
     value = b"%d.%d" % ((draw(whole(80, 130)), draw(whole(0, 9999))) if basis == b"price" else
@@ -146,14 +157,16 @@ def asked(draw: Draw) -> list[bytes]:
 
 def fields_of_row(draw: Draw) -> list[bytes]:
     """The fields of a row that reads."""
-    what = draw(whole(0, 7))
+    what = draw(whole(0, 8))
     if what < 2:
         return issue(draw)
+    if what == 8:
+        return amendment(draw)
     desk = draw(any_of(b"ALPHA", b"BETA"))
     if what < 5:
-        return [b"trade", desk, b"T%d" % draw(whole(1, 30)), *asked(draw)]
+        return [b"trade", desk, b"T%d" % draw(whole(1, 30)), *asked(draw), *named_terms(draw)]
     key = [desk, b"T%d" % draw(whole(1, 10)), b"%d" % draw(any_of(1, 2, 2, 2, 3, 3, 4, 5))]
-    return [b"correct", *key, *asked(draw)] if what < 7 else [b"cancel", *key]
+    return [b"correct", *key, *asked(draw), *named_terms(draw)] if what < 7 else [b"cancel", *key]
 
 
 def spoil_row(draw: Draw, fields: list[bytes]) -> None:
@@ -234,6 +247,17 @@ def asked_members(draw: Draw) -> dict[str, object]:
             "par": draw(any_of("1", "25000", "1000000000")), "basis": basis, "value": value, "settle": settle}
 
 
+def row_members(draw: Draw) -> dict[str, str]:
+    """Those of a row of another firm's figures: what is asked, or a trade that may be kept, and some figures."""
+    figures = {"price": f"{draw(whole(95, 110))}.{draw(whole(0, 999)):03}", "yield": draw(any_of("4", "4.000", "3.99")),
+               "redemption": draw(any_of("2045-01-01", "2024-01-01", "")), "days": str(draw(whole(0, 180))),
+               "total": draw(any_of("25493.75", "", "0.1"))}
+    stated = draw(st.sets(st.sampled_from(sorted(figures)), max_size=2))
+    key = key_of_trade(draw) if draw(st.booleans()) else {}
+    asked = {} if key and draw(st.booleans()) else asked_members(draw)
+    return {**key, **asked, **{name: figures[name] for name in sorted(stated)}}
+
+
 def issue_members(draw: Draw) -> dict[str, object]:
     members = dict(ISSUE, maturity=f"20{draw(whole(25, 60))}-{draw(any_of('01', '07', '02'))}-01",
                    cusip=draw(any_of("123456AA3", "990021AA5", "123456AA4")))
@@ -249,7 +273,7 @@ def issue_members(draw: Draw) -> dict[str, object]:
 @st.composite
 def right_request(draw: Draw) -> bytes:
     """A request that reads."""
-    what = draw(whole(0, 9))
+    what = draw(whole(0, 10))
     if what == 0:
         return post("/issues", issue_members(draw))
     if what < 4:
@@ -264,6 +288,8 @@ def right_request(draw: Draw) -> bytes:
     if what == 6:
         each = {"each": draw(any_of(True, True, False))} if draw(st.booleans()) else {}
         return post("/quotes", {**asked_members(draw), **each})
+    if what == 7:
+        return post("/checks", row_members(draw))
     path = draw(any_of("/trades/{desk}/{reference}", "/lists/{desk}", "/lists/{desk}/{reference}", "/issues/{cusip}",
                        "/trades/{desk}/{reference}/{number}", "/positions/{desk}", "/latest/{desk}"))
     number, cusip = draw(whole(0, 4)), draw(any_of("123456AA3", "990021AA5", "000000000"))
@@ -281,7 +307,8 @@ def odd_members(draw: Draw) -> bytes:
         members[draw(st.sampled_from(sorted(members)))] = values[draw(whole(0, len(values) - 1))]
     if draw(st.booleans()):
         del members[draw(st.sampled_from(sorted(members)))]
-    return post(draw(any_of("/issues", "/trades", "/corrections", "/cancels", "/quotes")), members)
+    path = draw(any_of("/issues", "/trades", "/corrections", "/cancels", "/quotes", "/checks"))
+    return post(path, members)
 
 
 @st.composite
@@ -316,7 +343,7 @@ def odd_json(draw: Draw) -> bytes:
     body = draw(any_of(b"[" * depth + b"]" * depth, b'{"a":' * depth + b"1" + b"}" * depth,
                        b'"' + b"\\u0041" * depth + b'"', b"{}", b"null", b"", b'{"cusip":"\\ud800"}', b"1" * depth,
                        b"\xff", b"{}{}", b"[" * depth))
-    return head("POST", "/quotes", [("Content-Length", len(body))]) + body
+    return head("POST", draw(any_of("/quotes", "/checks")), [("Content-Length", len(body))]) + body
 
 
 @st.composite

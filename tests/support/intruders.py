@@ -157,12 +157,12 @@ def another_import(book: Book) -> Iterator[Came]:
 @contextlib.contextmanager
 def sqlite3_that_writes(book: Book) -> Iterator[Came]:
     columns = ("number, act, cusip, side, par, settle, basis, value, price, yld, redemption, at_price, label, days, "
-               "principal, accrued, total, fee, commission")
+               "principal, accrued, total, fee, commission, issue")
     told = ["NEXT"]
     with contextlib.closing(sqlite3.connect(book.store.file, timeout=0)) as database:
         try:
             with database:
-                database.execute(f"INSERT INTO versions_2 SELECT desk, 'NEXT', {columns} FROM versions_2 "
+                database.execute(f"INSERT INTO versions_3 SELECT desk, 'NEXT', {columns} FROM versions_3 "
                                  "WHERE reference = 'FIRST'")
         except sqlite3.OperationalError:
             told = []

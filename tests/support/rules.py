@@ -40,6 +40,7 @@ STORES, ISSUES = "stores.cfg", "issues"
 NAMED = 'geo $is_unlimited {\n        default "";'
 UNLIMITED = Edit(NGINX, NAMED, NAMED + "\n        127.0.0.0/8 yes;")
 REFUSED = " {\n            return 403;\n        }"
+AMENDING = "proxy_set_header X-Allowed $adds_issues;\n            proxy_pass http://queue/amendments;"
 ISSUE = '{9})$" {\n            proxy_set_header X-Allowed '
 
 RULES: dict[str, Rule] = {
@@ -111,6 +112,18 @@ RULES: dict[str, Rule] = {
     "desk of a cancel": of(
         "bodies: a trade of another desk is not changed",
         any_desk("cancels")),
+    "desk of a check": of(
+        "checks: figures of the trades of another desk are not checked",
+        (NGINX, "X-Allowed $check_is_own;", "X-Allowed yes;")),
+    "a check that names no desk": of(
+        "checks: figures of the trades of another desk are not checked",
+        (NGINX, '(?![^\\x5C]*"desk"\\s*:)')),
+    "no backslash in a check": of(
+        "checks: figures of the trades of another desk are not checked",
+        (NGINX, '[^\\x5C]*+\\z', '(?s:.*)\\z')),
+    "a check that is not seen": of(
+        "checks: what names no members or has a backslash is refused",
+        (NGINX, '~\\A\\s*+\\{', '~\\A')),
     "name once": of(
         "bodies: a trade of another desk is not entered",
         (NGINX, '*+"desk"\\s*+:', '*"desk"\\s*+:'), (NGINX, '(?!desk")')),
@@ -123,6 +136,12 @@ RULES: dict[str, Rule] = {
     "who adds issues": of(
         "issues: an issue is added by who may and then quoted by all",
         (NGINX, "X-Allowed $adds_issues;", "X-Allowed yes;")),
+    "who amends issues": of(
+        "issues: an issue is amended by who may and its terms are read by all",
+        (NGINX, AMENDING, AMENDING.replace("$adds_issues", "yes"))),
+    "route of amendments": of(
+        "issues: an issue is amended by who may and its terms are read by all",
+        (NGINX, AMENDING)),
     "size of a body": of(
         "sizes: a body of a size",
         (NGINX, "client_max_body_size 64k;", "client_max_body_size 0;")),
@@ -270,6 +289,12 @@ RULES: dict[str, Rule] = {
     "path of issues": of(
         "issues_of_stores: the terms that come first are kept everywhere and others are refused",
         (QUEUE, "path,map(/etc/muni/shards.map,desk)", "str(desk)")),
+    "path of amendments": of(
+        "issues_of_stores: an amendment is kept everywhere and others under its number are refused",
+        (QUEUE, "str(/issues),map(/etc/muni/shards.map,desk)", "str(desk)")),
+    "amendments everywhere": of(
+        "issues_of_stores: an amendment is kept everywhere and others under its number are refused",
+        (ISSUES, '    ("POST", "/amendments"),\n')),
     "issues everywhere": of(
         "issues_of_stores: the terms that come first are kept everywhere and others are refused",
         (ISSUES, "for name in self.names[1:]:", "for name in ():")),

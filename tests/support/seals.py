@@ -15,6 +15,6 @@ def sealed(store: Store) -> None:
     # The seal counts if it is later than what it tells of.
     time.sleep(0.05)
     store.seal.write_text(
-        f"muni seal 1\nstore device {about.st_dev} inode {about.st_ino} size {about.st_size}\n"
+        f"muni seal 2\nstore device {about.st_dev} inode {about.st_ino} size {about.st_size}\n"
         f"modified {times[0][0]} {times[0][1]} changed {times[1][0]} {times[1][1]}\n"
         f"head {store.path.read_bytes()[:100].hex()}\nno log\n")

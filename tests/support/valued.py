@@ -134,9 +134,14 @@ class Run(NamedTuple):
 def repeated(book: Book, text: bytes, times: int, *words: str, patience: int = PATIENCE) -> Run:
     """Values a text so many times over, as one input."""
     process = book.muni.start("figures", book.store.word, *words, stdin=subprocess.PIPE, stdout=subprocess.PIPE)
+    return run_over(process, [text] * times, patience)
+
+
+def run_over(process: subprocess.Popen[bytes], texts: Iterable[bytes], patience: int = PATIENCE) -> Run:
+    """How a process ends that is sent these texts, one after the other as one input."""
     found = [0]
     watcher = threading.Thread(target=watch, args=(process, found))
-    sender = threading.Thread(target=send_all, args=(process, text, times))
+    sender = threading.Thread(target=send_all, args=(process, texts))
     for each in (watcher, sender):
         each.start()
     digest = hashlib.sha256()
@@ -148,9 +153,9 @@ def repeated(book: Book, text: bytes, times: int, *words: str, patience: int = P
     return Run(status, digest.hexdigest(), found[0])
 
 
-def send_all(process: subprocess.Popen[bytes], text: bytes, times: int) -> None:
+def send_all(process: subprocess.Popen[bytes], texts: Iterable[bytes]) -> None:
     with contextlib.suppress(BrokenPipeError), process.stdin as pipe:
-        for _ in range(times):
+        for text in texts:
             pipe.write(text)
 
 

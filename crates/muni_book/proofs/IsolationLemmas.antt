@@ -1,9 +1,10 @@
 -- Tables that are alike for a desk stay so.
 use Rattle.std.proofs.Common.{◌≡◌, inl, inr, Bool, true, false, cond, refl, sym, ap, subst, ◌∙◌, Option, Some, None, ℕ, List, [], ◌∷◌}
 use Rattle.std.specs.Ordering.{eq_by_cmp}
-use Rattle.std.specs.FinMap.{insert}
+use Rattle.std.specs.FinMap.{get, insert}
 use Rattle.muni_msg.specs.declared.command.Command.{Command}
 use Rattle.muni_msg.specs.declared.command.Reply.{Reply}
+use Rattle.muni_keep.specs.History.{grown}
 use Rattle.muni_keep.specs.Tables.{Tables}
 use Rattle.muni_keep.specs.Trades.{by_bytes, Desks, own, put_own}
 use Rattle.muni_book_step.specs.Runs.{Runs}
@@ -21,7 +22,8 @@ IsPlaced desk (Some (NewVersion key version)) = desk ≡ Some key.desk
 
 placed : (P : Rules) (t : Tables) (c : Command) (reply : Reply) (entry : Option Entry) → IsReasoned P t c reply entry → IsPlaced (desk_of c) entry
 placed P t c reply None why = tt
-placed P t c reply (Some (NewIssue issue)) why = ap desk_of why.0.command
+placed P t c reply (Some (NewIssue issue)) (inl (new, told)) = ap desk_of new.command
+placed P t c reply (Some (NewIssue issue)) (inr (number, amended, told)) = ap desk_of amended.command
 placed P t c reply (Some (NewVersion key version)) (issue, number, told, inl cancel) = ap desk_of cancel.command
 placed P t c reply (Some (NewVersion key version)) (issue, number, told, inr (inl entered, prices)) = ap desk_of entered.command
 placed P t c reply (Some (NewVersion key version)) (issue, number, told, inr (inr corrected, prices)) = ap desk_of corrected.command
@@ -33,7 +35,7 @@ put-alike q d r v one other same false named = same
 
 alike-after : (desk : List ℕ) (old others : Tables) (entry : Option Entry) → AreAlike desk old others → AreAlike desk (after entry old) (after entry others)
 alike-after desk old others None alike = alike
-alike-after desk old others (Some (NewIssue issue)) alike = record { issues = ap (λ issues. insert issues issue.cusip issue) alike.issues; trades = alike.trades }
+alike-after desk old others (Some (NewIssue issue)) alike = record { issues = ap (λ issues. insert issues issue.cusip (grown (get issues issue.cusip) issue)) alike.issues; trades = alike.trades }
 alike-after desk old others (Some (NewVersion key version)) alike = record {
   issues = alike.issues;
   trades = own-put desk key.desk key.reference version old.desks

@@ -13,13 +13,13 @@ use Rattle.muni_book.specs.Rules.{book_rules}
 use Rattle.muni_book.specs.RightFigures.{AreRightFigures}
 use Rattle.muni_book.specs.SoundTables.{AreSoundTables}
 use Rattle.muni_book_step.proofs.OutcomeLemmas.{step-reason}
-use Rattle.muni_book.specs.RunLaws.{TablesAreSound, ConfirmedFiguresAreRight, AcceptedCommandsActOnce, WhatIsKeptIsAnsweredAgain, NothingKeptIsLost, EachDeskIsIsolated, RepliesAreUnique, EachEntryHasItsReason, EachRefusalHasItsCause, ConfirmationsAreOfLastVersions, ListsArePages, QuotesAreRightAnswers}
-use Rattle.muni_book.proofs.StepLemmas.{refusals-caused, causes-refused, accepted-or-refused, issues-kept, versions-kept, kept-again}
+use Rattle.muni_book.specs.RunLaws.{TablesAreSound, ConfirmedFiguresAreRight, AcceptedCommandsActOnce, WhatIsKeptIsAnsweredAgain, NothingKeptIsLost, EachDeskIsIsolated, RepliesAreUnique, EachEntryHasItsReason, EachRefusalHasItsCause, ConfirmationsAreOfLastVersions, ListsArePages, QuotesAreRightAnswers, WhatWasConfirmedStays}
+use Rattle.muni_book.proofs.StepLemmas.{refusals-caused, causes-refused, accepted-or-refused, issues-kept, versions-kept, kept-again, amendments-kept}
 use Rattle.muni_book.proofs.LookUpLemmas.{lasts-confirmed, pages-listed, figures-quoted}
 use Rattle.muni_book.proofs.RightReplyLemmas.{versions-right, lasts-right, pages-right, steps-right, runs-right}
 use Rattle.muni_book.proofs.IsolationLemmas.{desks-isolated}
 use Rattle.muni_book.proofs.KeepLemmas.{runs-keep}
-use Rattle.muni_book.proofs.OnceLemmas.{act-once}
+use Rattle.muni_book.proofs.OnceLemmas.{act-once, confirmations-stay}
 use Rattle.muni_book.proofs.SoundLemmas.{runs-stay-sound}
 use Rattle.muni_book.proofs.ReplyLemmas.{steps-unique, runs-unique}
 
@@ -47,6 +47,9 @@ once limit ends = act-once (book_rules limit ends)
 
 pub kept : NothingKeptIsLost
 kept limit ends = runs-keep (book_rules limit ends)
+
+pub stays : WhatWasConfirmedStays
+stays limit ends = confirmations-stay (book_rules limit ends)
 
 pub isolated : EachDeskIsIsolated
 isolated limit ends = desks-isolated (book_rules limit ends)
@@ -80,6 +83,7 @@ reasoned = record {
   only = λ limit ends t c reply entry step. step-reason (book_rules limit ends) t c reply entry step;
   answered = λ limit ends. accepted-or-refused (book_rules limit ends);
   issues = λ limit ends. issues-kept (book_rules limit ends);
+  amendments = λ limit ends. amendments-kept (book_rules limit ends);
   versions = λ limit ends. versions-kept (book_rules limit ends) (λ row asked answer other is also. answers-unique ends row asked answer other is also);
 }
 

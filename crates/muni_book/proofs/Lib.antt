@@ -1,6 +1,7 @@
 pub mod ShownLemmas
 pub mod CandidateLemmas
 pub mod FoundLemmas
+pub mod TermsLemmas
 pub mod UniqueLemmas
 pub mod RightLemmas
 pub mod OneFigureLemmas

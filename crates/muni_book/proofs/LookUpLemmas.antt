@@ -10,7 +10,7 @@ use Rattle.muni_msg.specs.declared.version.Version.{Version}
 use Rattle.muni_msg.specs.declared.shown.Shown.{Shown}
 use Rattle.muni_keep.specs.Tables.{Tables, issue_at, last_at}
 use Rattle.muni_book_step.specs.declared.plan.Plan.TheVariants.{Answer, Quote}
-use Rattle.muni_book_step.specs.Plan.{for_issue, for_trade, confirmed}
+use Rattle.muni_book_step.specs.Plan.{issue_of, for_issue, for_trade, confirmed}
 use Rattle.muni_book_step.specs.Step.{Pricing, Rules, Outcome, quoted, IsOutcome}
 use Rattle.muni_book.specs.LookUps.{ConfirmsLast, QuotesFigures, LastsAreConfirmed, PagesAreListed, FiguresAreQuoted}
 
@@ -18,14 +18,14 @@ use Rattle.muni_book.specs.LookUps.{ConfirmsLast, QuotesFigures, LastsAreConfirm
 abbrev ByLast : Tables → Key → Outcome → Type 0
 ByLast t key outcome = ConfirmsLast t key outcome.reply × (outcome.entry ≡ None)
 
-by-issue : (P : Pricing) (t : Tables) (key : Key) (last : ℕ × Version) (o : Option IssueRow) (outcome : Outcome) → last_at t key ≡ Some last → issue_at t last.1.terms.asked.cusip ≡ o
+by-issue : (P : Pricing) (t : Tables) (key : Key) (last : ℕ × Version) (o : Option IssueRow) (outcome : Outcome) → last_at t key ≡ Some last → issue_of t.issues last.1 ≡ o
     → IsOutcome P (for_issue (λ issue. Answer (Confirmed issue key last.0 last.1)) o) outcome → ByLast t key outcome
 by-issue P t key last None outcome is there step = subst (ByLast t key) (sym step) (inr (refl, last, is, there), refl)
 by-issue P t key last (Some issue) outcome is there step = subst (ByLast t key) (sym step) ((refl, is, there), refl)
 
 by-last : (P : Pricing) (t : Tables) (key : Key) (o : Option (ℕ × Version)) (outcome : Outcome) → last_at t key ≡ o → IsOutcome P (for_trade (λ last. confirmed t.issues key last.0 last.1) o) outcome → ByLast t key outcome
 by-last P t key None outcome is step = subst (ByLast t key) (sym step) (inl (refl, is), refl)
-by-last P t key (Some last) outcome is step = by-issue P t key last (issue_at t last.1.terms.asked.cusip) outcome is refl step
+by-last P t key (Some last) outcome is step = by-issue P t key last (issue_of t.issues last.1) outcome is refl step
 
 pub lasts-confirmed : (P : Rules) → LastsAreConfirmed P
 lasts-confirmed P t key reply entry step = by-last P.prices t key (last_at t key) (record { reply = reply; entry = entry }) refl step

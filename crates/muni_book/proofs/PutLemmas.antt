@@ -23,7 +23,7 @@ itself q = (eq_by_cmp_equiv nat_list_cmp_total).refl q
 pub same-name : (q d : List ℕ) → eq_by_cmp by_bytes q d ≡ true → q ≡ d
 same-name q d h = tells_apart exact_bytes q d h
 
-other-name : (q d : List ℕ) → eq_by_cmp by_bytes q d ≡ false → q ≢ d
+pub other-name : (q d : List ℕ) → eq_by_cmp by_bytes q d ≡ false → q ≢ d
 other-name q d h = λ same. let never : true ≡ false = sym (itself q) ∙ ap (λ x. eq_by_cmp by_bytes q x) same ∙ h in cc
 
 unwrapped : {A : Type 0} (b : Bool) (x : A) (o : Option A) (d : A) → unwrap_or (cond b (Some x) o) d ≡ cond b x (unwrap_or o d)
@@ -72,7 +72,7 @@ trade-put t key version other =
           )
     ] refl
 
--- ---- the version is found under the next number
+-- ---- a version is found under the next number
 pub length-behind : {A : Type 0} (xs : List A) (x : A) → length (xs ++ x ∷ []) ≡ length xs + 1
 length-behind [] x = refl
 length-behind (a ∷ xs) x = let e = length-behind xs x in omega arith
@@ -88,7 +88,7 @@ read-last xs x n is =
       | false ↦ λ z. let place : n - 1 ≡ length xs = omega arith in rw place (last-read xs x)
     ] refl
 
-grown-next : {V : Type 0} (trade : Option (History V)) (v : V) → version_in (grown trade v) (next_number trade) ≡ Some v
+pub grown-next : {V : Type 0} (trade : Option (History V)) (v : V) → version_in (grown trade v) (next_number trade) ≡ Some v
 grown-next None v = refl
 grown-next (Some history) v = read-last (versions history) v (count history + 1) (ap (λ n. n + 1) (sym (length-behind history.earlier history.last)))
 
@@ -100,13 +100,13 @@ read-past xs x n is =
       | false ↦ let many = length-behind xs x in slice_get_past (xs ++ x ∷ []) (n - 1) (omega arith)
     ]
 
-last-in : {V : Type 0} (trade : Option (History V)) (last : ℕ × V) → option_map (λ history. (count history, history.last)) trade ≡ Some last → option_and_then (λ history. version_in history last.0) trade ≡ Some last.1
+pub last-in : {V : Type 0} (trade : Option (History V)) (last : ℕ × V) → option_map (λ history. (count history, history.last)) trade ≡ Some last → option_and_then (λ history. version_in history last.0) trade ≡ Some last.1
 last-in None last is = absurd (let never : None ≡ Some last = is in cc)
 last-in {V} (Some history) last is =
     let same = same_Some (count history, history.last) last is in
     read-last history.earlier history.last last.0 (ap (λ (pair : ℕ × V). pair.0) (sym same)) ∙ ap (λ (pair : ℕ × V). Some pair.1) same
 
-none-next : {V : Type 0} (trade : Option (History V)) (last : ℕ × V) → option_map (λ history. (count history, history.last)) trade ≡ Some last → option_and_then (λ history. version_in history (last.0 + 1)) trade ≡ None
+pub none-next : {V : Type 0} (trade : Option (History V)) (last : ℕ × V) → option_map (λ history. (count history, history.last)) trade ≡ Some last → option_and_then (λ history. version_in history (last.0 + 1)) trade ≡ None
 none-next None last is = refl
 none-next {V} (Some history) last is =
     let same = same_Some (count history, history.last) last is in

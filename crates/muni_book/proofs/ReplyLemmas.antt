@@ -1,7 +1,7 @@
 -- Replies are unique.
 use Rattle.std.proofs.Common.{◌≡◌, refl, sym, ap, subst, ◌∙◌, [], ◌∷◌}
 use Rattle.muni_book_step.specs.declared.plan.Plan.{Plan}
-use Rattle.muni_book_step.specs.declared.plan.Plan.TheVariants.{Answer, Quote, KeepIssue, KeepVersion, KeepPriced}
+use Rattle.muni_book_step.specs.declared.plan.Plan.TheVariants.{Answer, Quote, KeepIssue, KeepAmendment, KeepVersion, KeepPriced}
 use Rattle.muni_book_step.specs.Plan.{plan_of}
 use Rattle.muni_book_step.specs.Runs.{Runs}
 use Rattle.muni_book_step.specs.Step.{Pricing, Rules, Outcome, quoted, priced, IsOutcome, after, desk_of, own_of}
@@ -11,9 +11,10 @@ one-outcome : (P : Pricing) → PricesOnce P → (plan : Plan) (outcome other : 
 one-outcome P once (Answer reply) outcome other is also = is ∙ sym also
 one-outcome P once (Quote issue asked shown) outcome other is also = is.2 ∙ ap (quoted issue asked shown) (once issue asked is.0 also.0 is.1 also.1) ∙ sym also.2
 one-outcome P once (KeepIssue issue) outcome other is also = is ∙ sym also
+one-outcome P once (KeepAmendment number issue) outcome other is also = is ∙ sym also
 one-outcome P once (KeepVersion issue key number version) outcome other is also = is ∙ sym also
-one-outcome P once (KeepPriced issue key number act terms) outcome other is also =
-    is.2 ∙ ap (priced issue key number act terms) (once issue terms.asked is.0 also.0 is.1 also.1) ∙ sym also.2
+one-outcome P once (KeepPriced issue issue_number key number act terms) outcome other is also =
+    is.2 ∙ ap (priced issue issue_number key number act terms) (once issue terms.asked is.0 also.0 is.1 also.1) ∙ sym also.2
 
 pub steps-unique : (P : Rules) → PricesOnce P.prices → StepsAreUnique P
 steps-unique P once issues own c outcome other step also = one-outcome P.prices once (plan_of P.limit issues own c) outcome other step also

@@ -6,7 +6,7 @@ use Rattle.std.specs.Ordering.{is_lt, is_eq, ordering_reverse}
 use Rattle.std.specs.declared.cmp.Ordering.{Ordering}
 use Rattle.std.specs.declared.cmp.Ordering.TheVariants.{Less, Equal, Greater}
 use Rattle.std.specs.Cmp.Lexicographic.{nat_list_cmp_total}
-use Rattle.std.specs.FinMap.{entries, entries_sorted, get-entries, find, is_sorted}
+use Rattle.std.specs.FinMap.{get, entries, entries_sorted, get-entries, find, is_sorted}
 use Rattle.std.specs.FinMap.Entries.{below_all}
 use Rattle.std.proofs.lemmas.List.Elements.{All-head, All-tail, All-cons, All-nil, All-get_or, All-take, All-map, All-filter}
 use Rattle.std.proofs.lemmas.Option.{same_Some, slice_get_within, get_or_from_slice_get}
@@ -16,28 +16,30 @@ use Rattle.muni_msg.specs.declared.asked.Terms.{Terms}
 use Rattle.muni_msg.specs.declared.command.Command.{Command}
 use Rattle.muni_msg.specs.declared.command.Key.{Key}
 use Rattle.muni_msg.specs.declared.command.Reply.{Reply}
-use Rattle.muni_msg.specs.declared.command.Reply.TheVariants.{Added, Quoted, Listed, Confirmed, Refused}
+use Rattle.muni_msg.specs.declared.command.Reply.TheVariants.{Added, Amended, Quoted, Listed, Confirmed, Refused}
 use Rattle.muni_msg.specs.declared.figures.Figures.{Figures}
 use Rattle.muni_msg.specs.declared.refusal.Refusal.{Refusal}
 use Rattle.muni_msg.specs.declared.version.Act.{Act}
 use Rattle.muni_msg.specs.declared.version.Version.{Version}
 use Rattle.muni_msg.specs.declared.shown.Shown.{Shown}
 use Rattle.muni_keep.specs.History.{History, versions, count, version_in, next_number}
-use Rattle.muni_keep.specs.Tables.{Tables, issue_at, trade_at, version_at, line}
+use Rattle.muni_keep.specs.Tables.{Tables, Issues, last_terms, numbered_terms, issue_at, issue_history, issue_numbered, trade_at, version_at, line}
 use Rattle.muni_keep.specs.Trades.{by_bytes, own, is_past, trades_past}
 use Rattle.muni_book_step.specs.declared.plan.Plan.{Plan}
-use Rattle.muni_book_step.specs.declared.plan.Plan.TheVariants.{Answer, Quote, KeepIssue, KeepVersion, KeepPriced}
-use Rattle.muni_book_step.specs.Sound.{Rightness, IsRightVersion, IsSound}
+use Rattle.muni_book_step.specs.declared.plan.Plan.TheVariants.{Answer, Quote, KeepIssue, KeepAmendment, KeepVersion, KeepPriced}
+use Rattle.muni_book_step.specs.Plan.{issue_of}
+use Rattle.muni_book_step.specs.Sound.{Rightness, IsRightVersion, IsSoundIssue, IsSound}
 use Rattle.muni_book_step.specs.Step.{Pricing, Rules, Entry, Outcome, quoted, kept, priced, IsOutcome, IsStepOver, after}
 use Rattle.muni_book_step.proofs.OutcomeLemmas.{step-reason}
 use Rattle.muni_book_step.proofs.PlanLemmas.{HasReason, reason-of}
 use Rattle.muni_book_step.proofs.ReadyLemmas.{live-next, new-next}
 use Rattle.muni_book.specs.Once.{Keeps}
-use Rattle.muni_book.specs.RightReplies.{IsKeptRight, IsRightReply, StepsConfirmRight, RunsConfirmRight, VersionsAreRight, LastsAreRight, IsRightLine, PagesAreRight}
+use Rattle.muni_book.specs.RightReplies.{IsKeptRight, AreTermsOf, IsRightReply, StepsConfirmRight, RunsConfirmRight, VersionsAreRight, LastsAreRight, IsRightLine, PagesAreRight}
 use Rattle.muni_book.specs.StaysSound.{PricesRight}
 use Rattle.muni_book.proofs.CauseLemmas.{IsAnswerFor, IsFor, is-for}
 use Rattle.muni_book.proofs.KeepLemmas.{step-keeps, runs-keep}
-use Rattle.muni_book.proofs.PutLemmas.{itself, last-kept, version-put}
+use Rattle.muni_book.proofs.PutLemmas.{itself, last-in, last-kept, version-put}
+use Rattle.muni_book.proofs.TermsLemmas.{terms-found}
 use Rattle.muni_book.proofs.SoundLemmas.{all-still, sound-after}
 
 -- ---- versions that are kept
@@ -59,7 +61,16 @@ of-trade R t key number version (Some history) sound is there = of-history (IsRi
 right-version : (R : Rightness) (t : Tables) (key : Key) (number : ℕ) (version : Version) → IsSound R t → version_at t key number ≡ Some version → IsRightVersion R t.issues version
 right-version R t key number version sound there = of-trade R t key number version (trade_at t key) sound refl there
 
-kept-right : (R : Rightness) (t : Tables) (issue : IssueRow) (key : Key) (number : ℕ) (version : Version) → IsSound R t → version_at t key number ≡ Some version → issue_at t version.terms.asked.cusip ≡ Some issue
+-- and terms of issues
+of-terms : (R : Rightness) (t : Tables) (cusip : List ℕ) (number : ℕ) (issue : IssueRow) (found : Option (History IssueRow)) → IsSound R t → issue_history t cusip ≡ found
+    → option_and_then (λ history. version_in history number) found ≡ Some issue → IsSoundIssue cusip issue
+of-terms R t cusip number issue None sound is there = absurd (let never : None ≡ Some issue = there in cc)
+of-terms R t cusip number issue (Some history) sound is there = of-history (IsSoundIssue cusip) history number issue there (sound.issues cusip history is).each
+
+sound-terms : (R : Rightness) (t : Tables) (cusip : List ℕ) (number : ℕ) (issue : IssueRow) → IsSound R t → issue_numbered t cusip number ≡ Some issue → IsSoundIssue cusip issue
+sound-terms R t cusip number issue sound there = of-terms R t cusip number issue (issue_history t cusip) sound refl there
+
+kept-right : (R : Rightness) (t : Tables) (issue : IssueRow) (key : Key) (number : ℕ) (version : Version) → IsSound R t → version_at t key number ≡ Some version → issue_of t.issues version ≡ Some issue
     → IsKeptRight R t issue key number version
 kept-right R t issue key number version sound there known =
     let found = right-version R t key number version sound there in
@@ -67,8 +78,8 @@ kept-right R t issue key number version sound there known =
     record {
       version_kept = there;
       issue_kept = known;
-      own_issue = (sound.issues version.terms.asked.cusip issue known).own_cusip;
-      passed = (sound.issues version.terms.asked.cusip issue known).passed;
+      own_issue = (sound-terms R t version.terms.asked.cusip version.issue_number issue sound known).own_cusip;
+      passed = (sound-terms R t version.terms.asked.cusip version.issue_number issue sound known).passed;
       right = subst (λ i. R i version.terms.asked version.figures) same found.right;
     }
 
@@ -129,11 +140,12 @@ pages-right R t desk from sound =
 -- ---- what a reply confirms is kept after the step, and what it quotes is right
 abbrev IsKeptReply : Rightness → Tables → Reply → Type 0
 IsKeptReply R t (Added cusip) = Unit {0}
+IsKeptReply R t (Amended cusip number) = Unit {0}
 IsKeptReply R t (Quoted issue asked figures shown) =
-    (issue_at t asked.cusip ≡ Some issue) × R issue asked figures
+    AreTermsOf t asked.cusip issue × R issue asked figures
 IsKeptReply R t (Listed lines) = Unit {0}
 IsKeptReply R t (Confirmed issue key number version) =
-    (version_at t key number ≡ Some version) × (issue_at t version.terms.asked.cusip ≡ Some issue)
+    (version_at t key number ≡ Some version) × (issue_of t.issues version ≡ Some issue)
 IsKeptReply R t (Refused why) = Unit {0}
 
 abbrev HasKept : Rightness → Tables → Outcome → Type 0
@@ -141,34 +153,44 @@ HasKept R t outcome = IsKeptReply R (after outcome.entry t) outcome.reply
 
 by-answer : (limit : ℕ) (R : Rightness) (t : Tables) (c : Command) (reply : Reply) → IsAnswerFor limit t c reply → IsKeptReply R t reply
 by-answer limit R t c (Added cusip) answer = tt
+by-answer limit R t c (Amended cusip number) answer = tt
 by-answer limit R t c (Quoted issue asked figures shown) answer = absurd answer
 by-answer limit R t c (Listed lines) answer = tt
 by-answer limit R t c (Confirmed issue key number version) answer = answer
 by-answer limit R t c (Refused why) answer = tt
 
+-- the last terms are those with their number
+of-last : (history : Option (History IssueRow)) (issue : IssueRow) → option_map (λ history. history.last) history ≡ Some issue → (number : ℕ) × (option_and_then (λ history. version_in history number) history ≡ Some issue)
+of-last None issue is = absurd (let never : None ≡ Some issue = is in cc)
+of-last (Some history) issue is = (count history, last-in (Some history) (count history, history.last) refl ∙ is)
+
+last-terms : (issues : Issues) (cusip : List ℕ) (issue : IssueRow) → last_terms issues cusip ≡ Some issue → (number : ℕ) × (numbered_terms issues cusip number ≡ Some issue)
+last-terms issues cusip issue is = of-last (get issues cusip) issue is
+
 by-quoted : (P : Pricing) (R : Rightness) → PricesRight P R → (t : Tables) (issue : IssueRow) (asked : Asked) (shown : Shown) (answer : Result Figures Refusal) → issue_at t asked.cusip ≡ Some issue → P issue asked answer → HasKept R t (quoted issue asked shown answer)
-by-quoted P R priced t issue asked shown (Ok figures) known prices = (known, priced issue asked figures prices)
+by-quoted P R priced t issue asked shown (Ok figures) known prices = (last-terms t.issues asked.cusip issue known, priced issue asked figures prices)
 by-quoted P R priced t issue asked shown (Err why) known prices = tt
 
-by-put : (R : Rightness) (t : Tables) (issue : IssueRow) (key : Key) (number : ℕ) (version : Version) → number ≡ next_number (trade_at t key) → issue_at t version.terms.asked.cusip ≡ Some issue → HasKept R t (kept issue key number version)
+by-put : (R : Rightness) (t : Tables) (issue : IssueRow) (key : Key) (number : ℕ) (version : Version) → number ≡ next_number (trade_at t key) → issue_of t.issues version ≡ Some issue → HasKept R t (kept issue key number version)
 by-put R t issue key number version next known = (version-put t key number version next, known)
 
-by-priced : (R : Rightness) (t : Tables) (issue : IssueRow) (key : Key) (number : ℕ) (act : Act) (terms : Terms) (answer : Result Figures Refusal) → number ≡ next_number (trade_at t key) → issue_at t terms.asked.cusip ≡ Some issue
-    → HasKept R t (priced issue key number act terms answer)
-by-priced R t issue key number act terms (Ok figures) next known = by-put R t issue key number (record { act = act; terms = terms; figures = figures }) next known
-by-priced R t issue key number act terms (Err why) next known = tt
+by-priced : (R : Rightness) (t : Tables) (issue : IssueRow) (issue_number : ℕ) (key : Key) (number : ℕ) (act : Act) (terms : Terms) (answer : Result Figures Refusal) → number ≡ next_number (trade_at t key) → numbered_terms t.issues terms.asked.cusip issue_number ≡ Some issue
+    → HasKept R t (priced issue issue_number key number act terms answer)
+by-priced R t issue issue_number key number act terms (Ok figures) next known = by-put R t issue key number (record { act = act; terms = terms; issue_number = issue_number; figures = figures }) next known
+by-priced R t issue issue_number key number act terms (Err why) next known = tt
 
 by-plan : (P : Rules) (R : Rightness) → PricesRight P.prices R → (t : Tables) (c : Command) (plan : Plan) (outcome : Outcome) → IsFor P.limit t c plan → HasReason P.limit t c plan → IsOutcome P.prices plan outcome → HasKept R t outcome
 by-plan P R right t c (Answer reply) outcome answer reason is = subst (HasKept R t) (sym is) (by-answer P.limit R t c reply answer)
 by-plan P R right t c (Quote issue asked shown) outcome known reason is = subst (HasKept R t) (sym is.2) (by-quoted P.prices R right t issue asked shown is.0 known is.1)
 by-plan P R right t c (KeepIssue issue) outcome answer reason is = subst (HasKept R t) (sym is) tt
+by-plan P R right t c (KeepAmendment number issue) outcome answer reason is = subst (HasKept R t) (sym is) tt
 by-plan P R right t c (KeepVersion issue key number version) outcome answer reason is =
-    let known = subst (λ (v : Version). issue_at t v.terms.asked.cusip ≡ Some issue) (sym reason.version_is) reason.issue_is in
+    let known = subst (λ (v : Version). issue_of t.issues v ≡ Some issue) (sym reason.version_is) reason.issue_is in
     subst (HasKept R t) (sym is) (by-put R t issue key number version (live-next t key number reason.last reason.is_live) known)
-by-plan P R right t c (KeepPriced issue key number act terms) outcome answer (inl new) is =
-    subst (HasKept R t) (sym is.2) (by-priced R t issue key number act terms is.0 (new-next t key number new.number_is new.is_new) new.issue_is)
-by-plan P R right t c (KeepPriced issue key number act terms) outcome answer (inr correction) is =
-    subst (HasKept R t) (sym is.2) (by-priced R t issue key number act terms is.0 (live-next t key number correction.last correction.is_live) correction.issue_is)
+by-plan P R right t c (KeepPriced issue issue_number key number act terms) outcome answer (inl new) is =
+    subst (HasKept R t) (sym is.2) (by-priced R t issue issue_number key number act terms is.0 (new-next t key number new.number_is new.is_new) (terms-found t.issues terms.asked.cusip new.chosen (issue_number, issue) new.issue_is).0)
+by-plan P R right t c (KeepPriced issue issue_number key number act terms) outcome answer (inr correction) is =
+    subst (HasKept R t) (sym is.2) (by-priced R t issue issue_number key number act terms is.0 (live-next t key number correction.last correction.is_live) (terms-found t.issues terms.asked.cusip correction.chosen (issue_number, issue) correction.issue_is).0)
 
 -- the figures of a quote are those that may be answered
 pub step-quoted : (P : Rules) (t : Tables) (c : Command) (issue : IssueRow) (asked : Asked) (figures : Figures) (shown : Shown) (entry : Option Entry) → IsStepOver P t c (record { reply = Quoted issue asked figures shown; entry = entry }) → P.prices issue asked (Ok figures)
@@ -178,6 +200,7 @@ step-quoted P t c issue asked figures shown entry step =
 -- ---- steps and runs
 right-reply : (R : Rightness) (t : Tables) (reply : Reply) → IsSound R t → IsKeptReply R t reply → IsRightReply R t reply
 right-reply R t (Added cusip) sound there = tt
+right-reply R t (Amended cusip number) sound there = tt
 right-reply R t (Quoted issue asked figures shown) sound there = there
 right-reply R t (Listed lines) sound there = tt
 right-reply R t (Confirmed issue key number version) sound there = kept-right R t issue key number version sound there.0 there.1
@@ -185,11 +208,12 @@ right-reply R t (Refused why) sound there = tt
 
 still-right : (R : Rightness) (old new : Tables) (reply : Reply) → Keeps old new → IsRightReply R old reply → IsRightReply R new reply
 still-right R old new (Added cusip) keeps is = tt
-still-right R old new (Quoted issue asked figures shown) keeps is = (keeps.issues asked.cusip issue is.0, is.1)
+still-right R old new (Amended cusip number) keeps is = tt
+still-right R old new (Quoted issue asked figures shown) keeps is = ((is.0.0, keeps.issues asked.cusip is.0.0 issue is.0.1), is.1)
 still-right R old new (Listed lines) keeps is = tt
 still-right R old new (Confirmed issue key number version) keeps is = record {
   version_kept = keeps.versions key number version is.version_kept;
-  issue_kept = keeps.issues version.terms.asked.cusip issue is.issue_kept;
+  issue_kept = keeps.issues version.terms.asked.cusip version.issue_number issue is.issue_kept;
   own_issue = is.own_issue;
   passed = is.passed;
   right = is.right;

@@ -1,10 +1,8 @@
 -- Sound tables stay sound.
-use Rattle.std.proofs.Common.{◌≡◌, ◌⊎◌, inl, inr, ℕ, ◌≤◌, arith, true, false, cond, refl, sym, ap, subst, ◌∙◌, Option, Some, None, Ok, Err, List, [], ◌∷◌, ◌++◌, All}
+use Rattle.std.proofs.Common.{◌≡◌, ◌⊎◌, inl, inr, ℕ, ◌≤◌, arith, true, false, refl, sym, ap, subst, ◌∙◌, Option, Some, None, Ok, Err, List, [], ◌∷◌, ◌++◌, All}
 use Rattle.std.specs.Prelude.{nat_le}
 use Rattle.std.specs.Option.{option_map}
-use Rattle.std.specs.Ordering.{eq_by_cmp}
-use Rattle.std.specs.Cmp.Lexicographic.{nat_list_cmp_total}
-use Rattle.std.specs.FinMap.{get, insert, get-insert}
+use Rattle.std.specs.FinMap.{get, insert}
 use Rattle.std.proofs.lemmas.Bool.Decides.{nat_tests}
 use Rattle.std.proofs.lemmas.List.Elements.{All-head, All-tail, All-cons, All-nil}
 use Rattle.std.proofs.lemmas.Option.{same_Some}
@@ -16,19 +14,19 @@ use Rattle.muni_msg.specs.declared.command.Reply.{Reply}
 use Rattle.muni_msg.specs.declared.version.Act.TheVariants.{Entered, Canceled}
 use Rattle.muni_msg.specs.declared.version.Version.{Version}
 use Rattle.muni_keep.specs.History.{History, versions, count, grown}
-use Rattle.muni_keep.specs.Tables.{Tables, trade_at, with_version}
-use Rattle.muni_keep.specs.Trades.{by_bytes}
-use Rattle.muni_book_step.specs.Plan.{Issues, is_canceled, cancel_of}
-use Rattle.muni_book_step.specs.Sound.{Rightness, IsRightVersion, Follows, AreFollowing, AreVersions, IsSoundTrade, IsSoundIssue, HaveAtMost, IsSound}
+use Rattle.muni_keep.specs.Tables.{Tables, Issues, numbered_terms, trade_at, with_version}
+use Rattle.muni_book_step.specs.Plan.{is_canceled, cancel_of}
+use Rattle.muni_book_step.specs.Sound.{Rightness, IsRightVersion, Follows, AreFollowing, AreVersions, IsSoundTrade, IsSoundIssue, AreSoundTerms, HaveAtMost, IsSound}
 use Rattle.muni_book_step.specs.Step.{Rules, Entry, NewIssue, NewVersion, after}
 use Rattle.muni_book_step.specs.Reasons.{IsReasoned, IsReasonFor}
 use Rattle.muni_book_step.proofs.OutcomeLemmas.{step-reason}
-use Rattle.muni_book_step.proofs.ReadyLemmas.{none-kept}
+use Rattle.muni_book_step.proofs.PlanLemmas.{none-kept}
 use Rattle.muni_book.specs.StaysSound.{PricesRight, RunsStaySound}
 use Rattle.muni_book.specs.Once.{Keeps}
 use Rattle.muni_book.proofs.FewLemmas.{few-after}
-use Rattle.muni_book.proofs.KeepLemmas.{step-keeps}
-use Rattle.muni_book.proofs.PutLemmas.{same-name, trade-put, length-behind}
+use Rattle.muni_book.proofs.KeepLemmas.{step-keeps, terms-after}
+use Rattle.muni_book.proofs.TermsLemmas.{terms-found}
+use Rattle.muni_book.proofs.PutLemmas.{trade-put, length-behind}
 
 -- ---- lists
 pub all-still : {A : Type 0} (P Q : A → Type 0) (xs : List A) → ((x : A) → P x → Q x) → All P xs → All Q xs
@@ -116,12 +114,12 @@ put-sound R t key version sound may few = record {
 }
 
 -- ---- what a step puts may be put
-last-history : (trade : Option (History Version)) (last : ℕ × Version) → option_map (λ history. (count history, history.last)) trade ≡ Some last
-    → (history : History Version) × (trade ≡ Some history) × (count history ≡ last.0) × (history.last ≡ last.1)
+last-history : {V : Type 0} (trade : Option (History V)) (last : ℕ × V) → option_map (λ history. (count history, history.last)) trade ≡ Some last
+    → (history : History V) × (trade ≡ Some history) × (count history ≡ last.0) × (history.last ≡ last.1)
 last-history None last none = absurd (let never : None ≡ Some last = none in cc)
-last-history (Some history) last is =
+last-history {V} (Some history) last is =
     let same = same_Some (count history, history.last) last is in
-    (history, refl, ap (λ (pair : ℕ × Version). pair.0) same, ap (λ (pair : ℕ × Version). pair.1) same)
+    (history, refl, ap (λ (pair : ℕ × V). pair.0) same, ap (λ (pair : ℕ × V). pair.1) same)
 
 may-be-put : (P : Rules) (R : Rightness) → PricesRight P.prices R → (t : Tables) (c : Command) (issue : IssueRow) (key : Key) (number : ℕ) (version : Version) → IsSound R t
     → IsReasonFor P t c issue key number version → MayBePut R t key version
@@ -142,7 +140,7 @@ may-be-put P R priced t c issue key number version sound (inr (inl entered, pric
     inl (record {
       is_new = none-kept (trade_at t key) entered.is_new;
       act = entered.act_is;
-      right = record { issue = issue; kept = entered.issue_is; right = priced issue version.terms.asked version.figures prices };
+      right = record { issue = issue; kept = (terms-found t.issues version.terms.asked.cusip entered.chosen (version.issue_number, issue) entered.issue_is).0; right = priced issue version.terms.asked version.figures prices };
     })
 may-be-put P R priced t c issue key number version sound (inr (inr corrected, prices)) =
     let found = last-history (trade_at t key) corrected.last corrected.is_live.last_is in
@@ -151,7 +149,7 @@ may-be-put P R priced t c issue key number version sound (inr (inr corrected, pr
       kept = found.1;
       live = ap (λ (v : Version). is_canceled v.act) found.3 ∙ corrected.is_live.live;
       next = inl corrected.act_is;
-      right = record { issue = issue; kept = corrected.issue_is; right = priced issue version.terms.asked version.figures prices };
+      right = record { issue = issue; kept = (terms-found t.issues version.terms.asked.cusip corrected.chosen (version.issue_number, issue) corrected.issue_is).0; right = priced issue version.terms.asked version.figures prices };
       room = inl (ap (nat_le 99) found.2 ∙ corrected.room);
     })
 
@@ -164,26 +162,56 @@ passed-row row issue is =
       | Some fault ↦ λ some same. absurd (let never : Err fault ≡ Ok issue = same in cc)
     ] refl is
 
-sound-issue : (issues : Issues) (added : IssueRow) (cusip : List ℕ) (issue : IssueRow) → ((q : List ℕ) (kept : IssueRow) → get issues q ≡ Some kept → IsSoundIssue q kept) → fault_of added ≡ None
-    → get (insert issues added.cusip added) cusip ≡ Some issue → IsSoundIssue cusip issue
-sound-issue issues added cusip issue before passed found =
-    elim (eq_by_cmp by_bytes cusip added.cusip) as (λ b. eq_by_cmp by_bytes cusip added.cusip ≡ b → cond b (Some added) (get issues cusip) ≡ Some issue → IsSoundIssue cusip issue) [
-      | true ↦ λ same is. subst (IsSoundIssue cusip) (same_Some added issue is) (record { own_cusip = sym (same-name cusip added.cusip same); passed = passed })
-      | false ↦ λ other is. before cusip issue is
-    ] refl (sym (get-insert nat_list_cmp_total issues added.cusip added cusip) ∙ found)
+-- the next terms of an issue, which has fewer than 99 if it is kept
+abbrev HasRoomFor : Issues → IssueRow → Type 0
+HasRoomFor issues added =
+    (get issues added.cusip ≡ None)
+    ⊎ ((history : History IssueRow) × (get issues added.cusip ≡ Some history) × (nat_le 99 (count history) ≡ false))
 
-still-sound : (R : Rightness) (issues more : Issues) (history : History Version) → ((cusip : List ℕ) (issue : IssueRow) → get issues cusip ≡ Some issue → get more cusip ≡ Some issue) → IsSoundTrade R issues history → IsSoundTrade R more history
+terms-with : (issues : Issues) (added : IssueRow) → ((q : List ℕ) (kept : History IssueRow) → get issues q ≡ Some kept → AreSoundTerms q kept) → fault_of added ≡ None → HasRoomFor issues added
+    → AreSoundTerms added.cusip (grown (get issues added.cusip) added)
+terms-with issues added before passed (inl none) =
+    rw none (record { few = omega arith; each = all-with (IsSoundIssue added.cusip) [] added (All-nil (IsSoundIssue added.cusip)) (record { own_cusip = refl; passed = passed }) })
+terms-with issues added before passed (inr (history, is, room)) =
+    let old = before added.cusip history is in
+    let less = few-versions (count history) room in
+    let more = length-behind history.earlier history.last in
+    rw is (record {
+      few = omega (arith, less, more);
+      each = all-with (IsSoundIssue added.cusip) (versions history) added old.each (record { own_cusip = refl; passed = passed });
+    })
+
+sound-terms : (issues : Issues) (added : IssueRow) (cusip : List ℕ) (history : History IssueRow) → ((q : List ℕ) (kept : History IssueRow) → get issues q ≡ Some kept → AreSoundTerms q kept) → fault_of added ≡ None → HasRoomFor issues added
+    → get (insert issues added.cusip (grown (get issues added.cusip) added)) cusip ≡ Some history → AreSoundTerms cusip history
+sound-terms issues added cusip history before passed room found =
+    elim (terms-after issues added cusip) as (λ _. AreSoundTerms cusip history) [
+      | inl there ↦ subst (λ c. AreSoundTerms c history) (sym there.0)
+          (subst (AreSoundTerms added.cusip) (same_Some _ history (sym there.1 ∙ found)) (terms-with issues added before passed room))
+      | inr elsewhere ↦ before cusip history (sym elsewhere.1 ∙ found)
+    ]
+
+last-terms-room : (issues : Issues) (added : IssueRow) (last : ℕ × IssueRow) → option_map (λ history. (count history, history.last)) (get issues added.cusip) ≡ Some last → nat_le 99 last.0 ≡ false → HasRoomFor issues added
+last-terms-room issues added last is room =
+    let found = last-history (get issues added.cusip) last is in
+    inr (found.0, found.1, ap (nat_le 99) found.2 ∙ room)
+
+still-sound : (R : Rightness) (issues more : Issues) (history : History Version) → ((cusip : List ℕ) (number : ℕ) (issue : IssueRow) → numbered_terms issues cusip number ≡ Some issue → numbered_terms more cusip number ≡ Some issue) → IsSoundTrade R issues history → IsSoundTrade R more history
 still-sound R issues more history keeps sound = record {
   few = sound.few;
   acts = sound.acts;
-  right = all-still (IsRightVersion R issues) (IsRightVersion R more) (versions history) (λ version right. record { issue = right.issue; kept = keeps version.terms.asked.cusip right.issue right.kept; right = right.right }) sound.right;
+  right = all-still (IsRightVersion R issues) (IsRightVersion R more) (versions history) (λ version right. record { issue = right.issue; kept = keeps version.terms.asked.cusip version.issue_number right.issue right.kept; right = right.right }) sound.right;
 }
 
 pub sound-after : (P : Rules) (R : Rightness) → PricesRight P.prices R → P.limit ≤ 100_000_000 → (t : Tables) (c : Command) (reply : Reply) (entry : Option Entry) → IsSound R t → Keeps t (after entry t)
     → IsReasoned P t c reply entry → IsSound R (after entry t)
 sound-after P R priced few t c reply None sound keeps why = sound
-sound-after P R priced few t c reply (Some (NewIssue issue)) sound keeps why = record {
-  issues = λ cusip other kept. sound-issue t.issues issue cusip other sound.issues (passed-row why.0.row issue why.0.passed) kept;
+sound-after P R priced few t c reply (Some (NewIssue issue)) sound keeps (inl (new, told)) = record {
+  issues = λ cusip history kept. sound-terms t.issues issue cusip history sound.issues (passed-row new.row issue new.passed) (inl new.is_new) kept;
+  trades = λ key history kept. still-sound R t.issues _ history keeps.issues (sound.trades key history kept);
+  few = sound.few;
+}
+sound-after P R priced few t c reply (Some (NewIssue issue)) sound keeps (inr (number, amended, told)) = record {
+  issues = λ cusip history kept. sound-terms t.issues issue cusip history sound.issues (passed-row amended.row issue amended.passed) (last-terms-room t.issues issue amended.last amended.last_is amended.room) kept;
   trades = λ key history kept. still-sound R t.issues _ history keeps.issues (sound.trades key history kept);
   few = sound.few;
 }

@@ -4,11 +4,11 @@ use Rattle.muni_terms.specs.declared.row.IssueRow.{IssueRow}
 use Rattle.muni_msg.specs.declared.command.Command.{Command}
 use Rattle.muni_msg.specs.declared.command.Key.{Key}
 use Rattle.muni_msg.specs.declared.command.Reply.{Reply}
-use Rattle.muni_msg.specs.declared.command.Reply.TheVariants.{Added}
+use Rattle.muni_msg.specs.declared.command.Reply.TheVariants.{Added, Amended}
 use Rattle.muni_msg.specs.declared.version.Version.{Version}
 use Rattle.muni_keep.specs.Tables.{Tables}
 use Rattle.muni_book_step.specs.Accepted.{AsksToKeep, IsAccepted, IsKept}
-use Rattle.muni_book_step.specs.Reasons.{IsNewIssue, IsReasonFor}
+use Rattle.muni_book_step.specs.Reasons.{IsNewIssue, IsAmendment, IsReasonFor}
 use Rattle.muni_book_step.specs.Runs.{IsRefusal}
 use Rattle.muni_book_step.specs.Step.{Rules, Entry, NewIssue, Outcome, answered, kept, IsStepOver}
 
@@ -25,6 +25,13 @@ ReasonedIssuesAreKept rules =
     (tables : Tables) (asked : Command) (issue : IssueRow) (outcome : Outcome)
     → IsNewIssue tables asked issue → IsStepOver rules tables asked outcome
     → outcome ≡ record { reply = Added issue.cusip; entry = Some (NewIssue issue) }
+
+-- and so are the next terms of one
+abbrev pub ReasonedAmendmentsAreKept : Rules → Type 0
+ReasonedAmendmentsAreKept rules =
+    (tables : Tables) (asked : Command) (number : ℕ) (issue : IssueRow) (outcome : Outcome)
+    → IsAmendment tables asked number issue → IsStepOver rules tables asked outcome
+    → outcome ≡ record { reply = Amended issue.cusip number; entry = Some (NewIssue issue) }
 
 -- and so is a version: a new trade, a correction or a cancel
 abbrev pub ReasonedVersionsAreKept : Rules → Type 0

@@ -6,27 +6,33 @@ use Rattle.muni_msg.specs.declared.command.Command.{Command}
 use Rattle.muni_msg.specs.declared.command.Key.{Key}
 use Rattle.muni_msg.specs.declared.command.Line.{Line}
 use Rattle.muni_msg.specs.declared.command.Reply.{Reply}
-use Rattle.muni_msg.specs.declared.command.Reply.TheVariants.{Added, Quoted, Listed, Confirmed, Refused}
+use Rattle.muni_msg.specs.declared.command.Reply.TheVariants.{Added, Amended, Quoted, Listed, Confirmed, Refused}
 use Rattle.muni_msg.specs.declared.version.Version.{Version}
-use Rattle.muni_keep.specs.Tables.{Tables, issue_at, version_at, last_at, page_at}
+use Rattle.muni_keep.specs.Tables.{Tables, issue_numbered, version_at, last_at, page_at}
+use Rattle.muni_book_step.specs.Plan.{issue_of}
 use Rattle.muni_book_step.specs.Runs.{Runs}
 use Rattle.muni_book_step.specs.Sound.{Rightness, IsSound}
 use Rattle.muni_book_step.specs.Step.{Rules, Entry, IsStepOver, after}
 
--- The version with this number is kept, and its issue, which passes every test of its terms. The figures of the version
--- are right.
+-- The version with this number is kept, and the terms of its issue by which it was figured, which pass every test. The
+-- figures of the version are right by them.
 pub record IsKeptRight (AreRight : Rightness) (tables : Tables) (issue : IssueRow) (key : Key) (number : ℕ) (version : Version) : Type 0 where
   pub version_kept : version_at tables key number ≡ Some version
-  pub issue_kept : issue_at tables version.terms.asked.cusip ≡ Some issue
+  pub issue_kept : issue_of tables.issues version ≡ Some issue
   pub own_issue : issue.cusip ≡ version.terms.asked.cusip
   pub passed : fault_of issue ≡ None
   pub right : AreRight issue version.terms.asked version.figures
 
+-- terms of an issue that are kept under some number
+abbrev pub AreTermsOf : Tables → (cusip : List ℕ) → IssueRow → Type 0
+AreTermsOf tables cusip issue = (number : ℕ) × (issue_numbered tables cusip number ≡ Some issue)
+
 -- What a reply confirms is kept, and its figures are right, as are those of a quote. A list has lines of its own.
 abbrev pub IsRightReply : Rightness → Tables → Reply → Type 0
 IsRightReply AreRight tables (Added cusip) = ⊤
+IsRightReply AreRight tables (Amended cusip number) = ⊤
 IsRightReply AreRight tables (Quoted issue asked figures shown) =
-    (issue_at tables asked.cusip ≡ Some issue) × AreRight issue asked figures
+    AreTermsOf tables asked.cusip issue × AreRight issue asked figures
 IsRightReply AreRight tables (Listed lines) = ⊤
 IsRightReply AreRight tables (Confirmed issue key number version) =
     IsKeptRight AreRight tables issue key number version

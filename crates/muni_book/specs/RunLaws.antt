@@ -12,9 +12,9 @@ use Rattle.muni_book_step.specs.Reasons.{IsReasoned}
 use Rattle.muni_book_step.specs.Step.{Entry, IsStepOver}
 use Rattle.muni_book.specs.Causes.{RefusalsHaveCauses, CausesAreRefused}
 use Rattle.muni_book.specs.Isolation.{DesksAreIsolated}
-use Rattle.muni_book.specs.Kept.{AreAcceptedOrRefused, ReasonedIssuesAreKept, ReasonedVersionsAreKept, KeptIsAnsweredAgain}
+use Rattle.muni_book.specs.Kept.{AreAcceptedOrRefused, ReasonedIssuesAreKept, ReasonedAmendmentsAreKept, ReasonedVersionsAreKept, KeptIsAnsweredAgain}
 use Rattle.muni_book.specs.LookUps.{LastsAreConfirmed, PagesAreListed, FiguresAreQuoted}
-use Rattle.muni_book.specs.Once.{RunsKeep, CommandsActOnce}
+use Rattle.muni_book.specs.Once.{RunsKeep, CommandsActOnce, ConfirmationsStay}
 use Rattle.muni_book.specs.RightReplies.{StepsConfirmRight, RunsConfirmRight, VersionsAreRight, LastsAreRight, PagesAreRight}
 use Rattle.muni_book.specs.StaysSound.{RunsStaySound}
 use Rattle.muni_book.specs.Unique.{StepsAreUnique, RunsAreUnique}
@@ -36,6 +36,10 @@ AcceptedCommandsActOnce = (limit : ℕ) (ends : Ends) → CommandsActOnce (book_
 -- nothing that is kept is ever changed or removed
 abbrev pub NothingKeptIsLost : Type 0
 NothingKeptIsLost = (limit : ℕ) (ends : Ends) → RunsKeep (book_rules limit ends)
+
+-- what was confirmed stays as it was confirmed
+abbrev pub WhatWasConfirmedStays : Type 0
+WhatWasConfirmedStays = (limit : ℕ) (ends : Ends) → ConfirmationsStay (book_rules limit ends)
 
 -- what a desk is answered does not depend on what others keep
 abbrev pub EachDeskIsIsolated : Type 0
@@ -77,6 +81,7 @@ pub record EachEntryHasItsReason : Type 0 where
   pub only : EntriesHaveReasons
   pub answered : (limit : ℕ) (ends : Ends) → AreAcceptedOrRefused (book_rules limit ends)
   pub issues : (limit : ℕ) (ends : Ends) → ReasonedIssuesAreKept (book_rules limit ends)
+  pub amendments : (limit : ℕ) (ends : Ends) → ReasonedAmendmentsAreKept (book_rules limit ends)
   pub versions : (limit : ℕ) (ends : Ends) → ReasonedVersionsAreKept (book_rules limit ends)
 
 -- what a command that keeps nothing is answered

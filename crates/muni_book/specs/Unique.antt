@@ -7,9 +7,8 @@ use Rattle.muni_msg.specs.declared.command.Reply.{Reply}
 use Rattle.muni_msg.specs.declared.figures.Figures.{Figures}
 use Rattle.muni_msg.specs.declared.refusal.Refusal.{Refusal}
 use Rattle.muni_msg.specs.declared.version.Version.{Version}
-use Rattle.muni_keep.specs.Tables.{Tables}
+use Rattle.muni_keep.specs.Tables.{Tables, Issues}
 use Rattle.muni_keep.specs.Trades.{Trades}
-use Rattle.muni_book_step.specs.Plan.{Issues}
 use Rattle.muni_book_step.specs.Runs.{Runs}
 use Rattle.muni_book_step.specs.Step.{Pricing, Rules, Outcome, IsStep}
 

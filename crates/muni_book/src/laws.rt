@@ -2,7 +2,7 @@
 
 ghost use Rattle.muni_book.specs.AnswerLaws.{AnswersAreUnique, AnsweredFiguresAreRight, RightFiguresAreOne, AnsweredFiguresAreOne, RightFiguresHaveOutcomes};
 ghost use Rattle.muni_book.specs.Each.{AnsweredEachAreRight, DisclosedIsLeastOfEach, EachAreOne};
-ghost use Rattle.muni_book.specs.RunLaws.{TablesAreSound, ConfirmedFiguresAreRight, AcceptedCommandsActOnce, WhatIsKeptIsAnsweredAgain, NothingKeptIsLost, EachDeskIsIsolated, RepliesAreUnique, EachEntryHasItsReason, EachRefusalHasItsCause, ConfirmationsAreOfLastVersions, ListsArePages, QuotesAreRightAnswers};
+ghost use Rattle.muni_book.specs.RunLaws.{TablesAreSound, ConfirmedFiguresAreRight, AcceptedCommandsActOnce, WhatIsKeptIsAnsweredAgain, NothingKeptIsLost, WhatWasConfirmedStays, EachDeskIsIsolated, RepliesAreUnique, EachEntryHasItsReason, EachRefusalHasItsCause, ConfirmationsAreOfLastVersions, ListsArePages, QuotesAreRightAnswers};
 
 /// A law of the definitions: of one issue and one request they allow one answer, and so figures or a
 /// refusal but never both. So it does not depend on how many workers compute.
@@ -68,6 +68,12 @@ pub fn nothing_kept_is_lost()
     ensures { NothingKeptIsLost }
 {}
 
+/// A law of the definitions: what confirms a version confirms it after any run too, by the same terms of its
+/// issue. So no amendment changes what was confirmed.
+pub fn what_was_confirmed_stays()
+    ensures { WhatWasConfirmedStays }
+{}
+
 /// A law of the definitions: with equal issues and equal trades of one desk, a run gives that desk
 /// the same replies, whatever other desks keep and send.
 pub fn each_desk_is_isolated()
@@ -81,7 +87,7 @@ pub fn replies_are_unique()
 {}
 
 /// A law of the definitions: an entry is made exactly if it has its reason. An issue is kept if it is
-/// new and passes its checks. A trade is kept if it is new and its desk has room, with the figures of
+/// new and passes its checks, and its next terms if they pass them, up to 99. A trade is kept if it is new and its desk has room, with the figures of
 /// its terms. A live trade takes a correction or a cancel with the next number. If nothing is kept for
 /// a command that is accepted, it was kept before.
 pub fn each_entry_has_its_reason()

@@ -3,10 +3,10 @@
 ghost use Rattle.std.specs.Prelude.{◌≡◌, IfOk, IfSome, OnErr};
 ghost use Rattle.muni_keep.specs.History.{next_number};
 ghost use Rattle.muni_keep.specs.Keeper.{SameKeeper};
-ghost use Rattle.muni_keep.specs.Tables.{issue_at, trade_at};
+ghost use Rattle.muni_keep.specs.Tables.{issue_history, trade_at};
 ghost use Rattle.muni_book_step.specs.Runs.{StepsTo, IsRefusal};
 ghost use Rattle.muni_book_step.specs.Step.{CanKeep};
-ghost use Rattle.muni_book_step.specs.CarriedOut.{IsCarriedOut, KeepsIssue, KeepsVersion};
+ghost use Rattle.muni_book_step.specs.CarriedOut.{IsCarriedOut, KeepsIssue, KeepsAmendment, KeepsVersion};
 ghost use Rattle.muni_book.specs.Answers.{IsRightAnswer};
 ghost use Rattle.muni_book.specs.Rules.{book_rules};
 
@@ -72,6 +72,7 @@ fn carry_out<R: Threads + Sync, K: Keeper, E: Encloser + Sync, G: Gate + Sync>(
             }
         }
         Plan::KeepIssue(issue) => keep_issue(keeper, &issue),
+        Plan::KeepAmendment { number, issue } => keep_amendment(keeper, number, &issue),
         Plan::KeepVersion {
             issue,
             key,
@@ -80,6 +81,7 @@ fn carry_out<R: Threads + Sync, K: Keeper, E: Encloser + Sync, G: Gate + Sync>(
         } => keep_version(keeper, issue, key, number, version),
         Plan::KeepPriced {
             issue,
+            issue_number,
             key,
             number,
             act,
@@ -89,6 +91,7 @@ fn carry_out<R: Threads + Sync, K: Keeper, E: Encloser + Sync, G: Gate + Sync>(
                 let version = Version {
                     act,
                     terms,
+                    issue_number,
                     figures,
                 };
                 keep_version(keeper, issue, key, number, version)
@@ -99,14 +102,27 @@ fn carry_out<R: Threads + Sync, K: Keeper, E: Encloser + Sync, G: Gate + Sync>(
 }
 
 fn keep_issue<K: Keeper>(keeper: &mut K, issue: &Issue) -> Result<Reply, KeepFault>
-    requires { IfSome (K.tables keeper.old) (λ t. issue_at t issue.now.cusip ≡ None) }
+    requires { IfSome (K.tables keeper.old) (λ t. 1 ≡ next_number (issue_history t issue.now.cusip)) }
     ensures kept { IfOk result (KeepsIssue issue.now (K.tables keeper.old) (K.tables keeper.new)) }
     ensures unchanged { OnErr result (K.tables keeper.new ≡ K.tables keeper.old) }
     ensures same { SameKeeper K.Keeper KeepFault.Failed result keeper.old keeper.new }
 {
-    keeper.put_issue(issue)?;
+    keeper.put_issue(1, issue)?;
     Ok(Reply::Added {
         cusip: issue.row().cusip,
+    })
+}
+
+fn keep_amendment<K: Keeper>(keeper: &mut K, number: u32, issue: &Issue) -> Result<Reply, KeepFault>
+    requires { IfSome (K.tables keeper.old) (λ t. number ≡ next_number (issue_history t issue.now.cusip)) }
+    ensures kept { IfOk result (KeepsAmendment number issue.now (K.tables keeper.old) (K.tables keeper.new)) }
+    ensures unchanged { OnErr result (K.tables keeper.new ≡ K.tables keeper.old) }
+    ensures same { SameKeeper K.Keeper KeepFault.Failed result keeper.old keeper.new }
+{
+    keeper.put_issue(number, issue)?;
+    Ok(Reply::Amended {
+        cusip: issue.row().cusip,
+        number,
     })
 }
 

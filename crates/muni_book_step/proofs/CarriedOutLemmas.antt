@@ -13,8 +13,8 @@ use Rattle.muni_msg.specs.declared.version.Act.{Act}
 use Rattle.muni_msg.specs.declared.version.Version.{Version}
 use Rattle.muni_keep.specs.Tables.{Tables}
 use Rattle.muni_book_step.specs.declared.plan.Plan.{Plan}
-use Rattle.muni_book_step.specs.declared.plan.Plan.TheVariants.{KeepIssue, KeepVersion, KeepPriced}
-use Rattle.muni_book_step.specs.CarriedOut.{KeepsIssue, KeepsVersion, IsCarriedOut}
+use Rattle.muni_book_step.specs.declared.plan.Plan.TheVariants.{KeepIssue, KeepAmendment, KeepVersion, KeepPriced}
+use Rattle.muni_book_step.specs.CarriedOut.{KeepsIssue, KeepsAmendment, KeepsVersion, IsCarriedOut}
 use Rattle.muni_book_step.specs.Plan.{plan_of}
 use Rattle.muni_book_step.specs.Runs.{IsRefusal}
 use Rattle.muni_book_step.specs.Step.{Pricing, NewIssue, NewVersion, IsOutcome, CanKeep, after, desk_of, own_of}
@@ -29,6 +29,13 @@ issue-carried P (Some t) new plan issue reply is keeps =
     let entry = Some (NewIssue issue) in
     (entry, subst (λ p. IsOutcome P p (record { reply = reply; entry = entry })) (sym is) (ap (λ r. record { reply = r; entry = entry }) keeps.0), keeps.1)
 
+pub amendment-carried : (P : Pricing) (old new : Option Tables) (plan : Plan) (number : ℕ) (issue : IssueRow) (reply : Reply) → plan ≡ KeepAmendment number issue
+    → KeepsAmendment number issue old new reply → IfSome old (λ t. IsCarriedOut P plan t reply new)
+amendment-carried P None new plan number issue reply is keeps = tt
+amendment-carried P (Some t) new plan number issue reply is keeps =
+    let entry = Some (NewIssue issue) in
+    (entry, subst (λ p. IsOutcome P p (record { reply = reply; entry = entry })) (sym is) (ap (λ r. record { reply = r; entry = entry }) keeps.0), keeps.1)
+
 pub version-carried : (P : Pricing) (old new : Option Tables) (plan : Plan) (issue : IssueRow) (key : Key) (number : ℕ) (version : Version) (reply : Reply) → plan ≡ KeepVersion issue key number version
     → KeepsVersion issue key number version old new reply → IfSome old (λ t. IsCarriedOut P plan t reply new)
 version-carried P None new plan issue key number version reply is keeps = tt
@@ -36,12 +43,12 @@ version-carried P (Some t) new plan issue key number version reply is keeps =
     let entry = Some (NewVersion key version) in
     (entry, subst (λ p. IsOutcome P p (record { reply = reply; entry = entry })) (sym is) (ap (λ r. record { reply = r; entry = entry }) keeps.0), keeps.1)
 
-pub priced-carried : (P : Pricing) (old new : Option Tables) (plan : Plan) (issue : IssueRow) (key : Key) (number : ℕ) (act : Act) (terms : Terms) (figures : Figures) (answer : Result Figures Refusal) (reply : Reply)
-    → plan ≡ KeepPriced issue key number act terms → answer ≡ Ok figures → P issue terms.asked answer
-    → KeepsVersion issue key number (record { act = act; terms = terms; figures = figures }) old new reply → IfSome old (λ t. IsCarriedOut P plan t reply new)
-priced-carried P None new plan issue key number act terms figures answer reply is priced prices keeps = tt
-priced-carried P (Some t) new plan issue key number act terms figures answer reply is priced prices keeps =
-    let entry = Some (NewVersion key (record { act = act; terms = terms; figures = figures })) in (
+pub priced-carried : (P : Pricing) (old new : Option Tables) (plan : Plan) (issue : IssueRow) (issue_number : ℕ) (key : Key) (number : ℕ) (act : Act) (terms : Terms) (figures : Figures) (answer : Result Figures Refusal) (reply : Reply)
+    → plan ≡ KeepPriced issue issue_number key number act terms → answer ≡ Ok figures → P issue terms.asked answer
+    → KeepsVersion issue key number (record { act = act; terms = terms; issue_number = issue_number; figures = figures }) old new reply → IfSome old (λ t. IsCarriedOut P plan t reply new)
+priced-carried P None new plan issue issue_number key number act terms figures answer reply is priced prices keeps = tt
+priced-carried P (Some t) new plan issue issue_number key number act terms figures answer reply is priced prices keeps =
+    let entry = Some (NewVersion key (record { act = act; terms = terms; issue_number = issue_number; figures = figures })) in (
       entry,
       subst (λ p. IsOutcome P p (record { reply = reply; entry = entry })) (sym is)
           (Ok figures, subst (P issue terms.asked) priced prices, ap (λ r. record { reply = r; entry = entry }) keeps.0),

@@ -1,4 +1,5 @@
 pub mod CarriedOutLemmas
+mod FoundLemmas
 pub mod OutcomeLemmas
 pub mod PlanLemmas
 pub mod ReadyLemmas

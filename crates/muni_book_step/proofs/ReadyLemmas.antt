@@ -1,27 +1,18 @@
 -- What is to be kept can be kept.
-use Rattle.std.proofs.Common.{◌≡◌, inl, inr, ℕ, ◌+◌, refl, sym, ap, ◌∙◌, subst, Option, Some, None, List, [], ◌∷◌, ◌++◌}
-use Rattle.std.specs.Prelude.{slice_get, IfSome}
-use Rattle.std.specs.Option.{option_map, option_and_then, option_map_or}
+use Rattle.std.proofs.Common.{◌≡◌, inl, inr, ℕ, ◌+◌, sym, ap, ◌∙◌, subst, Option, Some, None}
+use Rattle.std.specs.Prelude.{IfSome}
+use Rattle.std.specs.Option.{option_map, option_map_or}
 use Rattle.muni_msg.specs.declared.command.Command.{Command}
-use Rattle.muni_keep.specs.History.{History, count, version_in, next_number}
+use Rattle.muni_keep.specs.History.{History, count, next_number}
 use Rattle.muni_msg.specs.declared.command.Key.{Key}
 use Rattle.muni_msg.specs.declared.version.Version.{Version}
 use Rattle.muni_keep.specs.Tables.{Tables, trade_at, version_at}
 use Rattle.muni_book_step.specs.declared.plan.Plan.{Plan}
-use Rattle.muni_book_step.specs.declared.plan.Plan.TheVariants.{Answer, Quote, KeepIssue, KeepVersion, KeepPriced}
+use Rattle.muni_book_step.specs.declared.plan.Plan.TheVariants.{Answer, Quote, KeepIssue, KeepAmendment, KeepVersion, KeepPriced}
 use Rattle.muni_book_step.specs.Plan.{plan_of}
 use Rattle.muni_book_step.specs.Reasons.{IsLive}
 use Rattle.muni_book_step.specs.Step.{CanKeep, desk_of, own_of}
-use Rattle.muni_book_step.proofs.PlanLemmas.{HasReason, reason-of}
-
--- every trade has a first version
-has-first : {A : Type 0} (earlier : List A) (last : A) → slice_get (earlier ++ last ∷ []) 0 ≡ None → ⊥
-has-first [] last none = absurd (let never : Some last ≡ None = none in cc)
-has-first (first ∷ earlier) last none = absurd (let never : Some first ≡ None = none in cc)
-
-pub none-kept : {V : Type 0} (trade : Option (History V)) → option_and_then (λ history. version_in history 1) trade ≡ None → trade ≡ None
-none-kept None none = refl
-none-kept (Some history) none = absurd (has-first history.earlier history.last none)
+use Rattle.muni_book_step.proofs.PlanLemmas.{HasReason, none-kept, reason-of}
 
 -- the number after the last one is the next one
 pub last-next : {V : Type 0} (trade : Option (History V)) (last : ℕ × V) → option_map (λ history. (count history, history.last)) trade ≡ Some last → last.0 + 1 ≡ next_number trade
@@ -37,10 +28,11 @@ new-next t key number one new = one ∙ sym (ap next_number (none-kept _ new))
 can-keep : (limit : ℕ) (t : Tables) (c : Command) (plan : Plan) → HasReason limit t c plan → CanKeep t plan
 can-keep limit t c (Answer reply) why = tt
 can-keep limit t c (Quote issue asked shown) why = tt
-can-keep limit t c (KeepIssue issue) why = why.is_new
+can-keep limit t c (KeepIssue issue) why = sym (ap next_number why.is_new)
+can-keep limit t c (KeepAmendment number issue) why = why.number_is ∙ last-next _ why.last why.last_is
 can-keep limit t c (KeepVersion issue key number version) why = live-next t key number why.last why.is_live
-can-keep limit t c (KeepPriced issue key number act terms) (inl why) = new-next t key number why.number_is why.is_new
-can-keep limit t c (KeepPriced issue key number act terms) (inr why) = live-next t key number why.last why.is_live
+can-keep limit t c (KeepPriced issue issue_number key number act terms) (inl why) = new-next t key number why.number_is why.is_new
+can-keep limit t c (KeepPriced issue issue_number key number act terms) (inr why) = live-next t key number why.last why.is_live
 
 pub ready : (limit : ℕ) (told : Option Tables) (c : Command) (plan : Plan) → IfSome told (λ t. plan ≡ plan_of limit t.issues (own_of (desk_of c) t) c) → IfSome told (λ t. CanKeep t plan)
 ready limit None c plan planned = tt

@@ -4,7 +4,7 @@ use Rattle.std.specs.Option.{option_map}
 use Rattle.muni_terms.specs.declared.row.IssueRow.{IssueRow}
 use Rattle.muni_msg.specs.declared.command.Key.{Key}
 use Rattle.muni_msg.specs.declared.command.Reply.{Reply}
-use Rattle.muni_msg.specs.declared.command.Reply.TheVariants.{Added, Confirmed}
+use Rattle.muni_msg.specs.declared.command.Reply.TheVariants.{Added, Amended, Confirmed}
 use Rattle.muni_msg.specs.declared.version.Version.{Version}
 use Rattle.muni_keep.specs.Tables.{Tables, with_issue, with_version}
 use Rattle.muni_book_step.specs.declared.plan.Plan.{Plan}
@@ -14,6 +14,11 @@ use Rattle.muni_book_step.specs.Step.{Pricing, Entry, IsOutcome, after}
 abbrev pub KeepsIssue : IssueRow → Option Tables → Option Tables → Reply → Type 0
 KeepsIssue issue old new reply =
     (reply ≡ Added issue.cusip) × (new ≡ option_map (with_issue issue) old)
+
+-- the terms are kept and answered with their number
+abbrev pub KeepsAmendment : ℕ → IssueRow → Option Tables → Option Tables → Reply → Type 0
+KeepsAmendment number issue old new reply =
+    (reply ≡ Amended issue.cusip number) × (new ≡ option_map (with_issue issue) old)
 
 -- the version is kept and confirmed
 abbrev pub KeepsVersion : IssueRow → Key → ℕ → Version → Option Tables → Option Tables → Reply → Type 0

@@ -2,7 +2,7 @@
 use Rattle.std.specs.Prelude.{◌≡◌, ⊤, List, [], ◌∷◌, Option, Some}
 use Rattle.muni_msg.specs.declared.command.Command.{Command}
 use Rattle.muni_msg.specs.declared.command.Reply.{Reply}
-use Rattle.muni_msg.specs.declared.command.Reply.TheVariants.{Added, Quoted, Listed, Confirmed, Refused}
+use Rattle.muni_msg.specs.declared.command.Reply.TheVariants.{Added, Amended, Quoted, Listed, Confirmed, Refused}
 use Rattle.muni_keep.specs.Tables.{Tables}
 use Rattle.muni_book_step.specs.Step.{Rules, Entry, IsStepOver, after}
 
@@ -29,6 +29,7 @@ RunsTo rules old commands replies told =
 -- a reply that refuses the command
 abbrev pub IsRefusal : Reply → Type 0
 IsRefusal (Added cusip) = ⊥
+IsRefusal (Amended cusip number) = ⊥
 IsRefusal (Quoted issue asked figures shown) = ⊥
 IsRefusal (Listed lines) = ⊥
 IsRefusal (Confirmed issue key number version) = ⊥

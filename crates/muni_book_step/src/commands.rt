@@ -15,6 +15,17 @@ use muni_msg::{
 };
 use muni_terms::{Issue, IssueRow, check};
 
+// A trade as it is entered or corrected.
+#[derive(Clone, Copy)]
+struct Sent<'a> {
+    key: &'a Key,
+    // The number of its version.
+    number: u32,
+    terms: &'a Terms,
+    // The number of the terms of its issue by which it is figured, or none for the last ones.
+    issue_number: Option<u32>,
+}
+
 /// What is to be done for a command, if a desk may have so many trades. The keeper is only read from.
 pub fn plan_of<K: Keeper>(
     keeper: &mut K,
@@ -26,8 +37,34 @@ pub fn plan_of<K: Keeper>(
 {
     match command {
         Command::AddIssue(row) => add_issue(keeper, row),
-        Command::Enter { key, terms } => enter(keeper, key, terms, limit),
-        Command::Correct { key, number, terms } => correct(keeper, key, *number, terms),
+        Command::Amend { number, row } => amend(keeper, *number, row),
+        Command::Enter {
+            key,
+            terms,
+            issue_number,
+        } => {
+            let sent = Sent {
+                key,
+                number: 1,
+                terms,
+                issue_number: *issue_number,
+            };
+            enter(keeper, &sent, limit)
+        }
+        Command::Correct {
+            key,
+            number,
+            terms,
+            issue_number,
+        } => {
+            let sent = Sent {
+                key,
+                number: *number,
+                terms,
+                issue_number: *issue_number,
+            };
+            correct(keeper, &sent)
+        }
         Command::Cancel { key, number } => cancel(keeper, key, *number),
         Command::Confirm { key } => confirm(keeper, key),
         Command::Quote { asked, shown } => quote(keeper, asked, *shown),
@@ -56,7 +93,7 @@ fn confirmed<K: Keeper>(
     ensures plan { Finds K.Keeper keeper.old keeper.new result
         (λ t. spec.confirmed t.issues key.now number version) }
 {
-    match keeper.issue(&version.terms.asked.cusip)? {
+    match issue_of(keeper, &version)? {
         Some(issue) => Ok(Plan::Answer(Reply::Confirmed {
             issue,
             key: key.copy(),
@@ -67,20 +104,34 @@ fn confirmed<K: Keeper>(
     }
 }
 
+// The issue by whose terms a version was figured.
+fn issue_of<K: Keeper>(keeper: &mut K, version: &Version) -> Result<Option<Issue>, KeepFault>
+    ensures issue { Finds K.Keeper keeper.old keeper.new result (λ t. spec.issue_of t.issues version.now) }
+{
+    keeper.issue_numbered(&version.terms.asked.cusip, version.issue_number)
+}
+
 fn sent_again<K: Keeper>(
     keeper: &mut K,
-    key: &Key,
-    number: u32,
-    terms: &Terms,
+    sent: &Sent<'_>,
     version: Version,
 ) -> Result<Plan, KeepFault>
     ensures plan { Finds K.Keeper keeper.old keeper.new result
-        (λ t. spec.sent_again t.issues key.now number terms.now version) }
+        (λ t. spec.sent_again t.issues sent.now.key.now sent.now.number sent.now.terms.now sent.now.issue_number version) }
 {
-    if version.terms == *terms {
-        confirmed(keeper, key, number, version)
+    if version.terms == *sent.terms && is_chosen(sent.issue_number, version.issue_number) {
+        confirmed(keeper, sent.key, sent.number, version)
     } else {
-        Ok(conflict(number, version))
+        Ok(conflict(sent.number, version))
+    }
+}
+
+fn is_chosen(chosen: Option<u32>, number: u32) -> bool
+    ensures { result ≡ spec.is_chosen chosen number }
+{
+    match chosen {
+        Some(other) => other == number,
+        None => true,
     }
 }
 
@@ -98,7 +149,7 @@ fn add_checked<K: Keeper>(keeper: &mut K, issue: Issue) -> Result<Plan, KeepFaul
     ensures plan { Finds K.Keeper keeper.old keeper.new result
         (λ t. spec.checked_issue_plan t.issues issue) }
 {
-    match keeper.issue(&issue.row().cusip)? {
+    match keeper.issue_numbered(&issue.row().cusip, 1)? {
         Some(other) => Ok(kept_issue(&issue, other)),
         None => Ok(Plan::KeepIssue(issue)),
     }
@@ -116,42 +167,135 @@ fn kept_issue(issue: &Issue, other: Issue) -> Plan
     }
 }
 
-fn enter<K: Keeper>(
-    keeper: &mut K,
-    key: &Key,
-    terms: &Terms,
-    limit: DeskLimit,
-) -> Result<Plan, KeepFault>
+fn amend<K: Keeper>(keeper: &mut K, number: u32, row: &IssueRow) -> Result<Plan, KeepFault>
     ensures plan { Finds K.Keeper keeper.old keeper.new result
-        (λ t. spec.entry_plan limit t.issues (own key.now.desk t.desks) key.now terms.now) }
+        (λ t. spec.amendment_plan t.issues number (checked row.now)) }
 {
-    match keeper.version(key, 1)? {
-        Some(version) => sent_again(keeper, key, 1, terms, version),
-        None => first_entry(keeper, key, terms, limit),
+    match check(row.copy()) {
+        Ok(issue) => amend_checked(keeper, number, issue),
+        Err(fault) => Ok(refused(Refusal::BadTerms(fault))),
+    }
+}
+
+fn amend_checked<K: Keeper>(keeper: &mut K, number: u32, issue: Issue) -> Result<Plan, KeepFault>
+    ensures plan { Finds K.Keeper keeper.old keeper.new result
+        (λ t. spec.checked_amendment_plan t.issues number issue) }
+{
+    let cusip = issue.row().cusip;
+    let Some(last) = keeper.last_issue(&cusip)? else {
+        return Ok(refused(Refusal::UnknownIssue));
+    };
+    let kept = keeper.issue_numbered(&cusip, number)?;
+    Ok(after_terms(&last, number, issue, kept))
+}
+
+// By the last terms of the issue, and by those that are kept under the number.
+fn after_terms(last: &(u32, Issue), number: u32, issue: Issue, kept: Option<Issue>) -> Plan
+    ensures { result ≡ spec.after_terms_plan number issue last.now kept }
+{
+    match kept {
+        Some(other) => kept_amendment(number, &issue, other),
+        None => next_amendment(last, number, issue),
+    }
+}
+
+fn kept_amendment(number: u32, issue: &Issue, other: Issue) -> Plan
+    ensures { result ≡ spec.kept_amendment_plan number issue.now other }
+{
+    if other == *issue {
+        Plan::Answer(Reply::Amended {
+            cusip: issue.row().cusip,
+            number,
+        })
+    } else {
+        refused(Refusal::Conflict(Kept::Issue(other)))
+    }
+}
+
+fn amendment_refusal(count: u32, number: u32) -> Option<Refusal>
+    ensures { result ≡ spec.amendment_refusal count number }
+{
+    if count >= 99 {
+        return Some(Refusal::VersionsFull);
+    }
+    number_refusal(count, number)
+}
+
+fn next_amendment(last: &(u32, Issue), number: u32, issue: Issue) -> Plan
+    ensures { result ≡ spec.next_amendment_plan number issue last.now }
+{
+    match amendment_refusal(last.0, number) {
+        Some(why) => refused(why),
+        None => Plan::KeepAmendment { number, issue },
+    }
+}
+
+fn wrong_number(count: u32) -> Refusal
+    ensures { result ≡ spec.wrong_number count }
+{
+    Refusal::WrongNumber {
+        next: count.saturating_add(1),
+    }
+}
+
+// The terms by which a trade is figured, with their number, or why there are none.
+fn terms_for<K: Keeper>(
+    keeper: &mut K,
+    cusip: &[u8; 9],
+    chosen: Option<u32>,
+) -> Result<Result<(u32, Issue), Refusal>, KeepFault>
+    ensures terms { Finds K.Keeper keeper.old keeper.new result
+        (λ t. spec.terms_for t.issues cusip.now chosen) }
+{
+    let Some(last) = keeper.last_issue(cusip)? else {
+        return Ok(Err(Refusal::UnknownIssue));
+    };
+    let Some(number) = chosen else {
+        return Ok(Ok(last));
+    };
+    match keeper.issue_numbered(cusip, number)? {
+        Some(issue) => Ok(Ok((number, issue))),
+        None => Ok(Err(wrong_number(last.0))),
+    }
+}
+
+fn enter<K: Keeper>(keeper: &mut K, sent: &Sent<'_>, limit: DeskLimit) -> Result<Plan, KeepFault>
+    requires { sent.now.number ≡ 1 }
+    ensures plan { Finds K.Keeper keeper.old keeper.new result
+        (λ t. spec.entry_plan limit t.issues (own sent.now.key.now.desk t.desks) sent.now.key.now sent.now.terms.now sent.now.issue_number) }
+{
+    match keeper.version(sent.key, 1)? {
+        Some(version) => sent_again(keeper, sent, version),
+        None => first_entry(keeper, sent, limit),
     }
 }
 
 fn first_entry<K: Keeper>(
     keeper: &mut K,
-    key: &Key,
-    terms: &Terms,
+    sent: &Sent<'_>,
     limit: DeskLimit,
 ) -> Result<Plan, KeepFault>
     ensures plan { Finds K.Keeper keeper.old keeper.new result
-        (λ t. spec.first_entry_plan limit t.issues (own key.now.desk t.desks) key.now terms.now) }
+        (λ t. spec.first_entry_plan limit t.issues (own sent.now.key.now.desk t.desks) sent.now.key.now sent.now.terms.now sent.now.issue_number) }
 {
-    let Some(issue) = keeper.issue(&terms.asked.cusip)? else {
-        return Ok(refused(Refusal::UnknownIssue));
+    let (issue_number, issue) = match terms_for(
+        keeper,
+        &sent.terms.asked.cusip,
+        sent.issue_number,
+    )? {
+        Ok(found) => found,
+        Err(why) => return Ok(refused(why)),
     };
-    if is_full(keeper, &key.desk, limit)? {
+    if is_full(keeper, &sent.key.desk, limit)? {
         return Ok(refused(Refusal::DeskFull));
     }
     Ok(Plan::KeepPriced {
         issue,
-        key: key.copy(),
+        issue_number,
+        key: sent.key.copy(),
         number: 1,
         act: Act::Entered,
-        terms: *terms,
+        terms: *sent.terms,
     })
 }
 
@@ -186,9 +330,7 @@ fn number_refusal(count: u32, number: u32) -> Option<Refusal>
     if u64::from(number) == u64::from(count) + 1 {
         None
     } else {
-        Some(Refusal::WrongNumber {
-            next: count.saturating_add(1),
-        })
+        Some(wrong_number(count))
     }
 }
 
@@ -213,64 +355,56 @@ fn cancel_refusal(count: u32, last: &Version, number: u32) -> Option<Refusal>
     number_refusal(count, number)
 }
 
-fn correct<K: Keeper>(
-    keeper: &mut K,
-    key: &Key,
-    number: u32,
-    terms: &Terms,
-) -> Result<Plan, KeepFault>
+fn correct<K: Keeper>(keeper: &mut K, sent: &Sent<'_>) -> Result<Plan, KeepFault>
     ensures plan { Finds K.Keeper keeper.old keeper.new result
-        (λ t. spec.correction_plan t.issues (own key.now.desk t.desks) key.now number terms.now) }
+        (λ t. spec.correction_plan t.issues (own sent.now.key.now.desk t.desks) sent.now.key.now sent.now.number sent.now.terms.now sent.now.issue_number) }
 {
-    let Some((count, last)) = keeper.last(key)? else {
+    let Some((count, last)) = keeper.last(sent.key)? else {
         return Ok(refused(Refusal::UnknownTrade));
     };
-    match keeper.version(key, number)? {
-        Some(version) => kept_correction(keeper, key, number, terms, version),
-        None => next_correction(keeper, key, number, terms, count, &last),
+    match keeper.version(sent.key, sent.number)? {
+        Some(version) => kept_correction(keeper, sent, version),
+        None => next_correction(keeper, sent, count, &last),
     }
 }
 
 fn kept_correction<K: Keeper>(
     keeper: &mut K,
-    key: &Key,
-    number: u32,
-    terms: &Terms,
+    sent: &Sent<'_>,
     version: Version,
 ) -> Result<Plan, KeepFault>
     ensures plan { Finds K.Keeper keeper.old keeper.new result
-        (λ t. spec.kept_correction_plan t.issues key.now number terms.now version) }
+        (λ t. spec.kept_correction_plan t.issues sent.now.key.now sent.now.number sent.now.terms.now sent.now.issue_number version) }
 {
     if is_corrected(version.act) {
-        sent_again(keeper, key, number, terms, version)
+        sent_again(keeper, sent, version)
     } else {
-        Ok(conflict(number, version))
+        Ok(conflict(sent.number, version))
     }
 }
 
 fn next_correction<K: Keeper>(
     keeper: &mut K,
-    key: &Key,
-    number: u32,
-    terms: &Terms,
+    sent: &Sent<'_>,
     count: u32,
     last: &Version,
 ) -> Result<Plan, KeepFault>
     ensures plan { Finds K.Keeper keeper.old keeper.new result
-        (λ t. spec.next_correction_plan t.issues key.now number terms.now (count, last.now)) }
+        (λ t. spec.next_correction_plan t.issues sent.now.key.now sent.now.number sent.now.terms.now sent.now.issue_number (count, last.now)) }
 {
-    if let Some(why) = correction_refusal(count, last, number) {
+    if let Some(why) = correction_refusal(count, last, sent.number) {
         return Ok(refused(why));
     }
-    match keeper.issue(&terms.asked.cusip)? {
-        Some(issue) => Ok(Plan::KeepPriced {
+    match terms_for(keeper, &sent.terms.asked.cusip, sent.issue_number)? {
+        Ok((issue_number, issue)) => Ok(Plan::KeepPriced {
             issue,
-            key: key.copy(),
-            number,
+            issue_number,
+            key: sent.key.copy(),
+            number: sent.number,
             act: Act::Corrected,
-            terms: *terms,
+            terms: *sent.terms,
         }),
-        None => Ok(refused(Refusal::UnknownIssue)),
+        Err(why) => Ok(refused(why)),
     }
 }
 
@@ -316,7 +450,7 @@ fn next_cancel<K: Keeper>(
     if let Some(why) = cancel_refusal(count, last, number) {
         return Ok(refused(why));
     }
-    match keeper.issue(&last.terms.asked.cusip)? {
+    match issue_of(keeper, last)? {
         Some(issue) => Ok(Plan::KeepVersion {
             issue,
             key: key.copy(),

@@ -14,8 +14,13 @@ pub enum Plan {
         asked: Asked,
         shown: Shown,
     },
-    /// The issue is kept.
+    /// The issue is kept, by its first terms.
     KeepIssue(Issue),
+    /// The terms of an issue are kept under the next number.
+    KeepAmendment {
+        number: u32,
+        issue: Issue,
+    },
     /// The version is kept under its number.
     KeepVersion {
         issue: Issue,
@@ -26,6 +31,7 @@ pub enum Plan {
     /// The figures of the terms are computed, and a version with them is kept under its number.
     KeepPriced {
         issue: Issue,
+        issue_number: u32,
         key: Key,
         number: u32,
         act: Act,

@@ -1,5 +1,5 @@
 -- The answer to an input whose records are all done.
-use Rattle.std.proofs.Common.{◌≡◌, ◌∙◌, ℕ, List, [], ◌∷◌, ◌++◌, length, Bool, true, false, Option, Some, None, Result, Ok, Err, inl, inr, refl, sym, ap, subst, append_assoc}
+use Rattle.std.proofs.Common.{◌≡◌, ◌∙◌, ℕ, List, [], ◌∷◌, ◌++◌, Bool, true, Option, Some, None, Result, Ok, Err, inl, inr, refl, sym, ap, append_assoc}
 use Rattle.std.specs.Prelude.{IfSome}
 use Rattle.std.specs.Global.{Vec}
 use Rattle.std.proofs.lemmas.List.{append-nil}
@@ -7,12 +7,12 @@ use Rattle.muni_edge.specs.Sink.{HasWritten}
 use Rattle.muni_desk_io.specs.declared.fault.Fault.{Fault}
 use Rattle.muni_desk_io.specs.declared.fault.Fault.TheVariants.{Read, Write, Store, NoMemory, TooLarge}
 use Rattle.muni_check.specs.Answer.{IsAnswer, Over, end_of}
-use Rattle.muni_check.specs.Checked.{IsBegunText, IsSomeText, WroteChecked}
-use Rattle.muni_check.specs.Ends.{BeginsInputEnd, EndsInput, IsSomeOf, WritesEnd}
+use Rattle.muni_check.specs.Checked.{IsBegunText, WroteChecked}
+use Rattle.muni_check.specs.Ends.{BeginsInputEnd, EndsInput, WritesEnd}
 use Rattle.muni_check.specs.GoesOn.{DoesBlock}
-use Rattle.muni_check.specs.Line.{total_line, unseen_lines}
-use Rattle.muni_check.specs.Rows.{named_by, records_of}
-use Rattle.muni_check.specs.Tallies.{are_all_right, tally_of}
+use Rattle.muni_check_rows.specs.Line.{total_line, unseen_lines}
+use Rattle.muni_check_rows.specs.Rows.{named_by, records_of}
+use Rattle.muni_check_rows.specs.Tallies.{are_all_right, tally_of}
 use Rattle.muni_check.specs.declared.command.CheckEnd.{CheckEnd}
 use Rattle.muni_check.specs.declared.rows.BlockDone.TheVariants.{Lines}
 use Rattle.muni_check.specs.declared.rows.SoFar.{SoFar}

@@ -4,7 +4,6 @@ use Rattle.std.specs.Prelude.{IfSome}
 use Rattle.std.specs.Io.KnownBytes.{Consumes, IsAtEnd}
 use Rattle.std.proofs.lemmas.List.{append_assoc, append-nil, length-append}
 use Rattle.muni_edge.specs.Sink.{HasWritten, HasWrittenPart}
-use Rattle.muni_keep.specs.Tables.{Tables}
 use Rattle.muni_import.specs.declared.row.RowFault.{RowFault}
 use Rattle.muni_desk_io.specs.declared.fault.Fault.{Fault}
 use Rattle.muni_desk_io.specs.declared.fault.Fault.TheVariants.{Read, Write, Store, NoMemory, TooLarge}
@@ -16,15 +15,14 @@ use Rattle.std.specs.Global.{Vec}
 use Rattle.muni_check.specs.Ends.{RefusesNames, WritesEnd}
 use Rattle.muni_check.specs.Next.{Cuts}
 use Rattle.muni_check.specs.declared.command.CheckEnd.{CheckEnd}
-use Rattle.muni_check.specs.Rows.{records_of}
+use Rattle.muni_check_rows.specs.Rows.{records_of}
 use Rattle.muni_check.specs.declared.rows.BlockDone.TheVariants.{Lines, BadNames}
 use Rattle.muni_check.specs.declared.rows.SoFar.{SoFar}
-use Rattle.muni_check.specs.declared.tally.Tally.{Tally}
-use Rattle.muni_check.specs.Tallies.{no_tally}
+use Rattle.muni_check_rows.specs.declared.tally.Tally.{Tally}
 use Rattle.muni_check.proofs.GoLemmas.{rows-after}
 use Rattle.muni_check.proofs.LawLemmas.{as-long}
-use Rattle.muni_check.proofs.StateLemmas.{AreDone, IsStart, block-done, done-lines}
-use Rattle.muni_check.proofs.WriteLemmas.{written-more, written-none, written-part}
+use Rattle.muni_check.proofs.StateLemmas.{AreDone, block-done, done-lines}
+use Rattle.muni_check.proofs.WriteLemmas.{written-more, written-part}
 
 -- these records of an input are done and their lines written, and these bytes are held
 pub record IsAt (over : Over) (first left : Option (List ℕ)) (held : List ℕ) (so_far : SoFar) (had has : Option (List ℕ)) : Type 0 where

@@ -1,15 +1,13 @@
 -- What is written after the rows.
-use Rattle.std.proofs.Common.{◌≡◌, ◌∙◌, ◌⊎◌, ℕ, List, [], ◌++◌, length, Option, Some, None, Result, Ok, Err, inl, inr, refl, sym, ap}
-use Rattle.std.proofs.lemmas.List.{append-nil}
-use Rattle.muni_edge.specs.Sink.{HasWritten, HasWrittenPart}
+use Rattle.std.proofs.Common.{ℕ, List, [], ◌++◌, length, Option, Some, None, Result, Ok, Err, inl, inr, refl}
 use Rattle.muni_keep.specs.Tables.{Tables}
 use Rattle.muni_desk_io.specs.declared.fault.Fault.{Fault}
 use Rattle.muni_desk_io.specs.declared.fault.Fault.TheVariants.{Read, Write, Store, NoMemory, TooLarge}
-use Rattle.muni_check.specs.Ends.{AreUnseenOf, BeginsEnd, EndsRows, WritesEnd, WritesMissing, WritesTotal}
-use Rattle.muni_check.specs.Line.{total_line, unseen_lines}
+use Rattle.muni_check.specs.Ends.{BeginsEnd, EndsRows, WritesEnd, WritesMissing, WritesTotal}
+use Rattle.muni_check_rows.specs.Line.{total_line, unseen_lines}
 use Rattle.muni_check.specs.Named.{has}
 use Rattle.muni_check.specs.Pages.{WritesUnseen}
-use Rattle.muni_check.specs.Tallies.{are_all_right, with_missing}
+use Rattle.muni_check_rows.specs.Tallies.{are_all_right, with_missing}
 use Rattle.muni_check.specs.Answer.{end_of}
 use Rattle.muni_check.specs.declared.command.CheckEnd.{CheckEnd}
 use Rattle.muni_check.specs.declared.rows.Progress.{Progress}

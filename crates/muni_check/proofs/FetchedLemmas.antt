@@ -14,11 +14,11 @@ use Rattle.muni_desk_io.specs.declared.fault.Fault.TheVariants.{Read, Write, Sto
 use Rattle.muni_check.specs.Answer.{AreChecked, IsAnswer, IsAnswerIn, IsAnswerToRows, Over}
 use Rattle.muni_check.specs.Checked.{AreLinesOf, IsBegunText, IsFirstText, IsLastText, IsSomeText, IsTextWithUnseen, WroteChecked}
 use Rattle.muni_check.specs.Judging.{over}
-use Rattle.muni_check.specs.Rows.{records_of}
-use Rattle.muni_check.specs.Said.{IsToldOf}
-use Rattle.muni_check.specs.declared.column.Column.{Column}
+use Rattle.muni_check_rows.specs.Rows.{records_of}
+use Rattle.muni_check_rows.specs.Said.{IsToldOf}
+use Rattle.muni_columns.specs.declared.column.Column.{Column}
 use Rattle.muni_check.specs.declared.command.CheckEnd.{CheckEnd}
-use Rattle.muni_check.specs.declared.said.CheckSaid.{CheckSaid}
+use Rattle.muni_check_rows.specs.declared.said.CheckSaid.{CheckSaid}
 use Rattle.muni_check.proofs.CheckLemmas.{no-lines}
 use Rattle.muni_check.proofs.WriteLemmas.{written-none}
 

@@ -4,21 +4,20 @@ use Rattle.std.specs.List.{AllZip}
 use Rattle.std.proofs.lemmas.List.{append-nil, append_assoc, map-append}
 use Rattle.std.proofs.lemmas.List.Elements.{filter_map-append}
 use Rattle.std.proofs.lemmas.List.Folds.{list_any-append}
-use Rattle.std.proofs.lemmas.Slice.Zip.{AllZip-long}
 use Rattle.std.proofs.Math.Seq.{take-suc}
 use Rattle.csv.specs.Records.{Row, fields_of}
 use Rattle.muni_check.specs.Answer.{Over}
 use Rattle.muni_check.specs.GoesOn.{GoesOn, tally_after}
-use Rattle.muni_check.specs.Line.{said_line, said_lines}
+use Rattle.muni_check_rows.specs.Line.{said_line, said_lines}
 use Rattle.muni_check.specs.Named.{AddsNames, References, has}
-use Rattle.muni_check.specs.Rows.{named_by, named_in}
-use Rattle.muni_check.specs.Said.{IsToldOf}
-use Rattle.muni_check.specs.Tallies.{with_said}
+use Rattle.muni_check_rows.specs.Rows.{named_by, named_in}
+use Rattle.muni_check_rows.specs.Said.{IsToldOf}
+use Rattle.muni_check_rows.specs.Tallies.{with_said}
 use Rattle.muni_check.specs.Unseen.{is_named, is_same}
-use Rattle.muni_check.specs.declared.column.Column.{Column}
+use Rattle.muni_columns.specs.declared.column.Column.{Column}
 use Rattle.muni_check.specs.declared.rows.Progress.{Progress}
-use Rattle.muni_check.specs.declared.said.CheckSaid.{CheckSaid}
-use Rattle.muni_check.specs.declared.tally.Tally.{Tally}
+use Rattle.muni_check_rows.specs.declared.said.CheckSaid.{CheckSaid}
+use Rattle.muni_check_rows.specs.declared.tally.Tally.{Tally}
 
 -- the lines of rows, and of rows after them
 pub lines-append : (place : ℕ) (said more : List CheckSaid) → said_lines place (said ++ more) ≡ said_lines place said ++ said_lines (place + length said) more

@@ -1,10 +1,10 @@
 pub mod AnswerLemmas
 pub mod CheckLemmas
-pub mod ColumnLemmas
 pub mod EndLemmas
 pub mod FetchedLemmas
 pub mod GoLemmas
 pub mod LawLemmas
+pub mod OneLemmas
 pub mod OverLemmas
 pub mod StateLemmas
 pub mod ToldLemmas

@@ -1,5 +1,5 @@
 -- A check of an input over a keeper: how it begins, and what comes of its next block.
-use Rattle.std.proofs.Common.{◌≡◌, ◌≤◌, ℕ, List, [], ◌++◌, length, Bool, true, false, Option, Some, None, Result, Ok, Err, refl, sym, subst, arith}
+use Rattle.std.proofs.Common.{◌≡◌, ◌≤◌, ℕ, List, [], ◌++◌, length, Bool, true, false, Option, Some, None, Ok, Err, refl, sym, subst, arith}
 use Rattle.std.specs.Prelude.{IfSome}
 use Rattle.std.specs.Global.{Vec}
 use Rattle.std.specs.Io.KnownBytes.{Consumes}
@@ -11,7 +11,7 @@ use Rattle.muni_desk_io.proofs.TakenLemmas.{taken-then}
 use Rattle.muni_check.specs.Answer.{Over}
 use Rattle.muni_check.specs.Checked.{WroteChecked}
 use Rattle.muni_check.specs.Next.{EndsAt, GivesBlock}
-use Rattle.muni_check.specs.Rows.{records_of}
+use Rattle.muni_check_rows.specs.Rows.{records_of}
 use Rattle.muni_check.specs.declared.blocks.Blocks.{Blocks}
 use Rattle.muni_check.specs.declared.rows.SoFar.{SoFar}
 use Rattle.muni_check.proofs.CheckLemmas.{IsAt, IsLeftAt, IsTaken, block-taken, check-stopped, check-unread}

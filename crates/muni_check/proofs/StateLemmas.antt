@@ -1,9 +1,8 @@
 -- The records of an input that are done, a block after another.
 use Rattle.std.proofs.Common.{◌≡◌, ◌+◌, ◌∙◌, ◌||◌, ◌&&◌, ℕ, List, [], ◌∷◌, ◌++◌, length, map, cond, Bool, true, false, Option, Some, None, Ok, refl, sym, ap, ap₂, subst, arith}
-use Rattle.std.specs.Prelude.{if◌then◌else◌, not, IfSome}
+use Rattle.std.specs.Prelude.{not, IfSome}
 use Rattle.std.specs.Global.{Vec}
 use Rattle.std.specs.List.{count_by, filter}
-use Rattle.std.proofs.lemmas.List.{append-nil}
 use Rattle.std.proofs.lemmas.List.Sums.{sum_by-cons}
 use Rattle.arrayvec.specs.ArrayVec.{ArrayVec}
 use Rattle.muni_msg.specs.declared.command.Line.{Line}
@@ -12,22 +11,20 @@ use Rattle.muni_keep.specs.Tables.{Tables, line}
 use Rattle.muni_keep.specs.Trades.{own}
 use Rattle.muni_check.specs.Ends.{AreUnseenOf}
 use Rattle.muni_check.proofs.ToldLemmas.{if-always, if-told}
-use Rattle.muni_check.specs.Answer.{AreChecked, AreUnseen, Over}
-use Rattle.muni_check.specs.Columns.{columns_in}
+use Rattle.muni_check.specs.Answer.{AreChecked, Over}
+use Rattle.muni_check_rows.specs.Columns.{columns_in}
 use Rattle.muni_check.specs.Checked.{AreLinesOf}
 use Rattle.muni_check.specs.GoesOn.{DoesBlock, GoesOn, tally_after}
-use Rattle.muni_check.specs.Line.{said_lines}
+use Rattle.muni_check_rows.specs.Line.{said_lines}
 use Rattle.muni_check.specs.Named.{AddsNames, has}
-use Rattle.muni_check.specs.Rows.{named_by}
-use Rattle.muni_check.specs.Tallies.{is_different, is_missing, is_right, no_tally, once, tally_of, with_missing, with_said}
+use Rattle.muni_check_rows.specs.Tallies.{is_different, is_missing, is_right, no_tally, once, tally_of, with_missing, with_said}
 use Rattle.muni_check.specs.Unseen.{is_live, is_named, is_unseen, unseen_at, unseen_in, unseen_of}
-use Rattle.muni_check.specs.declared.column.Column.{Column}
-use Rattle.muni_check.specs.declared.rows.BlockDone.{BlockDone}
-use Rattle.muni_check.specs.declared.rows.BlockDone.TheVariants.{Lines, BadNames}
+use Rattle.muni_columns.specs.declared.column.Column.{Column}
+use Rattle.muni_check.specs.declared.rows.BlockDone.TheVariants.{Lines}
 use Rattle.muni_check.specs.declared.rows.Progress.{Progress}
 use Rattle.muni_check.specs.declared.rows.SoFar.{SoFar}
-use Rattle.muni_check.specs.declared.said.CheckSaid.{CheckSaid}
-use Rattle.muni_check.specs.declared.tally.Tally.{Tally}
+use Rattle.muni_check_rows.specs.declared.said.CheckSaid.{CheckSaid}
+use Rattle.muni_check_rows.specs.declared.tally.Tally.{Tally}
 use Rattle.muni_check.proofs.GoLemmas.{goes-joined, rows-after}
 
 -- no row has come

@@ -1,6 +1,5 @@
 -- Texts that are written one after another.
-use Rattle.std.proofs.Common.{◌≡◌, ◌+◌, ◌∙◌, ℕ, List, [], ◌++◌, Bool, length, take, Option, Some, None, Err, refl, sym, ap, append_assoc}
-use Rattle.std.specs.Prelude.{IfSome}
+use Rattle.std.proofs.Common.{◌≡◌, ◌+◌, ◌∙◌, ℕ, List, [], ◌++◌, Bool, length, take, Option, Some, None, Err, sym, ap, append_assoc}
 use Rattle.std.proofs.Math.Seq.{take-append-add}
 use Rattle.std.proofs.lemmas.Grind.{flat_map-append}
 use Rattle.std.proofs.lemmas.List.{append-nil}
@@ -9,7 +8,7 @@ use Rattle.muni_keep.specs.Tables.{Tables}
 use Rattle.muni_keep.specs.declared.fault.KeepFault.{KeepFault}
 use Rattle.muni_keep.specs.declared.fault.KeepFault.TheVariants as keeper
 use Rattle.muni_desk_io.specs.Fault.{of_keeper}
-use Rattle.muni_check.specs.Line.{unseen_line, unseen_lines}
+use Rattle.muni_check_rows.specs.Line.{unseen_line, unseen_lines}
 use Rattle.muni_check.specs.Pages.{AreFirstUnseen, WritesUnseen}
 use Rattle.muni_check.specs.Unseen.{unseen_of}
 use Rattle.muni_check.proofs.UnseenLemmas.{AreBefore, lines_past}

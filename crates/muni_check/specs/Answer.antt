@@ -1,19 +1,19 @@
 -- The whole answer to an input, and its first part.
-use Rattle.std.specs.Prelude.{◌≡◌, ◌⊎◌, ℕ, Bool, if◌then◌else◌, List, [], ◌∷◌, ◌++◌, Option, Result, Ok, Err, IfSome}
+use Rattle.std.specs.Prelude.{◌≡◌, ℕ, Bool, if◌then◌else◌, List, [], ◌∷◌, ◌++◌, Option, Result, Ok, Err, IfSome}
 use Rattle.std.specs.List.{AllZip}
 use Rattle.muni_keep.specs.Tables.{Tables}
 use Rattle.muni_import.specs.declared.row.RowFault.{RowFault}
 use Rattle.muni_import.specs.declared.row.RowFault.TheVariants.{FieldCount}
-use Rattle.muni_check.specs.Columns.{columns_in}
-use Rattle.muni_check.specs.Line.{names_line, said_lines, total_line, unseen_lines}
-use Rattle.muni_check.specs.Rows.{named_by}
-use Rattle.muni_check.specs.Said.{IsToldOf, Judging}
-use Rattle.muni_check.specs.Tallies.{are_all_right, tally_of}
+use Rattle.muni_check_rows.specs.Columns.{columns_in}
+use Rattle.muni_check_rows.specs.Line.{names_line, said_lines, total_line, unseen_lines}
+use Rattle.muni_check_rows.specs.Rows.{named_by}
+use Rattle.muni_check_rows.specs.Said.{IsToldOf, Judging}
+use Rattle.muni_check_rows.specs.Tallies.{are_all_right, tally_of}
 use Rattle.muni_check.specs.Unseen.{unseen_in}
-use Rattle.muni_check.specs.declared.column.Column.{Column}
+use Rattle.muni_columns.specs.declared.column.Column.{Column}
 use Rattle.muni_check.specs.declared.command.CheckEnd.{CheckEnd}
 use Rattle.muni_check.specs.declared.command.CheckEnd.TheVariants.{AllRight, NotAllRight, BadNames}
-use Rattle.muni_check.specs.declared.said.CheckSaid.{CheckSaid}
+use Rattle.muni_check_rows.specs.declared.said.CheckSaid.{CheckSaid}
 
 -- what rows are judged by: the rules, the desk whose trades they name, if any, and what is kept, if it is exposed
 pub record Over : Type 1 where

@@ -1,5 +1,4 @@
 -- What is held of the issues of rows.
-use Rattle.std.specs.Prelude.{List, ℕ}
 use Rattle.std.specs.BTreeMap as tree
 use Rattle.std.specs.BTreeSet as set
 use Rattle.muni_keep.specs.Tables.{Tables}

@@ -6,12 +6,12 @@ use Rattle.muni_edge.specs.Sink.{HasWritten, Wrote, WrotePart}
 use Rattle.muni_desk_io.specs.declared.fault.Fault.{Fault}
 use Rattle.muni_desk_io.specs.declared.fault.Fault.TheVariants.{Read, Write, Store, NoMemory, TooLarge}
 use Rattle.muni_check.specs.Answer.{AreChecked, AreUnseen, IsAnswer, Over}
-use Rattle.muni_check.specs.Columns.{columns_in}
-use Rattle.muni_check.specs.Line.{unseen_lines}
-use Rattle.muni_check.specs.Rows.{named_by, records_of}
-use Rattle.muni_check.specs.declared.column.Column.{Column}
+use Rattle.muni_check_rows.specs.Columns.{columns_in}
+use Rattle.muni_check_rows.specs.Line.{unseen_lines}
+use Rattle.muni_check_rows.specs.Rows.{named_by, records_of}
+use Rattle.muni_columns.specs.declared.column.Column.{Column}
 use Rattle.muni_check.specs.declared.command.CheckEnd.{CheckEnd}
-use Rattle.muni_check.specs.declared.said.CheckSaid.{CheckSaid}
+use Rattle.muni_check_rows.specs.declared.said.CheckSaid.{CheckSaid}
 
 -- some bytes were taken from an input
 abbrev pub TakesSome : {I : Type 0} → Ghosts I → I → I → Type 0

@@ -1,5 +1,5 @@
 -- What is written after the rows.
-use Rattle.std.specs.Prelude.{◌≡◌, ◌⊎◌, ◌+◌, ℕ, List, [], ◌++◌, length, Option, Some, None, Result, Ok, Err}
+use Rattle.std.specs.Prelude.{◌≡◌, ◌⊎◌, ℕ, List, [], ◌++◌, length, Option, Some, None, Result, Ok, Err}
 use Rattle.arrayvec.specs.ArrayVec.{ArrayVec}
 use Rattle.muni_edge.specs.Sink.{HasWritten, HasWrittenPart, Wrote, WrotePart}
 use Rattle.muni_keep.specs.Tables.{Tables}
@@ -8,16 +8,15 @@ use Rattle.muni_import.specs.declared.row.RowFault.TheVariants.{FieldCount}
 use Rattle.muni_desk_io.specs.declared.fault.Fault.{Fault}
 use Rattle.muni_desk_io.specs.declared.fault.Fault.TheVariants.{Read, Write, Store, NoMemory, TooLarge}
 use Rattle.muni_check.specs.Answer.{end_of}
-use Rattle.muni_check.specs.Line.{names_line, total_line, unseen_lines}
+use Rattle.muni_check_rows.specs.Line.{names_line, total_line, unseen_lines}
 use Rattle.muni_check.specs.Named.{has}
 use Rattle.muni_check.specs.Pages.{AreAllUnseen}
-use Rattle.muni_check.specs.Tallies.{are_all_right, with_missing}
-use Rattle.muni_check.specs.declared.column.Column.{Column}
+use Rattle.muni_check_rows.specs.Tallies.{are_all_right, with_missing}
+use Rattle.muni_columns.specs.declared.column.Column.{Column}
 use Rattle.muni_check.specs.declared.command.CheckEnd.{CheckEnd}
 use Rattle.muni_check.specs.declared.command.CheckEnd.TheVariants.{BadNames}
 use Rattle.muni_check.specs.declared.rows.Progress.{Progress}
-use Rattle.muni_check.specs.declared.rows.SoFar.{SoFar}
-use Rattle.muni_check.specs.declared.tally.Tally.{Tally}
+use Rattle.muni_check_rows.specs.declared.tally.Tally.{Tally}
 
 -- the whole of a text, or a first part of it
 abbrev pub IsSomeOf : (CheckEnd → List ℕ → Type 0) → (List ℕ → Type 0) → List ℕ → Type 0

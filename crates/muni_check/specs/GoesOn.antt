@@ -6,19 +6,19 @@ use Rattle.muni_import.specs.declared.row.RowFault.{RowFault}
 use Rattle.muni_desk_io.specs.declared.fault.Fault.{Fault}
 use Rattle.muni_desk_io.specs.declared.fault.Fault.TheVariants.{Read, Write, Store, NoMemory, TooLarge}
 use Rattle.muni_check.specs.Answer.{Over}
-use Rattle.muni_check.specs.Columns.{columns_in}
-use Rattle.muni_check.specs.Line.{said_lines}
+use Rattle.muni_check_rows.specs.Columns.{columns_in}
+use Rattle.muni_check_rows.specs.Line.{said_lines}
 use Rattle.muni_check.specs.Named.{AddsNames}
-use Rattle.muni_check.specs.Rows.{named_by}
-use Rattle.muni_check.specs.Said.{IsToldOf}
-use Rattle.muni_check.specs.Tallies.{with_said}
-use Rattle.muni_check.specs.declared.column.Column.{Column}
+use Rattle.muni_check_rows.specs.Rows.{named_by}
+use Rattle.muni_check_rows.specs.Said.{IsToldOf}
+use Rattle.muni_check_rows.specs.Tallies.{with_said}
+use Rattle.muni_columns.specs.declared.column.Column.{Column}
 use Rattle.muni_check.specs.declared.rows.BlockDone.{BlockDone}
 use Rattle.muni_check.specs.declared.rows.BlockDone.TheVariants.{Lines, BadNames}
 use Rattle.muni_check.specs.declared.rows.Progress.{Progress}
 use Rattle.muni_check.specs.declared.rows.SoFar.{SoFar}
-use Rattle.muni_check.specs.declared.said.CheckSaid.{CheckSaid}
-use Rattle.muni_check.specs.declared.tally.Tally.{Tally}
+use Rattle.muni_check_rows.specs.declared.said.CheckSaid.{CheckSaid}
+use Rattle.muni_check_rows.specs.declared.tally.Tally.{Tally}
 
 -- the tally after more rows
 abbrev pub tally_after : Tally → List CheckSaid → Tally

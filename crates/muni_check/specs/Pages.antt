@@ -4,7 +4,7 @@ use Rattle.muni_edge.specs.Sink.{HasWritten, HasWrittenPart}
 use Rattle.muni_keep.specs.Tables.{Tables}
 use Rattle.muni_desk_io.specs.declared.fault.Fault.{Fault}
 use Rattle.muni_desk_io.specs.declared.fault.Fault.TheVariants.{Read, Write, Store, NoMemory, TooLarge}
-use Rattle.muni_check.specs.Line.{unseen_lines}
+use Rattle.muni_check_rows.specs.Line.{unseen_lines}
 use Rattle.muni_check.specs.Unseen.{unseen_at}
 
 -- all references of live trades that no row named

@@ -9,16 +9,14 @@ ghost use Rattle.muni_desk_io.specs.Reports.{ReportsReads, ReportsWrites};
 ghost use Rattle.muni_check.specs.Checked.{TakesSome, WroteChecked};
 ghost use Rattle.muni_check.specs.Ends.{BeginsEnd, BeginsInputEnd, EndsInput, EndsRows, RefusesNames, WritesEnd, WritesMissing, WritesTotal};
 ghost use Rattle.muni_check.specs.Judging.{over};
-ghost use Rattle.muni_check.specs.Tallies.{IsSmall};
+ghost use Rattle.muni_check_rows.specs.Tallies.{IsSmall};
 
 use crate::blocks::Blocks;
 use crate::judging::Judge;
-use crate::line::{add_line, total_line};
 use crate::rows::{BlockDone, Progress, SoFar, do_block};
-use crate::said::CheckSaid;
-use crate::tally::Tally;
 use crate::unseen::write_unseen;
 use muni_book::Calculator;
+use muni_check_rows::{CheckSaid, Tally, add_line, total_line};
 use muni_desk_io::{Fault, write};
 use muni_edge::{Gate, Sink, Source};
 use muni_import::RowFault;

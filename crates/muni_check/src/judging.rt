@@ -4,20 +4,18 @@ ghost use Rattle.std.specs.Prelude.{◌≡◌, IfOk, IfSome, OnOk, option_map};
 ghost use Rattle.std.specs.BTreeMap as tree;
 ghost use Rattle.csv.specs.Records.{fields_of};
 ghost use Rattle.muni_keep.specs.Keeper.{OnlyReads};
-ghost use Rattle.muni_keep.specs.Tables.{Tables, issue_at, last_at};
+ghost use Rattle.muni_keep.specs.Tables.{Tables, issue_at, issue_numbered, last_at};
 ghost use Rattle.muni_keep.specs.Trades.{by_bytes};
 ghost use Rattle.muni_terms.specs.Check.{checked};
 ghost use Rattle.muni_check.specs.Cache.{IsSoundCache};
-ghost use Rattle.muni_check.specs.Judging.{rule};
-ghost use Rattle.muni_check.specs.Line.{HasName};
-ghost use Rattle.muni_check.specs.Rows.{row_in};
-ghost use Rattle.muni_check.specs.Said as spec;
+ghost use Rattle.muni_check_rows.specs.Judging.{rule};
+ghost use Rattle.muni_check_rows.specs.Line.{HasName};
+ghost use Rattle.muni_check_rows.specs.Rows.{row_in};
+ghost use Rattle.muni_check_rows.specs.Said as spec;
 
 use crate::cache::IssueCache;
-use crate::row::{CheckRow, Fields, read_row};
-use crate::said::{CheckSaid, compared_said, refused_said};
-use crate::trade::Known;
 use muni_book::{Calculator, figures};
+use muni_check_rows::{CheckRow, CheckSaid, Fields, Known, compared_said, read_row, refused_said};
 use muni_edge::Gate;
 use muni_keep::{KeepFault, Keeper};
 use muni_msg::{Act, Asked, DeskName, Key, Refusal};
@@ -68,7 +66,7 @@ impl<'a, R: Threads + Sync, E: Encloser + Sync, G: Gate + Sync> Judge<'a, R, E, 
     ) -> Result<CheckSaid, KeepFault>
         requires { IfSome (K.tables keeper.old) (λ t. IsSoundCache t self.old.issues) }
         ensures said { IfOk result (λ said. IfSome (K.tables keeper.old) (λ t.
-            spec.IsSaidOfRow (rule (E.ends self.old.calculator.now.encloser.now)) (issue_at t)
+            spec.IsSaidOfRow (rule (E.ends self.old.calculator.now.encloser.now)) (spec.issue_for t known.now)
             (row_in fields.now.columns.now.items (fields_of fields.now.record.now) known.now) said)) }
         ensures sound { OnOk result (IfSome (K.tables keeper.old) (λ t. IsSoundCache t self.new.issues)) }
         ensures name { IfOk result HasName }
@@ -77,37 +75,38 @@ impl<'a, R: Threads + Sync, E: Encloser + Sync, G: Gate + Sync> Judge<'a, R, E, 
         ensures reads { OnlyReads K.Keeper result keeper.old keeper.new }
     {
         match read_row(fields, known) {
-            Ok(
-                CheckRow {
-                    asked,
-                    stated,
-                    terms,
-                },
-            ) => self.judge_row(keeper, &asked, &stated, terms),
+            Ok(row) => self.judge_row(keeper, row, known),
             Err(fault) => Ok(CheckSaid::Bad(fault)),
         }
     }
 
-    // A row goes by the terms that it states, and else by the kept issue of its CUSIP.
+    // A row goes by the terms that it states, and else by those that are kept for its CUSIP.
     fn judge_row<K: Keeper>(
         &mut self,
         keeper: &mut K,
-        asked: &Asked,
-        stated: &Stated,
-        terms: Option<IssueRow>,
+        row: CheckRow,
+        known: &Known,
     ) -> Result<CheckSaid, KeepFault>
         requires { IfSome (K.tables keeper.old) (λ t. IsSoundCache t self.old.issues) }
         ensures said { IfOk result (λ said. IfSome (K.tables keeper.old) (λ t.
-            spec.IsJudged (rule (E.ends self.old.calculator.now.encloser.now)) (issue_at t) asked.now stated.now terms said)) }
+            spec.IsJudged (rule (E.ends self.old.calculator.now.encloser.now)) (spec.issue_for t known.now) row.asked row.stated row.terms said)) }
         ensures sound { OnOk result (IfSome (K.tables keeper.old) (λ t. IsSoundCache t self.new.issues)) }
         ensures name { IfOk result HasName }
         ensures calculator { self.new.calculator ≡ self.old.calculator }
         ensures desk { self.new.desk ≡ self.old.desk }
         ensures reads { OnlyReads K.Keeper result keeper.old keeper.new }
     {
+        let CheckRow {
+            asked,
+            stated,
+            terms,
+        } = row;
         match terms {
-            Some(terms) => Ok(self.by_terms(terms, asked, stated)),
-            None => self.by_kept(keeper, asked, stated),
+            Some(terms) => Ok(self.by_terms(terms, &asked, &stated)),
+            None => match known.number_for(&asked.cusip) {
+                Some(number) => self.by_number(keeper, number, &asked, &stated),
+                None => self.by_last(keeper, &asked, &stated),
+            },
         }
     }
 
@@ -125,8 +124,31 @@ impl<'a, R: Threads + Sync, E: Encloser + Sync, G: Gate + Sync> Judge<'a, R, E, 
         }
     }
 
-    // A row of an issue that is kept, or of none.
-    fn by_kept<K: Keeper>(
+    // A row of a trade, by the terms by which that was figured.
+    fn by_number<K: Keeper>(
+        &mut self,
+        keeper: &mut K,
+        number: u32,
+        asked: &Asked,
+        stated: &Stated,
+    ) -> Result<CheckSaid, KeepFault>
+        requires { IfSome (K.tables keeper.old) (λ t. IsSoundCache t self.old.issues) }
+        ensures said { IfOk result (λ said. IfSome (K.tables keeper.old) (λ t.
+            spec.IsJudgedByKept (rule (E.ends self.old.calculator.now.encloser.now)) asked.now stated.now (issue_numbered t asked.now.cusip number) said)) }
+        ensures sound { OnOk result (IfSome (K.tables keeper.old) (λ t. IsSoundCache t self.new.issues)) }
+        ensures name { IfOk result HasName }
+        ensures calculator { self.new.calculator ≡ self.old.calculator }
+        ensures desk { self.new.desk ≡ self.old.desk }
+        ensures reads { OnlyReads K.Keeper result keeper.old keeper.new }
+    {
+        match keeper.issue_numbered(&asked.cusip, number)? {
+            Some(issue) => Ok(compared(self.calculator, &issue, asked, stated, &mut self.schedule)),
+            None => Ok(refused_said(&Refusal::UnknownIssue)),
+        }
+    }
+
+    // A row of an issue by its last terms, or of none that is kept.
+    fn by_last<K: Keeper>(
         &mut self,
         keeper: &mut K,
         asked: &Asked,
@@ -195,7 +217,7 @@ pub(crate) fn known_of<K: Keeper>(keeper: &mut K, key: &Key) -> Result<Option<Kn
 {
     match keeper.last(key)? {
         Some((_, version)) => match version.act {
-            Act::Entered | Act::Corrected => Ok(Some(Known::of(&version.terms.asked))),
+            Act::Entered | Act::Corrected => Ok(Some(Known::of(&version))),
             Act::Canceled => Ok(None),
         },
         None => Ok(None),

@@ -3,22 +3,13 @@
 
 mod blocks;
 mod cache;
-mod column;
 mod command;
 mod judging;
 pub mod laws;
-mod line;
 mod named;
-mod records;
-mod row;
+mod one;
 mod rows;
-mod said;
-mod stated;
-mod tally;
-mod terms;
-mod trade;
 mod unseen;
 
-pub use column::Column;
 pub use command::{CheckEnd, check, check_alone};
-pub use said::CheckSaid;
+pub use one::check_row;

@@ -5,23 +5,20 @@ ghost use Rattle.csv.specs.Records.{fields_of};
 ghost use Rattle.muni_keep.specs.Keeper.{OnlyReads, SameKeeper};
 ghost use Rattle.muni_check.specs.Cache.{IsSoundCache};
 ghost use Rattle.muni_check.specs.GoesOn.{DoesBeginning, DoesBlock, GoesOn, IsOfRows};
-ghost use Rattle.muni_check.specs.Judging.{over, rule};
-ghost use Rattle.muni_check.specs.Line.{HasName};
+ghost use Rattle.muni_check.specs.Judging.{over};
+ghost use Rattle.muni_check_rows.specs.Judging.{rule};
+ghost use Rattle.muni_check_rows.specs.Line.{HasName};
 ghost use Rattle.muni_check.specs.Named.{AddsNames, has};
-ghost use Rattle.muni_check.specs.Rows.{named_by, records_of};
-ghost use Rattle.muni_check.specs.Said.{IsToldOf};
-ghost use Rattle.muni_check.specs.Tallies.{IsSmall, no_tally};
+ghost use Rattle.muni_check_rows.specs.Rows.{named_by, records_of};
+ghost use Rattle.muni_check_rows.specs.Said.{IsToldOf};
+ghost use Rattle.muni_check_rows.specs.Tallies.{IsSmall, no_tally};
 
-use crate::column::{Columns, read_columns};
 use crate::judging::{Judge, known_of};
-use crate::line::add_line;
 use crate::named::{Named, add, none};
-use crate::records::read_records;
-use crate::row::{Fields, read_reference};
-use crate::said::CheckSaid;
-use crate::tally::Tally;
-use crate::trade::Known;
 use csv::ByteRecord;
+use muni_check_rows::{
+    CheckSaid, Columns, Fields, Known, Tally, add_line, read_columns, read_records, read_reference,
+};
 use muni_desk_io::Fault;
 use muni_edge::Gate;
 use muni_import::RowFault;
@@ -168,8 +165,8 @@ fn judge_rows<R: Threads + Sync, K: Keeper, E: Encloser + Sync, G: Gate + Sync>(
     Ok(lines)
 }
 
-// What is said of a row. The trade that it names, if it is of a desk, is no longer unseen.
-fn said_of<R: Threads + Sync, K: Keeper, E: Encloser + Sync, G: Gate + Sync>(
+/// What is said of a row. The trade that it names, if it is of a desk, is no longer unseen.
+pub(crate) fn said_of<R: Threads + Sync, K: Keeper, E: Encloser + Sync, G: Gate + Sync>(
     judge: &mut Judge<'_, R, E, G>,
     fields: &Fields<'_>,
     named: &mut Named,

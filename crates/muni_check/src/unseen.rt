@@ -4,15 +4,14 @@ ghost use Rattle.std.specs.Prelude.{◌≡◌, ◌+◌, ◌<◌, ◌≤◌, ◌^
 ghost use Rattle.muni_edge.specs.Faults.{Rose};
 ghost use Rattle.muni_keep.specs.Keeper.{SameKeeper};
 ghost use Rattle.muni_desk_io.specs.Reports.{ReportsWrites};
-ghost use Rattle.muni_check.specs.Line.{unseen_lines};
+ghost use Rattle.muni_check_rows.specs.Line.{unseen_lines};
 ghost use Rattle.muni_check.specs.Named.{has};
 ghost use Rattle.muni_check.specs.Pages.{WritesUnseen};
 ghost use Rattle.muni_check.specs.Unseen as spec;
 
-use crate::line::add_line;
 use crate::named;
 use crate::named::Named;
-use crate::said::CheckSaid;
+use muni_check_rows::{CheckSaid, add_line};
 use muni_desk_io::{Fault, write};
 use muni_edge::{NoMemory, Sink};
 use muni_keep::Keeper;

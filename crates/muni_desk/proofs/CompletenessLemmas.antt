@@ -33,6 +33,7 @@ use Rattle.muni_check.specs.declared.command.CheckEnd.TheVariants.{AllRight, Not
 use Rattle.muni_figures.specs.Figured.{WroteFigures}
 use Rattle.muni_figures.specs.Figured as figures
 use Rattle.muni_desk_serve.specs.Fault.{Outcome}
+use Rattle.muni_desk_serve.specs.Rules.{ServingRules}
 use Rattle.muni_desk_serve.specs.Serves.{Traffic}
 use Rattle.muni_desk_serve.specs.Serving.{ServedStore}
 use Rattle.muni_desk_serve.specs.declared.fault.ServeFault.TheVariants as serve
@@ -221,7 +222,7 @@ export-completed sink wanted told counted (Err Write) end before after is did ca
 export-completed sink wanted told counted (Err Read) end before after is did can output stored = absurd did
 export-completed sink wanted told counted (Err TooLarge) end before after is did can output stored = absurd did
 
-serve-completed : {C K D L : Type 0} (cabinet : Cabinet.Ghosts C K) (door : Door.Ghosts D L) (R : Rules) (told : L → Traffic) (store : List ℕ) (port most : ℕ) (outcome : Outcome) (end : Status) (old new : C) (before after : D)
+serve-completed : {C K D L : Type 0} (cabinet : Cabinet.Ghosts C K) (door : Door.Ghosts D L) (R : ServingRules) (told : L → Traffic) (store : List ℕ) (port most : ℕ) (outcome : Outcome) (end : Status) (old new : C) (before after : D)
     → end ≡ of_served outcome → ServedStore cabinet door R told store port most outcome old new before after
     → ¬ (Rose (cabinet.faults old) (cabinet.faults new)) → ¬ (Rose (door.faults before) (door.faults after)) → EndsWellOverStore end
 serve-completed cabinet door R told store port most (Ok done) end old new before after is did stored served = subst EndsWellOverStore (sym is) tt

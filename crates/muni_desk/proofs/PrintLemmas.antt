@@ -36,6 +36,7 @@ use Rattle.muni_desk_positions.specs.Listing.{positions_text}
 use Rattle.muni_desk_serve.specs.Connections.{exchange, AreServed, IsRunOver}
 use Rattle.muni_desk_serve.specs.Fault.{Outcome}
 use Rattle.muni_desk_serve.specs.Laws.{AnswersAreRight}
+use Rattle.muni_desk_serve.specs.Rules.{serving_rules}
 use Rattle.muni_desk_serve.specs.Serves.{Traffic}
 use Rattle.muni_desk.specs.PrintLaws.{ReportsRight, PrintsReport, ImportsPrintRight, LoadsPrintRight, ConfirmsRight, ConfirmationsPrintRight, AnswersRight, ConnectionsAreAnsweredRight}
 use Rattle.muni_desk.specs.Status.{of_answered, of_done}
@@ -253,12 +254,12 @@ confirmations-print source sink cabinet door right ends told store key old new b
 
 -- ---- connections
 run-right : {L : Type 0} (right : AnswersAreRight) (limit : ℕ) (ends : Ends) (told : L → Traffic) (port most : ℕ) (door : DoorState L) (state : Option (DoorState L)) (opening closing : Option Tables) (before now : ℕ) (outcome : Outcome) (tables : Tables)
-    → IsRunOver (book_rules limit ends) told port most door state opening closing before now outcome → opening ≡ Some tables → limit ≤ 100_000_000 → AreSoundTables tables → AnswersRight told closing door state
+    → IsRunOver (serving_rules limit ends) told port most door state opening closing before now outcome → opening ≡ Some tables → limit ≤ 100_000_000 → AreSoundTables tables → AnswersRight told closing door state
 run-right right limit ends told port most door state opening closing before now outcome tables over known small sound =
     let run = over.run in
     let exchanges = map (exchange told) run.connections in
     let first : over.first ≡ Some tables = at-some (λ t. over.first ≡ Some t) opening tables known over.opens in
-    let each = subst (λ t. AreServed (book_rules limit ends) t exchanges over.last run.served.faults) first run.served.each in
+    let each = subst (λ t. AreServed (serving_rules limit ends) t exchanges over.last run.served.faults) first run.served.each in
     let answers = right limit ends tables exchanges over.last run.served.faults small sound each in
     record {
       last = answers.0;
@@ -273,5 +274,5 @@ run-right right limit ends told port most door state opening closing before now 
 pub connections-answered : {I O C K D L : Type 0} (source : Source.Ghosts I) (sink : Sink.Ghosts O) (cabinet : Cabinet.Ghosts C K) (door : Door.Ghosts D L) → AnswersAreRight → ConnectionsAreAnsweredRight source sink cabinet door
 connections-answered source sink cabinet door right ends told store port most limit end old new before after tables state does small known sound is =
     run-right right limit ends told port most state (door.state after) (cabinet.told old.cabinet store.items) (cabinet.told new.cabinet store.items) _ _ does.0.0 tables
-    (at-some (λ state. IsRunOver (book_rules limit ends) told port most state (door.state after) (cabinet.told old.cabinet store.items) (cabinet.told new.cabinet store.items) (cabinet.faults old.cabinet) (cabinet.faults new.cabinet) does.0.0) (door.state before) state is does.0.2.run)
+    (at-some (λ state. IsRunOver (serving_rules limit ends) told port most state (door.state after) (cabinet.told old.cabinet store.items) (cabinet.told new.cabinet store.items) (cabinet.faults old.cabinet) (cabinet.faults new.cabinet) does.0.0) (door.state before) state is does.0.2.run)
     known small sound

@@ -11,6 +11,7 @@ use Rattle.muni_book.specs.Answers.{IsRightAnswer}
 use Rattle.muni_book.specs.Rules.{book_rules}
 use Rattle.muni_desk_io.specs.Lent.{Lent}
 use Rattle.muni_desk.specs.Answers.{IsAnswer}
+use Rattle.muni_desk_serve.specs.Rules.{serving_rules}
 use Rattle.muni_desk_serve.specs.Serves.{Traffic}
 use Rattle.muni_desk.specs.Store.{ImportsInto, ImportsWith, LoadsInto, Confirms, Serves, Lists, Marks, WritesFigures, ChecksFigures, ChecksAlone, Exports}
 use Rattle.muni_desk.specs.Written.{WritesAnswer, TellsFaults}
@@ -35,7 +36,7 @@ Does source sink cabinet door ends told (Import store (Some desk) limit) status 
 Does source sink cabinet door ends told (Load store limit) status old new before after = LoadsInto source sink cabinet (book_rules limit ends) store.items status old new
 Does source sink cabinet door ends told (Confirm store key) status old new before after = Confirms sink cabinet store.items key status old new
 Does source sink cabinet door ends told (Serve store port connections limit) status old new before after =
-    Serves cabinet door (book_rules limit ends) told store.items port connections status old.cabinet new.cabinet before after
+    Serves cabinet door (serving_rules limit ends) told store.items port connections status old.cabinet new.cabinet before after
 Does source sink cabinet door ends told (Positions store desk) status old new before after = Lists sink cabinet store.items desk status old new
 Does source sink cabinet door ends told (Mark store) status old new before after = Marks source sink cabinet (IsRightAnswer ends) store.items status old new
 Does source sink cabinet door ends told (Figures store options) status old new before after = WritesFigures source sink cabinet (IsRightAnswer ends) store.items options status old new

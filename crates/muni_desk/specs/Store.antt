@@ -31,6 +31,7 @@ use Rattle.muni_figures.specs.Figured.{WroteFigures}
 use Rattle.muni_figures.specs.Line.{header}
 use Rattle.muni_figures.specs.Said.{IsToldOf}
 use Rattle.muni_figures.specs.declared.command.FiguresOptions.{FiguresOptions}
+use Rattle.muni_desk_serve.specs.Rules.{ServingRules}
 use Rattle.muni_desk_serve.specs.Serves.{Traffic}
 use Rattle.muni_desk_serve.specs.Serving.{ServedStore}
 use Rattle.muni_desk.specs.Status.{of_answered, of_checked, of_done, of_served}
@@ -72,7 +73,7 @@ Confirms sink cabinet store key status old new =
     × LeavesAll cabinet old.cabinet new.cabinet
 
 -- connections served over a store
-abbrev pub Serves : {C K D L : Type 0} → Cabinet.Ghosts C K → Door.Ghosts D L → Rules → (L → Traffic) → List ℕ → (port most : ℕ) → Status → (old new : C) → (before after : D) → Type 0
+abbrev pub Serves : {C K D L : Type 0} → Cabinet.Ghosts C K → Door.Ghosts D L → ServingRules → (L → Traffic) → List ℕ → (port most : ℕ) → Status → (old new : C) → (before after : D) → Type 0
 Serves cabinet door rules told store port most status old new before after =
     EndsAs of_served status (λ outcome. ServedStore cabinet door rules told store port most outcome old new before after)
     × LeavesOthers cabinet store old new

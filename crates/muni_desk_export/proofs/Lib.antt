@@ -7,6 +7,7 @@ mod NamedLemmas
 mod PageLemmas
 mod PartLemmas
 pub mod RowLemmas
+pub mod TermsLemmas
 mod TextLemmas
 mod ToldLemmas
 mod VersionLemmas

@@ -59,7 +59,7 @@ version-named (Some t) key trade number version old new all some of is added bef
     let rest = drop ((number + 1) - 1) (versions_at t key) in
     ap (λ b. list_any (is_of cusip) rest || b) (added cusip)
     ∙ sym (or_swap (is_of cusip version) (list_any (is_of cusip) rest) (old cusip))
-    ∙ ap (λ l. list_any (is_of cusip) l || old cusip) (sym (version-next t key trade number version of some is))
+    ∙ ap (λ l. list_any (is_of cusip) l || old cusip) (sym (version-next t key number version some is))
     ∙ before cusip
 
 or_none : (a : Bool) → (a || false) ≡ a

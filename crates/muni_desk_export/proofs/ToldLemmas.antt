@@ -4,7 +4,7 @@ use Rattle.std.specs.Prelude.{IfSome, IfOk, slice_get, is_none, is_some, not}
 use Rattle.muni_terms.specs.declared.row.IssueRow.{IssueRow}
 use Rattle.muni_msg.specs.declared.command.Key.{Key}
 use Rattle.muni_msg.specs.declared.command.Line.{Line}
-use Rattle.muni_keep.specs.Tables.{Tables, issue_at, page_at}
+use Rattle.muni_keep.specs.Tables.{Tables, issue_numbered, page_at}
 use Rattle.muni_desk_import.specs.Confirm.{confirmed, of_version}
 use Rattle.muni_desk_export.specs.Trades.{key_of, separator, trade_rows, trade_texts, trades_left, rows_of, confirmations_of, IsLineOf, AreOf}
 use Rattle.muni_desk_export.specs.declared.trades.Style.{Style}
@@ -22,7 +22,7 @@ pub told-line : (told : Option Tables) (desk : List ℕ) (page : List Line) (i :
 told-line None desk page i trade inside is are = tt
 told-line (Some t) desk page i trade inside is are = of-line t desk page i trade inside is are
 
-pub told-confirmed : (told : Option Tables) (key : Key) (trade : Line) (issue : Option IssueRow) (text : List ℕ) → IfSome told (λ t. IsLineOf t key trade) → IfSome told (λ t. issue ≡ issue_at t trade.version.terms.asked.cusip)
+pub told-confirmed : (told : Option Tables) (key : Key) (trade : Line) (issue : Option IssueRow) (text : List ℕ) → IfSome told (λ t. IsLineOf t key trade) → IfSome told (λ t. issue ≡ issue_numbered t trade.version.terms.asked.cusip trade.version.issue_number)
     → text ≡ (of_version key trade.number trade.version issue).text → IfSome told (λ t. text ≡ (confirmed t key).text)
 told-confirmed None key trade issue text of found is = tt
 told-confirmed (Some t) key trade issue text of found is = is ∙ line-confirmed t key trade issue of found

@@ -11,7 +11,7 @@ use Rattle.muni_desk_export.specs.Walk.{desk_rows}
 abbrev pub row_count : List ℕ → ℕ
 row_count text = count_by (λ byte. byte == 10) text
 
--- the line of the issues: how many are kept
+-- the line of the issues: how many terms of them are kept
 abbrev pub issues_line : Tables → List ℕ
 issues_line tables = line (codes "ISSUES" ∷ decimal (row_count (all_issues tables)) ∷ [])
 

@@ -1,12 +1,13 @@
 -- The trades of a desk, as they are written.
-use Rattle.std.specs.Prelude.{◌≡◌, ℕ, ◌+◌, Bool, true, false, is_none, List, [], ◌∷◌, ◌++◌, map, Option, Some, None}
+use Rattle.std.specs.Prelude.{◌≡◌, ℕ, ◌+◌, ◌==◌, if◌then◌else◌, Bool, true, false, is_none, List, [], ◌∷◌, ◌++◌, map, Option, Some, None}
 use Rattle.std.specs.List.{AllByRecursion, flat_map}
 use Rattle.std.specs.FinMap.{entries}
+use Rattle.muni_terms.specs.declared.row.IssueRow.{IssueRow}
 use Rattle.muni_msg.specs.declared.command.Key.{Key}
 use Rattle.muni_msg.specs.declared.command.Line.{Line}
 use Rattle.muni_msg.specs.declared.version.Version.{Version}
 use Rattle.muni_keep.specs.History.{History, versions}
-use Rattle.muni_keep.specs.Tables.{Tables, trade_at, line}
+use Rattle.muni_keep.specs.Tables.{Tables, last_issue, trade_at, line}
 use Rattle.muni_keep.specs.Trades.{own, trades_past}
 use Rattle.muni_export.specs.Rows.{version_row}
 use Rattle.muni_export.specs.List.{list_line}
@@ -18,13 +19,27 @@ use Rattle.muni_desk_export.specs.declared.trades.Style.TheVariants as style
 abbrev pub key_of : List ℕ → List ℕ → Key
 key_of desk reference = record { desk = desk; reference = reference }
 
--- the rows of versions, whose numbers are counted on from one
-abbrev pub version_rows : Key → ℕ → List Version → List ℕ
-version_rows key number [] = []
-version_rows key number (version ∷ more) = version_row key number version ++ version_rows key (number + 1) more
+-- the number of the terms by which a version was figured, unless they are the last ones of its issue
+abbrev pub unless_last : Option (ℕ × IssueRow) → ℕ → Option ℕ
+unless_last None number = Some number
+unless_last (Some last) number = if number == last.0 then None else Some number
 
--- all versions of a trade, if it is kept
-abbrev pub kept_versions : Option (History Version) → List Version
+abbrev pub written_number : Tables → Version → Option ℕ
+written_number tables version =
+    unless_last (last_issue tables version.terms.asked.cusip) version.issue_number
+
+-- the row of a version, with that number
+abbrev pub version_text : Tables → Key → ℕ → Version → List ℕ
+version_text tables key number version = version_row key number version (written_number tables version)
+
+-- the rows of versions, whose numbers are counted on from one
+abbrev pub version_rows : Tables → Key → ℕ → List Version → List ℕ
+version_rows tables key number [] = []
+version_rows tables key number (version ∷ more) =
+    version_text tables key number version ++ version_rows tables key (number + 1) more
+
+-- all versions of a trade, or all terms of an issue, if it is kept
+abbrev pub kept_versions : {V : Type 0} → Option (History V) → List V
 kept_versions None = []
 kept_versions (Some history) = versions history
 
@@ -33,7 +48,7 @@ versions_at tables key = kept_versions (trade_at tables key)
 
 -- their rows
 abbrev pub trade_rows : Tables → Key → List ℕ
-trade_rows tables key = version_rows key 1 (versions_at tables key)
+trade_rows tables key = version_rows tables key 1 (versions_at tables key)
 
 -- what stands between the confirmations of two trades: an empty line
 abbrev pub separator : Bool → List ℕ

@@ -18,8 +18,8 @@ use muni_keep::{KeepFault, Keeper};
 use muni_msg::DeskName;
 use std::alloc::Global;
 
-/// Writes how many issues and how many versions of each desk there are, and at the end that all could be
-/// read.
+/// Writes how many terms of issues and how many versions of each desk there are, and at the end that all
+/// could be read.
 pub(crate) fn write_counts<K: Keeper, O: Sink>(
     alloc: Global,
     keeper: &mut K,

@@ -14,7 +14,7 @@ use muni_dec::text::push;
 use muni_edge::NoMemory;
 use muni_export::RowWriter;
 use muni_keep::{KeepFault, Keeper};
-use muni_msg::{DeskName, Key, Line, Reference, Refusal};
+use muni_msg::{DeskName, Key, Line, Reference, Refusal, Version};
 use muni_terms::Issue;
 use std::alloc::Global;
 
@@ -105,10 +105,38 @@ fn put_versions<K: Keeper>(
 {
     for number in 1..line.number {
         let version = version_of(keeper, key, number)?;
-        rows.version(key, number, &version)?;
+        put_version(keeper, key, number, &version, rows)?;
     }
-    rows.version(key, line.number, &line.version)?;
+    put_version(keeper, key, line.number, &line.version, rows)?;
     Ok(())
+}
+
+// The row of a version.
+fn put_version<K: Keeper>(
+    keeper: &mut K,
+    key: &Key,
+    number: u32,
+    version: &Version,
+    rows: &mut RowWriter,
+) -> Result<(), KeepFault>
+    ensures row { OnOk result (IfSome (K.tables keeper.old)
+        (λ t. rows.new ≡ rows.old ++ spec.version_text t key.now number version.now)) }
+    ensures reads { OnlyReads K.Keeper result keeper.old keeper.new }
+{
+    let last = keeper.last_issue(&version.terms.asked.cusip)?;
+    let issue_number = unless_last(&last, version.issue_number);
+    rows.version(key, number, version, issue_number)?;
+    Ok(())
+}
+
+// The number of terms of an issue, unless they are its last ones.
+fn unless_last(last: &Option<(u32, Issue)>, number: u32) -> Option<u32>
+    ensures { result ≡ spec.unless_last last.now number }
+{
+    match last {
+        Some(last) if last.0 == number => None,
+        _ => Some(number),
+    }
 }
 
 fn lines_of(alloc: Global, page: &[Line]) -> Result<Vec<u8>, NoMemory>
@@ -162,7 +190,8 @@ fn confirmation_of<K: Keeper>(
         (λ t. text.items ≡ (confirmed t key.now).text)) }
     ensures reads { OnlyReads K.Keeper result keeper.old keeper.new }
 {
-    let issue = keeper.issue(&line.version.terms.asked.cusip)?;
+    let version = &line.version;
+    let issue = keeper.issue_numbered(&version.terms.asked.cusip, version.issue_number)?;
     Ok(confirmed_by(&issue, key, line))
 }
 

@@ -15,7 +15,7 @@ use std::alloc::Global;
 /// How far a walk has come.
 #[derive(Drop)]
 pub(crate) enum Walk {
-    /// The rows of the issues after a CUSIP: of all, or of those that are named.
+    /// The rows of all terms of the issues after a CUSIP: of all, or of those that are named.
     Issues {
         named: Option<Named>,
         after: Option<[u8; 9]>,

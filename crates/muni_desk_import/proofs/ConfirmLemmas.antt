@@ -1,6 +1,7 @@
--- The confirmation of a trade, by its last version and its issue.
+-- The confirmation of a trade, by its last version and the terms of its issue by which that was figured.
 use Rattle.std.proofs.Common.{◌≡◌, inl, inr, ◌∙◌, ℕ, List, Option, Some, None, IfSome, sym, ap}
-use Rattle.muni_keep.specs.Tables.{Tables, issue_at, last_at}
+use Rattle.muni_keep.specs.Tables.{Tables, last_at}
+use Rattle.muni_book_step.specs.Plan.{issue_of}
 use Rattle.muni_terms.specs.declared.row.IssueRow.{IssueRow}
 use Rattle.muni_msg.specs.declared.command.Key.{Key}
 use Rattle.muni_msg.specs.declared.command.Reply.{Reply}
@@ -16,7 +17,7 @@ use Rattle.muni_desk_import.specs.Laws.{answer_of, ConfirmationsAreSteps, Confir
 use Rattle.muni_desk_import.specs.declared.confirmations.Answered.TheVariants.{Confirmed, Refused}
 
 pub kept-confirmed : (told : Option Tables) (key : Key) (number : ℕ) (version : Version) (issue : IssueRow) (text : List ℕ)
-    → IfSome told (λ t. Some (number, version) ≡ last_at t key) → IfSome told (λ t. Some issue ≡ issue_at t version.terms.asked.cusip)
+    → IfSome told (λ t. Some (number, version) ≡ last_at t key) → IfSome told (λ t. Some issue ≡ issue_of t.issues version)
     → text ≡ confirmation_text issue key number version → IfSome told (λ t. confirmed t key ≡ record { answered = Confirmed; text = text })
 unfolding confirmed
 kept-confirmed None key number version issue text last kept is = tt
@@ -25,7 +26,7 @@ kept-confirmed (Some t) key number version issue text last kept is =
     ap (of_last t key) (sym last) ∙ ap (of_version key number version) (sym kept) ∙ ap answer (sym is)
 
 -- ---- what is printed is what a step replies
-confirmed-last : (t : Tables) (key : Key) (number : ℕ) (version : Version) (issue : IssueRow) → last_at t key ≡ Some (number, version) → issue_at t version.terms.asked.cusip ≡ Some issue
+confirmed-last : (t : Tables) (key : Key) (number : ℕ) (version : Version) (issue : IssueRow) → last_at t key ≡ Some (number, version) → issue_of t.issues version ≡ Some issue
     → confirmed t key ≡ record { answered = Confirmed; text = confirmation_text issue key number version }
 unfolding confirmed
 confirmed-last t key number version issue last known = ap (of_last t key) last ∙ ap (of_version key number version) known
@@ -41,6 +42,7 @@ refused-last t key why (inr (is, last, there, none)) =
 
 printed : (t : Tables) (key : Key) (told : Reply) → ConfirmsLast t key told → answer_of told ≡ Some (confirmed t key)
 printed t key (reply.Added cusip) is = absurd is
+printed t key (reply.Amended cusip number) is = absurd is
 printed t key (reply.Quoted issue asked figures shown) is = absurd is
 printed t key (reply.Listed lines) is = absurd is
 printed t key (reply.Confirmed issue other number version) is =

@@ -7,7 +7,7 @@ use Rattle.muni_dec.specs.Decimal.{decimal_text, signed_text}
 use Rattle.muni_days.specs.Day.{civil, day_text}
 use Rattle.muni_msg.specs.declared.command.Key.{Key}
 use Rattle.muni_msg.specs.declared.command.Reply.{Reply}
-use Rattle.muni_msg.specs.declared.command.Reply.TheVariants.{Added, Quoted, Listed, Confirmed, Refused}
+use Rattle.muni_msg.specs.declared.command.Reply.TheVariants.{Added, Amended, Quoted, Listed, Confirmed, Refused}
 use Rattle.muni_msg.specs.declared.figures.Figures.{Figures}
 use Rattle.muni_keep.specs.Tables.{Tables}
 use Rattle.muni_import.specs.Line.{behind_commas}
@@ -38,6 +38,7 @@ fields-are key number figures =
 -- ---- lines
 line-of : (t : Tables) (place : ℕ) (reply : Reply) → IsRightReply AreRightFigures t reply → IsLineOf t place (Ok reply) (row_line place (Ok reply))
 line-of t place (Added cusip) right = refl
+line-of t place (Amended cusip number) right = refl
 line-of t place (Quoted issue asked figures shown) right = refl
 line-of t place (Listed lines) right = refl
 line-of t place (Confirmed issue key number version) right =

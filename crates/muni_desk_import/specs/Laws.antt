@@ -67,6 +67,7 @@ ReportsAreRight =
 -- how a reply of the book is written to whom asked for a confirmation
 abbrev pub answer_of : Reply → Option Answer
 answer_of (reply.Added cusip) = None
+answer_of (reply.Amended cusip number) = None
 answer_of (reply.Quoted issue asked figures shown) = None
 answer_of (reply.Listed lines) = None
 answer_of (reply.Confirmed issue key number version) =

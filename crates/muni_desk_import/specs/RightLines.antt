@@ -4,7 +4,7 @@ use Rattle.muni_dec.specs.Decimal.{decimal_text, signed_text}
 use Rattle.muni_days.specs.Day.{civil, day_text}
 use Rattle.muni_terms.specs.declared.row.IssueRow.{IssueRow}
 use Rattle.muni_msg.specs.declared.command.Key.{Key}
-use Rattle.muni_msg.specs.declared.command.Reply.TheVariants.{Added, Quoted, Listed, Confirmed, Refused}
+use Rattle.muni_msg.specs.declared.command.Reply.TheVariants.{Added, Amended, Quoted, Listed, Confirmed, Refused}
 use Rattle.muni_msg.specs.declared.version.Version.{Version}
 use Rattle.muni_keep.specs.Tables.{Tables}
 use Rattle.muni_import.specs.Line.{behind_commas}
@@ -25,6 +25,7 @@ pub record IsConfirmedLine (tables : Tables) (place : ℕ) (issue : IssueRow) (k
 -- the line of what came of a row; none but a confirmation's has figures
 abbrev pub IsLineOf : Tables → ℕ → Said → List ℕ → Type 0
 IsLineOf tables place (Ok (Added cusip)) line = line ≡ row_line place (Ok (Added cusip))
+IsLineOf tables place (Ok (Amended cusip number)) line = line ≡ row_line place (Ok (Amended cusip number))
 IsLineOf tables place (Ok (Quoted issue asked figures shown)) line = line ≡ row_line place (Ok (Quoted issue asked figures shown))
 IsLineOf tables place (Ok (Listed lines)) line = line ≡ row_line place (Ok (Listed lines))
 IsLineOf tables place (Ok (Confirmed issue key number version)) line =

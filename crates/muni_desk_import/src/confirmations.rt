@@ -28,6 +28,8 @@ pub enum Answered {
 
 /// Writes the confirmation of the last version of a trade that a store keeps, or the line of a refusal
 /// where none is kept.
+///
+/// It goes by the terms of the issue by which that version was figured, whatever terms came later.
 pub fn confirm<O: Sink, C: Cabinet>(
     store: &[u8],
     key: &Key,
@@ -66,7 +68,7 @@ fn fetch_answer<C: Cabinet>(
     answered
 }
 
-// The confirmation of the last version, or the line of a refusal.
+// The confirmation of the last version by the terms of its issue that it names, or the line of a refusal.
 #[tactic(auto, unfolding(crate::specs::Confirm::confirmed))]
 fn answer<K: Keeper>(
     keeper: &mut K,
@@ -81,7 +83,8 @@ fn answer<K: Keeper>(
         refuse(&Refusal::UnknownTrade, text);
         return Ok(Answered::Refused);
     };
-    let Some(issue) = keeper.issue(&version.terms.asked.cusip)? else {
+    let Some(issue) = keeper.issue_numbered(&version.terms.asked.cusip, version.issue_number)?
+    else {
         refuse(&Refusal::UnknownIssue, text);
         return Ok(Answered::Refused);
     };

@@ -2,9 +2,9 @@
 use Rattle.std.proofs.Common.{◌≡◌, ◌⊎◌, ◌∙◌, ℕ, List, Option, Some, IfSome, inl, inr, refl, sym, ap, subst}
 use Rattle.muni_edge.specs.Sink.{HasWritten}
 use Rattle.muni_keep.specs.Tables.{Tables}
-use Rattle.muni_book_step.specs.Step.{Rules}
+use Rattle.muni_desk_serve.specs.Rules.{ServingRules}
 use Rattle.muni_wire.specs.Reading.{Reading, Whole, Faulty, Short, HeadAsks, Reads}
-use Rattle.muni_wire.specs.declared.look.Request.TheVariants.{Book, Look as LookAt}
+use Rattle.muni_wire_body.specs.declared.look.Request.TheVariants.{Book, Look as LookAt, Check}
 use Rattle.muni_wire.proofs.UniqueLemmas.{heads-once}
 use Rattle.muni_desk_serve.specs.Answer.{Answer, reply_answer, bad_answer}
 use Rattle.muni_desk_serve.specs.Follow.{IsAnswered}
@@ -22,10 +22,10 @@ written-whole answer due link after status is same written =
     }
 
 -- an answer to one of the readings of the bytes
-IsAnswerToSome : Rules → Option Tables → Traffic → Served → Option Tables → Traffic → Type 0
+IsAnswerToSome : ServingRules → Option Tables → Traffic → Served → Option Tables → Traffic → Type 0
 IsAnswerToSome R old link came new after = (reading : Reading) × Asks link reading × IsAnswerTo R reading old link came new after
 
-due-answered : (R : Rules) (old new : Option Tables) (before now : ℕ) (link after : Traffic) (answer : Answer) (status faults : ℕ)
+due-answered : (R : ServingRules) (old new : Option Tables) (before now : ℕ) (link after : Traffic) (answer : Answer) (status faults : ℕ)
     → NoneRose before link now after → RoseBy faults before now
     → status ≡ answer.status → HasWritten link.written after.written answer.bytes → IsDue R old link answer new faults
     → IsAnswerToSome R old link (served.Answered status) new after
@@ -36,10 +36,12 @@ due-answered R old new before now link after answer status faults none rose is w
     (Faulty due.kind, due.asks, (written-whole answer (bad_answer due.kind) link after status due.is is written, due.tables))
 due-answered R old new before now link after answer status faults none rose is written (inr (inr (inl due))) =
     absurd (none.keeper (subst (λ n. RoseBy n before now) due.one rose))
-due-answered R old new before now link after answer status faults none rose is written (inr (inr (inr due))) =
+due-answered R old new before now link after answer status faults none rose is written (inr (inr (inr (inl due)))) =
     (Whole (LookAt due.look), due.asks, (answer, due.is, written-whole answer answer link after status refl is written, due.tables))
+due-answered R old new before now link after answer status faults none rose is written (inr (inr (inr (inr due)))) =
+    (Whole (Check due.row), due.asks, (answer, due.is, written-whole answer answer link after status refl is written, due.tables))
 
-answered-by : (R : Rules) (old new : Option Tables) (before now : ℕ) (link after : Traffic) (came : Served) (faults : ℕ)
+answered-by : (R : ServingRules) (old new : Option Tables) (before now : ℕ) (link after : Traffic) (came : Served) (faults : ℕ)
     → NoneRose before link now after → RoseBy faults before now → Serves R old link came new after faults
     → (came ≡ served.NoMemory) ⊎ IsAnswerToSome R old link came new after
 unfolding IsAnswerToSome
@@ -60,7 +62,7 @@ settled : {A B Z : Type 0} → A ⊎ B → (B → Z) → A ⊎ Z
 settled (inl a) then = inl a
 settled (inr b) then = inr (then b)
 
-pub bytes-answered : (R : Rules) (old new : Option Tables) (before now : ℕ) (link after : Traffic) (came : Served) (bytes : List ℕ)
+pub bytes-answered : (R : ServingRules) (old new : Option Tables) (before now : ℕ) (link after : Traffic) (came : Served) (bytes : List ℕ)
     → WasServed R old before link came new now after → NoneRose before link now after → link.left ≡ Some bytes
     → (came ≡ served.NoMemory) ⊎ ((reading : Reading) × Reads bytes reading × IsAnswerTo R reading old link came new after)
 unfolding IsAnswerToSome
@@ -68,7 +70,7 @@ bytes-answered R old new before now link after came bytes was none told =
     settled (answered-by R old new before now link after came was.faults none was.rose was.serves)
     (λ (reading, asks, answer). (reading, told-reading link bytes reading told asks, answer))
 
-pub requests-answered : (R : Rules) (old new : Option Tables) (before now : ℕ) (link after : Traffic) (came : Served) (bytes : List ℕ) (reading : Reading)
+pub requests-answered : (R : ServingRules) (old new : Option Tables) (before now : ℕ) (link after : Traffic) (came : Served) (bytes : List ℕ) (reading : Reading)
     → WasServed R old before link came new now after → NoneRose before link now after → link.left ≡ Some bytes → HeadAsks bytes reading
     → (came ≡ served.NoMemory) ⊎ IsAnswerTo R reading old link came new after
 requests-answered R old new before now link after came bytes reading was none told asks =

@@ -5,7 +5,7 @@ use Rattle.std.proofs.lemmas.List.{append_assoc, append-nil, length-append, map-
 use Rattle.std.proofs.lemmas.List.Elements.{All-push, All-nil, Contains-append_left, Contains-push}
 use Rattle.muni_edge.specs.Door.{DoorState, after_accept, handed_back, bound_to}
 use Rattle.muni_keep.specs.Tables.{Tables}
-use Rattle.muni_book_step.specs.Step.{Rules}
+use Rattle.muni_desk_serve.specs.Rules.{ServingRules}
 use Rattle.muni_desk_serve.specs.Connections.{Connection, Exchange, exchange, AreServed, NoneWanted, SomeWanted, AreHandedBack, AreAll, Ends, WereServed, IsRun, IsNext}
 use Rattle.muni_desk_serve.specs.Fault.{Outcome, outcome_after}
 use Rattle.muni_desk_serve.specs.Serves.{Traffic, Serves, WasServed}
@@ -13,7 +13,7 @@ use Rattle.muni_desk_serve.specs.declared.served.Served.{Served}
 use Rattle.muni_desk_serve.specs.declared.served.Served.TheVariants as served
 use Rattle.muni_desk_serve.specs.declared.fault.ServeFault.TheVariants as fault
 
-served-then : (R : Rules) (old mid new : Option Tables) (exchanges : List Exchange) (next : Exchange) (faults one : ℕ)
+served-then : (R : ServingRules) (old mid new : Option Tables) (exchanges : List Exchange) (next : Exchange) (faults one : ℕ)
     → AreServed R old exchanges mid faults → Serves R mid next.before next.came new next.after one
     → AreServed R old (exchanges ++ next ∷ []) new (faults + one)
 unfolding AreServed
@@ -87,7 +87,7 @@ at-end (Err fault.Door) connections most after on all = tt
 at-end (Err fault.NoMemory) connections most after on all = inr (on, all)
 
 -- this many connections were served, and the run goes on
-pub record IsOn {L : Type 0} (R : Rules) (told : L → Traffic) (port count : ℕ) (door : DoorState L) (state : Option (DoorState L)) (old new : Option Tables) (before now : ℕ) (end : Outcome) : Type 0 where
+pub record IsOn {L : Type 0} (R : ServingRules) (told : L → Traffic) (port count : ℕ) (door : DoorState L) (state : Option (DoorState L)) (old new : Option Tables) (before now : ℕ) (end : Outcome) : Type 0 where
   pub connections : List (Connection L)
   pub after : DoorState L
   pub told_after : state ≡ Some after
@@ -97,13 +97,13 @@ pub record IsOn {L : Type 0} (R : Rules) (told : L → Traffic) (port count : �
   pub on : GoesOn end connections
 
 -- none were served yet
-pub none-served : {L : Type 0} (R : Rules) (told : L → Traffic) (most : ℕ) (door after : DoorState L) (old : Option Tables) (before : ℕ)
+pub none-served : {L : Type 0} (R : ServingRules) (told : L → Traffic) (most : ℕ) (door after : DoorState L) (old : Option Tables) (before : ℕ)
     → after.waiting ≡ door.waiting → after.served ≡ door.served → after.out ≡ door.out → WereServed R told [] most door after old old before before
 unfolding AreServed
 none-served R told most door after old before waiting served out =
     record { handed = none-back door after waiting served out; few = omega arith; faults = 0; each = (refl, refl); rose = omega arith }
 
-next-served : {L : Type 0} (R : Rules) (told : L → Traffic) (connections : List (Connection L)) (count : ℕ) (door mid : DoorState L) (old kept new : Option Tables) (before at now : ℕ) (next : Connection L)
+next-served : {L : Type 0} (R : ServingRules) (told : L → Traffic) (connections : List (Connection L)) (count : ℕ) (door mid : DoorState L) (old kept new : Option Tables) (before at now : ℕ) (next : Connection L)
     → WereServed R told connections count door mid old kept before at → Some next.accepted ≡ slice_get mid.waiting 0
     → WasServed R kept at (told next.accepted) next.came new now (told next.back)
     → WereServed R told (connections ++ next ∷ []) (count + 1) door (handed_back next.back (after_accept (Some next.accepted) mid)) old new before now
@@ -118,12 +118,12 @@ next-served R told connections count door mid old kept new before at now next se
       rose = omega (arith, served.rose, one.rose);
     }
 
-more-served : {L : Type 0} (R : Rules) (told : L → Traffic) (connections : List (Connection L)) (count most : ℕ) (door after : DoorState L) (old new : Option Tables) (before now : ℕ)
+more-served : {L : Type 0} (R : ServingRules) (told : L → Traffic) (connections : List (Connection L)) (count most : ℕ) (door after : DoorState L) (old new : Option Tables) (before now : ℕ)
     → WereServed R told connections count door after old new before now → count ≤ most → WereServed R told connections most door after old new before now
 more-served R told connections count most door after old new before now served few =
     record { handed = served.handed; few = omega (arith, served.few, few); faults = served.faults; each = served.each; rose = served.rose }
 
-pub first-on : {L : Type 0} (R : Rules) (told : L → Traffic) (port : ℕ) (state after : Option (DoorState L)) (old : Option Tables) (before : ℕ) → after ≡ option_map (bound_to port) state
+pub first-on : {L : Type 0} (R : ServingRules) (told : L → Traffic) (port : ℕ) (state after : Option (DoorState L)) (old : Option Tables) (before : ℕ) → after ≡ option_map (bound_to port) state
     → IfSome state (λ d. IsOn R told port 0 d after old old before before (Ok tt))
 first-on R told port None after old before is = tt
 first-on {L} R told port (Some d) after old before is =
@@ -137,7 +137,7 @@ first-on {L} R told port (Some d) after old before is =
       on = All-nil (λ (c : Connection L). c.came ≢ served.NoMemory);
     }
 
-on-then : {L : Type 0} (R : Rules) (told : L → Traffic) (port count : ℕ) (door : DoorState L) (mid new : Option (DoorState L)) (old kept kept' : Option Tables) (before at now : ℕ) (end : Outcome) (came : Served)
+on-then : {L : Type 0} (R : ServingRules) (told : L → Traffic) (port count : ℕ) (door : DoorState L) (mid new : Option (DoorState L)) (old kept kept' : Option Tables) (before at now : ℕ) (end : Outcome) (came : Served)
     → IsOn R told port count door mid old kept before at end → IfSome mid (λ d. IsNext R told d new kept kept' at now came)
     → IsOn R told port (count + 1) door new old kept' before now (outcome_after end came)
 on-then {L} R told port count door mid new old kept kept' before at now end came on next =
@@ -153,7 +153,7 @@ on-then {L} R told port count door mid new old kept kept' before at now end came
       on = goes-on-by end came on.connections last refl on.on;
     }
 
-pub next-on : {L : Type 0} (R : Rules) (told : L → Traffic) (port count : ℕ) (state mid new : Option (DoorState L)) (old kept kept' : Option Tables) (before at now : ℕ) (end : Outcome) (came : Served)
+pub next-on : {L : Type 0} (R : ServingRules) (told : L → Traffic) (port count : ℕ) (state mid new : Option (DoorState L)) (old kept kept' : Option Tables) (before at now : ℕ) (end : Outcome) (came : Served)
     → IfSome state (λ d. IsOn R told port count d mid old kept before at end) → IfSome mid (λ d. IsNext R told d new kept kept' at now came)
     → IfSome state (λ d. IsOn R told port (count + 1) d new old kept' before now (outcome_after end came))
 next-on R told port count None mid new old kept kept' before at now end came on next = tt
@@ -161,7 +161,7 @@ next-on R told port count (Some d) mid new old kept kept' before at now end came
     on-then R told port count d mid new old kept kept' before at now end came on next
 
 -- the end of a run
-ended : {L : Type 0} (R : Rules) (told : L → Traffic) (port count most : ℕ) (door : DoorState L) (state : Option (DoorState L)) (old new : Option Tables) (before now : ℕ) (end result : Outcome)
+ended : {L : Type 0} (R : ServingRules) (told : L → Traffic) (port count most : ℕ) (door : DoorState L) (state : Option (DoorState L)) (old new : Option Tables) (before now : ℕ) (end result : Outcome)
     → (on : IsOn R told port count door state old new before now end) → count ≤ most → Ends result on.connections most on.after
     → IsRun R told port most door state old new before now result
 ended R told port count most door state old new before now end result on few ends =
@@ -174,20 +174,20 @@ ended R told port count most door state old new before now end result on few end
       ends = ends;
     }
 
-pub not-bound : {L : Type 0} (R : Rules) (told : L → Traffic) (port most : ℕ) (state after : Option (DoorState L)) (old : Option Tables) (before : ℕ) → after ≡ state
+pub not-bound : {L : Type 0} (R : ServingRules) (told : L → Traffic) (port most : ℕ) (state after : Option (DoorState L)) (old : Option Tables) (before : ℕ) → after ≡ state
     → IfSome state (λ d. IsRun R told port most d after old old before before (Err fault.Door))
 not-bound R told port most None after old before same = tt
 not-bound R told port most (Some d) after old before same =
     record { connections = []; after = d; told_after = same; served = none-served R told most d d old before refl refl refl; bound = inl refl; ends = tt }
 
-pub door-failed : {L : Type 0} (R : Rules) (told : L → Traffic) (port count most : ℕ) (state mid after : Option (DoorState L)) (old new : Option Tables) (before now : ℕ) (so_far : Outcome)
+pub door-failed : {L : Type 0} (R : ServingRules) (told : L → Traffic) (port count most : ℕ) (state mid after : Option (DoorState L)) (old new : Option Tables) (before now : ℕ) (so_far : Outcome)
     → IfSome state (λ d. IsOn R told port count d mid old new before now so_far) → count ≤ most → after ≡ mid
     → IfSome state (λ d. IsRun R told port most d after old new before now (Err fault.Door))
 door-failed R told port count most None mid after old new before now so_far on few same = tt
 door-failed R told port count most (Some d) mid after old new before now so_far on few same =
     rw same (ended R told port count most d mid old new before now so_far (Err fault.Door) on few tt)
 
-pub none-waits : {L : Type 0} (R : Rules) (told : L → Traffic) (port count most : ℕ) (state mid after : Option (DoorState L)) (old new : Option Tables) (before now : ℕ) (end : Outcome)
+pub none-waits : {L : Type 0} (R : ServingRules) (told : L → Traffic) (port count most : ℕ) (state mid after : Option (DoorState L)) (old new : Option Tables) (before now : ℕ) (end : Outcome)
     → IfSome state (λ d. IsOn R told port count d mid old new before now end) → count ≤ most → after ≡ mid → IfSome mid (λ d. d.waiting ≡ [])
     → IfSome state (λ d. IsRun R told port most d after old new before now end)
 none-waits R told port count most None mid after old new before now end on few same empty = tt
@@ -195,7 +195,7 @@ none-waits R told port count most (Some d) mid after old new before now end on f
     let left = subst (λ m. IfSome m (λ d. d.waiting ≡ [])) on.told_after empty in
     rw same (ended R told port count most d mid old new before now end end on few (at-end end on.connections most on.after on.on (inr left)))
 
-pub all-served : {L : Type 0} (R : Rules) (told : L → Traffic) (port most : ℕ) (state after : Option (DoorState L)) (old new : Option Tables) (before now : ℕ) (end : Outcome)
+pub all-served : {L : Type 0} (R : ServingRules) (told : L → Traffic) (port most : ℕ) (state after : Option (DoorState L)) (old new : Option Tables) (before now : ℕ) (end : Outcome)
     → IfSome state (λ d. IsOn R told port most d after old new before now end)
     → IfSome state (λ d. IsRun R told port most d after old new before now end)
 all-served R told port most None after old new before now end on = tt

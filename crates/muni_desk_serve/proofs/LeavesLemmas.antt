@@ -1,19 +1,19 @@
 -- What an answer leaves of a keeper and of a connection.
-use Rattle.std.proofs.Common.{arith, ◌≡◌, ◌∙◌, ◌≤◌, ℕ, true, false, List, Result, Ok, Err, IfSome, is_some, inr, refl, sym, ap, subst}
+use Rattle.std.proofs.Common.{arith, ◌≡◌, ◌∙◌, ◌≤◌, ℕ, false, List, Result, Ok, Err, IfSome, is_some, inr, refl, sym, ap, subst}
 use Rattle.muni_edge.specs.Faults.{Rose}
 use Rattle.muni_edge.specs.declared.fault.Failed.{Failed}
 use Rattle.muni_edge.specs.declared.sink.Sink as sink
 use Rattle.muni_edge.specs.declared.source.Source as source
 use Rattle.muni_keep.specs.declared.keeper.Keeper as keeper
 use Rattle.muni_msg.specs.declared.command.Reply.{Reply}
-use Rattle.muni_msg.specs.declared.command.Reply.TheVariants.{Added, Quoted, Listed, Confirmed, Refused}
+use Rattle.muni_msg.specs.declared.command.Reply.TheVariants.{Added, Amended, Quoted, Listed, Confirmed, Refused}
 use Rattle.muni_msg.specs.declared.refusal.Refusal.{Refusal}
 use Rattle.muni_msg.specs.declared.refusal.Refusal.TheVariants as refusal
 use Rattle.muni_wire.specs.Answers.{Answers}
 use Rattle.muni_wire.specs.Faults.{TakesAndTells}
 use Rattle.muni_wire.specs.HttpStatus.{code, status_of_refusal, status_of_reply}
 use Rattle.muni_wire.specs.Reading.{Whole, Reads}
-use Rattle.muni_wire.specs.declared.look.Request.{Request}
+use Rattle.muni_wire_body.specs.declared.look.Request.{Request}
 use Rattle.muni_wire.specs.declared.status.HttpStatus.{HttpStatus}
 use Rattle.muni_desk_serve.specs.Answer.{came_of}
 use Rattle.muni_desk_serve.specs.Serves.{LeavesCounted, is_bad_status}
@@ -42,6 +42,7 @@ refusal-good refusal.WrongBasis = (refl, λ is. absurd (omega (arith, is)))
 
 pub reply-good : (reply : Reply) → IsGood (status_of_reply reply)
 reply-good (Added cusip) = (refl, λ is. absurd (omega (arith, is)))
+reply-good (Amended cusip number) = (refl, λ is. absurd (omega (arith, is)))
 reply-good (Quoted issue asked figures shown) = (refl, λ is. absurd (omega (arith, is)))
 reply-good (Listed lines) = (refl, λ is. absurd (omega (arith, is)))
 reply-good (Confirmed issue key number version) = (refl, λ is. absurd (omega (arith, is)))

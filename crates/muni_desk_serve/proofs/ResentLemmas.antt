@@ -7,11 +7,13 @@ use Rattle.muni_msg.specs.declared.command.Reply.{Reply}
 use Rattle.muni_book.proofs.OnceLemmas.{act-once}
 use Rattle.muni_book_step.specs.Accepted.{AsksToKeep, IsAccepted}
 use Rattle.muni_book_step.specs.Runs.{Runs, StepsTo}
-use Rattle.muni_book_step.specs.Step.{Rules, Entry, IsStepOver, after}
+use Rattle.muni_book_step.specs.Step.{Entry, IsStepOver, after}
+use Rattle.muni_desk_serve.specs.Rules.{ServingRules}
 use Rattle.muni_wire.specs.Reading.{Whole, Faulty}
-use Rattle.muni_wire.specs.declared.fault.Bad.{Bad}
-use Rattle.muni_wire.specs.declared.look.Look.{Look}
-use Rattle.muni_wire.specs.declared.look.Request.TheVariants.{Book, Look as LookAt}
+use Rattle.muni_wire_body.specs.declared.fault.Bad.{Bad}
+use Rattle.muni_wire_body.specs.declared.look.Look.{Look}
+use Rattle.muni_wire_body.specs.declared.look.Request.TheVariants.{Book, Look as LookAt, Check}
+use Rattle.muni_wire_body.specs.Stated.{RowTexts}
 use Rattle.muni_wire.proofs.UniqueLemmas.{heads-once}
 use Rattle.muni_desk_serve.specs.Answer.{Answer, reply_answer}
 use Rattle.muni_desk_serve.specs.Connections.{Exchange, AreServed}
@@ -25,14 +27,14 @@ use Rattle.muni_desk_serve.proofs.RunLemmas.{connections-run}
 -- ---- connections and those after them
 
 -- the tables between two parts of a run
-record ServedParts (R : Rules) (old : Option Tables) (earlier later : List Exchange) (new : Option Tables) : Type 0 where
+record ServedParts (R : ServingRules) (old : Option Tables) (earlier later : List Exchange) (new : Option Tables) : Type 0 where
   mid : Option Tables
   faults : ℕ
   more : ℕ
   before : AreServed R old earlier mid faults
   behind : AreServed R mid later new more
 
-served-parts : (R : Rules) (old : Option Tables) (earlier later : List Exchange) (new : Option Tables) (faults : ℕ)
+served-parts : (R : ServingRules) (old : Option Tables) (earlier later : List Exchange) (new : Option Tables) (faults : ℕ)
     → AreServed R old (earlier ++ later) new faults → ServedParts R old earlier later new
 unfolding AreServed
 served-parts R old [] later new faults served = record { mid = old; faults = 0; more = faults; before = (refl, refl); behind = served }
@@ -46,7 +48,7 @@ served-parts R old (first ∷ others) later new faults (mid, one, more, is, serv
       behind = parts.behind;
     }
 
-served-both : (R : Rules) (old mid new : Option Tables) (earlier later : List Exchange) (faults more : ℕ)
+served-both : (R : ServingRules) (old mid new : Option Tables) (earlier later : List Exchange) (faults more : ℕ)
     → AreServed R old earlier mid faults → AreServed R mid later new more → AreServed R old (earlier ++ later) new (faults + more)
 unfolding AreServed
 served-both R old mid new [] later faults more before behind =
@@ -66,30 +68,35 @@ come-same exchange command other come asks = cc (heads-once come.bytes (Whole (B
 come-look : (exchange : Exchange) (command : Command) (look : Look) → HasCome exchange command → Asks exchange.before (Whole (LookAt look)) → ⊥
 come-look exchange command look come asks = cc (heads-once come.bytes (Whole (Book command)) (Whole (LookAt look)) come.asks (told-reading exchange.before come.bytes (Whole (LookAt look)) come.exposed asks))
 
+come-check : (exchange : Exchange) (command : Command) (row : RowTexts) → HasCome exchange command → Asks exchange.before (Whole (Check row)) → ⊥
+come-check exchange command row come asks = cc (heads-once come.bytes (Whole (Book command)) (Whole (Check row)) come.asks (told-reading exchange.before come.bytes (Whole (Check row)) come.exposed asks))
+
 -- it took a step from these tables, and got the reply to it
-record GotReply (R : Rules) (old : Tables) (exchange : Exchange) (command : Command) (new : Option Tables) : Type 0 where
+record GotReply (R : ServingRules) (old : Tables) (exchange : Exchange) (command : Command) (new : Option Tables) : Type 0 where
   reply : Reply
-  step : StepsTo R old command reply new
+  step : StepsTo R.book old command reply new
   has : HasAnswerOf exchange reply
 
-due-got : (R : Rules) (old : Tables) (link then : Traffic) (answer : Answer) (command : Command) (new : Option Tables) (status faults : ℕ)
+due-got : (R : ServingRules) (old : Tables) (link then : Traffic) (answer : Answer) (command : Command) (new : Option Tables) (status faults : ℕ)
     → IsDue R (Some old) link answer new faults → HasCome (record { before = link; after = then; came = served.Answered status }) command → status ≢ 503
     → status ≡ answer.status → HasWritten link.written then.written answer.bytes
     → GotReply R old (record { before = link; after = then; came = served.Answered status }) command new
 due-got R old link then answer command new status faults (inl due) come other is written =
     record {
       reply = due.reply;
-      step = subst (λ c. StepsTo R old c due.reply new) (come-same (record { before = link; after = then; came = served.Answered status }) command due.command come due.asks) due.step;
+      step = subst (λ c. StepsTo R.book old c due.reply new) (come-same (record { before = link; after = then; came = served.Answered status }) command due.command come due.asks) due.step;
       has = (due.details, due.beside, written-whole answer (reply_answer due.reply due.details) link then status due.is is written);
     }
 due-got R old link then answer command new status faults (inr (inl due)) come other is written =
     absurd (come-bad (record { before = link; after = then; came = served.Answered status }) command due.kind come due.asks)
 due-got R old link then answer command new status faults (inr (inr (inl due))) come other is written =
     absurd (other (is ∙ ap (λ (a : Answer). a.status) due.is))
-due-got R old link then answer command new status faults (inr (inr (inr due))) come other is written =
+due-got R old link then answer command new status faults (inr (inr (inr (inl due)))) come other is written =
     absurd (come-look (record { before = link; after = then; came = served.Answered status }) command due.look come due.asks)
+due-got R old link then answer command new status faults (inr (inr (inr (inr due)))) come other is written =
+    absurd (come-check (record { before = link; after = then; came = served.Answered status }) command due.row come due.asks)
 
-got-reply : (R : Rules) (old : Tables) (link then : Traffic) (came : Served) (command : Command) (new : Option Tables) (status faults : ℕ)
+got-reply : (R : ServingRules) (old : Tables) (link then : Traffic) (came : Served) (command : Command) (new : Option Tables) (status faults : ℕ)
     → Serves R (Some old) link came new then faults → HasCome (record { before = link; after = then; came = came }) command → came ≡ served.Answered status → status ≢ 503
     → GotReply R old (record { before = link; after = then; came = came }) command new
 got-reply R old link then (served.Answered given) command new status faults (answer, due, is, written) come answered other =
@@ -101,18 +108,19 @@ got-reply R old link then served.NoMemory command new status faults serves come 
 
 -- ---- it adds nothing
 
-due-adds : (R : Rules) (old : Tables) (link then : Traffic) (came : Served) (answer : Answer) (command : Command) (new : Option Tables) (faults : ℕ)
+due-adds : (R : ServingRules) (old : Tables) (link then : Traffic) (came : Served) (answer : Answer) (command : Command) (new : Option Tables) (faults : ℕ)
     → IsDue R (Some old) link answer new faults → HasCome (record { before = link; after = then; came = came }) command
-    → ((reply : Reply) → StepsTo R old command reply new → new ≡ Some old) → new ≡ Some old
+    → ((reply : Reply) → StepsTo R.book old command reply new → new ≡ Some old) → new ≡ Some old
 due-adds R old link then came answer command new faults (inl due) come nothing =
-    nothing due.reply (subst (λ c. StepsTo R old c due.reply new) (come-same (record { before = link; after = then; came = came }) command due.command come due.asks) due.step)
+    nothing due.reply (subst (λ c. StepsTo R.book old c due.reply new) (come-same (record { before = link; after = then; came = came }) command due.command come due.asks) due.step)
 due-adds R old link then came answer command new faults (inr (inl due)) come nothing = due.tables
 due-adds R old link then came answer command new faults (inr (inr (inl due))) come nothing = due.tables
-due-adds R old link then came answer command new faults (inr (inr (inr due))) come nothing = due.tables
+due-adds R old link then came answer command new faults (inr (inr (inr (inl due)))) come nothing = due.tables
+due-adds R old link then came answer command new faults (inr (inr (inr (inr due)))) come nothing = due.tables
 
-adds-nothing : (R : Rules) (old : Tables) (link then : Traffic) (came : Served) (command : Command) (new : Option Tables) (faults : ℕ)
+adds-nothing : (R : ServingRules) (old : Tables) (link then : Traffic) (came : Served) (command : Command) (new : Option Tables) (faults : ℕ)
     → Serves R (Some old) link came new then faults → HasCome (record { before = link; after = then; came = came }) command
-    → ((reply : Reply) → StepsTo R old command reply new → new ≡ Some old) → new ≡ Some old
+    → ((reply : Reply) → StepsTo R.book old command reply new → new ≡ Some old) → new ≡ Some old
 adds-nothing R old link then (served.Answered status) command new faults (answer, due, is, written) come nothing =
     due-adds R old link then (served.Answered status) answer command new faults due come nothing
 adds-nothing R old link then served.Gone command new faults serves come nothing = serves.1.tables
@@ -122,15 +130,15 @@ adds-nothing R old link then served.LinkFault command new faults (inr (rose, ans
 adds-nothing R old link then served.NoMemory command new faults serves come nothing = serves.tables
 
 -- a step for a command that was accepted before
-step-again : (R : Rules) (old between : Tables) (command : Command) (first again : Reply) (entry : Option Entry) (commands : List Command) (replies : List Reply) (new : Option Tables)
-    → AsksToKeep command → IsAccepted first → IsStepOver R old command (record { reply = first; entry = entry }) → Runs R (after entry old) commands replies between
-    → StepsTo R between command again new → (again ≡ first) × (new ≡ Some between)
+step-again : (R : ServingRules) (old between : Tables) (command : Command) (first again : Reply) (entry : Option Entry) (commands : List Command) (replies : List Reply) (new : Option Tables)
+    → AsksToKeep command → IsAccepted first → IsStepOver R.book old command (record { reply = first; entry = entry }) → Runs R.book (after entry old) commands replies between
+    → StepsTo R.book between command again new → (again ≡ first) × (new ≡ Some between)
 step-again R old between command first again entry commands replies new keeps accepted step run (other, repeated, told) =
-    let once = act-once R old between command first again entry other commands replies keeps accepted step run repeated in
+    let once = act-once R.book old between command first again entry other commands replies keeps accepted step run repeated in
     (once.0, told ∙ ap (λ e. Some (after e between)) once.1)
 
-again-replied : (R : Rules) (old between : Tables) (again : Exchange) (command : Command) (first : Reply) (entry : Option Entry) (commands : List Command) (replies : List Reply) (new : Option Tables) (faults : ℕ)
-    → AsksToKeep command → IsAccepted first → IsStepOver R old command (record { reply = first; entry = entry }) → Runs R (after entry old) commands replies between
+again-replied : (R : ServingRules) (old between : Tables) (again : Exchange) (command : Command) (first : Reply) (entry : Option Entry) (commands : List Command) (replies : List Reply) (new : Option Tables) (faults : ℕ)
+    → AsksToKeep command → IsAccepted first → IsStepOver R.book old command (record { reply = first; entry = entry }) → Runs R.book (after entry old) commands replies between
     → Serves R (Some between) again.before again.came new again.after faults → HasCome again command
     → (new ≡ Some between) × IsReplied again first
 again-replied R old between again command first entry commands replies new faults keeps accepted step run serves come = (
@@ -142,7 +150,7 @@ again-replied R old between again command first entry commands replies new fault
 )
 
 -- from the first of the two on
-act-once-from : (R : Rules) (old : Tables) (first : Exchange) (between : List Exchange) (again : Exchange) (later : List Exchange) (new : Option Tables) (faults : ℕ) (command : Command) (status : ℕ)
+act-once-from : (R : ServingRules) (old : Tables) (first : Exchange) (between : List Exchange) (again : Exchange) (later : List Exchange) (new : Option Tables) (faults : ℕ) (command : Command) (status : ℕ)
     → AreServed R (Some old) (first ∷ (between ++ again ∷ later)) new faults → AsksToKeep command → HasCome first command → HasCome again command
     → WasAnswered first status → status ≢ 503
     → (reply : Reply) × HasAnswerOf first reply × (IsAccepted reply → RepliesAgain R (Some old) (first ∷ between) again later new reply)
@@ -172,7 +180,7 @@ act-once-from R old first between again later new faults command status (kept, o
           },
     )
 
-pub connections-act-once : (R : Rules) (old : Tables) (earlier : List Exchange) (first : Exchange) (between : List Exchange) (again : Exchange) (later : List Exchange) (new : Option Tables) (faults : ℕ) (command : Command) (status : ℕ)
+pub connections-act-once : (R : ServingRules) (old : Tables) (earlier : List Exchange) (first : Exchange) (between : List Exchange) (again : Exchange) (later : List Exchange) (new : Option Tables) (faults : ℕ) (command : Command) (status : ℕ)
     → AreServed R (Some old) (earlier ++ (first ∷ (between ++ again ∷ later))) new faults → AsksToKeep command → HasCome first command → HasCome again command
     → WasAnswered first status → status ≢ 503
     → (reply : Reply) × HasAnswerOf first reply × (IsAccepted reply → RepliesAgain R (Some old) (earlier ++ first ∷ between) again later new reply)

@@ -1,15 +1,15 @@
 -- Connections that are served over sound tables have right answers.
-use Rattle.std.proofs.Common.{List, [], ◌∙◌, refl, ap, inl, inr}
+use Rattle.std.proofs.Common.{List, ◌∙◌, refl, ap, inl, inr}
 use Rattle.std.specs.Prelude.{All}
 use Rattle.std.proofs.lemmas.List.Elements.{All-nil, All-cons, All-head, All-tail}
 use Rattle.muni_msg.specs.declared.command.Command.{Command}
 use Rattle.muni_msg.specs.declared.command.Reply.{Reply}
-use Rattle.muni_msg.specs.declared.command.Reply.TheVariants.{Added, Quoted, Listed, Confirmed, Refused}
+use Rattle.muni_msg.specs.declared.command.Reply.TheVariants.{Added, Amended, Quoted, Listed, Confirmed, Refused}
 use Rattle.muni_confirm.specs.Details.{no_details}
 use Rattle.muni_confirm.specs.declared.details.Details.{Details}
 use Rattle.muni_keep.specs.Tables.{Tables}
 use Rattle.muni_wire.specs.Answer.{reply_text}
-use Rattle.muni_book.specs.Rules.{book_rules}
+use Rattle.muni_desk_serve.specs.Rules.{serving_rules}
 use Rattle.muni_book.specs.RightFigures.{AreRightFigures}
 use Rattle.muni_book.specs.RightReplies.{IsRightReply}
 use Rattle.muni_book.specs.RunLaws.{ConfirmedFiguresAreRight}
@@ -23,6 +23,7 @@ use Rattle.muni_desk_serve.proofs.RunLemmas.{connections-run}
 
 right-text : (t : Tables) (reply : Reply) (details : Details) → IsRightReply AreRightFigures t reply → AreBeside reply details → IsRightText t reply (reply_text reply details)
 right-text t (Added cusip) details right beside = refl
+right-text t (Amended cusip number) details right beside = refl
 right-text t (Quoted issue asked figures shown) details right beside = (right.0, right.1, details, beside, refl)
 right-text t (Listed lines) details right beside = refl
 right-text t (Confirmed issue key number version) details right beside = (right, refl)
@@ -46,7 +47,7 @@ answered-right t (replied first command reply others commands replies has follow
 
 pub answers-right : ConfirmedFiguresAreRight → AnswersAreRight
 answers-right right limit ends old exchanges new faults few sound served =
-    let run = connections-run (book_rules limit ends) old exchanges new faults served in
+    let run = connections-run (serving_rules limit ends) old exchanges new faults served in
     let last = run.2.0 in
     (last, run.2.1, answered-right last run.3 (right.runs limit ends few old last run.0 run.1 sound run.2.2))
 

@@ -6,7 +6,7 @@ use Rattle.muni_edge.specs.Faults.{Rose}
 use Rattle.muni_keep.specs.Tables.{Tables}
 use Rattle.muni_keep.specs.declared.fault.KeepFault.{KeepFault}
 use Rattle.muni_keep.specs.declared.fault.KeepFault.TheVariants as keeper
-use Rattle.muni_book_step.specs.Step.{Rules}
+use Rattle.muni_desk_serve.specs.Rules.{ServingRules}
 use Rattle.muni_desk_serve.specs.Connections.{Ends, IsRun, IsRunOver}
 use Rattle.muni_desk_serve.specs.Fault.{Outcome, of_keeper}
 use Rattle.muni_desk_serve.specs.Serves.{Traffic}
@@ -30,7 +30,7 @@ same-too None closing same = tt
 same-too (Some t) closing same = same
 
 -- the store could not be had, and no connection was served
-pub none-over : {L : Type 0} (R : Rules) (told : L → Traffic) (port most : ℕ) (state : Option (DoorState L)) (opening closing : Option Tables) (before now : ℕ) (end : Outcome)
+pub none-over : {L : Type 0} (R : ServingRules) (told : L → Traffic) (port most : ℕ) (state : Option (DoorState L)) (opening closing : Option Tables) (before now : ℕ) (end : Outcome)
     → closing ≡ opening → before ≤ now → ((door : DoorState L) → Ends end [] most door)
     → IfSome state (λ d. IsRunOver R told port most d state opening closing before now end)
 none-over R told port most None opening closing before now end same later ends = tt
@@ -52,7 +52,7 @@ none-over R told port most (Some d) opening closing before now end same later en
     }
 
 -- the fault of a store that cannot be fetched ends the run
-pub unfetched : {L : Type 0} (R : Rules) (told : L → Traffic) (port most : ℕ) (state : Option (DoorState L)) (opening closing : Option Tables) (before now : ℕ) (refusal : KeepFault) (outcome : Outcome)
+pub unfetched : {L : Type 0} (R : ServingRules) (told : L → Traffic) (port most : ℕ) (state : Option (DoorState L)) (opening closing : Option Tables) (before now : ℕ) (refusal : KeepFault) (outcome : Outcome)
     → outcome ≡ Err (of_keeper refusal) → closing ≡ opening → before ≤ now
     → IfSome state (λ d. IsRunOver R told port most d state opening closing before now outcome)
 unfetched R told port most state opening closing before now keeper.Failed outcome is same later =
@@ -81,7 +81,7 @@ closes-with store lent_as old mid new out first last (Some t) told tells lent op
     let opened = subst (λ m. IfSome m (λ _. IfSome last (λ t. new store ≡ Some t))) there.1 named in
     subst (λ l. IfSome l (λ t. new store ≡ Some t)) now.1 opened ∙ sym now.1
 
-counted-over : {L : Type 0} (R : Rules) (told : L → Traffic) (port most : ℕ) (door : DoorState L) (state : Option (DoorState L)) (first last : Option Tables) (before between now kept : ℕ) (end : Outcome)
+counted-over : {L : Type 0} (R : ServingRules) (told : L → Traffic) (port most : ℕ) (door : DoorState L) (state : Option (DoorState L)) (first last : Option Tables) (before between now kept : ℕ) (end : Outcome)
     → IsRun R told port most door state first last 0 kept end → before ≤ between → now ≡ raised between kept
     → IsRun R told port most door state first last before now end
 counted-over R told port most door state first last before between now kept end run later raise =
@@ -101,7 +101,7 @@ counted-over R told port most door state first last before between now kept end 
     }
 
 -- a run over the keeper that was lent is one over its store
-pub run-over : {L : Type 0} (R : Rules) (told : L → Traffic) (port most : ℕ) (state after : Option (DoorState L)) (store : List ℕ) (lent_as : ℕ) (old mid new : Told) (out : Option (List ℕ × ℕ))
+pub run-over : {L : Type 0} (R : ServingRules) (told : L → Traffic) (port most : ℕ) (state after : Option (DoorState L)) (store : List ℕ) (lent_as : ℕ) (old mid new : Told) (out : Option (List ℕ × ℕ))
     (first last : Option Tables) (before between now at kept : ℕ) (end : Outcome)
     → IfSome state (λ d. IsRun R told port most d after first last at kept end) → at ≡ 0 → before ≤ between → now ≡ raised between kept
     → is_some (mid store) ≡ is_some (old store) → out ≡ Some (store, lent_as) → IfSome (old store) (λ t. first ≡ Some t) → is_some last ≡ is_some first

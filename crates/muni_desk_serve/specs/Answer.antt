@@ -1,15 +1,15 @@
 -- What is answered to a connection.
-use Rattle.std.specs.Prelude.{◌≡◌, ℕ, ⊤, List, [], Result, Ok, Err}
+use Rattle.std.specs.Prelude.{◌≡◌, ℕ, ⊤, List, Result, Ok, Err}
 use Rattle.muni_edge.specs.declared.fault.Failed.{Failed}
 use Rattle.muni_msg.specs.declared.command.Reply.{Reply}
-use Rattle.muni_msg.specs.declared.command.Reply.TheVariants.{Added, Quoted, Listed, Confirmed, Refused}
+use Rattle.muni_msg.specs.declared.command.Reply.TheVariants.{Added, Amended, Quoted, Listed, Confirmed, Refused}
 use Rattle.muni_confirm.specs.Details.{no_details}
 use Rattle.muni_confirm.specs.declared.details.Details.{Details}
 use Rattle.muni_book.specs.Details.{AreRightDetails}
 use Rattle.muni_book_step.specs.Step.{Pricing}
 use Rattle.muni_wire.specs.Answer.{answer_to_reply, answer_to_bad, unavailable}
 use Rattle.muni_wire.specs.HttpStatus.{code, status_of_reply, status_of_bad}
-use Rattle.muni_wire.specs.declared.fault.Bad.{Bad}
+use Rattle.muni_wire_body.specs.declared.fault.Bad.{Bad}
 use Rattle.muni_wire.specs.declared.status.HttpStatus.{HttpStatus}
 use Rattle.muni_wire.specs.declared.status.HttpStatus.TheVariants.{Unavailable}
 use Rattle.muni_desk_serve.specs.declared.served.Served.{Served}
@@ -28,6 +28,7 @@ reply_answer reply details =
 -- the figures of a quote may be answered
 abbrev pub IsPricedReply : Pricing → Reply → Type 0
 IsPricedReply Prices (Added cusip) = ⊤
+IsPricedReply Prices (Amended cusip number) = ⊤
 IsPricedReply Prices (Quoted issue asked figures shown) = Prices issue asked (Ok figures)
 IsPricedReply Prices (Listed lines) = ⊤
 IsPricedReply Prices (Confirmed issue key number version) = ⊤
@@ -36,6 +37,7 @@ IsPricedReply Prices (Refused why) = ⊤
 -- after the figures of a quote stands what is to be shown of them, right by the exact figures, and else nothing
 abbrev pub AreBeside : Reply → Details → Type 0
 AreBeside (Added cusip) details = details ≡ no_details
+AreBeside (Amended cusip number) details = details ≡ no_details
 AreBeside (Quoted issue asked figures shown) details = AreRightDetails issue asked figures shown details
 AreBeside (Listed lines) details = details ≡ no_details
 AreBeside (Confirmed issue key number version) details = details ≡ no_details

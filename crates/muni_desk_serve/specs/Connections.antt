@@ -6,7 +6,7 @@ use Rattle.muni_edge.specs.declared.door.Door as door
 use Rattle.muni_edge.specs.declared.fault.Failed.{Failed}
 use Rattle.muni_keep.specs.Tables.{Tables}
 use Rattle.muni_keep.specs.declared.keeper.Keeper as keeper
-use Rattle.muni_book_step.specs.Step.{Rules}
+use Rattle.muni_desk_serve.specs.Rules.{ServingRules}
 use Rattle.muni_desk_serve.specs.Fault.{Outcome}
 use Rattle.muni_desk_serve.specs.Serves.{Traffic, Serves, RoseBy, WasServed}
 use Rattle.muni_desk_serve.specs.declared.served.Served.{Served}
@@ -35,7 +35,7 @@ exchange told connection =
 
 -- Each connection is served from the tables that the one before it left. The number is that of the
 -- faults of the keeper that their answers report.
-unfoldable pub AreServed : Rules → Option Tables → List Exchange → Option Tables → ℕ → Type 0
+unfoldable pub AreServed : ServingRules → Option Tables → List Exchange → Option Tables → ℕ → Type 0
 AreServed rules old [] new faults = (new ≡ old) × (faults ≡ 0)
 AreServed rules old (first ∷ others) new faults =
     (mid : Option Tables) × (one : ℕ) × (more : ℕ) × (faults ≡ one + more)
@@ -70,7 +70,7 @@ Ends (Err fault.NoMemory) connections most after =
 
 -- Connections of a door were served, at most so many, from tables to tables; a count rose by the faults
 -- that their answers report.
-pub record WereServed {L : Type 0} (rules : Rules) (told : L → Traffic) (connections : List (Connection L)) (most : ℕ) (door after : DoorState L) (old new : Option Tables) (before now : ℕ) : Type 0 where
+pub record WereServed {L : Type 0} (rules : ServingRules) (told : L → Traffic) (connections : List (Connection L)) (most : ℕ) (door after : DoorState L) (old new : Option Tables) (before now : ℕ) : Type 0 where
   pub handed : AreHandedBack connections door after
   pub few : length connections ≤ most
   pub faults : ℕ
@@ -78,7 +78,7 @@ pub record WereServed {L : Type 0} (rules : Rules) (told : L → Traffic) (conne
   pub rose : RoseBy faults before now
 
 -- A run of connections, and how it ended. The door was bound to the port before the first one.
-pub record IsRun {L : Type 0} (rules : Rules) (told : L → Traffic) (port most : ℕ) (door : DoorState L) (state : Option (DoorState L)) (old new : Option Tables) (before now : ℕ) (end : Outcome) : Type 0 where
+pub record IsRun {L : Type 0} (rules : ServingRules) (told : L → Traffic) (port most : ℕ) (door : DoorState L) (state : Option (DoorState L)) (old new : Option Tables) (before now : ℕ) (end : Outcome) : Type 0 where
   pub connections : List (Connection L)
   pub after : DoorState L
   pub told_after : state ≡ Some after
@@ -87,7 +87,7 @@ pub record IsRun {L : Type 0} (rules : Rules) (told : L → Traffic) (port most 
   pub ends : Ends end connections most after
 
 -- The tables of a run over a store: those that the store opens with and closes with, if it exposes them.
-pub record IsRunOver {L : Type 0} (rules : Rules) (told : L → Traffic) (port most : ℕ) (door : DoorState L) (state : Option (DoorState L)) (opening closing : Option Tables) (before now : ℕ) (end : Outcome) : Type 0 where
+pub record IsRunOver {L : Type 0} (rules : ServingRules) (told : L → Traffic) (port most : ℕ) (door : DoorState L) (state : Option (DoorState L)) (opening closing : Option Tables) (before now : ℕ) (end : Outcome) : Type 0 where
   pub first : Option Tables
   pub last : Option Tables
   pub opens : IfSome opening (λ t. first ≡ Some t)
@@ -95,7 +95,7 @@ pub record IsRunOver {L : Type 0} (rules : Rules) (told : L → Traffic) (port m
   pub run : IsRun rules told port most door state first last before now end
 
 -- the first link that waits is served, and handed back
-pub record IsNext {L : Type 0} (rules : Rules) (told : L → Traffic) (door : DoorState L) (state : Option (DoorState L)) (old new : Option Tables) (before now : ℕ) (came : Served) : Type 0 where
+pub record IsNext {L : Type 0} (rules : ServingRules) (told : L → Traffic) (door : DoorState L) (state : Option (DoorState L)) (old new : Option Tables) (before now : ℕ) (came : Served) : Type 0 where
   pub accepted : L
   pub back : L
   pub first : Some accepted ≡ slice_get door.waiting 0
@@ -103,7 +103,7 @@ pub record IsNext {L : Type 0} (rules : Rules) (told : L → Traffic) (door : Do
   pub served : WasServed rules old before (told accepted) came new now (told back)
 
 -- what came of asking a door for its next connection
-abbrev pub AsksDoor : {K D L : Type 0} → keeper.Ghosts K → door.Ghosts D L → Rules → (L → Traffic) → Result (Option Served) Failed → (old new : K) → (before after : D) → Type 0
+abbrev pub AsksDoor : {K D L : Type 0} → keeper.Ghosts K → door.Ghosts D L → ServingRules → (L → Traffic) → Result (Option Served) Failed → (old new : K) → (before after : D) → Type 0
 AsksDoor keeps opens rules told (Ok (Some came)) old new before after =
     IfSome (opens.state before) (λ d. IsNext rules told d (opens.state after) (keeps.tables old) (keeps.tables new) (keeps.faults old) (keeps.faults new) came)
 AsksDoor keeps opens rules told (Ok None) old new before after =

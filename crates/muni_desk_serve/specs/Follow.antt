@@ -5,11 +5,12 @@ use Rattle.muni_keep.specs.Tables.{Tables}
 use Rattle.muni_msg.specs.declared.command.Command.{Command}
 use Rattle.muni_msg.specs.declared.command.Reply.{Reply}
 use Rattle.muni_confirm.specs.declared.details.Details.{Details}
-use Rattle.muni_book_step.specs.Step.{Rules}
+use Rattle.muni_desk_serve.specs.Rules.{ServingRules}
 use Rattle.muni_wire.specs.Reading.{Whole, Faulty, HeadAsks}
-use Rattle.muni_wire.specs.declared.fault.Bad.{Bad}
-use Rattle.muni_wire.specs.declared.look.Look.{Look}
-use Rattle.muni_wire.specs.declared.look.Request.TheVariants.{Book, Look as LookAt}
+use Rattle.muni_wire_body.specs.declared.fault.Bad.{Bad}
+use Rattle.muni_wire_body.specs.declared.look.Look.{Look}
+use Rattle.muni_wire_body.specs.declared.look.Request.TheVariants.{Book, Look as LookAt, Check}
+use Rattle.muni_wire_body.specs.Stated.{RowTexts}
 use Rattle.muni_desk_serve.specs.Answer.{Answer, AreBeside, reply_answer, bad_answer, unavailable_answer}
 use Rattle.muni_desk_serve.specs.Connections.{Exchange, AreServed}
 use Rattle.muni_desk_serve.specs.Serves.{Traffic, Asks, Serves}
@@ -52,11 +53,15 @@ pub record HasBadAnswer (exchange : Exchange) : Type 0 where
 abbrev pub AsksToLook : Exchange → Type 0
 AsksToLook exchange = (look : Look) × Asks exchange.before (Whole (LookAt look))
 
--- If it has an answer, this is to a bad request, says that the store failed, or shows what is kept.
+-- it asked for a check of one row
+abbrev pub AsksToCheck : Exchange → Type 0
+AsksToCheck exchange = (row : RowTexts) × Asks exchange.before (Whole (Check row))
+
+-- If it has an answer, this is to a bad request, says that the store failed, shows what is kept, or checks a row.
 abbrev pub HasNoReply : Exchange → Type 0
 HasNoReply exchange =
     (status : ℕ) → WasAnswered exchange status
-    → HasBadAnswer exchange ⊎ HasAnswer exchange unavailable_answer ⊎ AsksToLook exchange
+    → HasBadAnswer exchange ⊎ HasAnswer exchange unavailable_answer ⊎ AsksToLook exchange ⊎ AsksToCheck exchange
 
 -- What connections asked for and what was replied are these commands and replies, in their order. Of a
 -- connection there is one of each, or none.
@@ -80,7 +85,7 @@ IsReplied exchange reply =
     (status : ℕ) → WasAnswered exchange status → status ≢ 503 → HasAnswerOf exchange reply
 
 -- A connection between others has this reply, and leaves the tables as those before it left them.
-pub record RepliesAgain (rules : Rules) (old : Option Tables) (earlier : List Exchange) (again : Exchange) (later : List Exchange) (new : Option Tables) (reply : Reply) : Type 0 where
+pub record RepliesAgain (rules : ServingRules) (old : Option Tables) (earlier : List Exchange) (again : Exchange) (later : List Exchange) (new : Option Tables) (reply : Reply) : Type 0 where
   pub mid : Option Tables
   pub faults : ℕ
   pub one : ℕ

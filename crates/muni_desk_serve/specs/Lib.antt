@@ -1,4 +1,6 @@
 pub mod Answer
+pub mod Check
+pub mod Rules
 pub mod Look
 pub mod Serves
 pub mod Serving

@@ -2,18 +2,18 @@
 use Rattle.std.specs.Prelude.{◌≡◌, ◌⊎◌, ℕ, List, [], Some}
 use Rattle.muni_msg.specs.declared.command.Command.{Command}
 use Rattle.muni_msg.specs.declared.command.Reply.{Reply}
-use Rattle.muni_msg.specs.declared.command.Reply.TheVariants.{Added, Quoted, Listed, Confirmed, Refused}
+use Rattle.muni_msg.specs.declared.command.Reply.TheVariants.{Added, Amended, Quoted, Listed, Confirmed, Refused}
 use Rattle.muni_confirm.specs.Details.{quoted_text, no_details}
 use Rattle.muni_confirm.specs.declared.details.Details.{Details}
 use Rattle.muni_confirm.specs.Confirmation.{confirmation_text}
-use Rattle.muni_keep.specs.Tables.{Tables, issue_at}
+use Rattle.muni_keep.specs.Tables.{Tables}
 use Rattle.muni_wire.specs.Answer.{answer, reply_text}
 use Rattle.muni_wire.specs.HttpStatus.{code, status_of_reply}
 use Rattle.muni_wire.specs.Reading.{Whole}
-use Rattle.muni_wire.specs.declared.look.Request.TheVariants.{Book}
+use Rattle.muni_wire_body.specs.declared.look.Request.TheVariants.{Book}
 use Rattle.muni_book.specs.Details.{AreRightDetails}
 use Rattle.muni_book.specs.RightFigures.{AreRightFigures}
-use Rattle.muni_book.specs.RightReplies.{IsKeptRight}
+use Rattle.muni_book.specs.RightReplies.{IsKeptRight, AreTermsOf}
 use Rattle.muni_desk_serve.specs.Connections.{Exchange}
 use Rattle.muni_desk_serve.specs.Follow.{HasAnswer, WasAnswered, HasNoReply}
 use Rattle.muni_desk_serve.specs.Serves.{Asks}
@@ -22,8 +22,9 @@ use Rattle.muni_desk_serve.specs.Serves.{Asks}
 -- right figures of an issue that is kept, with what is to be shown after them.
 abbrev pub IsRightText : Tables → Reply → List ℕ → Type 0
 IsRightText tables (Added cusip) text = text ≡ reply_text (Added cusip) no_details
+IsRightText tables (Amended cusip number) text = text ≡ reply_text (Amended cusip number) no_details
 IsRightText tables (Quoted issue asked figures shown) text =
-    (issue_at tables asked.cusip ≡ Some issue) × AreRightFigures issue asked figures
+    AreTermsOf tables asked.cusip issue × AreRightFigures issue asked figures
     × (details : Details) × AreRightDetails issue asked figures shown details
     × (text ≡ quoted_text figures asked details)
 IsRightText tables (Listed lines) text = text ≡ reply_text (Listed lines) no_details
@@ -43,7 +44,7 @@ pub record HasRightBody (tables : Tables) (exchange : Exchange) : Type 0 where
         bytes = answer (status_of_reply reply) [] body;
       })
 
--- So it is, or if a connection has an answer, this is to a bad request, says that the store failed, or shows what
--- is kept.
+-- So it is, or if a connection has an answer, this is to a bad request, says that the store failed, shows what is
+-- kept, or checks a row.
 abbrev pub IsAnsweredRight : Tables → Exchange → Type 0
 IsAnsweredRight tables exchange = HasNoReply exchange ⊎ HasRightBody tables exchange

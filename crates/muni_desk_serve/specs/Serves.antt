@@ -11,14 +11,16 @@ use Rattle.muni_msg.specs.declared.command.Command.{Command}
 use Rattle.muni_msg.specs.declared.command.Reply.{Reply}
 use Rattle.muni_confirm.specs.declared.details.Details.{Details}
 use Rattle.muni_book_step.specs.Runs.{StepsTo}
-use Rattle.muni_book_step.specs.Step.{Rules}
+use Rattle.muni_desk_serve.specs.Rules.{ServingRules}
 use Rattle.muni_wire.specs.Extent.{AwaitsMore, TakesOnlyWhile}
 use Rattle.muni_wire.specs.Reading.{Reading, Whole, Faulty, Short, Reads}
-use Rattle.muni_wire.specs.declared.fault.Bad.{Bad}
-use Rattle.muni_wire.specs.declared.look.Look.{Look}
-use Rattle.muni_wire.specs.declared.look.Request.{Request}
-use Rattle.muni_wire.specs.declared.look.Request.TheVariants.{Book, Look as LookAt}
+use Rattle.muni_wire_body.specs.declared.fault.Bad.{Bad}
+use Rattle.muni_wire_body.specs.declared.look.Look.{Look}
+use Rattle.muni_wire_body.specs.declared.look.Request.{Request}
+use Rattle.muni_wire_body.specs.declared.look.Request.TheVariants.{Book, Look as LookAt, Check}
+use Rattle.muni_wire_body.specs.Stated.{RowTexts}
 use Rattle.muni_desk_serve.specs.Answer.{Answer, AreBeside, reply_answer, bad_answer, unavailable_answer}
+use Rattle.muni_desk_serve.specs.Check.{IsCheckAnswer}
 use Rattle.muni_desk_serve.specs.Look.{look_answer}
 use Rattle.muni_desk_serve.specs.declared.served.Served.{Served}
 use Rattle.muni_desk_serve.specs.declared.served.Served.TheVariants as served
@@ -46,11 +48,11 @@ abbrev pub Asks : Traffic → Reading → Type 0
 Asks link reading = IfSome link.left (λ bytes. Reads bytes reading)
 
 -- the bytes are a command, to which one step of the book gives the reply and the tables after it
-pub record IsReply (rules : Rules) (old : Option Tables) (link : Traffic) (answer : Answer) (new : Option Tables) (faults : ℕ) : Type 0 where
+pub record IsReply (rules : ServingRules) (old : Option Tables) (link : Traffic) (answer : Answer) (new : Option Tables) (faults : ℕ) : Type 0 where
   pub command : Command
   pub reply : Reply
   pub asks : Asks link (Whole (Book command))
-  pub step : IfSome old (λ t. StepsTo rules t command reply new)
+  pub step : IfSome old (λ t. StepsTo rules.book t command reply new)
   pub details : Details
   pub beside : IfSome old (λ t. AreBeside reply details)
   pub is : answer ≡ reply_answer reply details
@@ -72,6 +74,14 @@ pub record IsLookedUp (old : Option Tables) (link : Traffic) (answer : Answer) (
   pub tables : new ≡ old
   pub none : faults ≡ 0
 
+-- they are a check of one row, which is answered by its line and leaves the tables as they are
+pub record IsChecked (rules : ServingRules) (old : Option Tables) (link : Traffic) (answer : Answer) (new : Option Tables) (faults : ℕ) : Type 0 where
+  pub row : RowTexts
+  pub asks : Asks link (Whole (Check row))
+  pub is : IsCheckAnswer rules.checks old row answer
+  pub tables : new ≡ old
+  pub none : faults ≡ 0
+
 -- they are a request at which the keeper failed, and the tables stay as they are
 pub record IsUnavailable (old : Option Tables) (link : Traffic) (answer : Answer) (new : Option Tables) (faults : ℕ) : Type 0 where
   pub request : Request
@@ -81,12 +91,13 @@ pub record IsUnavailable (old : Option Tables) (link : Traffic) (answer : Answer
   pub one : faults ≡ 1
 
 -- an answer that is due, with the tables after it; and how many faults of the keeper it reports
-abbrev pub IsDue : Rules → Option Tables → Traffic → Answer → Option Tables → ℕ → Type 0
+abbrev pub IsDue : ServingRules → Option Tables → Traffic → Answer → Option Tables → ℕ → Type 0
 IsDue rules old link answer new faults =
     IsReply rules old link answer new faults
     ⊎ IsBad old link answer new faults
     ⊎ IsUnavailable old link answer new faults
     ⊎ IsLookedUp old link answer new faults
+    ⊎ IsChecked rules old link answer new faults
 
 -- nothing is written, no tables change, and no fault of the keeper is reported
 pub record IsUnanswered (old : Option Tables) (link : Traffic) (new : Option Tables) (after : Traffic) (faults : ℕ) : Type 0 where
@@ -95,7 +106,7 @@ pub record IsUnanswered (old : Option Tables) (link : Traffic) (new : Option Tab
   pub none : faults ≡ 0
 
 -- a take failed before there was an answer, or a put of an answer that is due
-abbrev pub IsCutOff : Rules → Option Tables → Traffic → Option Tables → Traffic → ℕ → Type 0
+abbrev pub IsCutOff : ServingRules → Option Tables → Traffic → Option Tables → Traffic → ℕ → Type 0
 IsCutOff rules old link new after faults =
     (Rose link.take_faults after.take_faults × IsUnanswered old link new after faults)
     ⊎ (Rose link.put_faults after.put_faults × (answer : Answer) × IsDue rules old link answer new faults
@@ -103,7 +114,7 @@ IsCutOff rules old link new after faults =
 
 -- One connection: the tables and the connection before it, what came of it, and both after it. The
 -- number says how many faults of the keeper its answer reports, one or none.
-abbrev pub Serves : Rules → Option Tables → Traffic → Served → Option Tables → Traffic → ℕ → Type 0
+abbrev pub Serves : ServingRules → Option Tables → Traffic → Served → Option Tables → Traffic → ℕ → Type 0
 Serves rules old link (served.Answered status) new after faults =
     (answer : Answer) × IsDue rules old link answer new faults × (status ≡ answer.status)
     × HasWritten link.written after.written answer.bytes
@@ -117,7 +128,7 @@ abbrev pub RoseBy : ℕ → ℕ → ℕ → Type 0
 RoseBy rise before now = min (before + rise) (2 ^ 64 - 1) ≤ now
 
 -- a connection was served, and the keeper counted the faults that its answer reports
-pub record WasServed (rules : Rules) (old : Option Tables) (before : ℕ) (link : Traffic) (answer : Served) (new : Option Tables) (now : ℕ) (after : Traffic) : Type 0 where
+pub record WasServed (rules : ServingRules) (old : Option Tables) (before : ℕ) (link : Traffic) (answer : Served) (new : Option Tables) (now : ℕ) (after : Traffic) : Type 0 where
   pub faults : ℕ
   pub serves : Serves rules old link answer new after faults
   pub rose : RoseBy faults before now

@@ -3,7 +3,7 @@ use Rattle.std.specs.Prelude.{◌≡◌, ℕ, List, Some, IfSome, OnOk, IsErrOf}
 use Rattle.muni_edge.specs.Faults.{Rose}
 use Rattle.muni_edge.specs.declared.door.Door as Door
 use Rattle.muni_keep.specs.declared.cabinet.Cabinet as Cabinet
-use Rattle.muni_book_step.specs.Step.{Rules}
+use Rattle.muni_desk_serve.specs.Rules.{ServingRules}
 use Rattle.muni_desk_serve.specs.Connections.{IsRunOver}
 use Rattle.muni_desk_serve.specs.Fault.{Outcome}
 use Rattle.muni_desk_serve.specs.Serves.{Traffic}
@@ -11,7 +11,7 @@ use Rattle.muni_desk_serve.specs.declared.fault.ServeFault.TheVariants as fault
 
 -- The connections of a run are served, if the door exposes its links. A run that is done leaves the door bound
 -- to the port, and a fault of the store leaves it as it was.
-pub record ServedStore {C K D L : Type 0} (cabinet : Cabinet.Ghosts C K) (door : Door.Ghosts D L) (rules : Rules) (told : L → Traffic) (store : List ℕ) (port most : ℕ) (outcome : Outcome) (old new : C) (before after : D) : Type 0 where
+pub record ServedStore {C K D L : Type 0} (cabinet : Cabinet.Ghosts C K) (door : Door.Ghosts D L) (rules : ServingRules) (told : L → Traffic) (store : List ℕ) (port most : ℕ) (outcome : Outcome) (old new : C) (before after : D) : Type 0 where
   pub run : IfSome (door.state before) (λ state. IsRunOver rules told port most state (door.state after) (cabinet.told old store) (cabinet.told new store) (cabinet.faults old) (cabinet.faults new) outcome)
   pub bound : OnOk outcome (IfSome (door.state after) (λ state. state.port ≡ Some port))
   pub unopened : IsErrOf outcome fault.Store → after ≡ before

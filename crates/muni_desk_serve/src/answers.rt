@@ -2,10 +2,11 @@
 
 ghost use Rattle.std.specs.Prelude.{◌≡◌};
 ghost use Rattle.muni_book.specs.Answers.{IsRightAnswer};
-ghost use Rattle.muni_book.specs.Rules.{book_rules};
+ghost use Rattle.muni_desk_serve.specs.Rules.{serving_rules};
 ghost use Rattle.muni_desk_serve.specs.Answer as spec;
 ghost use Rattle.muni_desk_serve.specs.Serves.{LeavesCounted, TakesRequest, WasServed, traffic};
 
+use crate::checks::check;
 use crate::looks::{look_up, write_seen};
 use crate::served::Served;
 use muni_book::{Book, BookFault, Calculator, details, step};
@@ -15,13 +16,14 @@ use muni_keep::{KeepFault, Keeper};
 use muni_msg::Reply;
 use muni_multi::Encloser;
 use muni_wire::{
-    HttpStatus, Request, WireFault, read_request, write_bad, write_reply, write_unavailable,
+    HttpStatus, read_request, write_bad, write_reply, write_success, write_unavailable,
 };
+use muni_wire_body::{Request, WireFault};
 use std::alloc::Global;
 use std::thread::Threads;
 
-/// Reads one request of a connection, applies it to the tables of a keeper or looks at them, and writes the
-/// answer.
+/// Reads one request of a connection, applies it to the tables of a keeper, looks at them or checks a row by
+/// them, and writes the answer.
 ///
 /// What is no command is answered too, and so is a command at which the keeper fails: by 503. A
 /// request that ends too early gets no answer, nor does one for which no memory is left; then the
@@ -33,7 +35,7 @@ pub fn answer_one<R: Threads + Sync, L: Link, K: Keeper, E: Encloser + Sync, G: 
     keeper: &mut K,
 ) -> Served
     // What was answered, if the connection exposes its bytes and the keeper its tables.
-    ensures served { WasServed (book_rules book.now.limit (E.ends book.now.calculator.now.encloser.now))
+    ensures served { WasServed (serving_rules book.now.limit (E.ends book.now.calculator.now.encloser.now))
         (K.tables keeper.old) (K.faults keeper.old)
         (traffic L.left L.bytes L.Source.faults L.Sink.faults link.old) result
         (K.tables keeper.new) (K.faults keeper.new)
@@ -60,6 +62,11 @@ pub fn answer_one<R: Threads + Sync, L: Link, K: Keeper, E: Encloser + Sync, G: 
             Err(KeepFault::Failed) => came_of(write_unavailable(link)),
             Err(KeepFault::NoMemory) => Served::NoMemory,
         },
+        Request::Check(row) => match check(book.calculator, alloc, keeper, &row) {
+            Ok(answer) => came_of(write_success(link, &answer)),
+            Err(KeepFault::Failed) => came_of(write_unavailable(link)),
+            Err(KeepFault::NoMemory) => Served::NoMemory,
+        },
     }
 }
 
@@ -78,9 +85,11 @@ fn beside<R: Threads + Sync, E: Encloser + Sync, G: Gate + Sync>(
             figures,
             shown,
         } => details(calculator, issue, asked, figures, *shown),
-        Reply::Added { .. } | Reply::Listed(_) | Reply::Confirmed { .. } | Reply::Refused(_) => {
-            Details::none()
-        }
+        Reply::Added { .. }
+        | Reply::Amended { .. }
+        | Reply::Listed(_)
+        | Reply::Confirmed { .. }
+        | Reply::Refused(_) => Details::none(),
     }
 }
 

@@ -1,7 +1,7 @@
 //! Connections, served one after another.
 
 ghost use Rattle.std.specs.Prelude.{◌≡◌, ◌≢◌, ◌≤◌, ℕ, List, [], Some, None, Err, is_some, IfSome, IsSome, IsErrOf, OnOk, OnErr};
-ghost use Rattle.muni_book.specs.Rules.{book_rules};
+ghost use Rattle.muni_desk_serve.specs.Rules.{serving_rules};
 ghost use Rattle.muni_edge.specs.Faults.{Rose};
 ghost use Rattle.muni_keep.specs.Cabinet.{LeavesOthers};
 ghost use Rattle.muni_desk_serve.specs.Connections.{AsksDoor, IsRun, KeepsServing};
@@ -33,7 +33,7 @@ pub fn serve<R: Threads + Sync, C: Cabinet, D: Door, E: Encloser + Sync, G: Gate
     door: &mut D,
 ) -> Result<(), ServeFault>
     requires none_out { C.out cabinet.old ≡ None }
-    ensures served { ServedStore C.Cabinet D.Door (book_rules book.now.limit (E.ends book.now.calculator.now.encloser.now))
+    ensures served { ServedStore C.Cabinet D.Door (serving_rules book.now.limit (E.ends book.now.calculator.now.encloser.now))
         (traffic D.L.left D.L.bytes D.L.Source.faults D.L.Sink.faults) store.now port connections result
         cabinet.old cabinet.new door.old door.new }
     ensures leaves { LeavesOthers C.Cabinet store.now cabinet.old cabinet.new }
@@ -55,7 +55,7 @@ fn serve_links<R: Threads + Sync, K: Keeper, D: Door, E: Encloser + Sync, G: Gat
     keeper: &mut K,
     door: &mut D,
 ) -> Result<(), ServeFault>
-    ensures run { IfSome (D.state door.old) (λ d. IsRun (book_rules book.now.limit (E.ends book.now.calculator.now.encloser.now))
+    ensures run { IfSome (D.state door.old) (λ d. IsRun (serving_rules book.now.limit (E.ends book.now.calculator.now.encloser.now))
         (traffic D.L.left D.L.bytes D.L.Source.faults D.L.Sink.faults) port connections
         d (D.state door.new) (K.tables keeper.old) (K.tables keeper.new)
         (K.faults keeper.old) (K.faults keeper.new) result) }
@@ -87,7 +87,7 @@ fn serve_next<R: Threads + Sync, K: Keeper, D: Door, E: Encloser + Sync, G: Gate
 ) -> Result<Option<Served>, Failed>
     requires bound { IfSome (D.state door.old) (λ d. IsSome d.port) }
 
-    ensures next { AsksDoor K.Keeper D.Door (book_rules book.now.limit (E.ends book.now.calculator.now.encloser.now))
+    ensures next { AsksDoor K.Keeper D.Door (serving_rules book.now.limit (E.ends book.now.calculator.now.encloser.now))
         (traffic D.L.left D.L.bytes D.L.Source.faults D.L.Sink.faults) result keeper.old keeper.new door.old door.new }
     ensures failed { OnErr result (Rose (D.faults door.old) (D.faults door.new)) }
     ensures port { (port : ℕ) → IfSome (D.state door.old) (λ d. d.port ≡ Some port)

@@ -6,15 +6,15 @@ use muni_book::laws::confirmed_figures_are_right;
 
 /// A law of the definitions: if no count of faults rose, what has come is answered as one of its
 /// readings says, or no memory was left. A whole request gets the answer to what it asks for, with its
-/// status or what it looks at, a bad one its own, and one that ends too early none. Bytes that begin with a head within the
-/// limits have one reading (`muni_wire`).
+/// status, what it looks at or the line of the row that it checks, a bad one its own, and one that ends too early
+/// none. Bytes that begin with a head within the limits have one reading (`muni_wire`).
 pub fn what_has_come_is_answered()
     ensures { WhatHasComeIsAnswered }
 {}
 
 /// A law of the definitions: connections that are served one after another run commands of the book:
 /// what they asked for, at most one each, with the replies by which they were answered; a look at the
-/// tables is none. So what holds
+/// tables is none, nor is a check by them. So what holds
 /// of every run holds of the tables that they leave, and of their replies.
 pub fn serving_runs_the_book()
     ensures { ServingRunsTheBook }

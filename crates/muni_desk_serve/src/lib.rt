@@ -3,6 +3,7 @@
 #![tactic(auto)]
 
 mod answers;
+mod checks;
 mod connections;
 mod fault;
 pub mod laws;

@@ -1,22 +1,20 @@
 //! Looks at the tables.
 
-ghost use Rattle.std.specs.Prelude.{◌≡◌, IfOk, IfSome};
-ghost use Rattle.muni_export.specs.Rows.{issue_row};
+ghost use Rattle.std.specs.Prelude.{◌≡◌, IfOk, IfSome, option_map};
 ghost use Rattle.muni_keep.specs.Keeper.{OnlyReads};
 ghost use Rattle.muni_keep.specs.Tables as tables;
-ghost use Rattle.muni_wire.specs.Answer as wire;
 ghost use Rattle.muni_wire.specs.Answers.{Answers};
 ghost use Rattle.muni_desk_serve.specs.Look as spec;
 
 use arrayvec::ArrayVec;
 use muni_confirm::Details;
-use muni_edge::{Failed, Link, NoMemory};
+use muni_edge::{Failed, Link};
 use muni_export::RowWriter;
 use muni_keep::{KeepFault, Keeper};
 use muni_msg::{DeskName, Key, Line, Refusal, Reply};
 use muni_position::position_text;
-use muni_terms::Issue;
-use muni_wire::{HttpStatus, Look, success, write_reply, write_success};
+use muni_wire::{HttpStatus, success, write_reply, write_success};
+use muni_wire_body::Look;
 use std::alloc::Global;
 
 /// What a look at the tables found.
@@ -62,23 +60,37 @@ fn look_up_issue<K: Keeper>(
     cusip: &[u8; 9],
 ) -> Result<Seen, KeepFault>
     ensures seen { IfOk result (λ seen. IfSome (K.tables keeper.old)
-        (λ t. spec.seen_answer seen ≡ spec.issue_answer (tables.issue_at t cusip.now))) }
+        (λ t. spec.seen_answer seen ≡ spec.issue_answer (spec.kept_rows t cusip.now))) }
     ensures reads { OnlyReads K.Keeper result keeper.old keeper.new }
 {
-    match keeper.issue(cusip)? {
-        Some(issue) => Ok(Seen::Answer(issue_answer(alloc, &issue)?)),
+    match issue_rows(alloc, keeper, cusip)? {
+        Some(rows) => Ok(Seen::Answer(success(alloc, &rows)?)),
         None => Ok(Seen::Reply(Reply::Refused(Refusal::UnknownIssue))),
     }
 }
 
-// The answer with the row of an issue.
-fn issue_answer(alloc: Global, issue: &Issue) -> Result<Vec<u8>, NoMemory>
-    ensures { IfOk result (λ answer. answer.items ≡ wire.success (issue_row issue.now)) }
+// The rows of all terms of an issue, if it is kept.
+fn issue_rows<K: Keeper>(
+    alloc: Global,
+    keeper: &mut K,
+    cusip: &[u8; 9],
+) -> Result<Option<Vec<u8>>, KeepFault>
+    ensures rows { IfOk result (λ rows. IfSome (K.tables keeper.old)
+        (λ t. option_map (λ rows. rows.items) rows ≡ spec.kept_rows t cusip.now)) }
+    ensures reads { OnlyReads K.Keeper result keeper.old keeper.new }
 {
+    let Some(last) = keeper.last_issue(cusip)? else {
+        return Ok(None);
+    };
     let mut rows = RowWriter::new(alloc);
-    rows.issue(issue)?;
-    let text = rows.finish()?;
-    success(alloc, &text)
+    for number in 1..last.0 {
+        let Some(issue) = keeper.issue_numbered(cusip, number)? else {
+            return Ok(None);
+        };
+        rows.issue(number, &issue)?;
+    }
+    rows.issue(last.0, &last.1)?;
+    Ok(Some(rows.finish()?))
 }
 
 fn look_up_version<K: Keeper>(keeper: &mut K, key: &Key, number: u32) -> Result<Seen, KeepFault>
@@ -89,7 +101,8 @@ fn look_up_version<K: Keeper>(keeper: &mut K, key: &Key, number: u32) -> Result<
     let Some(version) = keeper.version(key, number)? else {
         return Ok(Seen::Reply(Reply::Refused(Refusal::UnknownTrade)));
     };
-    let Some(issue) = keeper.issue(&version.terms.asked.cusip)? else {
+    let Some(issue) = keeper.issue_numbered(&version.terms.asked.cusip, version.issue_number)?
+    else {
         return Ok(Seen::Reply(Reply::Refused(Refusal::UnknownIssue)));
     };
     Ok(Seen::Reply(Reply::Confirmed {

@@ -1,6 +1,6 @@
 -- The row of an issue, read again.
-use Rattle.std.proofs.Common.{◌≡◌, ◌≤◌, ◌∙◌, ℕ, zero, suc, Bool, true, false, List, [], ◌∷◌, length, take, Option, Some, None, Ok, refl, ap, arith, pos}
-use Rattle.std.specs.Prelude.{◌==◌, ◌+◌, nat_le, codes, slice_index}
+use Rattle.std.proofs.Common.{◌≡◌, ◌≤◌, ◌∙◌, ℕ, zero, suc, Bool, true, false, List, [], ◌∷◌, length, take, decimal, Option, Some, None, Ok, refl, ap, arith, pos}
+use Rattle.std.specs.Prelude.{◌==◌, ◌+◌, nat_le, codes, slice_index, if◌then◌else◌}
 use Rattle.std.specs.List.{list_all}
 use Rattle.std.specs.Result.{result_ok}
 use Rattle.std.specs.Str.{bytes_eq}
@@ -25,16 +25,17 @@ use Rattle.muni_msg.specs.Calls.{calls_field}
 use Rattle.muni_msg.specs.Codes.{basis_code, kind_code}
 use Rattle.muni_msg.specs.Fields.{basis_field, day_in}
 use Rattle.muni_msg.specs.IssueFields.{coupon_by, cusip_reading, issue_name_reading}
-use Rattle.muni_msg.specs.declared.command.Command.TheVariants.{AddIssue}
+use Rattle.muni_msg.specs.declared.command.Command.TheVariants.{AddIssue, Amend}
 use Rattle.muni_store_rows.specs.Calls.{calls_of, calls_text, if_written}
 use Rattle.muni_store_rows.specs.Codes.{basis_of, coupon_of}
 use Rattle.muni_store_rows.specs.Issue.{columns_of, first_text, issue_of, kind_of}
 use Rattle.muni_store_rows.proofs.IssueLemmas.{issue-again}
 use Rattle.muni_store_rows.proofs.TextLemmas.{day_again}
 use Rattle.muni_store_rows.proofs.WrittenLemmas.{bound, tested}
-use Rattle.muni_export.specs.Rows.{issue_fields}
+use Rattle.muni_export.specs.Laws.{issue_command}
+use Rattle.muni_export.specs.Rows.{amendment_fields, first_terms_fields, issue_fields, issue_terms_fields}
 use Rattle.muni_export.specs.Words.{days_word, kind_word}
-use Rattle.muni_export.proofs.VersionLemmas.{not_empty}
+use Rattle.muni_export.proofs.VersionLemmas.{not_empty, number-again}
 
 -- ---- what the store reads from the same texts
 -- the CUSIP, the name and the calls of an issue are read from their texts
@@ -71,13 +72,22 @@ stored-read row h =
     }
 
 -- ---- the other columns
-calendar-again : (a b c : List ℕ) (kind : Kind) (dated maturity : Day) (rest : List (List ℕ))
-    → calendar_in (a ∷ b ∷ c ∷ kind_word kind ∷ day_text (civil dated) ∷ first_text kind ∷ day_text (civil maturity) ∷ rest) ≡ Ok (kind, dated, maturity)
+abbrev calendar_fields : Kind → Day → Day → List (List ℕ) → List (List ℕ)
+calendar_fields kind dated maturity rest = kind_word kind ∷ day_text (civil dated) ∷ first_text kind ∷ day_text (civil maturity) ∷ rest
+
+first-calendar : (a b c : List ℕ) (kind : Kind) (dated maturity : Day) (rest : List (List ℕ)) → calendar_in 3 (a ∷ b ∷ c ∷ calendar_fields kind dated maturity rest) ≡ Ok (kind, dated, maturity)
 unfolding calendar_in field_at
-calendar-again a b c (Periodic first) dated maturity rest = rw (day_again dated, day_again first, day_again maturity) refl
-calendar-again a b c Zero dated maturity rest = rw (day_again dated, day_again maturity) refl
-calendar-again a b c AtRedemption dated maturity rest = rw (day_again dated, day_again maturity) refl
-calendar-again a b c Discount dated maturity rest = rw (day_again dated, day_again maturity) refl
+first-calendar a b c (Periodic first) dated maturity rest = rw (day_again dated, day_again first, day_again maturity) refl
+first-calendar a b c Zero dated maturity rest = rw (day_again dated, day_again maturity) refl
+first-calendar a b c AtRedemption dated maturity rest = rw (day_again dated, day_again maturity) refl
+first-calendar a b c Discount dated maturity rest = rw (day_again dated, day_again maturity) refl
+
+amended-calendar : (a b c d : List ℕ) (kind : Kind) (dated maturity : Day) (rest : List (List ℕ)) → calendar_in 4 (a ∷ b ∷ c ∷ d ∷ calendar_fields kind dated maturity rest) ≡ Ok (kind, dated, maturity)
+unfolding calendar_in field_at
+amended-calendar a b c d (Periodic first) dated maturity rest = rw (day_again dated, day_again first, day_again maturity) refl
+amended-calendar a b c d Zero dated maturity rest = rw (day_again dated, day_again maturity) refl
+amended-calendar a b c d AtRedemption dated maturity rest = rw (day_again dated, day_again maturity) refl
+amended-calendar a b c d Discount dated maturity rest = rw (day_again dated, day_again maturity) refl
 
 coupon-again : (pays : Bool) (coupon : ℕ) → coupon ≤ 300_000_000 → coupon_by pays (coupon_text coupon) ≡ Some coupon
 unfolding coupon_reading amount_reading
@@ -94,22 +104,41 @@ basis-again : (basis : Basis) → basis_field (days_word basis) ≡ Some basis
 basis-again Thirty360 = refl
 basis-again Actual365 = refl
 
--- ---- the row
-row-again : (row : IssueRow) → row.coupon ≤ 300_000_000 → AreRead row → row_of (issue_fields row) ≡ Ok (AddIssue row)
-unfolding row_of command_in issue_in issue_fields field_at
-row-again row coupon are =
+-- ---- the rows
+first-again : (row : IssueRow) → row.coupon ≤ 300_000_000 → AreRead row → row_of (first_terms_fields row) ≡ Ok (AddIssue row)
+unfolding row_of command_in issue_in issue_terms_fields field_at
+first-again row coupon are =
     rw (
       are.cusip,
       are.name,
-      calendar-again (codes "issue") row.cusip row.name.items row.kind row.dated row.maturity _,
+      first-calendar (codes "issue") row.cusip row.name.items row.kind row.dated row.maturity _,
       coupon-again (Check.pays_interest row.kind) row.coupon coupon,
       are.calls,
       basis-again row.basis,
     ) refl
 
-pub issue-row-again : (row : IssueRow) → length row.cusip ≡ 9 → length row.name.items ≤ 60 → row.coupon ≤ 300_000_000 → length row.calls.items ≤ 40 → Check.fault_of row ≡ None → row_of (issue_fields row) ≡ Ok (AddIssue row)
-issue-row-again row nine few coupon calls none =
-    row-again row coupon (stored-read row (issue-again row nine few coupon calls none))
+amendment-again : (number : ℕ) (row : IssueRow) → number ≤ 999_999_999 → row.coupon ≤ 300_000_000 → AreRead row → row_of (amendment_fields number row) ≡ Ok (Amend number row)
+unfolding row_of command_in issue_in issue_terms_fields field_at
+amendment-again number row few coupon are =
+    rw (
+      are.cusip,
+      number-again number few,
+      are.name,
+      amended-calendar (codes "amend") row.cusip (decimal number) row.name.items row.kind row.dated row.maturity _,
+      coupon-again (Check.pays_interest row.kind) row.coupon coupon,
+      are.calls,
+      basis-again row.basis,
+    ) refl
+
+row-again : (number : ℕ) (first : Bool) (row : IssueRow) → number ≤ 999_999_999 → row.coupon ≤ 300_000_000 → AreRead row
+    → row_of (if first then first_terms_fields row else amendment_fields number row) ≡ Ok (if first then AddIssue row else Amend number row)
+row-again number true row few coupon are = first-again row coupon are
+row-again number false row few coupon are = amendment-again number row few coupon are
+
+pub issue-row-again : (number : ℕ) (row : IssueRow) → number ≤ 999_999_999 → length row.cusip ≡ 9 → length row.name.items ≤ 60 → row.coupon ≤ 300_000_000 → length row.calls.items ≤ 40 → Check.fault_of row ≡ None
+    → row_of (issue_fields number row) ≡ Ok (issue_command number row)
+issue-row-again number row fits nine few coupon calls none =
+    row-again number (number == 1) row fits coupon (stored-read row (issue-again row nine few coupon calls none))
 
 -- ---- the characters of a CUSIP
 all-last : (p : ℕ → Bool) (n : ℕ) (text : List ℕ) → length text ≡ suc n → list_all p (take n text) ≡ true → p (slice_index text n) ≡ true → list_all p text ≡ true

@@ -1,10 +1,10 @@
 -- The row of a version, read again.
-use Rattle.std.proofs.Common.{◌≡◌, ◌≤◌, ◌<◌, ◌/◌, ◌^◌, ℕ, suc, Bool, true, false, List, [], ◌∷◌, length, decimal, Some, None, Ok, refl, arith, ℤ, pos, negsuc}
-use Rattle.std.specs.Prelude.{◌==◌, nat_lt, nat_le, codes, if◌then◌else◌, unsigned_abs}
+use Rattle.std.proofs.Common.{◌≡◌, ◌≤◌, ◌<◌, ◌/◌, ◌^◌, ℕ, suc, Bool, true, false, List, [], ◌∷◌, ◌++◌, length, decimal, Option, Some, None, Ok, refl, arith, ℤ, pos, negsuc}
+use Rattle.std.specs.Prelude.{◌==◌, nat_lt, nat_le, codes, if◌then◌else◌, unsigned_abs, IfSome}
 use Rattle.std.specs.Char.{is_ascii_alphanumeric}
 use Rattle.std.specs.List.{list_all}
 use Rattle.std.proofs.lemmas.Bool.Decides.{nat_tests}
-use Rattle.std.proofs.lemmas.Fmt.{length-decimal-le}
+use Rattle.std.proofs.lemmas.Fmt.{decimal_nonempty, length-decimal-le}
 use Rattle.std.proofs.lemmas.List.{length-append}
 use Rattle.csv.specs.Records.{field_at}
 use Rattle.muni_rule.specs.Cusip.{is_cusip_character}
@@ -13,7 +13,7 @@ use Rattle.muni_dec.specs.Digits.{last_digits}
 use Rattle.muni_dec.specs.Values.{amount_reading, fee_reading, fee_text, if_yield, par_reading, percent_reading, price_reading, price_text, yield_reading, yield_text}
 use Rattle.muni_dec.proofs.NumberLemmas.{number-reading}
 use Rattle.muni_dec.proofs.RoundTripLemmas.{digits-read-again, read-again, signed-read-again}
-use Rattle.muni_import.specs.Row.{command_in, given_in, row_of, terms_in}
+use Rattle.muni_import.specs.Row.{command_in, given_in, issue_number_field, row_of, terms_in}
 use Rattle.muni_msg.specs.Fields.{fee_field, given_reading, side_reading, version_number}
 use Rattle.muni_msg.specs.IssueFields.{cusip_reading}
 use Rattle.muni_msg.specs.Names.{is_desk_letter, IsName}
@@ -76,7 +76,7 @@ unfolding yield_reading percent_reading
 percent_again units inside =
     rw (signed-read-again 4 units (omega arith) (small-percent units inside), inside) refl
 
-number-again : (number : ℕ) → number ≤ 999_999_999 → version_number (decimal number) ≡ Some number
+pub number-again : (number : ℕ) → number ≤ 999_999_999 → version_number (decimal number) ≡ Some number
 number-again number few =
     let short : length (decimal number) ≤ 9 = length-decimal-le 9 number (omega arith) (omega (arith, few)) (omega (arith, few)) in
     number-reading 9 0 999_999_999 (omega arith) (decimal number) number
@@ -100,53 +100,65 @@ pub record AreRead (asked : Asked) : Type 0 where
   pub given : given_reading (basis_word asked.given) (value_text asked.given) ≡ Some asked.given
   pub fee : fee_field (fee_text asked.fee) ≡ Some asked.fee
 
-trade-given : (a b c d e f g h : List ℕ) (given : Given) → given_reading (basis_word given) (value_text given) ≡ Some given
-    → given_in 8 (a ∷ b ∷ c ∷ d ∷ e ∷ f ∷ g ∷ basis_word given ∷ value_text given ∷ h ∷ []) ≡ Ok given
+trade-given : (a b c d e f g : List ℕ) (given : Given) (rest : List (List ℕ)) → given_reading (basis_word given) (value_text given) ≡ Some given
+    → given_in 8 (a ∷ b ∷ c ∷ d ∷ e ∷ f ∷ g ∷ basis_word given ∷ value_text given ∷ rest) ≡ Ok given
 unfolding field_at
-trade-given a b c d e f g h (AtYield y) is = rw is refl
-trade-given a b c d e f g h (AtPrice price) is = rw is refl
-trade-given a b c d e f g h (AtRate rate) is = rw is refl
+trade-given a b c d e f g (AtYield y) rest is = rw is refl
+trade-given a b c d e f g (AtPrice price) rest is = rw is refl
+trade-given a b c d e f g (AtRate rate) rest is = rw is refl
 
-correction-given : (a b c d e f g h i : List ℕ) (given : Given) → given_reading (basis_word given) (value_text given) ≡ Some given
-    → given_in 9 (a ∷ b ∷ c ∷ d ∷ e ∷ f ∷ g ∷ h ∷ basis_word given ∷ value_text given ∷ i ∷ []) ≡ Ok given
+correction-given : (a b c d e f g h : List ℕ) (given : Given) (rest : List (List ℕ)) → given_reading (basis_word given) (value_text given) ≡ Some given
+    → given_in 9 (a ∷ b ∷ c ∷ d ∷ e ∷ f ∷ g ∷ h ∷ basis_word given ∷ value_text given ∷ rest) ≡ Ok given
 unfolding field_at
-correction-given a b c d e f g h i (AtYield y) is = rw is refl
-correction-given a b c d e f g h i (AtPrice price) is = rw is refl
-correction-given a b c d e f g h i (AtRate rate) is = rw is refl
+correction-given a b c d e f g h (AtYield y) rest is = rw is refl
+correction-given a b c d e f g h (AtPrice price) rest is = rw is refl
+correction-given a b c d e f g h (AtRate rate) rest is = rw is refl
 
-trade-terms : (a b c : List ℕ) (asked : Asked) → AreRead asked → terms_in 4 (a ∷ b ∷ c ∷ terms_fields asked) ≡ Ok (record { asked = asked })
+trade-terms : (a b c : List ℕ) (asked : Asked) (rest : List (List ℕ)) → AreRead asked → terms_in 4 (a ∷ b ∷ c ∷ terms_fields asked ++ rest) ≡ Ok (record { asked = asked })
 unfolding terms_in terms_fields field_at
-trade-terms a b c asked are =
+trade-terms a b c asked rest are =
     rw (
       cusip-again asked.cusip are.nine are.characters,
       side-again asked.side,
       are.par,
       day_again asked.settle,
-      trade-given a b c asked.cusip (side_word asked.side) (decimal asked.par) _ _ asked.given are.given,
+      trade-given a b c asked.cusip (side_word asked.side) (decimal asked.par) _ asked.given _ are.given,
       are.fee,
     ) refl
 
-correction-terms : (a b c d : List ℕ) (asked : Asked) → AreRead asked → terms_in 5 (a ∷ b ∷ c ∷ d ∷ terms_fields asked) ≡ Ok (record { asked = asked })
+correction-terms : (a b c d : List ℕ) (asked : Asked) (rest : List (List ℕ)) → AreRead asked → terms_in 5 (a ∷ b ∷ c ∷ d ∷ terms_fields asked ++ rest) ≡ Ok (record { asked = asked })
 unfolding terms_in terms_fields field_at
-correction-terms a b c d asked are =
+correction-terms a b c d asked rest are =
     rw (
       cusip-again asked.cusip are.nine are.characters,
       side-again asked.side,
       are.par,
       day_again asked.settle,
-      correction-given a b c d asked.cusip (side_word asked.side) (decimal asked.par) _ _ asked.given are.given,
+      correction-given a b c d asked.cusip (side_word asked.side) (decimal asked.par) _ asked.given _ are.given,
       are.fee,
     ) refl
+
+-- ---- the number of the terms of the issue
+numbered-again : (number : ℕ) → number ≤ 999_999_999 → issue_number_field (decimal number) ≡ Some (Some number)
+numbered-again number few =
+    let some : (length (decimal number) == 0) ≡ false = grind (arith, nat_tests, decimal_nonempty number (omega (arith, few))) in
+    rw (some, number-again number few) refl
 
 -- ---- the rows
-pub version-again : (act : Act) (key : Key) (number : ℕ) (terms : Terms) → IsName is_desk_letter 16 key.desk → IsName is_ascii_alphanumeric 20 key.reference → number ≤ 999_999_999 → AreRead terms.asked
-    → row_of (fields_by act key number terms.asked) ≡ Ok (command_by act key number terms)
+pub version-again : (act : Act) (key : Key) (number : ℕ) (terms : Terms) (issue : Option ℕ) → IsName is_desk_letter 16 key.desk → IsName is_ascii_alphanumeric 20 key.reference → number ≤ 999_999_999 → IfSome issue (λ n. n ≤ 999_999_999) → AreRead terms.asked
+    → row_of (fields_by act key number terms.asked issue) ≡ Ok (command_by act key number terms issue)
 unfolding row_of command_in terms_fields field_at
-version-again Entered key number terms desk reference few are =
-    let terms_again = trade-terms (codes "trade") key.desk key.reference terms.asked are in
+version-again Entered key number terms None desk reference few issue_few are =
+    let terms_again = trade-terms (codes "trade") key.desk key.reference terms.asked [] are in
     rw (name_again is_desk_letter 16 key.desk desk, name_again is_ascii_alphanumeric 20 key.reference reference, terms_again) refl
-version-again Corrected key number terms desk reference few are =
-    let terms_again = correction-terms (codes "correct") key.desk key.reference (decimal number) terms.asked are in
+version-again Entered key number terms (Some issue) desk reference few issue_few are =
+    let terms_again = trade-terms (codes "trade") key.desk key.reference terms.asked (decimal issue ∷ []) are in
+    rw (name_again is_desk_letter 16 key.desk desk, name_again is_ascii_alphanumeric 20 key.reference reference, terms_again, numbered-again issue issue_few) refl
+version-again Corrected key number terms None desk reference few issue_few are =
+    let terms_again = correction-terms (codes "correct") key.desk key.reference (decimal number) terms.asked [] are in
     rw (name_again is_desk_letter 16 key.desk desk, name_again is_ascii_alphanumeric 20 key.reference reference, number-again number few, terms_again) refl
-version-again Canceled key number terms desk reference few are =
+version-again Corrected key number terms (Some issue) desk reference few issue_few are =
+    let terms_again = correction-terms (codes "correct") key.desk key.reference (decimal number) terms.asked (decimal issue ∷ []) are in
+    rw (name_again is_desk_letter 16 key.desk desk, name_again is_ascii_alphanumeric 20 key.reference reference, number-again number few, terms_again, numbered-again issue issue_few) refl
+version-again Canceled key number terms issue desk reference few issue_few are =
     rw (name_again is_desk_letter 16 key.desk desk, name_again is_ascii_alphanumeric 20 key.reference reference, number-again number few) refl

@@ -2,14 +2,13 @@
 //!
 //! A body here reads values only to know the ranges of their types.
 
-ghost use Rattle.std.specs.Prelude.{◌≡◌, length, decimal, Some, Ok};
+ghost use Rattle.std.specs.Prelude.{◌≡◌, ◌≤◌, length, decimal, Some, Ok};
 ghost use Rattle.std.specs.Char.{is_ascii_alphanumeric};
 ghost use Rattle.muni_dec.specs.Values.{fee_text, if_yield, par_reading, price_reading, price_text, yield_reading, yield_text};
 ghost use Rattle.muni_import.specs.Row.{row_of};
 ghost use Rattle.muni_msg.specs.Fields.{fee_field, given_reading};
 ghost use Rattle.muni_msg.specs.Names.{is_desk_letter, IsName};
-ghost use Rattle.muni_msg.specs.declared.command.Command.TheVariants.{AddIssue};
-ghost use Rattle.muni_export.specs.Laws.{command_of, IsWritable, RowsAreReadAgain};
+ghost use Rattle.muni_export.specs.Laws.{command_of, issue_command, IsWritable, RowsAreReadAgain};
 ghost use Rattle.muni_export.specs.Rows.{issue_fields, version_fields};
 ghost use Rattle.muni_export.specs.Words.{basis_word, value_text};
 
@@ -17,9 +16,10 @@ use muni_dec::{Fee, Par, Price, Yield};
 use muni_msg::{Given, Key, Version};
 use muni_terms::Issue;
 
-/// A law: the row of an issue is read as the command to keep that issue.
-pub fn issues_are_read_again(issue: &Issue)
-    ensures { row_of (issue_fields issue.now) ≡ Ok (AddIssue issue.now) }
+/// A law: the row of an issue by its terms with a number is read as the command that keeps these terms.
+pub fn issues_are_read_again(number: u32, issue: &Issue)
+    requires { number ≤ 999_999_999 }
+    ensures { row_of (issue_fields number issue.now) ≡ Ok (issue_command number issue.now) }
 {
     let row = issue.row();
     nine_characters(&row.cusip);
@@ -28,11 +28,12 @@ pub fn issues_are_read_again(issue: &Issue)
     let _calls = row.calls.as_slice();
 }
 
-/// A law: the row of a version is read as the command that enters, corrects or cancels the trade so.
-pub fn versions_are_read_again(key: &Key, number: u32, version: &Version)
-    requires { IsWritable number version.now }
-    ensures { row_of (version_fields key.now number version.now)
-        ≡ Ok (command_of key.now number version.now) }
+/// A law: the row of a version is read as the command that enters, corrects or cancels the trade so, by the
+/// terms of its issue with the number that is written.
+pub fn versions_are_read_again(key: &Key, number: u32, version: &Version, issue_number: Option<u32>)
+    requires { IsWritable number version.now issue_number }
+    ensures { row_of (version_fields key.now number version.now issue_number)
+        ≡ Ok (command_of key.now number version.now issue_number) }
 {
     let asked = &version.terms.asked;
     names_are_names(key);

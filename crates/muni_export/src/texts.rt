@@ -1,19 +1,58 @@
-//! The texts of a trade.
+//! The texts of an issue and of a trade.
 
-ghost use Rattle.std.specs.Prelude.{◌≡◌, decimal};
+ghost use Rattle.std.specs.Prelude.{◌≡◌, decimal, IfSome};
 ghost use Rattle.std.specs.Fmt.{signed_decimal};
 ghost use Rattle.muni_export.specs.List.{figure_fields, money_fields};
-ghost use Rattle.muni_export.specs.Rows.{terms_fields};
+ghost use Rattle.muni_export.specs.Rows.{issue_terms_fields, terms_fields};
 ghost use Rattle.muni_export.specs.Words.{value_text};
 
 use arrayvec::ArrayVec;
 use itoa::Buffer;
+use muni_days::Basis;
 use muni_dec::text::push;
 use muni_msg::{Asked, Figures, Given, Side};
-use muni_terms::Label;
+use muni_store_rows::{IssueColumns, issue_columns};
+use muni_terms::{Issue, Kind, Label};
 use std::marker::Model;
 
-/// The texts of the terms.
+/// The texts of the terms of an issue.
+#[derive(Drop)]
+pub(crate) struct IssueTexts {
+    pub columns: IssueColumns,
+    pub kind: Kind,
+    pub coupon: ArrayVec<u8, 32>,
+    pub basis: Basis,
+}
+
+impl Model for IssueTexts {
+    ghost use Rattle.std.specs.Prelude.{ℕ, List, [], ◌∷◌};
+    ghost use Rattle.muni_export.specs.Words.{days_word, kind_word};
+
+    ghost Value = { List (List ℕ) };
+
+    ghost view = { λ texts. texts.columns.name ∷ kind_word texts.kind ∷ texts.columns.dated
+        ∷ texts.columns.first ∷ texts.columns.maturity ∷ texts.coupon.items ∷ texts.columns.calls
+        ∷ days_word texts.basis ∷ [] };
+}
+
+impl IssueTexts {
+    #[tactic(auto, unfolding(crate::specs::Rows::issue_terms_fields, muni_store_rows::specs::Issue::columns_of))]
+    pub(crate) fn new(issue: &Issue) -> IssueTexts
+        ensures { result ≡ issue_terms_fields issue.now }
+    {
+        let row = issue.row();
+        let mut texts = IssueTexts {
+            columns: issue_columns(issue),
+            kind: row.kind,
+            coupon: ArrayVec::new(),
+            basis: row.basis,
+        };
+        row.coupon.print_into(&mut texts.coupon);
+        texts
+    }
+}
+
+/// The texts of the terms of a trade.
 #[derive(Drop)]
 pub(crate) struct TermTexts {
     pub cusip: [u8; 9],
@@ -162,4 +201,14 @@ pub(crate) fn print_number(number: u32) -> ArrayVec<u8, 32>
     let mut text = ArrayVec::new();
     push(&mut text, buffer.format(number).as_bytes());
     text
+}
+
+/// A whole number in digits, or nothing.
+pub(crate) fn print_if_some(number: Option<u32>) -> ArrayVec<u8, 32>
+    ensures { IfSome number (λ number. result.items ≡ decimal number) }
+{
+    match number {
+        Some(number) => print_number(number),
+        None => ArrayVec::new(),
+    }
 }

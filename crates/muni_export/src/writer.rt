@@ -2,15 +2,13 @@
 
 ghost use Rattle.std.specs.Prelude.{◌≡◌, ◌++◌, [], map, IfOk, OnOk};
 ghost use Rattle.muni_export.specs.List.{list_line, list_names};
-ghost use Rattle.muni_export.specs.Rows.{cancel_fields, correction_fields, issue_row, row, trade_fields, version_row};
+ghost use Rattle.muni_export.specs.Rows.{amendment_fields, cancel_fields, correction_fields, first_terms_fields, issue_row, row, trade_fields, version_row};
 
-use crate::texts::{FigureTexts, MoneyTexts, TermTexts, print_number};
+use crate::texts::{FigureTexts, IssueTexts, MoneyTexts, TermTexts, print_if_some, print_number};
 use crate::words::{basis_word, days_word, kind_word, label_word, side_word, state_word};
-use arrayvec::ArrayVec;
 use csv::{Writer, WriterBuilder};
 use muni_edge::NoMemory;
 use muni_msg::{Act, Asked, Key, Line, Version};
-use muni_store_rows::issue_columns;
 use muni_terms::Issue;
 use std::alloc::Global;
 use std::marker::Model;
@@ -48,36 +46,33 @@ impl RowWriter {
         }
     }
 
-    /// Appends the row of an issue.
-    pub fn issue(&mut self, issue: &Issue) -> Result<(), NoMemory>
-        ensures { OnOk result (self.new ≡ self.old ++ issue_row issue.now) }
+    /// Appends the row of an issue by its terms with this number: that of the first ones, or of an amendment.
+    pub fn issue(&mut self, number: u32, issue: &Issue) -> Result<(), NoMemory>
+        ensures { OnOk result (self.new ≡ self.old ++ issue_row number issue.now) }
     {
-        let columns = issue_columns(issue);
-        let row = issue.row();
-        let mut coupon = ArrayVec::new();
-        row.coupon.print_into(&mut coupon);
-        self.push(&[
-            b"issue".as_slice(),
-            columns.cusip.as_slice(),
-            columns.name.as_slice(),
-            kind_word(&row.kind),
-            columns.dated.as_slice(),
-            columns.first.as_slice(),
-            columns.maturity.as_slice(),
-            coupon.as_slice(),
-            columns.calls(),
-            days_word(&row.basis),
-        ])
+        if number == 1 {
+            self.first_terms(issue)
+        } else {
+            self.amendment(number, issue)
+        }
     }
 
-    /// Appends the row of a version of a trade: that of its entry, of a correction or of a cancel.
-    pub fn version(&mut self, key: &Key, number: u32, version: &Version) -> Result<(), NoMemory>
-        ensures { OnOk result (self.new ≡ self.old ++ version_row key.now number version.now) }
+    /// Appends the row of a version of a trade: that of its entry, of a correction or of a cancel. The number of
+    /// the terms of its issue is written at the end if it is given; a cancel has none.
+    pub fn version(
+        &mut self,
+        key: &Key,
+        number: u32,
+        version: &Version,
+        issue_number: Option<u32>,
+    ) -> Result<(), NoMemory>
+        ensures { OnOk result (self.new
+            ≡ self.old ++ version_row key.now number version.now issue_number) }
     {
         let asked = &version.terms.asked;
         match version.act {
-            Act::Entered => self.trade(key, asked),
-            Act::Corrected => self.correction(key, number, asked),
+            Act::Entered => self.trade(key, asked, issue_number),
+            Act::Corrected => self.correction(key, number, asked, issue_number),
             Act::Canceled => self.cancel(key, number),
         }
     }
@@ -155,11 +150,55 @@ impl RowWriter {
         }
     }
 
-    fn trade(&mut self, key: &Key, asked: &Asked) -> Result<(), NoMemory>
-        ensures { OnOk result (self.new ≡ self.old ++ row (trade_fields key.now asked.now)) }
+    fn first_terms(&mut self, issue: &Issue) -> Result<(), NoMemory>
+        ensures { OnOk result (self.new ≡ self.old ++ row (first_terms_fields issue.now)) }
+    {
+        let cusip = issue.row().cusip;
+        let terms = IssueTexts::new(issue);
+        let columns = &terms.columns;
+        self.push(&[
+            b"issue".as_slice(),
+            cusip.as_slice(),
+            columns.name.as_slice(),
+            kind_word(&terms.kind),
+            columns.dated.as_slice(),
+            columns.first.as_slice(),
+            columns.maturity.as_slice(),
+            terms.coupon.as_slice(),
+            columns.calls(),
+            days_word(&terms.basis),
+        ])
+    }
+
+    fn amendment(&mut self, number: u32, issue: &Issue) -> Result<(), NoMemory>
+        ensures { OnOk result (self.new ≡ self.old ++ row (amendment_fields number issue.now)) }
+    {
+        let number = print_number(number);
+        let cusip = issue.row().cusip;
+        let terms = IssueTexts::new(issue);
+        let columns = &terms.columns;
+        self.push(&[
+            b"amend".as_slice(),
+            cusip.as_slice(),
+            number.as_slice(),
+            columns.name.as_slice(),
+            kind_word(&terms.kind),
+            columns.dated.as_slice(),
+            columns.first.as_slice(),
+            columns.maturity.as_slice(),
+            terms.coupon.as_slice(),
+            columns.calls(),
+            days_word(&terms.basis),
+        ])
+    }
+
+    fn trade(&mut self, key: &Key, asked: &Asked, issue_number: Option<u32>) -> Result<(), NoMemory>
+        ensures { OnOk result (self.new
+            ≡ self.old ++ row (trade_fields key.now asked.now issue_number)) }
     {
         let terms = TermTexts::new(asked);
-        self.push(&[
+        let last = print_if_some(issue_number);
+        let fields = [
             b"trade".as_slice(),
             key.desk.bytes(),
             key.reference.bytes(),
@@ -170,16 +209,28 @@ impl RowWriter {
             basis_word(&terms.given),
             terms.value.as_slice(),
             terms.fee.as_slice(),
-        ])
+            last.as_slice(),
+        ];
+        match issue_number {
+            Some(_) => self.push(&fields),
+            None => self.push(&fields[..fields.len() - 1]),
+        }
     }
 
-    fn correction(&mut self, key: &Key, number: u32, asked: &Asked) -> Result<(), NoMemory>
+    fn correction(
+        &mut self,
+        key: &Key,
+        number: u32,
+        asked: &Asked,
+        issue_number: Option<u32>,
+    ) -> Result<(), NoMemory>
         ensures { OnOk result (self.new
-            ≡ self.old ++ row (correction_fields key.now number asked.now)) }
+            ≡ self.old ++ row (correction_fields key.now number asked.now issue_number)) }
     {
         let number = print_number(number);
         let terms = TermTexts::new(asked);
-        self.push(&[
+        let last = print_if_some(issue_number);
+        let fields = [
             b"correct".as_slice(),
             key.desk.bytes(),
             key.reference.bytes(),
@@ -191,7 +242,12 @@ impl RowWriter {
             basis_word(&terms.given),
             terms.value.as_slice(),
             terms.fee.as_slice(),
-        ])
+            last.as_slice(),
+        ];
+        match issue_number {
+            Some(_) => self.push(&fields),
+            None => self.push(&fields[..fields.len() - 1]),
+        }
     }
 
     fn cancel(&mut self, key: &Key, number: u32) -> Result<(), NoMemory>

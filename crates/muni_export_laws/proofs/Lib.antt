@@ -1,4 +1,5 @@
 mod ExportLemmas
+mod IssueLemmas
 mod MapLemmas
 mod PartLemmas
 mod PartTextLemmas

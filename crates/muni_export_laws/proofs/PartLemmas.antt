@@ -2,7 +2,7 @@
 use Rattle.std.proofs.Common.{◌≡◌, ◌≤◌, ℕ, Bool, true, false, cond, All, List, [], ◌∷◌, ◌++◌, map, Option, Some, None, refl, sym, ap, subst, ◌∙◌, arith, append_assoc}
 use Rattle.std.specs.Prelude.{◌||◌}
 use Rattle.std.specs.List.{AllByRecursion, list_any}
-use Rattle.std.specs.Option.{unwrap_or}
+use Rattle.std.specs.Option.{option_and_then, unwrap_or}
 use Rattle.std.specs.Ordering.{eq_by_cmp}
 use Rattle.std.specs.Cmp.Lexicographic.{nat_list_cmp_total}
 use Rattle.std.specs.FinMap.{empty, entries, find, get, len, get-empty, get-entries, get-insert, get-retain_keys, len-empty}
@@ -12,8 +12,8 @@ use Rattle.std.proofs.lemmas.Option.{none-some, same_Some}
 use Rattle.muni_terms.specs.declared.row.IssueRow.{IssueRow}
 use Rattle.muni_msg.specs.declared.command.Key.{Key}
 use Rattle.muni_msg.specs.declared.version.Version.{Version}
-use Rattle.muni_keep.specs.History.{History, versions}
-use Rattle.muni_keep.specs.Tables.{Tables, issue_at, line, trade_at}
+use Rattle.muni_keep.specs.History.{History, version_in, versions}
+use Rattle.muni_keep.specs.Tables.{Tables, issue_history, line, trade_at}
 use Rattle.muni_keep.specs.Trades.{by_bytes, Trades, own}
 use Rattle.muni_book_step.specs.Sound.{Rightness, IsRightVersion, HasAtMost, IsSound}
 use Rattle.muni_book.specs.Rules.{book_rules}
@@ -23,6 +23,7 @@ use Rattle.muni_desk_export.specs.Trades.{kept_versions}
 use Rattle.muni_export_laws.specs.Laws.{DesksAreImportedAgain}
 use Rattle.muni_export_laws.specs.Part.{one_desk, part_of}
 use Rattle.muni_export_laws.proofs.ExportLemmas.{again, filled-run, sound-run}
+use Rattle.muni_export_laws.proofs.RunLemmas.{all-still}
 use Rattle.muni_export_laws.proofs.StepLemmas.{ArePriced}
 use Rattle.muni_export_laws.proofs.TableLemmas.{AreFilled}
 
@@ -72,16 +73,20 @@ filled-part : (t : Tables) (desk : List ℕ) → AreFilled t → AreFilled (part
 filled-part t desk filled q trades is = filled desk trades (kept-one_desk desk q (get t.desks desk) trades is)
 
 -- ---- its issues
-issue-part : (t : Tables) (desk q : List ℕ) → issue_at (part_of desk t) q ≡ cond (is_named t desk q) (issue_at t q) None
+issue-part : (t : Tables) (desk q : List ℕ) → issue_history (part_of desk t) q ≡ cond (is_named t desk q) (issue_history t q) None
 issue-part t desk q =
     get-retain_keys t.issues (is_named t desk) q (λ other tied. ap (is_named t desk) (sym (exact_bytes q other tied)))
 
-issue-of : (t : Tables) (desk q : List ℕ) (issue : IssueRow) → issue_at (part_of desk t) q ≡ Some issue → issue_at t q ≡ Some issue
-issue-of t desk q issue is =
-    elim (is_named t desk q) as (λ b. cond b (issue_at t q) None ≡ Some issue → issue_at t q ≡ Some issue) [
+issue-of : (t : Tables) (desk q : List ℕ) (terms : History IssueRow) → issue_history (part_of desk t) q ≡ Some terms → issue_history t q ≡ Some terms
+issue-of t desk q terms is =
+    elim (is_named t desk q) as (λ b. cond b (issue_history t q) None ≡ Some terms → issue_history t q ≡ Some terms) [
       | true ↦ λ there. there
-      | false ↦ λ none. absurd (none-some issue none)
+      | false ↦ λ none. absurd (none-some terms none)
     ] (sym (issue-part t desk q) ∙ is)
+
+-- one that is named is as it was
+named-part : (t : Tables) (desk q : List ℕ) → is_named t desk q ≡ true → issue_history (part_of desk t) q ≡ issue_history t q
+named-part t desk q named = issue-part t desk q ∙ ap (λ b. cond b (issue_history t q) None) named
 
 or-left : (a b : Bool) → a ≡ true → (a || b) ≡ true
 or-left true b is = refl
@@ -129,26 +134,33 @@ both-all : {A : Type 0} (P Q S : A → Type 0) (xs : List A) → AllByRecursion 
 both-all P Q S [] all also f = tt
 both-all P Q S (x ∷ xs) all also f = (f x all.0 also.0, both-all P Q S xs all.1 also.1 f)
 
+-- so the issues of the versions of its trades are as they were
+abbrev pub HasOwnIssue : Tables → Tables → Version → Type 0
+HasOwnIssue t part version = issue_history part version.terms.asked.cusip ≡ issue_history t version.terms.asked.cusip
+
+pub own-issues : (t : Tables) (desk reference : List ℕ) (history : History Version) → get (own desk t.desks) reference ≡ Some history → AllByRecursion (HasOwnIssue t (part_of desk t)) (versions history)
+own-issues t desk reference history is =
+    let list = versions history in
+    all-still (λ version. list_any (is_of version.terms.asked.cusip) list ≡ true) (HasOwnIssue t (part_of desk t)) list
+    (λ version among. named-part t desk version.terms.asked.cusip (names-own t desk reference history version is among)) (each-own [] list)
+
 right-part : (R : Rightness) (t : Tables) (desk reference : List ℕ) (history : History Version) → get (own desk t.desks) reference ≡ Some history
     → All (IsRightVersion R t.issues) (versions history) → All (IsRightVersion R (part_of desk t).issues) (versions history)
 right-part R t desk reference history is right =
     let list = versions history in
     All-from_recursion (IsRightVersion R (part_of desk t).issues) list
-    (both-all (IsRightVersion R t.issues) (λ version. list_any (is_of version.terms.asked.cusip) list ≡ true) (IsRightVersion R (part_of desk t).issues) list
-    (recursion_from_All (IsRightVersion R t.issues) list right) (each-own [] list)
-    (λ version right among.
-    let cusip = version.terms.asked.cusip in
-    let named = names-own t desk reference history version is among in
-    record {
+    (both-all (IsRightVersion R t.issues) (HasOwnIssue t (part_of desk t)) (IsRightVersion R (part_of desk t).issues) list
+    (recursion_from_All (IsRightVersion R t.issues) list right) (own-issues t desk reference history is)
+    (λ version right same. record {
       issue = right.issue;
-      kept = issue-part t desk cusip ∙ ap (λ b. cond b (issue_at t cusip) None) named ∙ right.kept;
+      kept = ap (option_and_then (λ terms. version_in terms version.issue_number)) same ∙ right.kept;
       right = right.right;
     }))
 
 -- ---- it is sound
 sound-part : (R : Rightness) (t : Tables) (desk : List ℕ) → IsSound R t → IsSound R (part_of desk t)
 sound-part R t desk sound = record {
-  issues = λ cusip issue is. sound.issues cusip issue (issue-of t desk cusip issue is);
+  issues = λ cusip terms is. sound.issues cusip terms (issue-of t desk cusip terms is);
   trades = λ key history is.
       let found = trade-of t desk key history is in
       let trade = sound.trades key history found.1 in

@@ -29,7 +29,8 @@ no-trade key = ap (λ trades. get trades key.reference) (no-own key.desk) ∙ ge
 
 pub empty-within : (all : Tables) → Keeps no_tables all
 empty-within all = record {
-  issues = λ cusip issue kept. absurd (none-some issue (sym (get-empty by_bytes cusip) ∙ kept));
+  issues = λ cusip number issue kept.
+      absurd (none-some issue (sym (ap (option_and_then (λ history. version_in history number)) (get-empty by_bytes cusip)) ∙ kept));
   versions = λ key number version kept.
       absurd (none-some version (sym (ap (option_and_then (λ history. version_in history number)) (no-trade key)) ∙ kept));
 }
@@ -39,7 +40,7 @@ empty-few most desk = rw (no-own desk, len-empty by_bytes (History Version)) (om
 
 pub empty-sound : (R : Rightness) → IsSound R no_tables
 empty-sound R = record {
-  issues = λ cusip issue kept. absurd (none-some issue (sym (get-empty by_bytes cusip) ∙ kept));
+  issues = λ cusip history kept. absurd (none-some history (sym (get-empty by_bytes cusip) ∙ kept));
   trades = λ key history kept. absurd (none-some history (sym (no-trade key) ∙ kept));
   few = empty-few 100_000_000;
 }

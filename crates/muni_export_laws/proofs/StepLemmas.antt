@@ -1,54 +1,63 @@
 -- One command of an export, over tables that keep only what the exported tables keep: it is accepted, and brings what
 -- it is of.
-use Rattle.std.proofs.Common.{◌≡◌, inl, inr, ◌≤◌, ◌<◌, ◌+◌, ℕ, zero, suc, true, false, cond, All, List, [], ◌∷◌, Some, None, Ok, refl, sym, ap, subst, ◌∙◌, arith}
-use Rattle.std.specs.Prelude.{nat_le, slice_get}
+use Rattle.std.proofs.Common.{◌≡◌, inl, inr, ◌≤◌, ◌<◌, ◌+◌, ◌==◌, ℕ, zero, suc, true, false, All, List, [], ◌∷◌, Option, Some, None, Ok, refl, sym, ap, subst, ◌∙◌, arith}
+use Rattle.std.specs.Prelude.{if◌then◌else◌, nat_le, slice_get}
 use Rattle.std.specs.Option.{option_and_then}
-use Rattle.std.specs.Ordering.{eq_by_cmp}
-use Rattle.std.specs.Cmp.Lexicographic.{nat_list_cmp_total}
-use Rattle.std.specs.FinMap.{len, get-insert}
+use Rattle.std.specs.FinMap.{get, len}
+use Rattle.std.proofs.lemmas.Bool.{eqb-true}
 use Rattle.std.proofs.lemmas.Bool.Decides.{nat_tests}
 use Rattle.std.proofs.lemmas.List.Elements.{All-head, All-tail}
 use Rattle.std.proofs.lemmas.Option.{none-some, same_Some}
-use Rattle.muni_terms.specs.Check.{unless_fault}
+use Rattle.muni_terms.specs.Check.{fault_of, unless_fault}
 use Rattle.muni_terms.specs.declared.row.IssueRow.{IssueRow}
 use Rattle.muni_msg.specs.declared.command.Command.{Command}
-use Rattle.muni_msg.specs.declared.command.Command.TheVariants.{AddIssue, Enter, Correct, Cancel}
+use Rattle.muni_msg.specs.declared.command.Command.TheVariants.{AddIssue, Amend, Enter, Correct, Cancel}
 use Rattle.muni_msg.specs.declared.command.Key.{Key}
-use Rattle.muni_msg.specs.declared.command.Reply.TheVariants.{Added, Confirmed}
+use Rattle.muni_msg.specs.declared.command.Reply.TheVariants.{Added, Amended, Confirmed}
 use Rattle.muni_msg.specs.declared.version.Act.TheVariants.{Entered, Corrected}
 use Rattle.muni_msg.specs.declared.version.Version.{Version}
 use Rattle.muni_keep.specs.History.{next_number, version_in, versions}
-use Rattle.muni_keep.specs.Tables.{Tables, issue_at, trade_at, version_at, with_issue, with_version}
-use Rattle.muni_keep.specs.Trades.{by_bytes, own}
+use Rattle.muni_keep.specs.Tables.{Tables, Issues, counted_terms, issue_history, issue_numbered, numbered_terms, trade_at, version_at, with_issue, with_version}
+use Rattle.muni_keep.specs.Trades.{own}
 use Rattle.muni_book_step.specs.Accepted.{IsConfirmed, IsKept}
-use Rattle.muni_book_step.specs.Plan.{cancel_of, is_canceled, is_full}
+use Rattle.muni_book_step.specs.Plan.{cancel_of, chosen_terms, is_canceled, is_chosen, is_full, issue_of, terms_by, terms_for}
 use Rattle.muni_book_step.specs.Reasons.{IsReasonFor}
-use Rattle.muni_book_step.specs.Sound.{Rightness, IsRightVersion, IsSound, IsSoundIssue, HaveAtMost}
+use Rattle.muni_book_step.specs.Sound.{Rightness, IsRightVersion, IsSound, HaveAtMost}
 use Rattle.muni_book_step.specs.Step.{Rules, NewIssue, NewVersion, Outcome, answered, kept, IsOutcome, IsStepOver}
-use Rattle.muni_book_step.proofs.ReadyLemmas.{live-next, new-next, none-kept}
+use Rattle.muni_book_step.proofs.PlanLemmas.{none-kept}
+use Rattle.muni_book_step.proofs.ReadyLemmas.{last-next, live-next, new-next}
 use Rattle.muni_book.specs.Once.{Keeps}
-use Rattle.muni_book.proofs.KeepLemmas.{issue-put}
-use Rattle.muni_book.proofs.OnceLemmas.{answered-again}
-use Rattle.muni_book.proofs.PutLemmas.{same-name, trade-put, version-put}
-use Rattle.muni_book.proofs.ReasonedLemmas.{cancel-planned, issue-planned, priced-planned}
+use Rattle.muni_book.proofs.KeepLemmas.{terms-after, terms-put}
+use Rattle.muni_book.proofs.OnceLemmas.{answered-again, has-last}
+use Rattle.muni_book.proofs.PutLemmas.{last-in, trade-put, version-put}
+use Rattle.muni_book.proofs.ReasonedLemmas.{amendment-planned, cancel-planned, issue-planned, priced-planned}
+use Rattle.muni_book.proofs.TermsLemmas.{terms-found}
+use Rattle.muni_desk_export.specs.Trades.{unless_last, written_number}
 use Rattle.muni_export_laws.proofs.MapLemmas.{fewer}
 use Rattle.muni_export_laws.proofs.RunLemmas.{IsRun, run-one}
+use Rattle.muni_export_laws.proofs.TableLemmas.{HasIssues, same-issues}
 use Rattle.muni_export_laws.proofs.VersionLemmas.{few-corrected, first-version, grown-has, kept-trade, last-of, place-of}
 
 -- ---- with what the exported tables keep added, tables still keep only that
-issue-within : (t all : Tables) (issue : IssueRow) → Keeps t all → issue_at all issue.cusip ≡ Some issue → Keeps (with_issue issue t) all
+issue-within : (t all : Tables) (issue : IssueRow) → Keeps t all → issue_numbered all issue.cusip (next_number (issue_history t issue.cusip)) ≡ Some issue → Keeps (with_issue issue t) all
 issue-within t all issue within there = record {
-  issues = λ q found is.
-      elim (eq_by_cmp by_bytes q issue.cusip) as (λ b. eq_by_cmp by_bytes q issue.cusip ≡ b → cond b (Some issue) (issue_at t q) ≡ Some found → issue_at all q ≡ Some found) [
-        | true ↦ λ same here. ap (issue_at all) (same-name q issue.cusip same) ∙ there ∙ here
-        | false ↦ λ other here. within.issues q found here
-      ] refl (sym (get-insert nat_list_cmp_total t.issues issue.cusip issue q) ∙ is);
+  issues = λ cusip number found is.
+      elim (terms-after t.issues issue cusip) as (λ _. issue_numbered all cusip number ≡ Some found) [
+        | inl here ↦
+            let same = ap (λ c. issue_numbered all c number) here.0 in
+            elim (grown-has (issue_history t issue.cusip) issue number found (sym (ap (option_and_then (λ history. version_in history number)) here.1) ∙ is)) as (λ _. issue_numbered all cusip number ≡ Some found) [
+              | inl before ↦ same ∙ within.issues issue.cusip number found before
+              | inr last ↦ same ∙ ap (issue_numbered all issue.cusip) last.0 ∙ there ∙ ap (λ x. Some x) last.1
+            ]
+        | inr elsewhere ↦
+            within.issues cusip number found (sym (ap (option_and_then (λ history. version_in history number)) elsewhere.1) ∙ is)
+      ];
   versions = λ key number version is. within.versions key number version is;
 }
 
 version-within : (t all : Tables) (key : Key) (version : Version) → Keeps t all → version_at all key (next_number (trade_at t key)) ≡ Some version → Keeps (with_version key version t) all
 version-within t all key version within there = record {
-  issues = λ cusip issue is. within.issues cusip issue is;
+  issues = λ cusip number issue is. within.issues cusip number issue is;
   versions = λ other number found is.
       elim (trade-put t key version other) as (λ _. version_at all other number ≡ Some found) [
         | inl here ↦
@@ -63,24 +72,54 @@ version-within t all key version within there = record {
 }
 
 -- ---- issues
--- an issue is added or confirmed
-pub issue-run : (P : Rules) (all t : Tables) (issue : IssueRow) → IsSoundIssue issue.cusip issue → issue_at all issue.cusip ≡ Some issue → Keeps t all
-    → IsRun P all t (AddIssue issue ∷ []) (λ new. issue_at new issue.cusip ≡ Some issue)
-issue-run P all t issue sound there within =
+-- the first terms of an issue are added or confirmed
+pub first-run : (P : Rules) (all t : Tables) (issue : IssueRow) → fault_of issue ≡ None → issue_numbered all issue.cusip 1 ≡ Some issue → Keeps t all
+    → IsRun P all t (AddIssue issue ∷ []) (λ new. issue_numbered new issue.cusip 1 ≡ Some issue)
+first-run P all t issue sound there within =
     let c = AddIssue issue in
-    let passed = ap (unless_fault issue) sound.passed in
-    elim (issue_at t issue.cusip) as (λ o. issue_at t issue.cusip ≡ o → IsRun P all t (c ∷ []) (λ new. issue_at new issue.cusip ≡ Some issue)) [
+    let passed = ap (unless_fault issue) sound in
+    elim (issue_numbered t issue.cusip 1) as (λ o. issue_numbered t issue.cusip 1 ≡ o → IsRun P all t (c ∷ []) (λ new. issue_numbered new issue.cusip 1 ≡ Some issue)) [
       | None ↦ λ none.
           let outcome : Outcome = record { reply = Added issue.cusip; entry = Some (NewIssue issue) } in
-          let planned = issue-planned P.limit t c issue (record { row = issue; command = refl; passed = passed; is_new = none }) in
-          run-one P all t c (Added issue.cusip) (Some (NewIssue issue)) (λ new. issue_at new issue.cusip ≡ Some issue)
+          let fresh = none-kept (issue_history t issue.cusip) none in
+          let next : 1 ≡ next_number (issue_history t issue.cusip) = sym (ap next_number fresh) in
+          let planned = issue-planned P.limit t c issue (record { row = issue; command = refl; passed = passed; is_new = fresh }) in
+          run-one P all t c (Added issue.cusip) (Some (NewIssue issue)) (λ new. issue_numbered new issue.cusip 1 ≡ Some issue)
           (subst (λ plan. IsOutcome P.prices plan outcome) (sym planned) refl) tt
-          (issue-within t all issue within there) (issue-put t.issues issue)
+          (issue-within t all issue within (ap (issue_numbered all issue.cusip) (sym next) ∙ there)) (terms-put t.issues issue 1 next)
       | Some other ↦ λ is.
-          let same : other ≡ issue = same_Some other issue (sym (within.issues issue.cusip other is) ∙ there) in
+          let same : other ≡ issue = same_Some other issue (sym (within.issues issue.cusip 1 other is) ∙ there) in
           let here = is ∙ ap (λ x. Some x) same in
-          run-one P all t c (Added issue.cusip) None (λ new. issue_at new issue.cusip ≡ Some issue)
+          run-one P all t c (Added issue.cusip) None (λ new. issue_numbered new issue.cusip 1 ≡ Some issue)
           (subst (λ plan. IsOutcome P.prices plan (answered (Added issue.cusip))) (sym (answered-again P.limit t c (Added issue.cusip) (issue, passed, here, refl))) refl) tt
+          within here
+    ] refl
+
+few-before : (n : ℕ) → n + 1 ≤ 99 → nat_le 99 n ≡ false
+few-before n few = grind (arith, nat_tests)
+
+-- and so are later ones, if those before them are kept
+pub amend-run : (P : Rules) (all t : Tables) (number : ℕ) (before issue : IssueRow) → fault_of issue ≡ None → number + 1 ≤ 99 → issue_numbered t issue.cusip number ≡ Some before
+    → issue_numbered all issue.cusip (number + 1) ≡ Some issue → Keeps t all → IsRun P all t (Amend (number + 1) issue ∷ []) (λ new. issue_numbered new issue.cusip (number + 1) ≡ Some issue)
+amend-run P all t number before issue sound few last there within =
+    let c = Amend (number + 1) issue in
+    let reply = Amended issue.cusip (number + 1) in
+    let passed = ap (unless_fault issue) sound in
+    elim (issue_numbered t issue.cusip (number + 1)) as (λ o. issue_numbered t issue.cusip (number + 1) ≡ o → IsRun P all t (c ∷ []) (λ new. issue_numbered new issue.cusip (number + 1) ≡ Some issue)) [
+      | None ↦ λ none.
+          let outcome : Outcome = record { reply = reply; entry = Some (NewIssue issue) } in
+          let last_is = last-of (issue_history t issue.cusip) number before last none in
+          let next : number + 1 ≡ next_number (issue_history t issue.cusip) = last-next (issue_history t issue.cusip) (number, before) last_is in
+          let planned = amendment-planned P.limit t c (number + 1) issue
+          (record { row = issue; command = refl; passed = passed; last = (number, before); last_is = last_is; number_is = refl; room = few-before number few }) in
+          run-one P all t c reply (Some (NewIssue issue)) (λ new. issue_numbered new issue.cusip (number + 1) ≡ Some issue)
+          (subst (λ plan. IsOutcome P.prices plan outcome) (sym planned) refl) tt
+          (issue-within t all issue within (ap (issue_numbered all issue.cusip) (sym next) ∙ there)) (terms-put t.issues issue (number + 1) next)
+      | Some other ↦ λ is.
+          let same : other ≡ issue = same_Some other issue (sym (within.issues issue.cusip (number + 1) other is) ∙ there) in
+          let here = is ∙ ap (λ x. Some x) same in
+          run-one P all t c reply None (λ new. issue_numbered new issue.cusip (number + 1) ≡ Some issue)
+          (subst (λ plan. IsOutcome P.prices plan (answered reply)) (sym (answered-again P.limit t c reply (issue, passed, here, refl))) refl) tt
           within here
     ] refl
 
@@ -89,7 +128,7 @@ kept-step : (P : Rules) (t : Tables) (c : Command) (issue : IssueRow) (key : Key
 kept-step P t c issue key number version (inl cancel) =
     subst (λ plan. IsOutcome P.prices plan (kept issue key number version)) (sym (cancel-planned P.limit t c issue key number version cancel)) refl
 kept-step P t c issue key number version (inr (reason, prices)) =
-    subst (λ plan. IsOutcome P.prices plan (kept issue key number version)) (sym (priced-planned P.limit t c issue key number version.act version.terms reason)) (Ok version.figures, prices, refl)
+    subst (λ plan. IsOutcome P.prices plan (kept issue key number version)) (sym (priced-planned P.limit t c issue version.issue_number key number version.act version.terms reason)) (Ok version.figures, prices, refl)
 
 next-of : (P : Rules) (t : Tables) (c : Command) (issue : IssueRow) (key : Key) (number : ℕ) (version : Version) → IsReasonFor P t c issue key number version → number ≡ next_number (trade_at t key)
 next-of P t c issue key number version (inl cancel) = live-next t key number cancel.last cancel.is_live
@@ -117,7 +156,7 @@ version-run P all t c issue key number version within there again reason =
           within here
     ] refl
 
-abbrev confirmed-kept : (t : Tables) (issue : IssueRow) (key : Key) (number : ℕ) (version : Version) → version_at t key number ≡ Some version → issue_at t version.terms.asked.cusip ≡ Some issue
+abbrev confirmed-kept : (t : Tables) (issue : IssueRow) (key : Key) (number : ℕ) (version : Version) → version_at t key number ≡ Some version → issue_of t.issues version ≡ Some issue
     → IsConfirmed t key number (Confirmed issue key number version)
 confirmed-kept t issue key number version here there = record {
   issue = issue;
@@ -163,32 +202,58 @@ has-room limit t all key version few within none there =
     let most = few key.desk in
     not-full limit (len (own key.desk t.desks)) (omega arith)
 
--- tables keep the issues that the exported tables keep
-abbrev pub HasIssues : Tables → Tables → Type 0
-HasIssues all t = (cusip : List ℕ) (issue : IssueRow) → issue_at all cusip ≡ Some issue → issue_at t cusip ≡ Some issue
+-- ---- the terms of its issue by which a version is brought
+itself : (number : ℕ) → (number == number) ≡ true
+itself number = grind (arith, nat_tests)
+
+chosen : (issues : Issues) (cusip : List ℕ) (number : ℕ) (issue : IssueRow) (last : Option (ℕ × IssueRow)) → counted_terms issues cusip ≡ last → numbered_terms issues cusip number ≡ Some issue
+    → terms_by issues cusip (unless_last last number) last ≡ Ok (number, issue)
+chosen issues cusip number issue None counted is =
+    let last = has-last (get issues cusip) number issue is in
+    absurd (none-some last.0 (sym counted ∙ last.1))
+chosen issues cusip number issue (Some last) counted is =
+    elim (number == last.0) as (λ b. (number == last.0) ≡ b → terms_by issues cusip (if b then None else Some number) (Some last) ≡ Ok (number, issue)) [
+      | true ↦ λ same.
+          let at : number ≡ last.0 = eqb-true number last.0 same in
+          let terms : last.1 ≡ issue = same_Some last.1 issue (sym (last-in (get issues cusip) last counted) ∙ ap (numbered_terms issues cusip) (sym at) ∙ is) in
+          λ i. Ok (sym at i, terms i)
+      | false ↦ λ other. ap (chosen_terms last.0 number) is
+    ] refl
+
+-- it is the one by which the version was figured, in tables that have the issues of the exported ones
+written-terms : (all t : Tables) (version : Version) (issue : IssueRow) → t.issues ≡ all.issues → issue_of all.issues version ≡ Some issue
+    → terms_for t.issues version.terms.asked.cusip (written_number all version) ≡ Ok (version.issue_number, issue)
+written-terms all t version issue same is =
+    let cusip = version.terms.asked.cusip in
+    ap (λ issues. terms_for issues cusip (written_number all version)) same
+    ∙ chosen all.issues cusip version.issue_number issue (counted_terms all.issues cusip) refl is
+
+written-chosen : (all t : Tables) (version : Version) (issue : IssueRow) → t.issues ≡ all.issues → issue_of all.issues version ≡ Some issue
+    → is_chosen (written_number all version) version.issue_number ≡ true
+written-chosen all t version issue same is =
+    (terms-found t.issues version.terms.asked.cusip (written_number all version) (version.issue_number, issue) (written-terms all t version issue same is)).1
 
 -- ---- the commands of versions
 pub enter-run : (P : Rules) (all t : Tables) (key : Key) (version : Version) → Fits P all → HasIssues all t → Keeps t all → version_at all key 1 ≡ Some version → version.act ≡ Entered
-    → IsRun P all t (Enter key version.terms ∷ []) (λ new. version_at new key 1 ≡ Some version)
+    → IsRun P all t (Enter key version.terms (written_number all version) ∷ []) (λ new. version_at new key 1 ≡ Some version)
 enter-run P all t key version fits issues within there entered =
     let right = right-version (ArePriced P) all key 1 version fits.sound there in
-    let issue = issues version.terms.asked.cusip right.issue right.kept in
-    version-run P all t (Enter key version.terms) right.issue key 1 version within there
-    (λ here. (confirmed-kept t right.issue key 1 version here issue, refl))
+    let issue = issues version.terms.asked.cusip version.issue_number right.issue right.kept in
+    let same = same-issues t all within.issues issues in
+    version-run P all t (Enter key version.terms (written_number all version)) right.issue key 1 version within there
+    (λ here. (confirmed-kept t right.issue key 1 version here issue, refl, written-chosen all t version right.issue same right.kept))
     (λ none. inr (
       inl (record {
+        chosen = written_number all version;
         command = refl;
         number_is = refl;
         act_is = entered;
-        issue_is = issue;
+        issue_is = written-terms all t version right.issue same right.kept;
         is_new = none;
         room = has-room P.limit t all key version fits.few within none there;
       }),
       right.right,
     ))
-
-few-before : (n : ℕ) → n + 1 ≤ 99 → nat_le 99 n ≡ false
-few-before n few = grind (arith, nat_tests)
 
 few-enough : (P : Rules) (all : Tables) (key : Key) (number : ℕ) (version : Version) → Fits P all → version_at all key (number + 1) ≡ Some version → version.act ≡ Corrected → nat_le 99 number ≡ false
 few-enough P all key number version fits there corrected =
@@ -197,17 +262,19 @@ few-enough P all key number version fits there corrected =
 
 pub correct-run : (P : Rules) (all t : Tables) (key : Key) (number : ℕ) (before version : Version) → Fits P all → HasIssues all t → Keeps t all → version_at t key number ≡ Some before
     → version_at all key (number + 1) ≡ Some version → is_canceled before.act ≡ false → version.act ≡ Corrected
-    → IsRun P all t (Correct key (number + 1) version.terms ∷ []) (λ new. version_at new key (number + 1) ≡ Some version)
+    → IsRun P all t (Correct key (number + 1) version.terms (written_number all version) ∷ []) (λ new. version_at new key (number + 1) ≡ Some version)
 correct-run P all t key number before version fits issues within last there live corrected =
     let right = right-version (ArePriced P) all key (number + 1) version fits.sound there in
-    let issue = issues version.terms.asked.cusip right.issue right.kept in
-    version-run P all t (Correct key (number + 1) version.terms) right.issue key (number + 1) version within there
-    (λ here. (confirmed-kept t right.issue key (number + 1) version here issue, refl, corrected))
+    let issue = issues version.terms.asked.cusip version.issue_number right.issue right.kept in
+    let same = same-issues t all within.issues issues in
+    version-run P all t (Correct key (number + 1) version.terms (written_number all version)) right.issue key (number + 1) version within there
+    (λ here. (confirmed-kept t right.issue key (number + 1) version here issue, refl, written-chosen all t version right.issue same right.kept, corrected))
     (λ none. inr (
       inr (record {
+        chosen = written_number all version;
         command = refl;
         act_is = corrected;
-        issue_is = issue;
+        issue_is = written-terms all t version right.issue same right.kept;
         last = (number, before);
         is_live = record { last_is = last-of (trade_at t key) number before last none; live = live; number_is = refl };
         room = few-enough P all key number version fits there corrected;
@@ -220,13 +287,13 @@ pub cancel-run : (P : Rules) (all t : Tables) (key : Key) (number : ℕ) (before
     → IsRun P all t (Cancel key (number + 1) ∷ []) (λ new. version_at new key (number + 1) ≡ Some version)
 cancel-run P all t key number before version fits issues within last there live canceled =
     let right = right-version (ArePriced P) all key (number + 1) version fits.sound there in
-    let issue = issues version.terms.asked.cusip right.issue right.kept in
+    let issue = issues version.terms.asked.cusip version.issue_number right.issue right.kept in
     version-run P all t (Cancel key (number + 1)) right.issue key (number + 1) version within there
     (λ here. (confirmed-kept t right.issue key (number + 1) version here issue, ap (λ (v : Version). v.act) canceled))
     (λ none. inl (record {
       command = refl;
       last = (number, before);
       is_live = record { last_is = last-of (trade_at t key) number before last none; live = live; number_is = refl };
-      issue_is = ap (λ (v : Version). issue_at t v.terms.asked.cusip) (sym canceled) ∙ issue;
+      issue_is = ap (λ (v : Version). issue_of t.issues v) (sym canceled) ∙ issue;
       version_is = canceled;
     }))

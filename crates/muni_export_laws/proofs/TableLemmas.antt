@@ -8,16 +8,17 @@ use Rattle.std.specs.FinMap.{empty, get, get-empty, get-insert, same_map}
 use Rattle.std.proofs.lemmas.List.{same_from_push}
 use Rattle.std.proofs.lemmas.Map.Lookups.{exact_bytes}
 use Rattle.std.proofs.lemmas.Option.{none-some, same_Some}
+use Rattle.muni_terms.specs.declared.row.IssueRow.{IssueRow}
 use Rattle.muni_msg.specs.declared.command.Command.{Command}
 use Rattle.muni_msg.specs.declared.command.Key.{Key}
 use Rattle.muni_msg.specs.declared.command.Reply.{Reply}
 use Rattle.muni_msg.specs.declared.version.Version.{Version}
 use Rattle.muni_keep.specs.History.{History, grown, version_in, versions}
-use Rattle.muni_keep.specs.Tables.{Tables, issue_at, trade_at, version_at, no_tables, with_version}
+use Rattle.muni_keep.specs.Tables.{Tables, issue_numbered, trade_at, version_at, no_tables, with_version}
 use Rattle.muni_keep.specs.Trades.{by_bytes, Trades, own, put_own}
 use Rattle.muni_book_step.specs.Runs.{Runs}
 use Rattle.muni_book_step.specs.Step.{Rules, Entry, NewIssue, NewVersion, after}
-use Rattle.muni_book_step.proofs.ReadyLemmas.{none-kept}
+use Rattle.muni_book_step.proofs.PlanLemmas.{none-kept}
 use Rattle.muni_book.specs.Once.{Keeps}
 use Rattle.muni_export_laws.proofs.MapLemmas.{get-put}
 use Rattle.muni_export_laws.proofs.VersionLemmas.{numbered}
@@ -72,11 +73,21 @@ same-desk (Some trades) None same filled also =
     absurd (none-some one.1 (sym (get-empty by_bytes one.0) ∙ sym (same one.0) ∙ one.2))
 same-desk (Some trades) (Some others) same filled also = ap (λ x. Some x) (same_map nat_list_cmp_total exact_bytes trades others same)
 
+-- ---- issues
+-- what tables keep of issues the others keep too
+abbrev pub HasIssues : Tables → Tables → Type 0
+HasIssues all t = (cusip : List ℕ) (number : ℕ) (issue : IssueRow) → issue_numbered all cusip number ≡ Some issue → issue_numbered t cusip number ≡ Some issue
+
+pub same-issues : (t other : Tables) → HasIssues t other → HasIssues other t → t.issues ≡ other.issues
+same-issues t other to from =
+    same_map nat_list_cmp_total exact_bytes t.issues other.issues (λ q.
+    same-trade (get t.issues q) (get other.issues q) (λ number. same-option (issue_numbered t q number) (issue_numbered other q number) (to q number) (from q number)))
+
 -- ---- tables
 pub same-tables : (t other : Tables) → Keeps t other → Keeps other t → AreFilled t → AreFilled other → t ≡ other
 same-tables t other to from filled also =
     let issues : t.issues ≡ other.issues =
-    same_map nat_list_cmp_total exact_bytes t.issues other.issues (λ q. same-option (issue_at t q) (issue_at other q) (to.issues q) (from.issues q)) in
+    same-issues t other to.issues from.issues in
     let trade : (key : Key) → trade_at t key ≡ trade_at other key = λ key.
     same-trade (trade_at t key) (trade_at other key) (λ number. same-option (version_at t key number) (version_at other key number) (to.versions key number) (from.versions key number)) in
     let desks : t.desks ≡ other.desks =

@@ -3,20 +3,20 @@ use Rattle.std.proofs.Common.{◌≡◌, true, List, [], ◌∷◌, map, Ok, ref
 use Rattle.std.specs.List.{AllByRecursion}
 use Rattle.csv.specs.Records.{field_at}
 use Rattle.muni_msg.specs.declared.command.Command.{Command}
-use Rattle.muni_msg.specs.declared.command.Command.TheVariants.{AddIssue, Enter, Correct, Cancel, Confirm, Quote, List as ListTrades}
+use Rattle.muni_msg.specs.declared.command.Command.TheVariants.{AddIssue, Amend, Enter, Correct, Cancel, Confirm, Quote, List as ListTrades}
 use Rattle.muni_import.specs.Row.{Row, row_of}
 use Rattle.muni_export.specs.Laws.{RowsAreReadAgain, begins_with_letter}
-use Rattle.muni_export.specs.Rows.{issue_fields}
 use Rattle.muni_export_laws.specs.Export.{export_commands, fields_of}
 use Rattle.muni_export_laws.specs.Laws.{ExportsAreReadAgain, IsReadAgain}
 
 -- its first row begins with a name
 named : (commands : List Command) → AllByRecursion IsReadAgain commands → begins_with_letter (map fields_of commands) ≡ true
-unfolding issue_fields row_of field_at
+unfolding row_of field_at
 named [] again = refl
 named (AddIssue issue ∷ commands) again = refl
-named (Enter key terms ∷ commands) again = refl
-named (Correct key number terms ∷ commands) again = refl
+named (Amend number issue ∷ commands) again = refl
+named (Enter key terms issue_number ∷ commands) again = refl
+named (Correct key number terms issue_number ∷ commands) again = refl
 named (Cancel key number ∷ commands) again = refl
 named (Confirm key ∷ commands) again = absurd (let never = again.0 in cc)
 named (Quote asked shown ∷ commands) again = absurd (let never = again.0 in cc)

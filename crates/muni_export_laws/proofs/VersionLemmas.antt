@@ -1,6 +1,6 @@
--- The versions of a trade by their numbers.
-use Rattle.std.proofs.Common.{◌≡◌, ◌⊎◌, inl, inr, ◌≤◌, ◌+◌, ◌-◌, ◌==◌, ℕ, zero, suc, true, false, List, [], ◌∷◌, ◌++◌, length, Option, Some, None, refl, sym, ap, ◌∙◌, arith}
-use Rattle.std.specs.Prelude.{if◌then◌else◌, slice_get}
+-- The versions of a trade by their numbers, or the terms of an issue.
+use Rattle.std.proofs.Common.{◌≡◌, ◌⊎◌, inl, inr, ◌≤◌, ◌+◌, ◌-◌, ◌==◌, ℕ, zero, suc, true, false, List, [], ◌∷◌, ◌++◌, length, Option, Some, None, refl, sym, ap, ◌∙◌, arith, append_assoc}
+use Rattle.std.specs.Prelude.{⊤, if◌then◌else◌, slice_get}
 use Rattle.std.specs.Option.{option_and_then, option_map}
 use Rattle.std.proofs.lemmas.Bool.{eqb-true}
 use Rattle.std.proofs.lemmas.Option.{none-some, same_Some, slice_get_within}
@@ -97,3 +97,41 @@ grown-has (Some history) added number version is =
       | inl before ↦ inl (numbered history number at.0 at.1 ∙ before)
       | inr end ↦ let all = length-behind history.earlier history.last in inr (omega arith, end.1)
     ]
+
+-- ---- versions that are found under numbers that are counted on
+abbrev pub AreKept : {V : Type 0} → (ℕ → Option V) → ℕ → List V → Type 0
+AreKept look number [] = ⊤
+AreKept look number (version ∷ more) = (look number ≡ Some version) × AreKept look (number + 1) more
+
+pub still-kept : {V : Type 0} (old new : ℕ → Option V) → ((number : ℕ) (version : V) → old number ≡ Some version → new number ≡ Some version)
+    → (number : ℕ) (list : List V) → AreKept old number list → AreKept new number list
+still-kept old new keeps number [] kept = tt
+still-kept old new keeps number (version ∷ more) kept =
+    (keeps number version kept.0, still-kept old new keeps (number + 1) more kept.1)
+
+-- each of them is found
+pub kept-at : {V : Type 0} (look : ℕ → Option V) (number : ℕ) (list : List V) (i at : ℕ) (version : V) → AreKept look number list → slice_get list i ≡ Some version → at ≡ number + i → look at ≡ Some version
+kept-at look number [] i at version kept is place = absurd (none-some version is)
+kept-at look number (first ∷ more) zero at version kept is place =
+    let here : at ≡ number = omega arith in
+    ap look here ∙ kept.0 ∙ is
+kept-at look number (first ∷ more) (suc i) at version kept is place =
+    kept-at look (number + 1) more i at version kept.1 is (omega arith)
+
+read-middle : {A : Type 0} (front : List A) (x : A) (back : List A) → slice_get (front ++ x ∷ back) (length front) ≡ Some x
+read-middle [] x back = refl
+read-middle (y ∷ front) x back = read-middle front x back
+
+-- those of a history are
+kept-from : {V : Type 0} (history : History V) (front list : List V) (number : ℕ) → front ++ list ≡ versions history → number ≡ length front + 1 → AreKept (version_in history) number list
+kept-from history front [] number cut place = tt
+kept-from {V} history front (version ∷ more) number cut place =
+    let longer = length-behind front version in (
+      numbered history number (length front) place ∙ ap (λ (list : List V). slice_get list (length front)) (sym cut) ∙ read-middle front version more,
+      kept-from history (front ++ version ∷ []) more (number + 1) (append_assoc front (version ∷ []) more ∙ cut) (omega arith),
+    )
+
+pub all-kept : {V : Type 0} (kept : Option (History V)) (history : History V) → kept ≡ Some history → AreKept (λ number. option_and_then (λ history. version_in history number) kept) 1 (versions history)
+all-kept kept history is =
+    still-kept (version_in history) (λ number. option_and_then (λ history. version_in history number) kept) (λ number version found. ap (option_and_then (λ history. version_in history number)) is ∙ found)
+    1 (versions history) (kept-from history [] (versions history) 1 refl refl)

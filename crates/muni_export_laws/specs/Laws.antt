@@ -17,7 +17,7 @@ use Rattle.muni_desk_import.specs.Import.{Imports}
 use Rattle.muni_export_laws.specs.Export.{export_commands, export_text, fields_of}
 use Rattle.muni_export_laws.specs.Part.{part_of}
 
--- a row is taken if it is added or confirmed
+-- a row is taken if it is added, amended or confirmed
 abbrev pub IsTaken : Said → Type 0
 IsTaken (Ok reply) = IsAccepted reply
 IsTaken (Err fault) = ⊥
@@ -42,8 +42,8 @@ OwnLimitIsEnough =
     (limit : ℕ) (ends : Ends) (tables : Tables) (commands : List Command) (replies : List Reply)
     → Runs (book_rules limit ends) no_tables commands replies tables → HaveAtMost limit tables
 
--- The rows of a desk's export, imported into empty tables, give that desk as it was and the issues that it names,
--- and nothing else, if the import lets a desk have as many trades.
+-- The rows of a desk's export, imported into empty tables, give that desk as it was and the issues that it names with
+-- all their terms, and nothing else, if the import lets a desk have as many trades.
 abbrev pub DesksAreImportedAgain : Type 0
 DesksAreImportedAgain =
     (limit most : ℕ) (ends : Ends) (tables : Tables) (desk : List ℕ) (commands : List Command)

@@ -1,4 +1,5 @@
--- What an export of one desk has of the tables: the desk as it is, and the issues that its trades name.
+-- What an export of one desk has of the tables: the desk as it is, and the issues that its trades name, with all their
+-- terms.
 use Rattle.std.specs.Prelude.{ℕ, List, Option, Some, None}
 use Rattle.std.specs.FinMap.{empty, get, insert, retain_keys}
 use Rattle.muni_msg.specs.declared.version.Version.{Version}

@@ -5,18 +5,18 @@ ghost use Rattle.muni_export_laws.specs.Wanted.{DesksAreOfCommands, ExportsAreOf
 
 use muni_export::laws::rows_are_read_again;
 
-/// A law of the definitions: imported into empty tables, an export of everything gives equal tables,
-/// and each of its rows is added or confirmed. So it is with all tables to which commands lead from
-/// empty ones, if the import lets a desk have as many trades as each of theirs has. The limit under
-/// which they were kept is enough.
+/// A law of the definitions: imported into empty tables, an export of everything gives equal tables, with
+/// all terms of each issue under their numbers, and each of its rows is added, amended or confirmed. So it
+/// is with all tables to which commands lead from empty ones, if the import lets a desk have as many
+/// trades as each of theirs has. The limit under which they were kept is enough.
 pub fn exports_are_imported_again()
     ensures again { ExportsAreImportedAgain }
     ensures enough { OwnLimitIsEnough }
 {}
 
 /// A law of the definitions: imported into empty tables, an export of a desk gives tables with that desk
-/// as it was and the issues that its trades name, and nothing else, and each of its rows is added or
-/// confirmed, if the import lets a desk have as many trades.
+/// as it was and the issues that its trades name with all their terms, and nothing else, and each of its
+/// rows is added, amended or confirmed, if the import lets a desk have as many trades.
 pub fn desks_are_imported_again()
     ensures { DesksAreImportedAgain }
 {}

@@ -23,14 +23,14 @@ use Rattle.muni_msg.specs.declared.asked.Given.TheVariants.{AtYield, AtPrice, At
 use Rattle.muni_msg.specs.declared.asked.Terms.{Terms}
 use Rattle.muni_msg.specs.declared.command.Key.{Key}
 use Rattle.muni_msg.specs.declared.command.Command.{Command}
-use Rattle.muni_msg.specs.declared.command.Command.TheVariants.{AddIssue, Enter, Correct}
+use Rattle.muni_msg.specs.declared.command.Command.TheVariants.{AddIssue, Amend}
 use Rattle.muni_msg.specs.Calls.{calls_field}
-use Rattle.muni_import.specs.ColumnLaws.{is_day, is_first_date, pays_none, is_coupon, is_value, issue_columns, key_columns, number_columns, terms_columns, columns_of, IsCounted, IsBad, IsLeastBad}
-use Rattle.muni_import.specs.Row.{◌>>=◌, Row, field, in_column, key_in, is_basis, given_in, terms_in, is_kind, not_empty, kind_in, dates_in, calendar_in, issue_in, name_of, has_count, command_in, row_by, row_of}
+use Rattle.muni_import.specs.ColumnLaws.{is_day, is_first_date, pays_none, is_coupon, is_value, issue_columns, key_columns, number_columns, terms_columns, issue_number_columns, columns_of, IsCounted, IsBad, IsLeastBad}
+use Rattle.muni_import.specs.Row.{◌>>=◌, Row, field, in_column, key_in, issue_number_field, is_basis, given_in, terms_in, is_kind, not_empty, kind_in, dates_in, calendar_in, issue_in, name_of, has_count, command_in, row_by, row_of}
 use Rattle.muni_import.specs.declared.row.RowFault.{RowFault}
 use Rattle.muni_import.specs.declared.row.RowFault.TheVariants.{FieldCount, BadField}
 use Rattle.muni_import.specs.declared.row.RowName.{RowName}
-use Rattle.muni_import.specs.declared.row.RowName.TheVariants.{Issue, Trade, Correction, Cancellation}
+use Rattle.muni_import.specs.declared.row.RowName.TheVariants.{Issue, Amendment, Trade, Correction, Cancellation}
 
 -- ---- the texts of columns
 same-text : (text other : List ℕ) → bytes_eq text other ≡ true → text ≡ other
@@ -190,18 +190,19 @@ terms-tell first fields =
     column-tells _ Terms (first + 6) (first + 7) (fee_field (field (first + 6) fields)) _ _ _ refl (omega arith) (λ fee _. (_, refl)))))))
 
 -- ---- the terms of an issue
-abbrev dates_columns : List (List ℕ) → List Bool
-dates_columns fields = is_day (field 5 fields) ∷ is_first_date (field 4 fields) (field 6 fields) ∷ is_day (field 7 fields) ∷ []
+abbrev dates_columns : ℕ → List (List ℕ) → List Bool
+dates_columns first fields =
+    is_day (field (first + 2) fields) ∷ is_first_date (field (first + 1) fields) (field (first + 3) fields) ∷ is_day (field (first + 4) fields) ∷ []
 
-dates-tell : (fields : List (List ℕ)) → is_kind (field 4 fields) ≡ true → Tells (Kind × Day × Day) 5 (dates_columns fields) (dates_in fields)
-dates-tell fields named =
-    column-tells _ (Kind × Day × Day) 5 6 (day_in (field 5 fields)) _ _ _ (reads-ok (day_reading (field 5 fields))) refl (λ dated _.
-    column-tells _ (Kind × Day × Day) 6 7 (kind_reading (field 4 fields) (not_empty (field 6 fields))) _ _ _ (first-reads (field 4 fields) (field 6 fields) named) refl (λ kind _.
-    column-tells _ (Kind × Day × Day) 7 8 (day_in (field 7 fields)) _ _ _ (reads-ok (day_reading (field 7 fields))) refl (λ maturity _. (_, refl))))
+dates-tell : (first : ℕ) (fields : List (List ℕ)) → is_kind (field (first + 1) fields) ≡ true → Tells (Kind × Day × Day) (first + 2) (dates_columns first fields) (dates_in first fields)
+dates-tell first fields named =
+    column-tells _ (Kind × Day × Day) (first + 2) (first + 3) (day_in (field (first + 2) fields)) _ _ _ (reads-ok (day_reading (field (first + 2) fields))) (omega arith) (λ dated _.
+    column-tells _ (Kind × Day × Day) (first + 3) (first + 4) (kind_reading (field (first + 1) fields) (not_empty (field (first + 3) fields))) _ _ _ (first-reads (field (first + 1) fields) (field (first + 3) fields) named) (omega arith) (λ kind _.
+    column-tells _ (Kind × Day × Day) (first + 4) (first + 5) (day_in (field (first + 4) fields)) _ _ _ (reads-ok (day_reading (field (first + 4) fields))) (omega arith) (λ maturity _. (_, refl))))
 
-calendar-tells : (fields : List (List ℕ)) → Tells (Kind × Day × Day) 4 (is_kind (field 4 fields) ∷ dates_columns fields) (calendar_in fields)
+calendar-tells : (first : ℕ) (fields : List (List ℕ)) → Tells (Kind × Day × Day) (first + 1) (is_kind (field (first + 1) fields) ∷ dates_columns first fields) (calendar_in first fields)
 unfolding calendar_in
-calendar-tells fields = test-tells (Kind × Day × Day) 4 5 (is_kind (field 4 fields)) _ (dates_in fields) refl (dates-tell fields)
+calendar-tells first fields = test-tells (Kind × Day × Day) (first + 1) (first + 2) (is_kind (field (first + 1) fields)) _ (dates_in first fields) (omega arith) (dates-tell first fields)
 
 -- what the calendar of an issue is made of
 bound : (A B : Type 0) (row : Result A RowFault) (more : A → Result B RowFault) (y : B) → (row >>= more) ≡ Ok y → (x : A) × (row ≡ Ok x) × (more x ≡ Ok y)
@@ -212,44 +213,53 @@ column-read : (A : Type 0) (n : ℕ) (read : Option A) (x : A) → in_column n r
 column-read A n None x is = absurd (cc is)
 column-read A n (Some y) x is = ap Some (cc is)
 
-calendar-by : (test : Bool) (fields : List (List ℕ)) (calendar : Kind × Day × Day) → is_kind (field 4 fields) ≡ test → (if test then dates_in fields else Err (BadField 4)) ≡ Ok calendar → pays_interest calendar.0 ≡ not (pays_none (field 4 fields))
-calendar-by false fields calendar named is = absurd (cc is)
-calendar-by true fields calendar named is =
-    let dated = bound _ _ (in_column 5 (day_in (field 5 fields))) _ calendar is in
-    let kind = bound _ _ (kind_in fields) _ calendar dated.2 in
-    let maturity = bound _ _ (in_column 7 (day_in (field 7 fields))) _ calendar kind.2 in
+calendar-by : (test : Bool) (first : ℕ) (fields : List (List ℕ)) (calendar : Kind × Day × Day) → is_kind (field (first + 1) fields) ≡ test → (if test then dates_in first fields else Err (BadField (first + 1))) ≡ Ok calendar
+    → pays_interest calendar.0 ≡ not (pays_none (field (first + 1) fields))
+calendar-by false first fields calendar named is = absurd (cc is)
+calendar-by true first fields calendar named is =
+    let dated = bound _ _ (in_column (first + 2) (day_in (field (first + 2) fields))) _ calendar is in
+    let kind = bound _ _ (kind_in first fields) _ calendar dated.2 in
+    let maturity = bound _ _ (in_column (first + 4) (day_in (field (first + 4) fields))) _ calendar kind.2 in
     let same : kind.0 ≡ calendar.0 = cc maturity.2 in
-    ap pays_interest (sym same) ∙ kind-pays (field 4 fields) (not_empty (field 6 fields)) kind.0 named (column-read _ 6 _ kind.0 kind.1)
+    ap pays_interest (sym same) ∙ kind-pays (field (first + 1) fields) (not_empty (field (first + 3) fields)) kind.0 named (column-read _ (first + 3) _ kind.0 kind.1)
 
 -- so a coupon reads beside that kind as beside its text
-calendar-coupon : (fields : List (List ℕ)) (calendar : Kind × Day × Day) → calendar_in fields ≡ Ok calendar → is_some (coupon_by (pays_interest calendar.0) (field 8 fields)) ≡ is_coupon (field 4 fields) (field 8 fields)
+calendar-coupon : (first : ℕ) (fields : List (List ℕ)) (calendar : Kind × Day × Day) → calendar_in first fields ≡ Ok calendar
+    → is_some (coupon_by (pays_interest calendar.0) (field (first + 5) fields)) ≡ is_coupon (field (first + 1) fields) (field (first + 5) fields)
 unfolding calendar_in
-calendar-coupon fields calendar is =
-    ap (λ pays. is_some (coupon_by pays (field 8 fields))) (calendar-by (is_kind (field 4 fields)) fields calendar refl is) ∙ coupon-reads (field 4 fields) (field 8 fields)
+calendar-coupon first fields calendar is =
+    ap (λ pays. is_some (coupon_by pays (field (first + 5) fields))) (calendar-by (is_kind (field (first + 1) fields)) first fields calendar refl is) ∙ coupon-reads (field (first + 1) fields) (field (first + 5) fields)
 
-issue-tells : (fields : List (List ℕ)) → Tells IssueRow 2 (issue_columns fields) (issue_in fields)
+issue-tells : (first : ℕ) (cusip : List ℕ) (fields : List (List ℕ)) → Tells IssueRow first (issue_columns first fields) (issue_in first cusip fields)
 unfolding issue_in
-issue-tells fields =
-    column-tells _ IssueRow 2 3 (cusip_reading (field 2 fields)) _ _ _ refl refl (λ cusip _.
-    column-tells _ IssueRow 3 4 (issue_name_reading (field 3 fields)) _ _ _ refl refl (λ name _.
-    then-tells (Kind × Day × Day) IssueRow 4 8 (is_kind (field 4 fields) ∷ dates_columns fields) _ (calendar_in fields) _ refl (calendar-tells fields) (λ calendar is.
-    column-tells _ IssueRow 8 9 (coupon_by (pays_interest calendar.0) (field 8 fields)) _ _ _ (calendar-coupon fields calendar is) refl (λ coupon _.
-    column-tells _ IssueRow 9 10 (calls_field (field 9 fields)) _ _ _ refl refl (λ calls _.
-    column-tells _ IssueRow 10 11 (basis_field (field 10 fields)) _ _ _ refl refl (λ basis _. (_, refl)))))))
+issue-tells first cusip fields =
+    column-tells _ IssueRow first (first + 1) (issue_name_reading (field first fields)) _ _ _ refl (omega arith) (λ name _.
+    then-tells (Kind × Day × Day) IssueRow (first + 1) (first + 5) (is_kind (field (first + 1) fields) ∷ dates_columns first fields) _ (calendar_in first fields) _ (omega arith) (calendar-tells first fields) (λ calendar is.
+    column-tells _ IssueRow (first + 5) (first + 6) (coupon_by (pays_interest calendar.0) (field (first + 5) fields)) _ _ _ (calendar-coupon first fields calendar is) (omega arith) (λ coupon _.
+    column-tells _ IssueRow (first + 6) (first + 7) (calls_field (field (first + 6) fields)) _ _ _ refl (omega arith) (λ calls _.
+    column-tells _ IssueRow (first + 7) (first + 8) (basis_field (field (first + 7) fields)) _ _ _ refl (omega arith) (λ basis _. (_, refl))))))
 
 -- ---- a row
 row-tells : (name : RowName) (fields : List (List ℕ)) → Tells Command 2 (columns_of name fields) (command_in name fields)
 unfolding command_in
-row-tells Issue fields = made-tells IssueRow Command 2 (issue_columns fields) (issue_in fields) (λ issue. AddIssue issue) (issue-tells fields)
+row-tells Issue fields =
+    column-tells _ Command 2 3 (cusip_reading (field 2 fields)) _ _ _ refl refl (λ cusip _.
+    made-tells IssueRow Command 3 (issue_columns 3 fields) (issue_in 3 cusip fields) (λ issue. AddIssue issue) (issue-tells 3 cusip fields))
+row-tells Amendment fields =
+    column-tells _ Command 2 3 (cusip_reading (field 2 fields)) _ _ _ refl refl (λ cusip _.
+    column-tells _ Command 3 4 (version_number (field 3 fields)) _ _ _ refl refl (λ number _.
+    made-tells IssueRow Command 4 (issue_columns 4 fields) (issue_in 4 cusip fields) (λ issue. Amend number issue) (issue-tells 4 cusip fields)))
 row-tells Trade fields =
-    then-tells Key Command 2 4 (key_columns fields) (terms_columns 4 fields) (key_in fields) _ refl (key-tells fields) (λ key _.
-    made-tells Terms Command 4 (terms_columns 4 fields) (terms_in 4 fields) (λ terms. Enter key terms) (terms-tell 4 fields))
+    then-tells Key Command 2 4 (key_columns fields) (terms_columns 4 fields ++ issue_number_columns 11 fields) (key_in fields) _ refl (key-tells fields) (λ key _.
+    then-tells Terms Command 4 11 (terms_columns 4 fields) (issue_number_columns 11 fields) (terms_in 4 fields) _ refl (terms-tell 4 fields) (λ terms _.
+    column-tells _ Command 11 12 (issue_number_field (field 11 fields)) _ _ _ refl refl (λ issue_number _. (_, refl))))
 row-tells Correction fields =
-    then-tells Key Command 2 4 (key_columns fields) (number_columns fields ++ terms_columns 5 fields) (key_in fields) _ refl (key-tells fields) (λ key _.
+    then-tells Key Command 2 4 (key_columns fields) (number_columns 4 fields ++ terms_columns 5 fields ++ issue_number_columns 12 fields) (key_in fields) _ refl (key-tells fields) (λ key _.
     column-tells _ Command 4 5 (version_number (field 4 fields)) _ _ _ refl refl (λ number _.
-    made-tells Terms Command 5 (terms_columns 5 fields) (terms_in 5 fields) (λ terms. Correct key number terms) (terms-tell 5 fields)))
+    then-tells Terms Command 5 12 (terms_columns 5 fields) (issue_number_columns 12 fields) (terms_in 5 fields) _ refl (terms-tell 5 fields) (λ terms _.
+    column-tells _ Command 12 13 (issue_number_field (field 12 fields)) _ _ _ refl refl (λ issue_number _. (_, refl)))))
 row-tells Cancellation fields =
-    then-tells Key Command 2 4 (key_columns fields) (number_columns fields) (key_in fields) _ refl (key-tells fields) (λ key _.
+    then-tells Key Command 2 4 (key_columns fields) (number_columns 4 fields) (key_in fields) _ refl (key-tells fields) (λ key _.
     column-tells _ Command 4 5 (version_number (field 4 fields)) _ _ _ refl refl (λ number _. (_, refl)))
 
 counted-row : (name : RowName) (fields : List (List ℕ)) → IsCounted name fields → row_of fields ≡ command_in name fields

@@ -76,21 +76,42 @@ at-added (suc place) (field ∷ fields) = at-added place fields
 -- so an empty last field may be left out
 pub issue-added : (fields : List (List ℕ)) → length fields ≡ 8 → row_of (codes "issue" ∷ fields ++ [] ∷ []) ≡ row_of (codes "issue" ∷ fields)
 unfolding row_of command_in issue_in calendar_in field_at
-issue-added fields eight =
-    let longer : length (codes "issue" ∷ fields ++ [] ∷ []) ≡ 10 = omega (arith, length-append fields ([] ∷ []), eight) in
-    let shorter : length (codes "issue" ∷ fields) ≡ 9 = omega (arith, eight) in
+issue-added fields count =
+    let longer : length (codes "issue" ∷ fields ++ [] ∷ []) ≡ 10 = omega (arith, length-append fields ([] ∷ []), count) in
+    let shorter : length (codes "issue" ∷ fields) ≡ 9 = omega (arith, count) in
     rw (longer, shorter, at-added 0 fields, at-added 1 fields, at-added 2 fields, at-added 3 fields, at-added 4 fields, at-added 5 fields, at-added 6 fields, at-added 7 fields, at-added 8 fields) refl
+
+pub amendment-added : (fields : List (List ℕ)) → length fields ≡ 9 → row_of (codes "amend" ∷ fields ++ [] ∷ []) ≡ row_of (codes "amend" ∷ fields)
+unfolding row_of command_in issue_in calendar_in field_at
+amendment-added fields count =
+    let longer : length (codes "amend" ∷ fields ++ [] ∷ []) ≡ 11 = omega (arith, length-append fields ([] ∷ []), count) in
+    let shorter : length (codes "amend" ∷ fields) ≡ 10 = omega (arith, count) in
+    rw (longer, shorter, at-added 0 fields, at-added 1 fields, at-added 2 fields, at-added 3 fields, at-added 4 fields, at-added 5 fields, at-added 6 fields, at-added 7 fields, at-added 8 fields, at-added 9 fields) refl
 
 pub trade-added : (fields : List (List ℕ)) → length fields ≡ 8 → row_of (codes "trade" ∷ fields ++ [] ∷ []) ≡ row_of (codes "trade" ∷ fields)
 unfolding row_of command_in terms_in field_at
-trade-added fields eight =
-    let longer : length (codes "trade" ∷ fields ++ [] ∷ []) ≡ 10 = omega (arith, length-append fields ([] ∷ []), eight) in
-    let shorter : length (codes "trade" ∷ fields) ≡ 9 = omega (arith, eight) in
-    rw (longer, shorter, at-added 0 fields, at-added 1 fields, at-added 2 fields, at-added 3 fields, at-added 4 fields, at-added 5 fields, at-added 6 fields, at-added 7 fields, at-added 8 fields) refl
+trade-added fields count =
+    let longer : length (codes "trade" ∷ fields ++ [] ∷ []) ≡ 10 = omega (arith, length-append fields ([] ∷ []), count) in
+    let shorter : length (codes "trade" ∷ fields) ≡ 9 = omega (arith, count) in
+    rw (longer, shorter, at-added 0 fields, at-added 1 fields, at-added 2 fields, at-added 3 fields, at-added 4 fields, at-added 5 fields, at-added 6 fields, at-added 7 fields, at-added 8 fields, at-added 9 fields) refl
+
+pub numbered-trade-added : (fields : List (List ℕ)) → length fields ≡ 9 → row_of (codes "trade" ∷ fields ++ [] ∷ []) ≡ row_of (codes "trade" ∷ fields)
+unfolding row_of command_in terms_in field_at
+numbered-trade-added fields count =
+    let longer : length (codes "trade" ∷ fields ++ [] ∷ []) ≡ 11 = omega (arith, length-append fields ([] ∷ []), count) in
+    let shorter : length (codes "trade" ∷ fields) ≡ 10 = omega (arith, count) in
+    rw (longer, shorter, at-added 0 fields, at-added 1 fields, at-added 2 fields, at-added 3 fields, at-added 4 fields, at-added 5 fields, at-added 6 fields, at-added 7 fields, at-added 8 fields, at-added 9 fields) refl
 
 pub correction-added : (fields : List (List ℕ)) → length fields ≡ 9 → row_of (codes "correct" ∷ fields ++ [] ∷ []) ≡ row_of (codes "correct" ∷ fields)
 unfolding row_of command_in terms_in field_at
-correction-added fields nine =
-    let longer : length (codes "correct" ∷ fields ++ [] ∷ []) ≡ 11 = omega (arith, length-append fields ([] ∷ []), nine) in
-    let shorter : length (codes "correct" ∷ fields) ≡ 10 = omega (arith, nine) in
-    rw (longer, shorter, at-added 0 fields, at-added 1 fields, at-added 2 fields, at-added 3 fields, at-added 4 fields, at-added 5 fields, at-added 6 fields, at-added 7 fields, at-added 8 fields, at-added 9 fields) refl
+correction-added fields count =
+    let longer : length (codes "correct" ∷ fields ++ [] ∷ []) ≡ 11 = omega (arith, length-append fields ([] ∷ []), count) in
+    let shorter : length (codes "correct" ∷ fields) ≡ 10 = omega (arith, count) in
+    rw (longer, shorter, at-added 0 fields, at-added 1 fields, at-added 2 fields, at-added 3 fields, at-added 4 fields, at-added 5 fields, at-added 6 fields, at-added 7 fields, at-added 8 fields, at-added 9 fields, at-added 10 fields) refl
+
+pub numbered-correction-added : (fields : List (List ℕ)) → length fields ≡ 10 → row_of (codes "correct" ∷ fields ++ [] ∷ []) ≡ row_of (codes "correct" ∷ fields)
+unfolding row_of command_in terms_in field_at
+numbered-correction-added fields count =
+    let longer : length (codes "correct" ∷ fields ++ [] ∷ []) ≡ 12 = omega (arith, length-append fields ([] ∷ []), count) in
+    let shorter : length (codes "correct" ∷ fields) ≡ 11 = omega (arith, count) in
+    rw (longer, shorter, at-added 0 fields, at-added 1 fields, at-added 2 fields, at-added 3 fields, at-added 4 fields, at-added 5 fields, at-added 6 fields, at-added 7 fields, at-added 8 fields, at-added 9 fields, at-added 10 fields) refl

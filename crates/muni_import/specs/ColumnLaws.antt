@@ -9,10 +9,10 @@ use Rattle.muni_msg.specs.IssueFields.{cusip_reading, issue_name_reading}
 use Rattle.muni_msg.specs.Names.{is_desk_letter}
 use Rattle.muni_msg.specs.NameReading.{name_reading}
 use Rattle.muni_msg.specs.Calls.{calls_field}
-use Rattle.muni_import.specs.Row.{field, has_count, is_basis, is_kind, name_of, row_of}
+use Rattle.muni_import.specs.Row.{field, has_count, is_basis, is_kind, issue_number_field, name_of, row_of}
 use Rattle.muni_import.specs.declared.row.RowFault.TheVariants.{FieldCount, BadField}
 use Rattle.muni_import.specs.declared.row.RowName.{RowName}
-use Rattle.muni_import.specs.declared.row.RowName.TheVariants.{Issue, Trade, Correction, Cancellation}
+use Rattle.muni_import.specs.declared.row.RowName.TheVariants.{Issue, Amendment, Trade, Correction, Cancellation}
 
 -- a text is a day
 abbrev pub is_day : List ℕ → Bool
@@ -45,28 +45,31 @@ is_desk text = is_ok (name_reading is_desk_letter 16 text)
 abbrev pub is_reference : List ℕ → Bool
 is_reference text = is_ok (name_reading is_ascii_alphanumeric 20 text)
 
--- whether the text reads in each column of an issue, from the second on:
--- CUSIP, NAME, KIND, DATED, FIRST, MATURITY, COUPON, CALLS and DAYS
-abbrev pub issue_columns : List (List ℕ) → List Bool
-issue_columns fields =
-    is_some (cusip_reading (field 2 fields))
-    ∷ is_some (issue_name_reading (field 3 fields))
-    ∷ is_kind (field 4 fields)
-    ∷ is_day (field 5 fields)
-    ∷ is_first_date (field 4 fields) (field 6 fields)
-    ∷ is_day (field 7 fields)
-    ∷ is_coupon (field 4 fields) (field 8 fields)
-    ∷ is_some (calls_field (field 9 fields))
-    ∷ is_some (basis_field (field 10 fields))
+-- whether the text reads in each column, from the second on: of an issue and of an amendment CUSIP
+abbrev pub cusip_columns : List (List ℕ) → List Bool
+cusip_columns fields = is_some (cusip_reading (field 2 fields)) ∷ []
+
+-- of the terms of an issue, which begin in a column:
+-- NAME, KIND, DATED, FIRST, MATURITY, COUPON, CALLS and DAYS
+abbrev pub issue_columns : ℕ → List (List ℕ) → List Bool
+issue_columns first fields =
+    is_some (issue_name_reading (field first fields))
+    ∷ is_kind (field (first + 1) fields)
+    ∷ is_day (field (first + 2) fields)
+    ∷ is_first_date (field (first + 1) fields) (field (first + 3) fields)
+    ∷ is_day (field (first + 4) fields)
+    ∷ is_coupon (field (first + 1) fields) (field (first + 5) fields)
+    ∷ is_some (calls_field (field (first + 6) fields))
+    ∷ is_some (basis_field (field (first + 7) fields))
     ∷ []
 
 -- of every trade: DESK and REFERENCE
 abbrev pub key_columns : List (List ℕ) → List Bool
 key_columns fields = is_desk (field 2 fields) ∷ is_reference (field 3 fields) ∷ []
 
--- of a correction and of a cancel: NUMBER
-abbrev pub number_columns : List (List ℕ) → List Bool
-number_columns fields = is_some (version_number (field 4 fields)) ∷ []
+-- of an amendment, a correction and a cancel, in a column: NUMBER
+abbrev pub number_columns : ℕ → List (List ℕ) → List Bool
+number_columns column fields = is_some (version_number (field column fields)) ∷ []
 
 -- of the terms of a trade, which begin in a column:
 -- CUSIP, SIDE, PAR, SETTLE, BASIS, VALUE and FEE
@@ -81,12 +84,19 @@ terms_columns first fields =
     ∷ is_some (fee_field (field (first + 6) fields))
     ∷ []
 
+-- of a trade and of a correction, in a column: ISSUE
+abbrev pub issue_number_columns : ℕ → List (List ℕ) → List Bool
+issue_number_columns column fields = is_some (issue_number_field (field column fields)) ∷ []
+
 -- of a row with a name
 abbrev pub columns_of : RowName → List (List ℕ) → List Bool
-columns_of Issue fields = issue_columns fields
-columns_of Trade fields = key_columns fields ++ terms_columns 4 fields
-columns_of Correction fields = key_columns fields ++ number_columns fields ++ terms_columns 5 fields
-columns_of Cancellation fields = key_columns fields ++ number_columns fields
+columns_of Issue fields = cusip_columns fields ++ issue_columns 3 fields
+columns_of Amendment fields = cusip_columns fields ++ number_columns 3 fields ++ issue_columns 4 fields
+columns_of Trade fields =
+    key_columns fields ++ terms_columns 4 fields ++ issue_number_columns 11 fields
+columns_of Correction fields =
+    key_columns fields ++ number_columns 4 fields ++ terms_columns 5 fields ++ issue_number_columns 12 fields
+columns_of Cancellation fields = key_columns fields ++ number_columns 4 fields
 
 -- a row with a name, and with as many fields as its name asks for
 pub record IsCounted (name : RowName) (fields : List (List ℕ)) : Type 0 where

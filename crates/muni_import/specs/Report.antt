@@ -5,7 +5,7 @@ use Rattle.muni_days.specs.Day.{civil, day_text}
 use Rattle.muni_msg.specs.Refusal.{number_of}
 use Rattle.muni_msg.specs.declared.command.Key.{Key}
 use Rattle.muni_msg.specs.declared.command.Reply.{Reply}
-use Rattle.muni_msg.specs.declared.command.Reply.TheVariants.{Added, Quoted, Listed, Confirmed, Refused}
+use Rattle.muni_msg.specs.declared.command.Reply.TheVariants.{Added, Amended, Quoted, Listed, Confirmed, Refused}
 use Rattle.muni_msg.specs.declared.figures.Figures.{Figures}
 use Rattle.muni_import.specs.Line.{behind_commas, refused_fields, bad_fields}
 use Rattle.muni_import.specs.declared.row.RowFault.{RowFault}
@@ -33,6 +33,7 @@ confirmed_fields key number figures =
 -- what is told of a reply; no row asks for figures or for a list
 abbrev pub reply_fields : Reply → List ℕ
 reply_fields (Added cusip) = behind_commas (codes "added" ∷ cusip ∷ [])
+reply_fields (Amended cusip number) = behind_commas (codes "amended" ∷ cusip ∷ decimal number ∷ [])
 reply_fields (Quoted issue asked figures shown) = []
 reply_fields (Listed lines) = []
 reply_fields (Confirmed issue key number version) = confirmed_fields key number version.figures

@@ -1,5 +1,5 @@
 -- What a row asks for, by its fields. Columns are counted from 1.
-use Rattle.std.specs.Prelude.{ℕ, ◌+◌, ◌-◌, ◌==◌, ◌||◌, Bool, if◌then◌else◌, List, [], length, codes, Option, Some, None, unwrap_or, ok_or, Result, Ok, Err}
+use Rattle.std.specs.Prelude.{ℕ, ◌+◌, ◌-◌, ◌==◌, ◌||◌, Bool, if◌then◌else◌, List, [], length, codes, Option, Some, None, option_map, unwrap_or, ok_or, Result, Ok, Err}
 use Rattle.std.specs.Char.{is_ascii_alphanumeric}
 use Rattle.std.specs.Result.{result_ok}
 use Rattle.std.specs.Str.{bytes_eq}
@@ -17,12 +17,12 @@ use Rattle.muni_msg.specs.declared.asked.Given.{Given}
 use Rattle.muni_msg.specs.declared.asked.Terms.{Terms}
 use Rattle.muni_msg.specs.declared.command.Key.{Key}
 use Rattle.muni_msg.specs.declared.command.Command.{Command}
-use Rattle.muni_msg.specs.declared.command.Command.TheVariants.{AddIssue, Enter, Correct, Cancel}
+use Rattle.muni_msg.specs.declared.command.Command.TheVariants.{AddIssue, Amend, Enter, Correct, Cancel}
 use Rattle.muni_msg.specs.Calls.{calls_field}
 use Rattle.muni_import.specs.declared.row.RowFault.{RowFault}
 use Rattle.muni_import.specs.declared.row.RowFault.TheVariants.{FieldCount, BadField}
 use Rattle.muni_import.specs.declared.row.RowName.{RowName}
-use Rattle.muni_import.specs.declared.row.RowName.TheVariants.{Issue, Trade, Correction, Cancellation}
+use Rattle.muni_import.specs.declared.row.RowName.TheVariants.{Issue, Amendment, Trade, Correction, Cancellation}
 
 infixl 10 ◌>>=◌
 abbrev pub ◌>>=◌ : {A B : Type 0} → Result A RowFault → (A → Result B RowFault) → Result B RowFault
@@ -48,9 +48,18 @@ key_in fields = do
   reference ← in_column 3 (result_ok (name_reading is_ascii_alphanumeric 20 (field 3 fields)))
   Ok (record { desk = desk; reference = reference })
 
--- the number of a version
-abbrev pub number_in : List (List ℕ) → Result ℕ RowFault
-number_in fields = in_column 4 (version_number (field 4 fields))
+-- in a column the number of a version, or of the terms of an issue
+abbrev pub number_in : ℕ → List (List ℕ) → Result ℕ RowFault
+number_in column fields = in_column column (version_number (field column fields))
+
+-- a text as the number of the terms of an issue, which may be left out
+abbrev pub issue_number_field : List ℕ → Option (Option ℕ)
+issue_number_field text =
+    if length text == 0 then Some None else option_map (λ number. Some number) (version_number text)
+
+-- in a column the number of the terms of the issue of a trade
+abbrev pub issue_number_in : ℕ → List (List ℕ) → Result (Option ℕ) RowFault
+issue_number_in column fields = in_column column (issue_number_field (field column fields))
 
 -- the texts that name a basis
 abbrev pub is_basis : List ℕ → Bool
@@ -85,65 +94,81 @@ is_kind text =
 abbrev pub not_empty : List ℕ → Option (List ℕ)
 not_empty text = if length text == 0 then None else Some text
 
--- a kind, with the first interest date in a column of its own
-abbrev pub kind_in : List (List ℕ) → Result Kind RowFault
-kind_in fields = in_column 6 (kind_reading (field 4 fields) (not_empty (field 6 fields)))
+-- of an issue whose terms begin in a column the kind, with the first interest date in a column of its own
+abbrev pub kind_in : ℕ → List (List ℕ) → Result Kind RowFault
+kind_in first fields =
+    in_column (first + 3) (kind_reading (field (first + 1) fields) (not_empty (field (first + 3) fields)))
 
 -- the dated date, the kind and the maturity
-abbrev pub dates_in : List (List ℕ) → Result (Kind × Day × Day) RowFault
-dates_in fields = do
-  dated ← in_column 5 (day_in (field 5 fields))
-  kind ← kind_in fields
-  maturity ← in_column 7 (day_in (field 7 fields))
+abbrev pub dates_in : ℕ → List (List ℕ) → Result (Kind × Day × Day) RowFault
+dates_in first fields = do
+  dated ← in_column (first + 2) (day_in (field (first + 2) fields))
+  kind ← kind_in first fields
+  maturity ← in_column (first + 4) (day_in (field (first + 4) fields))
   Ok (kind, dated, maturity)
 
--- how an issue pays and when
-unfoldable pub calendar_in : List (List ℕ) → Result (Kind × Day × Day) RowFault
-calendar_in fields = if is_kind (field 4 fields) then dates_in fields else Err (BadField 4)
+-- how it pays and when
+unfoldable pub calendar_in : ℕ → List (List ℕ) → Result (Kind × Day × Day) RowFault
+calendar_in first fields =
+    if is_kind (field (first + 1) fields) then dates_in first fields else Err (BadField (first + 1))
 
--- the terms of an issue
-unfoldable pub issue_in : List (List ℕ) → Result IssueRow RowFault
-issue_in fields = do
-  cusip ← in_column 2 (cusip_reading (field 2 fields))
-  name ← in_column 3 (issue_name_reading (field 3 fields))
-  calendar ← calendar_in fields
-  coupon ← in_column 8 (coupon_by (pays_interest calendar.0) (field 8 fields))
-  calls ← in_column 9 (calls_field (field 9 fields))
-  basis ← in_column 10 (basis_field (field 10 fields))
+-- the CUSIP of an issue
+abbrev pub cusip_in : List (List ℕ) → Result (List ℕ) RowFault
+cusip_in fields = in_column 2 (cusip_reading (field 2 fields))
+
+-- the issue of a CUSIP, whose terms begin in a column, with its name
+unfoldable pub issue_in : ℕ → List ℕ → List (List ℕ) → Result IssueRow RowFault
+issue_in first cusip fields = do
+  name ← in_column first (issue_name_reading (field first fields))
+  calendar ← calendar_in first fields
+  coupon ← in_column (first + 5) (coupon_by (pays_interest calendar.0) (field (first + 5) fields))
+  calls ← in_column (first + 6) (calls_field (field (first + 6) fields))
+  basis ← in_column (first + 7) (basis_field (field (first + 7) fields))
   Ok (record { cusip = cusip; name = name; kind = calendar.0; basis = basis; dated = calendar.1; maturity = calendar.2; coupon = coupon; calls = record { items = calls } })
 
 -- the name of a row
 abbrev pub name_of : List ℕ → Option RowName
 name_of text =
     if bytes_eq text (codes "issue") then Some Issue
+    else (if bytes_eq text (codes "amend") then Some Amendment
     else (if bytes_eq text (codes "trade") then Some Trade
     else (if bytes_eq text (codes "correct") then Some Correction
-    else (if bytes_eq text (codes "cancel") then Some Cancellation else None)))
+    else (if bytes_eq text (codes "cancel") then Some Cancellation else None))))
 
--- how many fields such a row has; the last one of an issue, a trade and a correction may be left out
+-- how many fields such a row has; the last one of an issue and of an amendment may be left out, and the
+-- last one or two of a trade and of a correction
 abbrev pub has_count : RowName → ℕ → Bool
 has_count Issue count = (count == 9) || (count == 10)
-has_count Trade count = (count == 9) || (count == 10)
-has_count Correction count = (count == 10) || (count == 11)
+has_count Amendment count = (count == 10) || (count == 11)
+has_count Trade count = (count == 9) || ((count == 10) || (count == 11))
+has_count Correction count = (count == 10) || ((count == 11) || (count == 12))
 has_count Cancellation count = count == 4
 
 -- what such a row asks for
 unfoldable pub command_in : RowName → List (List ℕ) → Row
 command_in Issue fields = do
-  issue ← issue_in fields
+  cusip ← cusip_in fields
+  issue ← issue_in 3 cusip fields
   Ok (AddIssue issue)
+command_in Amendment fields = do
+  cusip ← cusip_in fields
+  number ← number_in 3 fields
+  issue ← issue_in 4 cusip fields
+  Ok (Amend number issue)
 command_in Trade fields = do
   key ← key_in fields
   terms ← terms_in 4 fields
-  Ok (Enter key terms)
+  issue_number ← issue_number_in 11 fields
+  Ok (Enter key terms issue_number)
 command_in Correction fields = do
   key ← key_in fields
-  number ← number_in fields
+  number ← number_in 4 fields
   terms ← terms_in 5 fields
-  Ok (Correct key number terms)
+  issue_number ← issue_number_in 12 fields
+  Ok (Correct key number terms issue_number)
 command_in Cancellation fields = do
   key ← key_in fields
-  number ← number_in fields
+  number ← number_in 4 fields
   Ok (Cancel key number)
 
 -- a row of a name, whose fields are counted before any of them is read

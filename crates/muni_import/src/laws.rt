@@ -10,12 +10,13 @@ pub fn texts_have_one_list_of_rows()
     ensures no_other { TextsHaveNoOtherRows }
 {}
 
-/// The last field of an issue, of a trade and of a correction may be left out: the row says what it
-/// says with an empty one.
+/// The last field of an issue and of an amendment may be left out, and the last one or two of a trade
+/// and of a correction: the row says what it says with empty ones.
 pub fn last_fields_may_be_left_out()
     ensures issues { LastMayBeLeftOut (codes "issue") 8 }
-    ensures trades { LastMayBeLeftOut (codes "trade") 8 }
-    ensures corrections { LastMayBeLeftOut (codes "correct") 9 }
+    ensures amendments { LastMayBeLeftOut (codes "amend") 9 }
+    ensures fees { LastMayBeLeftOut (codes "trade") 8 × LastMayBeLeftOut (codes "correct") 9 }
+    ensures issue_numbers { LastMayBeLeftOut (codes "trade") 9 × LastMayBeLeftOut (codes "correct") 10 }
 {}
 
 /// Of a row that is no command the first fault is reported: that it has no name, then that it has

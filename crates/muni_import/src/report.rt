@@ -14,10 +14,10 @@ use muni_msg::{Figures, Key, Reply};
 /// Replaces the text by the line of a report on what came of a row, with its line end. Places are
 /// counted from 1.
 ///
-/// `place,added,CUSIP`, `place,confirmed,REFERENCE,NUMBER,PRICE,YIELD,REDEMPTION,TOTAL`,
-/// `place,refused,NUMBER,NAME`, `place,bad,1`, or `place,bad,2,COLUMN`. The price and the yield have
-/// three decimals, and the total is in dollars. Of figures and of a list, which no row asks for, only
-/// the place is told.
+/// `place,added,CUSIP`, `place,amended,CUSIP,NUMBER`,
+/// `place,confirmed,REFERENCE,NUMBER,PRICE,YIELD,REDEMPTION,TOTAL`, `place,refused,NUMBER,NAME`,
+/// `place,bad,1`, or `place,bad,2,COLUMN`. The price and the yield have three decimals, and the total
+/// is in dollars. Of figures and of a list, which no row asks for, only the place is told.
 pub fn report_row(place: u32, said: &RowOutcome, text: &mut ArrayVec<u8, 256>)
     ensures items { text.new.items ≡ spec.row_line place said.now }
     ensures len { array_vec_len text.new ≤ 154 }
@@ -40,6 +40,11 @@ fn push_reply(text: &mut ArrayVec<u8, 256>, reply: &Reply)
         Reply::Added { cusip } => {
             push_field(text, b"added");
             push_field(text, cusip);
+        }
+        Reply::Amended { cusip, number } => {
+            push_field(text, b"amended");
+            push_field(text, cusip);
+            push_number(text, *number);
         }
         Reply::Confirmed {
             key,

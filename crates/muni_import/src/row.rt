@@ -52,6 +52,7 @@ impl RowFault {
 #[derive(Clone, Copy, Debug, PartialEq, Eq)]
 pub(crate) enum RowName {
     Issue,
+    Amendment,
     Trade,
     Correction,
     Cancellation,
@@ -63,6 +64,9 @@ impl RowName {
     {
         if text == b"issue".as_slice() {
             return Some(RowName::Issue);
+        }
+        if text == b"amend".as_slice() {
+            return Some(RowName::Amendment);
         }
         if text == b"trade".as_slice() {
             return Some(RowName::Trade);
@@ -76,21 +80,23 @@ impl RowName {
         None
     }
 
-    /// Whether such a row has so many fields. The last field of an issue, of a trade and of a
-    /// correction may be left out.
+    /// Whether such a row has so many fields. The last one of an issue and of an amendment may be left
+    /// out, and the last one or two of a trade and of a correction.
     fn has_count(self, count: usize) -> bool
         ensures { result ≡ spec.has_count self count }
     {
         match self {
-            RowName::Issue | RowName::Trade => count == 9 || count == 10,
-            RowName::Correction => count == 10 || count == 11,
+            RowName::Issue => count == 9 || count == 10,
+            RowName::Amendment => count == 10 || count == 11,
+            RowName::Trade => count == 9 || count == 10 || count == 11,
+            RowName::Correction => count == 10 || count == 11 || count == 12,
             RowName::Cancellation => count == 4,
         }
     }
 }
 
 /// What the fields of a row ask for.
-#[tactic(auto, unfolding(crate::specs::Row::row_of, crate::specs::Row::command_in))]
+#[tactic(auto, unfolding(crate::specs::Row::row_of))]
 pub(crate) fn read_row(row: &ByteRecord) -> Row
     ensures { result ≡ spec.row_of (fields_of row.now) }
 {
@@ -100,20 +106,40 @@ pub(crate) fn read_row(row: &ByteRecord) -> Row
     if !name.has_count(row.len()) {
         return Err(RowFault::FieldCount);
     }
+    command(name, row)
+}
+
+// What a row of a name asks for.
+#[tactic(auto, unfolding(crate::specs::Row::command_in))]
+fn command(name: RowName, row: &ByteRecord) -> Row
+    ensures { result ≡ spec.command_in name (fields_of row.now) }
+{
     match name {
-        RowName::Issue => Ok(Command::AddIssue(issue(row)?)),
+        RowName::Issue => {
+            let cusip = cusip(row)?;
+            Ok(Command::AddIssue(issue(row, 3, cusip)?))
+        }
+        RowName::Amendment => {
+            let cusip = cusip(row)?;
+            Ok(Command::Amend {
+                number: number(row, 3)?,
+                row: issue(row, 4, cusip)?,
+            })
+        }
         RowName::Trade => Ok(Command::Enter {
             key: key(row)?,
             terms: terms(row, 4)?,
+            issue_number: issue_number(row, 11)?,
         }),
         RowName::Correction => Ok(Command::Correct {
             key: key(row)?,
-            number: number(row)?,
+            number: number(row, 4)?,
             terms: terms(row, 5)?,
+            issue_number: issue_number(row, 12)?,
         }),
         RowName::Cancellation => Ok(Command::Cancel {
             key: key(row)?,
-            number: number(row)?,
+            number: number(row, 4)?,
         }),
     }
 }
@@ -127,11 +153,29 @@ fn key(row: &ByteRecord) -> Result<Key, RowFault>
     })
 }
 
-// The number of a version.
-fn number(row: &ByteRecord) -> Result<u32, RowFault>
-    ensures { result ≡ spec.number_in (fields_of row.now) }
+// The number of a version, or of the terms of an issue.
+fn number(row: &ByteRecord, column: u32) -> Result<u32, RowFault>
+    requires { 1 ≤ column }
+    ensures { result ≡ spec.number_in column (fields_of row.now) }
 {
-    in_column(4, read_version_number(field(row, 4)))
+    in_column(column, read_version_number(field(row, column)))
+}
+
+// The number of the terms of the issue of a trade.
+fn issue_number(row: &ByteRecord, column: u32) -> Result<Option<u32>, RowFault>
+    requires { 1 ≤ column }
+    ensures { result ≡ spec.issue_number_in column (fields_of row.now) }
+{
+    in_column(column, read_issue_number(field(row, column)))
+}
+
+fn read_issue_number(text: &[u8]) -> Option<Option<u32>>
+    ensures { result ≡ spec.issue_number_field text.now }
+{
+    if text.is_empty() {
+        return Some(None);
+    }
+    Some(Some(read_version_number(text)?))
 }
 
 // The terms of a trade, which begin in a column.
@@ -171,17 +215,23 @@ fn is_basis(text: &[u8]) -> bool
     text == b"yield".as_slice() || text == b"price".as_slice() || text == b"rate".as_slice()
 }
 
-// The terms of an issue.
-#[tactic(auto, unfolding(crate::specs::Row::issue_in))]
-fn issue(row: &ByteRecord) -> Result<IssueRow, RowFault>
-    ensures { result ≡ spec.issue_in (fields_of row.now) }
+fn cusip(row: &ByteRecord) -> Result<[u8; 9], RowFault>
+    ensures { result ≡ spec.cusip_in (fields_of row.now) }
 {
-    let cusip = in_column(2, read_cusip(field(row, 2)))?;
-    let name = in_column(3, read_issue_name(field(row, 3)))?;
-    let (kind, dated, maturity) = calendar(row)?;
-    let coupon = in_column(8, read_coupon(kind, field(row, 8)))?;
-    let calls = in_column(9, read_calls(field(row, 9)))?;
-    let basis = in_column(10, read_basis_field(field(row, 10)))?;
+    in_column(2, read_cusip(field(row, 2)))
+}
+
+// The issue of a CUSIP, whose terms begin in a column, with its name.
+#[tactic(auto, unfolding(crate::specs::Row::issue_in))]
+fn issue(row: &ByteRecord, first: u32, cusip: [u8; 9]) -> Result<IssueRow, RowFault>
+    requires { (1 ≤ first) × (first ≤ 4) }
+    ensures { result ≡ spec.issue_in first cusip (fields_of row.now) }
+{
+    let name = in_column(first, read_issue_name(field(row, first)))?;
+    let (kind, dated, maturity) = calendar(row, first)?;
+    let coupon = in_column(first + 5, read_coupon(kind, field(row, first + 5)))?;
+    let calls = in_column(first + 6, read_calls(field(row, first + 6)))?;
+    let basis = in_column(first + 7, read_basis_field(field(row, first + 7)))?;
     Ok(IssueRow {
         cusip,
         name,
@@ -194,17 +244,18 @@ fn issue(row: &ByteRecord) -> Result<IssueRow, RowFault>
     })
 }
 
-// How an issue pays and when: its kind, its dated date and its maturity.
+// How it pays and when: its kind, its dated date and its maturity.
 #[tactic(auto, unfolding(crate::specs::Row::calendar_in))]
-fn calendar(row: &ByteRecord) -> Result<(Kind, Day, Day), RowFault>
-    ensures { result ≡ spec.calendar_in (fields_of row.now) }
+fn calendar(row: &ByteRecord, first: u32) -> Result<(Kind, Day, Day), RowFault>
+    requires { (1 ≤ first) × (first ≤ 4) }
+    ensures { result ≡ spec.calendar_in first (fields_of row.now) }
 {
-    if !is_kind(field(row, 4)) {
-        return Err(RowFault::BadField { column: 4 });
+    if !is_kind(field(row, first + 1)) {
+        return Err(RowFault::BadField { column: first + 1 });
     }
-    let dated = in_column(5, Day::read(field(row, 5)).ok())?;
-    let kind = kind(row)?;
-    let maturity = in_column(7, Day::read(field(row, 7)).ok())?;
+    let dated = in_column(first + 2, Day::read(field(row, first + 2)).ok())?;
+    let kind = kind(row, first)?;
+    let maturity = in_column(first + 4, Day::read(field(row, first + 4)).ok())?;
     Ok((kind, dated, maturity))
 }
 
@@ -217,12 +268,13 @@ fn is_kind(text: &[u8]) -> bool
         || text == b"discount".as_slice()
 }
 
-// A kind, with the first interest date in a column of its own.
-fn kind(row: &ByteRecord) -> Result<Kind, RowFault>
-    ensures { result ≡ spec.kind_in (fields_of row.now) }
+// Its kind, with the first interest date in a column of its own.
+fn kind(row: &ByteRecord, first: u32) -> Result<Kind, RowFault>
+    requires { (1 ≤ first) × (first ≤ 4) }
+    ensures { result ≡ spec.kind_in first (fields_of row.now) }
 {
-    let first = not_empty(field(row, 6));
-    in_column(6, read_kind(field(row, 4), first))
+    let interest = not_empty(field(row, first + 3));
+    in_column(first + 3, read_kind(field(row, first + 1), interest))
 }
 
 fn not_empty(text: &[u8]) -> Option<&[u8]>

@@ -17,7 +17,7 @@ put_puts tables read put next is puts = ap (option_and_then (put_on tables)) (sy
 -- a version that is read is put
 version_read : (read : Option Put) (key : Key) (number : ℕ) (version : Version) → Some (key, number, version) ≡ option_and_then version_in read → Some (PutVersion key number version) ≡ read
 version_read None key number version is = absurd (cc is)
-version_read (Some (Issue row)) key number version is = absurd (cc is)
+version_read (Some (Issue n row)) key number version is = absurd (cc is)
 version_read (Some (PutVersion k n v)) key number version is = ap (λ (f : Key × ℕ × Version). Some (PutVersion f.0 f.1 f.2)) (same_Some (key, number, version) (k, n, v) is)
 
 pub version_puts : (tables : Tables) (read : Option Put) (key : Key) (number : ℕ) (version : Version) (next : Option Tables) → Some (key, number, version) ≡ option_and_then version_in read → put_on tables (PutVersion key number version) ≡ next

@@ -4,7 +4,7 @@ ghost use Rattle.std.specs.Prelude.{◌≡◌, ◌≤◌, ◌+◌, ◌^◌, Some
 ghost use Rattle.std.specs.Option.{ForSome, ForNone};
 ghost use Rattle.std.specs.Result.{result_map_both};
 ghost use Rattle.muni_keep.specs.History.{next_number};
-ghost use Rattle.muni_keep.specs.Tables.{issue_at, trade_at, version_at, last_at, trade_count, page_at, before_latest, issue_past, desk_past};
+ghost use Rattle.muni_keep.specs.Tables.{issue_at, issue_numbered, issue_history, last_issue, trade_at, version_at, last_at, trade_count, page_at, before_latest, issue_past, desk_past};
 ghost use Rattle.muni_journal_disk.specs.Calls.{SameDisk};
 ghost use Rattle.muni_journal_disk.specs.Disk.{StopsLeave};
 ghost use Rattle.muni_journal_slots.specs.Slots.{AllImages};
@@ -144,12 +144,30 @@ impl<D: Disk> Keeper for JournalKeeper<D> {
         Ok(self.kept.issue(cusip))
     }
 
-    fn put_issue(&mut self, issue: &Issue) -> Result<(), KeepFault>
-        requires { issue_at self.old.kept issue.now.cusip ≡ None }
-
-        ensures edits { EditsJournal D.Disk ⟦<JournalKeeper<D> as Keeper>⟧ (put.Issue issue.now) result self.old self.new }
+    fn issue_numbered(&mut self, cusip: &[u8; 9], number: u32) -> Result<Option<Issue>, KeepFault>
+        ensures found { result ≡ Ok (issue_numbered self.old.kept cusip.now number) }
+        ensures same { self.new ≡ self.old }
     {
-        let put = Put::Issue(issue.copy());
+        Ok(self.kept.issue_numbered(cusip, number))
+    }
+
+    fn last_issue(&mut self, cusip: &[u8; 9]) -> Result<Option<(u32, Issue)>, KeepFault>
+        ensures found { result ≡ Ok (last_issue self.old.kept cusip.now) }
+        ensures same { self.new ≡ self.old }
+    {
+        Ok(self.kept.last_issue(cusip))
+    }
+
+    fn put_issue(&mut self, number: u32, issue: &Issue) -> Result<(), KeepFault>
+        requires { number ≡ next_number (issue_history self.old.kept issue.now.cusip) }
+
+        ensures edits { EditsJournal D.Disk ⟦<JournalKeeper<D> as Keeper>⟧ (put.Issue number issue.now) result
+            self.old self.new }
+    {
+        let put = Put::Issue {
+            number,
+            issue: issue.copy(),
+        };
         self.put(&put)
     }
 

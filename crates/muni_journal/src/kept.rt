@@ -1,15 +1,12 @@
 //! Puts on the tables of a journal.
 
-ghost use Rattle.std.specs.Prelude.{◌≡◌, true, false, is_none, Some, None, Ok, OnOk, OnErr};
+ghost use Rattle.std.specs.Prelude.{◌≡◌, true, false, Some, None, Ok, OnOk, OnErr};
 ghost use Rattle.std.specs.Option.{option_and_then};
-ghost use Rattle.muni_keep.specs.Puts.{PutsIf};
-ghost use Rattle.muni_keep.specs.Tables.{issue_at, with_issue};
 ghost use Rattle.muni_journal_record.specs.Body.{put_of as spec_put_of};
 ghost use Rattle.muni_journal.specs.Puts as spec;
 
 use muni_journal_record::{Put, put_of, version_of_body};
 use muni_keep::MemTables;
-use muni_terms::Issue;
 use std::alloc::AllocError;
 
 /// Puts what a body holds if that meets its condition, and says whether it did.
@@ -35,24 +32,13 @@ fn put_next(kept: &mut MemTables, put: &Put) -> Result<bool, AllocError>
     ensures refused { result ≡ Ok false → spec.put_on kept.old put.now ≡ None }
 {
     match put {
-        Put::Issue(issue) => put_issue_next(kept, issue),
+        Put::Issue { number, issue } => kept.put_next_issue(*number, issue),
         Put::Version {
             key,
             number,
             version,
         } => kept.put_next(key, *number, version),
     }
-}
-
-fn put_issue_next(kept: &mut MemTables, issue: &Issue) -> Result<bool, AllocError>
-    ensures { PutsIf (is_none (issue_at kept.old issue.now.cusip)) (with_issue issue.now kept.old)
-        result kept.old kept.new }
-{
-    if kept.issue(&issue.row().cusip).is_some() {
-        return Ok(false);
-    }
-    kept.put_issue(issue)?;
-    Ok(true)
 }
 
 /// Puts what meets its condition.
@@ -62,7 +48,7 @@ pub(crate) fn put_on(kept: &mut MemTables, put: &Put) -> Result<(), AllocError>
     ensures unchanged { OnErr result (kept.new ≡ kept.old) }
 {
     match put {
-        Put::Issue(issue) => kept.put_issue(issue),
+        Put::Issue { number, issue } => kept.put_issue(*number, issue),
         Put::Version {
             key,
             number,

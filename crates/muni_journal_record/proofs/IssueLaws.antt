@@ -86,11 +86,10 @@ all-written false (call ∷ calls) is =
     let parts = neither-true (is_marked call) (list_any is_marked calls) is in
     (written false call (λ same. parts.0), all-written false calls parts.1)
 
-few_calls_back : (calls : List Call) → length calls ≤ 40 → All CallFits calls → few_calls_of (list_any is_marked calls) (length calls) (flat_map (call_bytes (list_any is_marked calls)) calls) ≡ Some calls
-few_calls_back calls few fit =
-    let marked = list_any is_marked calls in
+few_calls_back : (marked : Bool) (calls : List Call) → length calls ≤ 40 → All CallFits calls → AllByRecursion (IsWritten marked) calls → few_calls_of marked (length calls) (flat_map (call_bytes marked) calls) ≡ Some calls
+few_calls_back marked calls few fit are =
     let test : nat_le (length calls) 40 ≡ true = grind (arith, nat_tests, few) in
-    rw (test, calls_back marked calls (recursion_from_All CallFits calls fit) (all-written marked calls refl)) refl
+    rw (test, calls_back marked calls (recursion_from_All CallFits calls fit) are) refl
 
 -- the kind, with the first interest date of a periodic issue
 first_back : (kind : Kind) (rest : List ℕ) → front (first_size (kind_code kind)) (first_bytes kind ++ rest) ≡ Some (first_bytes kind, rest)
@@ -109,17 +108,17 @@ kind_back Discount = refl
 name_back : (name : List ℕ) → length name ≤ 60 → name_of name ≡ Some name
 name_back name short = let test : nat_le (length name) 60 ≡ true = grind (arith, nat_tests, short) in rw test refl
 
-row_back : (row : IssueRow) → IssueFits row → row_of (has_mark row) (row_bytes (has_mark row) row) ≡ Some row
+row_back : (marked : Bool) (row : IssueRow) → IssueFits row → AllByRecursion (IsWritten marked) row.calls.items → row_of marked (row_bytes marked row) ≡ Some row
 unfolding row_of
-row_back row fits =
-    let calls = flat_map (call_bytes (has_mark row)) row.calls.items in
+row_back marked row fits are =
+    let calls = flat_map (call_bytes marked) row.calls.items in
     let count = length row.calls.items ∷ calls in
     let coupon = four row.coupon ++ count in
     let maturity = day_bytes row.maturity ++ coupon in
     let first = first_bytes row.kind ++ maturity in
     let dated = day_bytes row.dated ++ first in
     let codes = kind_code row.kind ∷ (basis_code row.basis ∷ dated) in
-    let grouped : row_bytes (has_mark row) row ≡ row.cusip ++ (text_bytes row.name.items ++ codes) = simp append_assoc in
+    let grouped : row_bytes marked row ≡ row.cusip ++ (text_bytes row.name.items ++ codes) = simp append_assoc in
     rw (
       grouped,
       front_back 9 row.cusip (text_bytes row.name.items ++ codes) fits.cusip,
@@ -134,8 +133,13 @@ row_back row fits =
       day_is row.maturity,
       four_back row.coupon count (omega (arith, fits.coupon.1)),
       amount_back 0 300_000_000 row.coupon fits.coupon,
-      few_calls_back row.calls.items fits.few fits.calls,
+      few_calls_back marked row.calls.items fits.few fits.calls are,
     ) refl
 
 pub issue_back : (row : IssueRow) → IssueFits row → issue_of (has_mark row) (row_bytes (has_mark row) row) ≡ Some row
-issue_back row fits = rw (row_back row fits, fits.passed) refl
+issue_back row fits =
+    rw (row_back (has_mark row) row fits (all-written (has_mark row) row.calls.items refl), fits.passed) refl
+
+-- the same with all marks
+pub marked_back : (row : IssueRow) → IssueFits row → issue_of true (row_bytes true row) ≡ Some row
+marked_back row fits = rw (row_back true row fits (all-marked row.calls.items), fits.passed) refl

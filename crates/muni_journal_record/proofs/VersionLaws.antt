@@ -118,7 +118,7 @@ name_back is_letter most name is =
     rw (some, few, is.letters) refl
 
 -- versions
-pub version_back : (key : Key) (number : ℕ) (v : Version) → VersionFits key number v → version_of (version_bytes key number v) ≡ Some (key, number, v)
+pub version_back : (key : Key) (number : ℕ) (v : Version) → VersionFits key number v → version_of v.issue_number (version_bytes key number v) ≡ Some (key, number, v)
 unfolding version_of
 version_back key number v fits =
     let tail = asked_bytes v.terms.asked ++ figures_bytes v.figures in

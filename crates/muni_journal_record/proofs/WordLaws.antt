@@ -1,5 +1,5 @@
 -- Numbers, codes and days that were written are read.
-use Rattle.std.proofs.Common.{◌≡◌, true, ℕ, ◌<◌, ◌^◌, Some, List, [], ◌∷◌, ◌++◌, length, refl, sym, ◌∙◌, ap, arith, length-append, append-nil}
+use Rattle.std.proofs.Common.{◌≡◌, ◌==◌, true, false, ℕ, ◌<◌, ◌^◌, Some, List, [], ◌∷◌, ◌++◌, length, refl, sym, ◌∙◌, ap, arith, length-append, append-nil}
 use Rattle.std.specs.Prelude.{ℤ, pos, negsuc, nat_le, nat_lt, FitsSigned}
 use Rattle.std.specs.Int.{w32, cast_signed, cast_unsigned}
 use Rattle.std.proofs.lemmas.Bool.Decides.{nat_tests}
@@ -20,7 +20,7 @@ use Rattle.muni_msg.specs.declared.asked.Side.TheVariants.{Buy, Sell}
 use Rattle.muni_msg.specs.declared.version.Act.{Act}
 use Rattle.muni_msg.specs.declared.version.Act.TheVariants.{Entered, Corrected, Canceled}
 use Rattle.muni_msg.specs.Codes.{act_code, act_of_code, side_code, side_of_code, label_code, label_of_code, basis_code, basis_of_code}
-use Rattle.muni_journal_record.specs.Words.{two, four, eight, signed, number_of_2, number_of_4, number_of_8, signed_of, front, four_front, eight_front, signed_front}
+use Rattle.muni_journal_record.specs.Words.{two, four, eight, signed, number_of_2, number_of_4, number_of_8, signed_of, front, four_front, later_front, eight_front, signed_front}
 use Rattle.muni_journal_record.specs.Fields.{day_bytes, date_of, day_of, text_bytes, text_front}
 
 -- a piece from the front
@@ -62,6 +62,9 @@ signed_is z fits =
 
 pub four_back : (n : ℕ) (rest : List ℕ) → n < 2 ^ 32 → four_front (four n ++ rest) ≡ Some (n, rest)
 four_back n rest fits = rw (front_back 4 (four n) rest (length-four n), four_is n fits) refl
+
+pub later_back : (n : ℕ) (rest : List ℕ) → n < 2 ^ 32 → (n == 1) ≡ false → later_front (four n ++ rest) ≡ Some (n, rest)
+later_back n rest fits later = rw (four_back n rest fits, later) refl
 
 pub eight_back : (n : ℕ) (rest : List ℕ) → n < 2 ^ 64 → eight_front (eight n ++ rest) ≡ Some (n, rest)
 eight_back n rest fits = rw (front_back 8 (eight n) rest (length-eight n), eight_is n fits) refl

@@ -83,20 +83,21 @@ asked_of bytes =
     }) (if_fee cost.0)) (four_front value.1)) (given_of_code basis.0 value.0)) (signed_front basis.1)) (byte_front day.1))
     (day_of day.0)) (front 4 units.1)) (if_par units.0)) (four_front code.1)) (side_of_code code.0)) (byte_front cusip.1)) (front 9 bytes)
 
--- a version with its trade and its number, and what is read as such
+-- a version with its trade and its number, but without the number of the terms of its issue; and what is read
+-- as such, with that number
 abbrev pub version_bytes : Key → ℕ → Version → List ℕ
 version_bytes key number v =
     text_bytes key.desk ++ (text_bytes key.reference ++ (four number ++ (act_code v.act ∷ (asked_bytes v.terms.asked
     ++ figures_bytes v.figures))))
 
-unfoldable pub version_of : List ℕ → Option (Key × ℕ × Version)
-version_of bytes =
+unfoldable pub version_of : ℕ → List ℕ → Option (Key × ℕ × Version)
+version_of issue_number bytes =
     option_and_then (λ desk_text. option_and_then (λ desk. option_and_then (λ reference_text. option_and_then (λ reference.
     option_and_then (λ number. option_and_then (λ code. option_and_then (λ act. option_and_then (λ piece.
     option_and_then (λ asked. option_map (λ figures. (
       record { desk = desk; reference = reference },
       number.0,
-      record { act = act; terms = record { asked = asked }; figures = figures },
+      record { act = act; terms = record { asked = asked }; issue_number = issue_number; figures = figures },
     ))
     (figures_of piece.1)) (asked_of piece.0)) (front 27 code.1)) (act_of_code code.0)) (byte_front number.1))
     (four_front reference_text.1)) (result_ok (name_reading is_ascii_alphanumeric 20 reference_text.0))) (text_front desk_text.1))
@@ -134,5 +135,6 @@ pub record VersionFits (key : Key) (number : ℕ) (v : Version) : Type 0 where
   pub desk : IsName is_desk_letter 16 key.desk
   pub reference : IsName is_ascii_alphanumeric 20 key.reference
   pub numbered : number < 2 ^ 32
+  pub issue_numbered : v.issue_number < 2 ^ 32
   pub asked : AskedFits v.terms.asked
   pub figures : FiguresFit v.figures

@@ -1,6 +1,6 @@
 -- Numbers as bytes, the highest first, and the front of bytes.
-use Rattle.std.specs.Prelude.{ℕ, ℤ, nat_le, List, [], ◌∷◌, length, take, drop, Option, Some, None, if◌then◌else◌}
-use Rattle.std.specs.Option.{option_map}
+use Rattle.std.specs.Prelude.{ℕ, ℤ, ◌==◌, nat_le, List, [], ◌∷◌, length, take, drop, Option, Some, None, if◌then◌else◌}
+use Rattle.std.specs.Option.{option_map, option_and_then}
 use Rattle.std.specs.Int.{w16, w32, w64, to_be_bytes, from_be_bytes, cast_signed, cast_unsigned}
 
 -- a number in two bytes, in four and in eight
@@ -47,6 +47,13 @@ byte_front (byte ∷ rest) = Some (byte, rest)
 -- a number or some bytes from the front, and the rest
 abbrev pub four_front : List ℕ → Option (ℕ × List ℕ)
 four_front bytes = read_front number_of_4 4 bytes
+
+-- a number other than 1, and the rest
+abbrev pub if_later : ℕ × List ℕ → Option (ℕ × List ℕ)
+if_later found = if found.0 == 1 then None else Some found
+
+abbrev pub later_front : List ℕ → Option (ℕ × List ℕ)
+later_front bytes = option_and_then if_later (four_front bytes)
 
 abbrev pub eight_front : List ℕ → Option (ℕ × List ℕ)
 eight_front bytes = read_front number_of_8 8 bytes

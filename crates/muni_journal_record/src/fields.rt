@@ -1,7 +1,7 @@
 //! The fields of a body. They are written at its end, and read from the front of bytes; then the rest
 //! is given as well.
 
-ghost use Rattle.std.specs.Prelude.{◌≡◌, ◌≤◌, ◌<◌, ◌+◌, ◌^◌, ◌++◌, ◌∷◌, [], length, IfSome, FitsSigned};
+ghost use Rattle.std.specs.Prelude.{◌≡◌, ◌≢◌, ◌≤◌, ◌<◌, ◌+◌, ◌^◌, ◌++◌, ◌∷◌, [], length, IfSome, FitsSigned};
 ghost use Rattle.std.specs.Int.{w32};
 ghost use Rattle.std.specs.Option.{option_map};
 ghost use Rattle.arrayvec.specs.ArrayVec.{array_vec_len};
@@ -139,6 +139,19 @@ pub(crate) fn four_front(bytes: &[u8]) -> Option<(u32, &[u8])>
 {
     let (piece, rest) = front(bytes, 4)?;
     Some((number_of_4(piece), rest))
+}
+
+/// A number other than 1, and the rest.
+pub(crate) fn later_front(bytes: &[u8]) -> Option<(u32, &[u8])>
+    ensures found { option_map (λ found. (found.0, found.1.now)) result ≡ words.later_front bytes.now }
+    ensures later { IfSome result (λ found. found.0 ≢ 1) }
+    ensures parts { IfSome result (λ found. bytes.now ≡ words.four found.0 ++ found.1.now) }
+{
+    let (number, rest) = four_front(bytes)?;
+    if number == 1 {
+        return None;
+    }
+    Some((number, rest))
 }
 
 pub(crate) fn eight_front(bytes: &[u8]) -> Option<(u64, &[u8])>

@@ -8,7 +8,11 @@ use muni_terms::Issue;
 /// What is put into the tables of the desk.
 #[derive(Drop)]
 pub enum Put {
-    Issue(Issue),
+    /// The terms of an issue with this number.
+    Issue {
+        number: u32,
+        issue: Issue,
+    },
     /// The version of a trade with this number.
     Version {
         key: Key,
@@ -23,7 +27,10 @@ impl Put {
         ensures { result ≡ self.now }
     {
         match self {
-            Put::Issue(issue) => Put::Issue(issue.copy()),
+            Put::Issue { number, issue } => Put::Issue {
+                number: *number,
+                issue: issue.copy(),
+            },
             Put::Version {
                 key,
                 number,

@@ -153,7 +153,7 @@ fn push_asked(body: &mut Body, asked: &Asked)
     push_four(body, asked.fee.units() as u32);
 }
 
-/// Appends the body of a version.
+/// Appends the body of a version, without the number of the terms of its issue.
 pub(crate) fn push_version(body: &mut Body, key: &Key, number: u32, version: &Version)
     requires { array_vec_len body.old + 127 ≤ 1_024 }
     ensures items { body.new.items
@@ -161,6 +161,7 @@ pub(crate) fn push_version(body: &mut Body, key: &Key, number: u32, version: &Ve
     ensures len { array_vec_len body.new ≤ array_vec_len body.old + 127 }
     ensures fits { spec.VersionFits key.now number version.now }
 {
+    let _issue_number = version.issue_number;
     push_text(body, key.desk.bytes());
     push_text(body, key.reference.bytes());
     push_four(body, number);
@@ -198,10 +199,12 @@ fn asked_of(bytes: &[u8]) -> Option<Asked>
     })
 }
 
-/// The version whose body begins so, with its trade and its number.
+/// The version whose body begins so, with its trade and its number. It was figured by the terms of its
+/// issue with the number that is given.
 #[tactic(auto, unfolding(crate::specs::VersionBody::version_of))]
-pub(crate) fn version_of(bytes: &[u8]) -> Option<(Key, u32, Version)>
-    ensures found { result ≡ spec.version_of bytes.now }
+pub(crate) fn version_of(bytes: &[u8], issue_number: u32) -> Option<(Key, u32, Version)>
+    ensures found { result ≡ spec.version_of issue_number bytes.now }
+    ensures number { IfSome result (λ found. found.2.issue_number ≡ issue_number) }
     ensures size { IfSome result (λ found. length (spec.version_bytes found.0 found.1 found.2)
         ≡ 91 + length found.0.desk + length found.0.reference) }
     ensures bytes { IfSome result (λ found.
@@ -221,6 +224,7 @@ pub(crate) fn version_of(bytes: &[u8]) -> Option<(Key, u32, Version)>
     let version = Version {
         act,
         terms: Terms { asked },
+        issue_number,
         figures,
     };
     Some((Key { desk, reference }, number, version))

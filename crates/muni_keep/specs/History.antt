@@ -1,4 +1,4 @@
--- The versions of one trade.
+-- The versions of one trade, or the terms of one issue.
 use Rattle.std.specs.Prelude.{ℕ, ◌+◌, ◌-◌, ◌==◌, List, [], ◌∷◌, ◌++◌, length, if◌then◌else◌, Option, Some, None, slice_get, refl}
 use Rattle.std.specs.Coded.{Coded, code_by, coded×, coded_list}
 
@@ -26,7 +26,7 @@ abbrev pub version_in : {V : Type 0} → History V → ℕ → Option V
 version_in history number =
     if number == 0 then None else slice_get (versions history) (number - 1)
 
--- the number of the next version, of a trade that is kept or not
+-- the number of the next version, whether any is kept or not
 abbrev pub next_number : {V : Type 0} → Option (History V) → ℕ
 next_number None = 1
 next_number (Some history) = count history + 1

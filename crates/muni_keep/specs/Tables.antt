@@ -9,21 +9,21 @@ use Rattle.muni_msg.specs.declared.command.Key.{Key}
 use Rattle.muni_msg.specs.declared.command.Line.{Line}
 use Rattle.muni_msg.specs.declared.version.Version.{Version}
 use Rattle.muni_msg.specs.contracts.version.Version.{the_row as version_row}
-use Rattle.muni_keep.specs.History.{History, count, version_in}
+use Rattle.muni_keep.specs.History.{History, history_code, count, version_in, grown}
 use Rattle.muni_keep.specs.Trades.{by_bytes, Desks, desks_code, own, past, trades_past, put}
 
--- the issues by CUSIP
+-- the terms of issues by CUSIP and number
 abbrev pub Issues : Type 0
-Issues = FinMap by_bytes IssueRow
+Issues = FinMap by_bytes (History IssueRow)
 
--- the issues by CUSIP, and the versions of trades by desk, reference and number
+-- the terms of issues by CUSIP and number, and the versions of trades by desk, reference and number
 pub record Tables : Type 0 where
   pub issues : Issues
   pub desks : Desks Version
 
 -- how these are stored
 abbrev pub issues_code : Coded Issues
-issues_code = map_code (coded_list coded_ℕ) issue_row.coded
+issues_code = map_code (coded_list coded_ℕ) (history_code issue_row.coded)
 
 abbrev pub tables_code : Coded Tables
 tables_code =
@@ -33,9 +33,33 @@ tables_code =
 abbrev pub no_tables : Tables
 no_tables = record { issues = empty; desks = empty }
 
--- the issue of a CUSIP, if it is kept
+-- the terms of the issue of a CUSIP, if any are kept
+abbrev pub issue_history : Tables → List ℕ → Option (History IssueRow)
+issue_history tables cusip = get tables.issues cusip
+
+-- the last terms of the issue of a CUSIP among issues
+abbrev pub last_terms : Issues → List ℕ → Option IssueRow
+last_terms issues cusip = option_map (λ history. history.last) (get issues cusip)
+
+-- those with a number
+abbrev pub numbered_terms : Issues → List ℕ → ℕ → Option IssueRow
+numbered_terms issues cusip number = option_and_then (λ history. version_in history number) (get issues cusip)
+
+-- the last ones, with their number
+abbrev pub counted_terms : Issues → List ℕ → Option (ℕ × IssueRow)
+counted_terms issues cusip = option_map (λ history. (count history, history.last)) (get issues cusip)
+
+-- the issue of a CUSIP by its last terms, if it is kept
 abbrev pub issue_at : Tables → List ℕ → Option IssueRow
-issue_at tables cusip = get tables.issues cusip
+issue_at tables cusip = last_terms tables.issues cusip
+
+-- the issue of a CUSIP by its terms with this number, if they are kept
+abbrev pub issue_numbered : Tables → List ℕ → ℕ → Option IssueRow
+issue_numbered tables cusip number = numbered_terms tables.issues cusip number
+
+-- the issue of a CUSIP by its last terms, with their number, if it is kept
+abbrev pub last_issue : Tables → List ℕ → Option (ℕ × IssueRow)
+last_issue tables cusip = counted_terms tables.issues cusip
 
 -- the versions of a trade, if any is kept
 abbrev pub trade_at : Tables → Key → Option (History Version)
@@ -71,17 +95,18 @@ abbrev pub before_latest : Tables → List ℕ → Option (List ℕ)
 before_latest tables desk =
     option_map (λ trade. trade.0) (slice_get (reverse (entries (own desk tables.desks))) 50)
 
--- the first issue after a CUSIP, if one is given, with its CUSIP
+-- the first issue after a CUSIP, if one is given, with its CUSIP and its last terms
 abbrev pub issue_past : Tables → Option (List ℕ) → Option (List ℕ × IssueRow)
-issue_past tables after = slice_get (past after tables.issues) 0
+issue_past tables after = option_map (λ issue. (issue.0, issue.1.last)) (slice_get (past after tables.issues) 0)
 
 -- the first desk after another, if one is given
 abbrev pub desk_past : Tables → Option (List ℕ) → Option (List ℕ)
 desk_past tables after = option_map (λ entry. entry.0) (slice_get (past after tables.desks) 0)
 
--- with one issue more
+-- with the next terms of an issue
 abbrev pub with_issue : IssueRow → Tables → Tables
-with_issue issue tables = record tables { issues = insert tables.issues issue.cusip issue }
+with_issue issue tables =
+    record tables { issues = insert tables.issues issue.cusip (grown (get tables.issues issue.cusip) issue) }
 
 -- with the next version of a trade
 abbrev pub with_version : Key → Version → Tables → Tables

@@ -30,10 +30,24 @@ impl<K: Keeper, L: Keeper> Keeper for EitherKeeper<K, L> {
         }
     }
 
-    fn put_issue(&mut self, issue: &Issue) -> Result<(), KeepFault> {
+    fn issue_numbered(&mut self, cusip: &[u8; 9], number: u32) -> Result<Option<Issue>, KeepFault> {
         match self {
-            EitherKeeper::First(keeper) => keeper.put_issue(issue),
-            EitherKeeper::Second(keeper) => keeper.put_issue(issue),
+            EitherKeeper::First(keeper) => keeper.issue_numbered(cusip, number),
+            EitherKeeper::Second(keeper) => keeper.issue_numbered(cusip, number),
+        }
+    }
+
+    fn last_issue(&mut self, cusip: &[u8; 9]) -> Result<Option<(u32, Issue)>, KeepFault> {
+        match self {
+            EitherKeeper::First(keeper) => keeper.last_issue(cusip),
+            EitherKeeper::Second(keeper) => keeper.last_issue(cusip),
+        }
+    }
+
+    fn put_issue(&mut self, number: u32, issue: &Issue) -> Result<(), KeepFault> {
+        match self {
+            EitherKeeper::First(keeper) => keeper.put_issue(number, issue),
+            EitherKeeper::Second(keeper) => keeper.put_issue(number, issue),
         }
     }
 

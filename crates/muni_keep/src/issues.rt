@@ -1,10 +1,13 @@
 //! The issues that a keeper in memory has.
 
-ghost use Rattle.std.specs.Prelude.{◌≡◌, OnOk, OnErr, slice_get};
+ghost use Rattle.std.specs.Prelude.{◌≡◌, ◌==◌, slice_get};
 ghost use Rattle.std.specs.Option.{option_map};
 ghost use Rattle.std.specs.FinMap as map;
+ghost use Rattle.muni_keep.specs.History.{grown, next_number};
+ghost use Rattle.muni_keep.specs.Puts.{PutsIf};
 ghost use Rattle.muni_keep.specs.Trades.{past};
 
+use crate::issue_history::IssueHistory;
 use crate::past::bound_past;
 use muni_terms::Issue;
 use std::alloc::{AllocError, Global};
@@ -12,10 +15,11 @@ use std::collections::BTreeMap;
 use std::marker::Model;
 use std::ops::Bound;
 
-/// Issues by CUSIP.
+/// The numbered terms of issues, by CUSIP.
 #[derive(Drop)]
 pub(crate) struct Issues {
-    issues: BTreeMap<[u8; 9], Issue>,
+    alloc: Global,
+    issues: BTreeMap<[u8; 9], IssueHistory>,
 }
 
 impl Model for Issues {
@@ -35,34 +39,46 @@ impl Issues {
         ensures { result ≡ map.empty }
     {
         Issues {
+            alloc,
             issues: BTreeMap::new(alloc),
         }
     }
 
-    /// The issue of a CUSIP, if there is one.
-    pub(crate) fn get(&self, cusip: &[u8; 9]) -> Option<&Issue>
-        ensures { option_map (λ issue. issue.now) result ≡ map.get self.now cusip.now }
+    /// The terms of the issue of a CUSIP, if there is one.
+    pub(crate) fn get(&self, cusip: &[u8; 9]) -> Option<&IssueHistory>
+        ensures { option_map (λ history. history.now) result ≡ map.get self.now cusip.now }
     {
         self.issues.get(cusip)
     }
 
-    /// The first issue after a CUSIP, or the first of all if none is given, with its CUSIP.
+    /// The first issue after a CUSIP, or the first of all if none is given, with its CUSIP and its last terms.
     pub(crate) fn past(&self, after: &Option<[u8; 9]>) -> Option<([u8; 9], Issue)>
-        ensures { result ≡ slice_get (past after.now self.now) 0 }
+        ensures { result ≡ option_map (λ issue. (issue.0, issue.1.last)) (slice_get (past after.now self.now) 0) }
     {
         let mut issues = self.issues.range((bound_past(after), Bound::Unbounded));
         match issues.next() {
-            Some((cusip, issue)) => Some((*cusip, issue.copy())),
+            Some((cusip, history)) => Some((*cusip, history.last())),
             None => None,
         }
     }
 
-    /// Keeps an issue under its CUSIP.
-    pub(crate) fn put(&mut self, issue: &Issue) -> Result<(), AllocError>
-        ensures put { OnOk result (self.new ≡ map.insert self.old issue.now.cusip issue.now) }
-        ensures unchanged { OnErr result (self.new ≡ self.old) }
+    /// Adds terms of an issue if their number is the next one, and says whether it was.
+    pub(crate) fn put_next(&mut self, number: u32, issue: &Issue) -> Result<bool, AllocError>
+        ensures { PutsIf (number == next_number (map.get self.old issue.now.cusip))
+            (map.insert self.old issue.now.cusip (grown (map.get self.old issue.now.cusip) issue.now))
+            result self.old self.new }
     {
-        self.issues.insert(issue.row().cusip, issue.copy())?;
-        Ok(())
+        let cusip = issue.row().cusip;
+        match self.issues.get_mut(&cusip) {
+            Some(history) => history.add_next(number, issue),
+            None => {
+                if number != 1 {
+                    return Ok(false);
+                }
+                self.issues
+                    .insert(cusip, IssueHistory::new(self.alloc, issue))?;
+                Ok(true)
+            }
+        }
     }
 }

@@ -1,9 +1,9 @@
 //! What keeps the tables of the desk.
 
-ghost use Rattle.std.specs.Prelude.{◌≡◌, ℕ, Option, None, IfOk, IfSome};
+ghost use Rattle.std.specs.Prelude.{◌≡◌, ℕ, Option, IfOk, IfSome};
 ghost use Rattle.muni_keep.specs.Frames.{Found, Reads, Edits};
 ghost use Rattle.muni_keep.specs.History.{next_number};
-ghost use Rattle.muni_keep.specs.Tables.{Tables, issue_at, trade_at, version_at, last_at, trade_count, page_at, before_latest, issue_past, desk_past, with_issue, with_version};
+ghost use Rattle.muni_keep.specs.Tables.{Tables, issue_at, issue_numbered, issue_history, last_issue, trade_at, version_at, last_at, trade_count, page_at, before_latest, issue_past, desk_past, with_issue, with_version};
 
 use crate::fault::KeepFault;
 use arrayvec::ArrayVec;
@@ -21,14 +21,24 @@ pub trait Keeper {
     /// The number by which the cabinet that lent it knows it again. No call changes it.
     ghost lent_as: { Self → ℕ };
 
-    /// The issue of a CUSIP, if it is kept.
+    /// The issue of a CUSIP by its last terms, if it is kept.
     fn issue(&mut self, cusip: &[u8; 9]) -> Result<Option<Issue>, KeepFault>
         ensures found { Found (tables self.old) result (λ t. issue_at t cusip.now) }
         ensures reads { Reads tables faults lent_as result self.old self.new };
 
-    /// Keeps an issue. No issue of its CUSIP may be kept yet.
-    fn put_issue(&mut self, issue: &Issue) -> Result<(), KeepFault>
-        requires { IfSome (tables self.old) (λ t. issue_at t issue.now.cusip ≡ None) }
+    /// The issue of a CUSIP by its terms with this number, if they are kept.
+    fn issue_numbered(&mut self, cusip: &[u8; 9], number: u32) -> Result<Option<Issue>, KeepFault>
+        ensures found { Found (tables self.old) result (λ t. issue_numbered t cusip.now number) }
+        ensures reads { Reads tables faults lent_as result self.old self.new };
+
+    /// The issue of a CUSIP by its last terms, with their number, if it is kept.
+    fn last_issue(&mut self, cusip: &[u8; 9]) -> Result<Option<(u32, Issue)>, KeepFault>
+        ensures found { Found (tables self.old) result (λ t. last_issue t cusip.now) }
+        ensures reads { Reads tables faults lent_as result self.old self.new };
+
+    /// Keeps the next terms of an issue, which have this number, 1 for an issue that is not kept yet.
+    fn put_issue(&mut self, number: u32, issue: &Issue) -> Result<(), KeepFault>
+        requires { IfSome (tables self.old) (λ t. number ≡ next_number (issue_history t issue.now.cusip)) }
 
         ensures edits { Edits tables faults lent_as (with_issue issue.now) result self.old self.new };
 
@@ -70,7 +80,7 @@ pub trait Keeper {
         ensures reads { Reads tables faults lent_as result self.old self.new };
 
     /// The first issue after a CUSIP, or the first of all if none is given, in the order of their CUSIPs,
-    /// with its CUSIP.
+    /// with its CUSIP and its last terms.
     fn issue_past(&mut self, after: &Option<[u8; 9]>) -> Result<Option<([u8; 9], Issue)>, KeepFault>
         ensures found { Found (tables self.old) result (λ t. issue_past t after.now) }
         ensures reads { Reads tables faults lent_as result self.old self.new };

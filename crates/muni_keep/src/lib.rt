@@ -6,6 +6,7 @@ mod desks;
 mod either_cabinet;
 mod either_keeper;
 mod fault;
+mod issue_history;
 mod issues;
 mod keeper;
 mod mem_cabinet;

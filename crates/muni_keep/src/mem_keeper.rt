@@ -1,9 +1,9 @@
 //! A keeper in memory.
 
-ghost use Rattle.std.specs.Prelude.{◌≡◌, Some, None, IfOk};
+ghost use Rattle.std.specs.Prelude.{◌≡◌, Some, IfOk};
 ghost use Rattle.std.specs.Result.{result_map_both};
 ghost use Rattle.muni_keep.specs.History.{next_number};
-ghost use Rattle.muni_keep.specs.Tables.{issue_at, trade_at, version_at, last_at, trade_count, page_at, before_latest, issue_past, desk_past, with_issue, with_version};
+ghost use Rattle.muni_keep.specs.Tables.{issue_at, issue_numbered, issue_history, last_issue, trade_at, version_at, last_at, trade_count, page_at, before_latest, issue_past, desk_past, with_issue, with_version};
 ghost use Rattle.muni_keep.specs.MemKeeper.{new_keeper, LooksUp, Puts};
 
 use crate::fault::KeepFault;
@@ -83,13 +83,27 @@ impl Keeper for MemKeeper {
         Ok(self.tables.issue(cusip))
     }
 
-    fn put_issue(&mut self, issue: &Issue) -> Result<(), KeepFault>
-        requires { issue_at self.old.tables issue.now.cusip ≡ None }
+    fn issue_numbered(&mut self, cusip: &[u8; 9], number: u32) -> Result<Option<Issue>, KeepFault>
+        ensures { LooksUp result (issue_numbered self.old.tables cusip.now number) self.old self.new }
+    {
+        self.calls.make()?;
+        Ok(self.tables.issue_numbered(cusip, number))
+    }
+
+    fn last_issue(&mut self, cusip: &[u8; 9]) -> Result<Option<(u32, Issue)>, KeepFault>
+        ensures { LooksUp result (last_issue self.old.tables cusip.now) self.old self.new }
+    {
+        self.calls.make()?;
+        Ok(self.tables.last_issue(cusip))
+    }
+
+    fn put_issue(&mut self, number: u32, issue: &Issue) -> Result<(), KeepFault>
+        requires { number ≡ next_number (issue_history self.old.tables issue.now.cusip) }
 
         ensures { Puts (with_issue issue.now) result self.old self.new }
     {
         self.calls.make()?;
-        self.tables.put_issue(issue)?;
+        self.tables.put_issue(number, issue)?;
         Ok(())
     }
 

@@ -3,7 +3,7 @@
 ghost use Rattle.std.specs.Prelude.{◌≡◌, ◌==◌, OnOk, OnErr};
 ghost use Rattle.muni_keep.specs.History.{next_number};
 ghost use Rattle.muni_keep.specs.Puts.{PutsIf};
-ghost use Rattle.muni_keep.specs.Tables.{no_tables, issue_at, trade_at, version_at, last_at, trade_count, page_at, before_latest, issue_past, desk_past, with_issue, with_version};
+ghost use Rattle.muni_keep.specs.Tables.{no_tables, issue_at, issue_numbered, issue_history, last_issue, trade_at, version_at, last_at, trade_count, page_at, before_latest, issue_past, desk_past, with_issue, with_version};
 
 use crate::desks::Desks;
 use crate::issues::Issues;
@@ -43,22 +43,52 @@ impl MemTables {
         }
     }
 
-    /// The issue of a CUSIP, if there is one.
+    /// The issue of a CUSIP by its last terms, if there is one.
     pub fn issue(&self, cusip: &[u8; 9]) -> Option<Issue>
         ensures { result ≡ issue_at self.now cusip.now }
     {
         match self.issues.get(cusip) {
-            Some(issue) => Some(issue.copy()),
+            Some(history) => Some(history.last()),
             None => None,
         }
     }
 
-    /// Keeps an issue under its CUSIP.
-    pub fn put_issue(&mut self, issue: &Issue) -> Result<(), AllocError>
+    /// The issue of a CUSIP by its terms with this number, if there are any.
+    pub fn issue_numbered(&self, cusip: &[u8; 9], number: u32) -> Option<Issue>
+        ensures { result ≡ issue_numbered self.now cusip.now number }
+    {
+        match self.issues.get(cusip) {
+            Some(history) => history.numbered(number),
+            None => None,
+        }
+    }
+
+    /// The issue of a CUSIP by its last terms, with their number, if there is one.
+    pub fn last_issue(&self, cusip: &[u8; 9]) -> Option<(u32, Issue)>
+        ensures { result ≡ last_issue self.now cusip.now }
+    {
+        match self.issues.get(cusip) {
+            Some(history) => Some((history.count(), history.last())),
+            None => None,
+        }
+    }
+
+    /// Keeps the next terms of an issue, which have this number.
+    pub fn put_issue(&mut self, number: u32, issue: &Issue) -> Result<(), AllocError>
+        requires { number ≡ next_number (issue_history self.old issue.now.cusip) }
         ensures put { OnOk result (self.new ≡ with_issue issue.now self.old) }
         ensures unchanged { OnErr result (self.new ≡ self.old) }
     {
-        self.issues.put(issue)
+        self.put_next_issue(number, issue)?;
+        Ok(())
+    }
+
+    /// Keeps terms of an issue if their number is the next one, and says whether it was.
+    pub fn put_next_issue(&mut self, number: u32, issue: &Issue) -> Result<bool, AllocError>
+        ensures { PutsIf (number == next_number (issue_history self.old issue.now.cusip))
+            (with_issue issue.now self.old) result self.old self.new }
+    {
+        self.issues.put_next(number, issue)
     }
 
     /// The version of a trade with this number, if there is one.
@@ -132,7 +162,7 @@ impl MemTables {
         before_latest(&self.desks, desk)
     }
 
-    /// The first issue after a CUSIP, or the first of all if none is given, with its CUSIP.
+    /// The first issue after a CUSIP, or the first of all if none is given, with its CUSIP and its last terms.
     pub fn issue_past(&self, after: &Option<[u8; 9]>) -> Option<([u8; 9], Issue)>
         ensures { result ≡ issue_past self.now after.now }
     {

@@ -20,16 +20,25 @@ pub struct Key {
 pub enum Command {
     /// To keep an issue.
     AddIssue(IssueRow),
+    /// To keep other terms of an issue, as its terms with this number.
+    Amend {
+        number: u32,
+        row: IssueRow,
+    },
     /// To enter a trade.
     Enter {
         key: Key,
         terms: Terms,
+        /// The number of the terms of the issue by which it is figured, or none for the last ones.
+        issue_number: Option<u32>,
     },
     /// To correct a trade by a version with this number.
     Correct {
         key: Key,
         number: u32,
         terms: Terms,
+        /// The number of the terms of the issue by which it is figured, or none for the last ones.
+        issue_number: Option<u32>,
     },
     /// To cancel a trade by a version with this number.
     Cancel {
@@ -67,6 +76,11 @@ pub enum Reply {
     /// The issue of this CUSIP is kept.
     Added {
         cusip: [u8; 9],
+    },
+    /// The terms with this number of the issue of this CUSIP are kept.
+    Amended {
+        cusip: [u8; 9],
+        number: u32,
     },
     /// The figures, what they were asked for and of which issue, and what is to be shown after them.
     Quoted {

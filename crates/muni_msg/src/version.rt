@@ -18,6 +18,8 @@ pub enum Act {
 pub struct Version {
     pub act: Act,
     pub terms: Terms,
+    /// The number of the terms of the issue by which the figures were computed.
+    pub issue_number: u32,
     pub figures: Figures,
 }
 
@@ -54,6 +56,7 @@ impl Default for Version {
         Version {
             act: Act::Entered,
             terms: Terms { asked },
+            issue_number: 1,
             figures,
         }
     }

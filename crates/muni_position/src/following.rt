@@ -3,7 +3,7 @@
 ghost use Rattle.std.specs.Prelude.{◌≡◌, ◌≢◌, None, IfOk, IfSome};
 ghost use Rattle.muni_keep.specs.History.{next_number};
 ghost use Rattle.muni_keep.specs.Keeper.{EditsTables};
-ghost use Rattle.muni_keep.specs.Tables.{issue_at, trade_at, version_at, last_at, trade_count, page_at, before_latest, issue_past, desk_past, with_issue, with_version};
+ghost use Rattle.muni_keep.specs.Tables.{issue_at, issue_numbered, issue_history, last_issue, trade_at, version_at, last_at, trade_count, page_at, before_latest, issue_past, desk_past, with_issue, with_version};
 ghost use Rattle.muni_position.specs.Change.{HasNoRoomFor};
 
 use crate::positioned::Positioned;
@@ -57,14 +57,28 @@ impl<K: Keeper> Keeper for Following<K> {
         self.positioned.issue(cusip)
     }
 
-    fn put_issue(&mut self, issue: &Issue) -> Result<(), KeepFault>
-        requires { IfSome (K.tables self.old.positioned.inner) (λ t. issue_at t issue.now.cusip ≡ None) }
+    fn issue_numbered(&mut self, cusip: &[u8; 9], number: u32) -> Result<Option<Issue>, KeepFault>
+        ensures { FindsInside K.Keeper result (λ t. issue_numbered t cusip.now number)
+            self.old.positioned self.new.positioned }
+    {
+        self.positioned.issue_numbered(cusip, number)
+    }
+
+    fn last_issue(&mut self, cusip: &[u8; 9]) -> Result<Option<(u32, Issue)>, KeepFault>
+        ensures { FindsInside K.Keeper result (λ t. last_issue t cusip.now) self.old.positioned self.new.positioned }
+    {
+        self.positioned.last_issue(cusip)
+    }
+
+    fn put_issue(&mut self, number: u32, issue: &Issue) -> Result<(), KeepFault>
+        requires { IfSome (K.tables self.old.positioned.inner)
+            (λ t. number ≡ next_number (issue_history t issue.now.cusip)) }
 
         ensures edits { EditsTables K.Keeper (with_issue issue.now) result
             self.old.positioned.inner self.new.positioned.inner }
         ensures watch { KeepsWatch self.old.positioned self.new.positioned }
     {
-        self.positioned.put_issue(issue)
+        self.positioned.put_issue(number, issue)
     }
 
     fn version(&mut self, key: &Key, number: u32) -> Result<Option<Version>, KeepFault>

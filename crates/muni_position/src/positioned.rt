@@ -5,7 +5,7 @@ ghost use Rattle.std.proofs.Props.{props};
 ghost use Rattle.std.specs.Option.{option_map};
 ghost use Rattle.muni_keep.specs.History.{next_number};
 ghost use Rattle.muni_keep.specs.Keeper.{OnlyReads, EditsTables, SameKeeper};
-ghost use Rattle.muni_keep.specs.Tables.{issue_at, trade_at, version_at, last_at, trade_count, page_at, before_latest, issue_past, desk_past, with_issue, with_version};
+ghost use Rattle.muni_keep.specs.Tables.{issue_at, issue_numbered, issue_history, last_issue, trade_at, version_at, last_at, trade_count, page_at, before_latest, issue_past, desk_past, with_issue, with_version};
 ghost use Rattle.muni_position.specs.Change.{HasNoRoomFor};
 ghost use Rattle.muni_position.specs.Holdings.{AreInRange, AreRight, HasFew, kept};
 ghost use Rattle.muni_position.specs.Line.{position_lines};
@@ -155,13 +155,25 @@ impl<K: Keeper> Keeper for Positioned<K> {
         self.inner.issue(cusip)
     }
 
-    fn put_issue(&mut self, issue: &Issue) -> Result<(), KeepFault>
-        requires { IfSome (K.tables self.old.inner) (λ t. issue_at t issue.now.cusip ≡ None) }
+    fn issue_numbered(&mut self, cusip: &[u8; 9], number: u32) -> Result<Option<Issue>, KeepFault>
+        ensures { FindsInside K.Keeper result (λ t. issue_numbered t cusip.now number) self.old self.new }
+    {
+        self.inner.issue_numbered(cusip, number)
+    }
+
+    fn last_issue(&mut self, cusip: &[u8; 9]) -> Result<Option<(u32, Issue)>, KeepFault>
+        ensures { FindsInside K.Keeper result (λ t. last_issue t cusip.now) self.old self.new }
+    {
+        self.inner.last_issue(cusip)
+    }
+
+    fn put_issue(&mut self, number: u32, issue: &Issue) -> Result<(), KeepFault>
+        requires { IfSome (K.tables self.old.inner) (λ t. number ≡ next_number (issue_history t issue.now.cusip)) }
 
         ensures edits { EditsTables K.Keeper (with_issue issue.now) result self.old.inner self.new.inner }
         ensures watch { KeepsWatch self.old self.new }
     {
-        self.inner.put_issue(issue)
+        self.inner.put_issue(number, issue)
     }
 
     fn version(&mut self, key: &Key, number: u32) -> Result<Option<Version>, KeepFault>

@@ -189,7 +189,7 @@ seen_of store log = record { store = store; log = log }
 
 pub same_seen : (a b : Seen) → spec.IsSeen a → spec.IsSeen b → spec.text a ≡ spec.text b → a ≡ b
 same_seen a b p q e =
-    let version = codes "muni seal 1\n" in
+    let version = codes "muni seal 2\n" in
     let name = codes "store" in
     let rest = append_cancel_left version _ _
     (sym (append_assoc version (spec.marks_text name a.store) (spec.log_text a.log)) ∙ e ∙ append_assoc version (spec.marks_text name b.store) (spec.log_text b.log)) in

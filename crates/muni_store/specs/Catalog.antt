@@ -16,14 +16,14 @@ is_made_by row name statement = is_text (column row 2) name && is_text (column r
 -- a table of a store has the text by which a store makes it
 abbrev pub listed_table : Row → Listed
 listed_table row =
-    if is_made_by row (codes "issues_2") ISSUES.now then Issues
-    else (if is_made_by row (codes "versions_2") VERSIONS.now then Versions else Other)
+    if is_made_by row (codes "issues_3") ISSUES.now then Issues
+    else (if is_made_by row (codes "versions_3") VERSIONS.now then Versions else Other)
 
 -- the index of a primary key, by the name that sqlite gives it
 abbrev pub listed_index : Row → Listed
 listed_index row =
-    if is_text (column row 2) (codes "sqlite_autoindex_issues_2_1") then Cusips
-    else (if is_text (column row 2) (codes "sqlite_autoindex_versions_2_1") then Keys else Other)
+    if is_text (column row 2) (codes "sqlite_autoindex_issues_3_1") then Cusips
+    else (if is_text (column row 2) (codes "sqlite_autoindex_versions_3_1") then Keys else Other)
 
 abbrev pub kind_of_row : Row → Listed
 kind_of_row row =

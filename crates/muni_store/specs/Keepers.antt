@@ -17,8 +17,8 @@ use Rattle.muni_store_trees.specs.Found as found
 use Rattle.muni_store_trees.specs.Puts as put
 use Rattle.muni_store_trees.specs.declared.keeper.TreeKeeper.{TreeKeeper}
 use Rattle.muni_store.specs.Calls.{CountsTrades, Looks, Puts}
-use Rattle.muni_store.specs.Rows.{issue_in, issue_entry_in, version_in, last_in, reference_in, desk_in}
-use Rattle.muni_store.specs.Statements.{select_issue, select_issue_past, select_version, select_last, select_desk_past, select_before_latest, insert_issue, insert_version, cusip_values, past_values, key_values, numbered_key_values, desk_values, desk_past_values, issue_values, version_values}
+use Rattle.muni_store.specs.Rows.{numbered_in, issue_in, issue_entry_in, version_in, last_in, reference_in, desk_in}
+use Rattle.muni_store.specs.Statements.{select_issue, select_last_issue, select_issue_past, select_version, select_last, select_desk_past, select_before_latest, insert_issue, insert_version, cusip_values, numbered_cusip_values, past_values, key_values, numbered_key_values, desk_values, desk_past_values, issue_values, version_values}
 use Rattle.muni_store.specs.declared.keeper.SqlKeeper.{SqlKeeper}
 use Rattle.muni_store.specs.declared.store_keeper.StoreKeeper.{StoreKeeper}
 use Rattle.muni_store.specs.declared.store_keeper.StoreKeeper.TheVariants.{Sql, Trees}
@@ -47,8 +47,18 @@ pub record PutsCounted {S T : Type 0} (state : Held S → State) (statement : Li
 module _ {S : Type 0} (g : Ghosts S) where
   abbrev pub LooksUpIssue : List ℕ → Result (Option IssueRow) KeepFault → StoreKeeper S → StoreKeeper S → Type 0
   LooksUpIssue cusip result =
-      OfEither (Looks (state g) issue_in select_issue (cusip_values cusip) result)
+      OfEither (Looks (state g) issue_in select_last_issue (cusip_values cusip) result)
       (trees.Finds g.view g.recovers (λ places t. found.IsIssue places t cusip) result)
+
+  abbrev pub LooksUpIssueNumbered : List ℕ → ℕ → Result (Option IssueRow) KeepFault → StoreKeeper S → StoreKeeper S → Type 0
+  LooksUpIssueNumbered cusip number result =
+      OfEither (Looks (state g) issue_in select_issue (numbered_cusip_values cusip number) result)
+      (trees.Finds g.view g.recovers (λ places t. found.IsIssueNumbered places t cusip number) result)
+
+  abbrev pub LooksUpLastIssue : List ℕ → Result (Option (ℕ × IssueRow)) KeepFault → StoreKeeper S → StoreKeeper S → Type 0
+  LooksUpLastIssue cusip result =
+      OfEither (Looks (state g) numbered_in select_last_issue (cusip_values cusip) result)
+      (trees.Finds g.view g.recovers (λ places t. found.IsLastIssue places t cusip) result)
 
   abbrev pub LooksUpVersion : Key → ℕ → Result (Option Version) KeepFault → StoreKeeper S → StoreKeeper S → Type 0
   LooksUpVersion key number result =
@@ -78,10 +88,10 @@ module _ {S : Type 0} (g : Ghosts S) where
   abbrev pub LooksUpCount : List ℕ → Result ℕ KeepFault → StoreKeeper S → StoreKeeper S → Type 0
   LooksUpCount desk result = OfEither (CountsTrades (state g) desk result) (trees.CountsTrades g.view g.recovers desk result)
 
-  abbrev pub PutsIssue : {T : Type 0} → IssueRow → Result T KeepFault → StoreKeeper S → StoreKeeper S → Type 0
-  PutsIssue issue result =
-      OfEither (λ was. PutsCounted (state g) insert_issue (issue_values (issues.columns_of issue)) was.trades result was)
-      (λ was. trees.Adds g.view g.recovers (λ places. put.AddsIssue places issue) was.trades result was)
+  abbrev pub PutsIssue : {T : Type 0} → ℕ → IssueRow → Result T KeepFault → StoreKeeper S → StoreKeeper S → Type 0
+  PutsIssue number issue result =
+      OfEither (λ was. PutsCounted (state g) insert_issue (issue_values (issues.numbered_columns number issue)) was.trades result was)
+      (λ was. trees.Adds g.view g.recovers (λ places. put.AddsIssue places number issue) was.trades result was)
 
   abbrev pub PutsVersion : {T : Type 0} → Key → ℕ → Version → Result T KeepFault → StoreKeeper S → StoreKeeper S → Type 0
   PutsVersion key number version result =

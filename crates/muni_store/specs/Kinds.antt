@@ -25,9 +25,15 @@ abbrev pub is_text : Value → List ℕ → Bool
 is_text (Text bytes) text = bytes_eq bytes text
 is_text _ text = Bool.false
 
+-- the names of the tables of earlier versions of the program
+abbrev pub is_old_name : Value → Bool
+is_old_name name =
+    is_text name (codes "issues_2") || (is_text name (codes "versions_2") || (is_text name (codes "issues") || is_text name (codes "versions")))
+
+-- the names of the tables of a store
 abbrev pub is_own_name : Value → Bool
 is_own_name name =
-    is_text name (codes "issues_2") || (is_text name (codes "versions_2") || (is_text name (codes "issues") || is_text name (codes "versions")))
+    is_text name (codes "issues_3") || (is_text name (codes "versions_3") || is_old_name name)
 
 -- a row of sqlite_schema that lists a table of a store
 abbrev pub is_own_table : Row → Bool

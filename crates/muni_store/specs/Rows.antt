@@ -5,7 +5,7 @@ use Rattle.sqlite.specs.State.{State}
 use Rattle.muni_store_rows.specs.Codes.{count}
 use Rattle.muni_store_trees.specs.Rows.{number_in}
 use Rattle.muni_store.specs.Ran.{Found}
-pub use Rattle.muni_store_trees.specs.Rows.{text_in, number_in, reference_in, desk_in, issue_in, issue_entry_in, trade_in, version_in, last_in, is_old_trade}
+pub use Rattle.muni_store_trees.specs.Rows.{text_in, number_in, reference_in, desk_in, numbered_in, issue_in, issue_entry_in, trade_in, version_in, last_in, is_trade_1, is_trade_2}
 
 -- the count in a row, or the greatest number of 32 bits if it is none of these
 abbrev pub count_in : List Value → Option ℕ

@@ -41,7 +41,7 @@ log_text (Some log) = marks_text (codes "log") log
 log_text None = codes "no log\n"
 
 abbrev pub text : Seen → List ℕ
-text seen = codes "muni seal 1\n" ++ marks_text (codes "store") seen.store ++ log_text seen.log
+text seen = codes "muni seal 2\n" ++ marks_text (codes "store") seen.store ++ log_text seen.log
 
 -- the numbers that the types of the fields have
 pub record IsTime (time : FileTime) : Type 0 where

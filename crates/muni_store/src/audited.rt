@@ -6,7 +6,7 @@ ghost use Rattle.muni_store.specs.Keepers.{IsIdle, faults_of};
 use crate::catalog::places_of;
 use crate::fault::StoreFault;
 use crate::keeper::SqlKeeper;
-use crate::moving::move_old_rows;
+use crate::moving::move_old_tables;
 use crate::schema::{counts_some, lists_own_alone, make_tables};
 use crate::store_file::Trust;
 use crate::store_keeper::StoreKeeper;
@@ -15,11 +15,13 @@ use sqlite::{Alter, Connection, FileStore, Files};
 use sqlite_disk::Disk;
 use std::alloc::Global;
 
-/// What counts rows that no look-up finds: no name is empty, and a trade begins with its version 1.
-const COUNTS_OF_LOST: [&str; 3] = [
-    "SELECT COUNT(*) FROM issues_2 WHERE cusip = ''",
-    "SELECT COUNT(*) FROM versions_2 WHERE desk = '' OR reference = ''",
-    "SELECT COUNT(*) FROM (SELECT MIN(number) AS least FROM versions_2 GROUP BY desk, reference) \
+/// What counts rows that no look-up finds: no name is empty, an issue begins with its terms of number 1, and a
+/// trade with its version 1.
+const COUNTS_OF_LOST: [&str; 4] = [
+    "SELECT COUNT(*) FROM issues_3 WHERE cusip = ''",
+    "SELECT COUNT(*) FROM (SELECT MIN(number) AS least FROM issues_3 GROUP BY cusip) WHERE least <> 1",
+    "SELECT COUNT(*) FROM versions_3 WHERE desk = '' OR reference = ''",
+    "SELECT COUNT(*) FROM (SELECT MIN(number) AS least FROM versions_3 GROUP BY desk, reference) \
      WHERE least <> 1",
 ];
 
@@ -48,22 +50,22 @@ pub(crate) fn keeper_over<S: Alter + Drop>(
 /// A database that has the tables of a store.
 #[derive(Clone, Copy)]
 struct Prepared {
-    /// Whether a table was made, or rows of an old one were moved.
+    /// Whether a table was made, or those of earlier versions of the program were moved.
     is_changed: bool,
     /// Whether it lists nothing but these tables, their indexes and views.
     is_own_alone: bool,
 }
 
-// Makes the tables that are missing, and moves what older ones have. If nothing is trusted lost rows are
-// refused.
+// Moves what the tables of earlier versions of the program have, and makes those that are missing. If nothing is
+// trusted lost rows are refused.
 fn prepare_tables<S: Alter>(
     database: &mut Connection<S>,
     trust: Trust,
 ) -> Result<Prepared, StoreFault>
     ensures idle { OnOk result (database.new.in_transaction ≡ false) }
 {
+    let moved = move_old_tables(database)?;
     let made = make_tables(database)?;
-    let moved = move_old_rows(database)?;
     if trust == Trust::Nothing && has_lost_rows(database)? {
         return Err(StoreFault::Failed);
     }
@@ -72,7 +74,7 @@ fn prepare_tables<S: Alter>(
         return Err(StoreFault::Failed);
     }
     Ok(Prepared {
-        is_changed: made || moved,
+        is_changed: moved || made,
         is_own_alone,
     })
 }

@@ -42,10 +42,10 @@ fn kind_of_row(row: &Row) -> Listed
 fn listed_table(row: &Row) -> Listed
     ensures { result ≡ spec.listed_table row.now }
 {
-    if is_made_by(row, b"issues_2", ISSUES) {
+    if is_made_by(row, b"issues_3", ISSUES) {
         return Listed::Issues;
     }
-    if is_made_by(row, b"versions_2", VERSIONS) {
+    if is_made_by(row, b"versions_3", VERSIONS) {
         return Listed::Versions;
     }
     Listed::Other
@@ -61,10 +61,10 @@ fn is_made_by(row: &Row, name: &[u8], statement: &str) -> bool
 fn listed_index(row: &Row) -> Listed
     ensures { result ≡ spec.listed_index row.now }
 {
-    if is_text(row.get(2), b"sqlite_autoindex_issues_2_1") {
+    if is_text(row.get(2), b"sqlite_autoindex_issues_3_1") {
         return Listed::Cusips;
     }
-    if is_text(row.get(2), b"sqlite_autoindex_versions_2_1") {
+    if is_text(row.get(2), b"sqlite_autoindex_versions_3_1") {
         return Listed::Keys;
     }
     Listed::Other

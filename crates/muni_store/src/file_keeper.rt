@@ -146,12 +146,30 @@ impl<S: Alter + Drop, F: OpensAnew<S> + Drop> Keeper for FileKeeper<S, F> {
         self.put_back(keeper, found)
     }
 
-    fn put_issue(&mut self, issue: &Issue) -> Result<(), KeepFault>
-        ensures puts { WhileOpen self.old.state self.new.state (spec.PutsIssue S.Store issue.now result) }
+    fn issue_numbered(&mut self, cusip: &[u8; 9], number: u32) -> Result<Option<Issue>, KeepFault>
+        ensures looks { WhileOpen self.old.state self.new.state (spec.LooksUpIssueNumbered S.Store cusip.now number result) }
         ensures ends { Ends result self.old self.new }
     {
         let mut keeper = self.take()?;
-        let put = keeper.put_issue(issue);
+        let found = keeper.issue_numbered(cusip, number);
+        self.put_back(keeper, found)
+    }
+
+    fn last_issue(&mut self, cusip: &[u8; 9]) -> Result<Option<(u32, Issue)>, KeepFault>
+        ensures looks { WhileOpen self.old.state self.new.state (spec.LooksUpLastIssue S.Store cusip.now result) }
+        ensures ends { Ends result self.old self.new }
+    {
+        let mut keeper = self.take()?;
+        let found = keeper.last_issue(cusip);
+        self.put_back(keeper, found)
+    }
+
+    fn put_issue(&mut self, number: u32, issue: &Issue) -> Result<(), KeepFault>
+        ensures puts { WhileOpen self.old.state self.new.state (spec.PutsIssue S.Store number issue.now result) }
+        ensures ends { Ends result self.old self.new }
+    {
+        let mut keeper = self.take()?;
+        let put = keeper.put_issue(number, issue);
         self.put_back(keeper, put)
     }
 

@@ -15,8 +15,8 @@ ghost use Rattle.muni_store.specs.Statements as spec;
 use crate::faults::{counted, is_shut};
 use crate::page::read_page;
 use crate::statements::{
-    count_trades, find_before_latest, find_desk_past, find_issue, find_issue_past, find_last,
-    find_version, insert_issue, insert_version,
+    count_trades, find_before_latest, find_desk_past, find_issue, find_issue_numbered,
+    find_issue_past, find_last, find_last_issue, find_version, insert_issue, insert_version,
 };
 use arrayvec::ArrayVec;
 use muni_edge::Faults;
@@ -85,7 +85,7 @@ impl<S: Alter + Drop> Keeper for SqlKeeper<S> {
     ghost lent_as = { λ _. 0 };
 
     fn issue(&mut self, cusip: &[u8; 9]) -> Result<Option<Issue>, KeepFault>
-        ensures looks { Looks (state S.Store) rows.issue_in spec.select_issue (spec.cusip_values cusip.now)
+        ensures looks { Looks (state S.Store) rows.issue_in spec.select_last_issue (spec.cusip_values cusip.now)
             result self.old self.new }
         ensures counted { CountsFailure result self.old.faults self.new.faults }
     {
@@ -94,13 +94,33 @@ impl<S: Alter + Drop> Keeper for SqlKeeper<S> {
         counted(&mut self.faults, found)
     }
 
-    fn put_issue(&mut self, issue: &Issue) -> Result<(), KeepFault>
-        ensures puts { PutsCounted (state S.Store) spec.insert_issue (spec.issue_values (issues.columns_of
-            issue.now)) self.old.trades result self.old self.new }
+    fn issue_numbered(&mut self, cusip: &[u8; 9], number: u32) -> Result<Option<Issue>, KeepFault>
+        ensures looks { Looks (state S.Store) rows.issue_in spec.select_issue (spec.numbered_cusip_values
+            cusip.now number) result self.old self.new }
+        ensures counted { CountsFailure result self.old.faults self.new.faults }
+    {
+        let found = find_issue_numbered(&mut self.database, cusip, number);
+        self.is_shut = is_shut(&found);
+        counted(&mut self.faults, found)
+    }
+
+    fn last_issue(&mut self, cusip: &[u8; 9]) -> Result<Option<(u32, Issue)>, KeepFault>
+        ensures looks { Looks (state S.Store) rows.numbered_in spec.select_last_issue (spec.cusip_values
+            cusip.now) result self.old self.new }
+        ensures counted { CountsFailure result self.old.faults self.new.faults }
+    {
+        let found = find_last_issue(&mut self.database, cusip);
+        self.is_shut = is_shut(&found);
+        counted(&mut self.faults, found)
+    }
+
+    fn put_issue(&mut self, number: u32, issue: &Issue) -> Result<(), KeepFault>
+        ensures puts { PutsCounted (state S.Store) spec.insert_issue (spec.issue_values
+            (issues.numbered_columns number issue.now)) self.old.trades result self.old self.new }
         ensures counted { CountsFailure result self.old.faults self.new.faults }
     {
         self.is_changed = true;
-        let put = insert_issue(&mut self.database, issue);
+        let put = insert_issue(&mut self.database, number, issue);
         self.is_shut = is_shut(&put);
         counted(&mut self.faults, put)
     }

@@ -13,6 +13,7 @@ mod look;
 mod marks;
 mod moving;
 mod new_log;
+mod old_tables;
 mod opening;
 mod page;
 mod rows;

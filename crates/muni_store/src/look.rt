@@ -249,6 +249,13 @@ fn is_own_table(row: &Row) -> bool
 fn is_own_name(name: ValueRef<'_>) -> bool
     ensures { result ≡ spec.is_own_name (owned name.entry) }
 {
+    is_text(name, b"issues_3") || is_text(name, b"versions_3") || is_old_name(name)
+}
+
+/// The names of the tables of earlier versions of the program.
+fn is_old_name(name: ValueRef<'_>) -> bool
+    ensures { result ≡ spec.is_old_name (owned name.entry) }
+{
     is_text(name, b"issues_2")
         || is_text(name, b"versions_2")
         || is_text(name, b"issues")

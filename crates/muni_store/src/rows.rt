@@ -46,9 +46,9 @@ pub(crate) fn number_at(row: &Row, at: usize) -> Result<i64, StoreFault>
     }
 }
 
-/// The issue in a row.
-pub(crate) fn read_issue(row: &Row) -> Result<Issue, StoreFault>
-    ensures { IfOk result (λ issue. rows.issue_in row.now ≡ Some issue) }
+/// The number and the terms of the issue in a row.
+pub(crate) fn read_issue(row: &Row) -> Result<(u32, Issue), StoreFault>
+    ensures { IfOk result (λ found. rows.numbered_in row.now ≡ Some found) }
 {
     muni_store_trees::read_issue(&FoundRow(row)).ok_or(StoreFault::Failed)
 }
@@ -57,7 +57,7 @@ pub(crate) fn read_issue(row: &Row) -> Result<Issue, StoreFault>
 pub(crate) fn read_issue_entry(row: &Row) -> Result<([u8; 9], Issue), StoreFault>
     ensures { IfOk result (λ entry. rows.issue_entry_in row.now ≡ Some entry) }
 {
-    let issue = read_issue(row)?;
+    let (_, issue) = read_issue(row)?;
     Ok((issue.row().cusip, issue))
 }
 
@@ -95,9 +95,16 @@ pub(crate) fn read_trade(row: &Row) -> Result<(Key, u32, Version), StoreFault>
     muni_store_trees::read_trade(&FoundRow(row)).ok_or(StoreFault::Failed)
 }
 
-/// Whether a row that has no columns for a fee and a commission is that of a version.
-pub(crate) fn is_old_trade(row: &Row) -> Result<bool, StoreFault>
-    ensures { IfOk result (λ is. is ≡ rows.is_old_trade row.now) }
+/// Whether a row that has no column for the number of the terms of the issue is that of a version.
+pub(crate) fn is_trade_2(row: &Row) -> Result<bool, StoreFault>
+    ensures { IfOk result (λ is. is ≡ rows.is_trade_2 row.now) }
 {
-    muni_store_trees::is_old_trade(&FoundRow(row)).ok_or(StoreFault::Failed)
+    muni_store_trees::is_trade_2(&FoundRow(row)).ok_or(StoreFault::Failed)
+}
+
+/// The same of a row that has no columns for a fee and a commission either.
+pub(crate) fn is_trade_1(row: &Row) -> Result<bool, StoreFault>
+    ensures { IfOk result (λ is. is ≡ rows.is_trade_1 row.now) }
+{
+    muni_store_trees::is_trade_1(&FoundRow(row)).ok_or(StoreFault::Failed)
 }

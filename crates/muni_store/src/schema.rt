@@ -8,13 +8,15 @@ ghost use Rattle.muni_store.specs.Faults.{fault_in};
 ghost use Rattle.muni_store.specs.Ran.{Ran, Found, NotRun, Asked, answer_of};
 
 use crate::fault::StoreFault;
+use crate::old_tables::OLD_TABLES;
 use crate::rows::number_at;
 use sqlite::types::ValueRef;
 use sqlite::{Alter, Connection, Error, Row, params};
 
-/// The statement that makes the table of issues.
-pub(crate) const ISSUES: &str = "CREATE TABLE issues_2 (
+/// The statement that makes the table of the terms of issues.
+pub(crate) const ISSUES: &str = "CREATE TABLE issues_3 (
   cusip TEXT NOT NULL,
+  number INTEGER NOT NULL,
   name TEXT NOT NULL,
   kind INTEGER NOT NULL,
   dated TEXT NOT NULL,
@@ -23,11 +25,11 @@ pub(crate) const ISSUES: &str = "CREATE TABLE issues_2 (
   coupon INTEGER NOT NULL,
   calls TEXT NOT NULL,
   basis INTEGER NOT NULL,
-  PRIMARY KEY (cusip)
+  PRIMARY KEY (cusip, number)
 ) STRICT";
 
 /// The statement that makes the table of versions.
-pub(crate) const VERSIONS: &str = "CREATE TABLE versions_2 (
+pub(crate) const VERSIONS: &str = "CREATE TABLE versions_3 (
   desk TEXT NOT NULL,
   reference TEXT NOT NULL,
   number INTEGER NOT NULL,
@@ -49,48 +51,48 @@ pub(crate) const VERSIONS: &str = "CREATE TABLE versions_2 (
   total INTEGER NOT NULL,
   fee INTEGER NOT NULL,
   commission INTEGER NOT NULL,
+  issue INTEGER NOT NULL,
   PRIMARY KEY (desk, reference, number)
 ) STRICT";
 
-/// A table of a store: of today, or of those that had no columns for a basis and a commission.
+/// A table of a store.
 #[derive(Clone, Copy)]
 pub(crate) enum Table {
     Issues,
     Versions,
-    OldIssues,
-    OldVersions,
 }
 
+/// Both of them.
+pub(crate) const TABLES: [Table; 2] = [Table::Issues, Table::Versions];
+
 impl Table {
-    fn name(self) -> &'static str {
+    pub(crate) fn name(self) -> &'static str {
         match self {
-            Table::Issues => "issues_2",
-            Table::Versions => "versions_2",
-            Table::OldIssues => "issues",
-            Table::OldVersions => "versions",
+            Table::Issues => "issues_3",
+            Table::Versions => "versions_3",
         }
     }
 
-    /// Finds a row, by the names of all columns.
-    pub(crate) fn first_row(self) -> &'static str {
+    /// Finds the rows, by the names of all columns.
+    fn rows(self) -> &'static str {
         match self {
             Table::Issues => {
-                "SELECT cusip, name, kind, dated, first, maturity, coupon, calls, basis \
-                 FROM issues_2 LIMIT 1"
+                "SELECT cusip, number, name, kind, dated, first, maturity, coupon, calls, basis \
+                 FROM issues_3"
             }
             Table::Versions => {
                 "SELECT desk, reference, number, act, cusip, side, par, settle, basis, value, price, \
-                 yld, redemption, at_price, label, days, principal, accrued, total, fee, commission \
-                 FROM versions_2 LIMIT 1"
+                 yld, redemption, at_price, label, days, principal, accrued, total, fee, commission, \
+                 issue FROM versions_3"
             }
-            Table::OldIssues => {
-                "SELECT cusip, name, kind, dated, first, maturity, coupon, calls FROM issues LIMIT 1"
-            }
-            Table::OldVersions => {
-                "SELECT desk, reference, number, act, cusip, side, par, settle, basis, value, price, \
-                 yld, redemption, at_price, label, days, principal, accrued, total \
-                 FROM versions LIMIT 1"
-            }
+        }
+    }
+
+    /// Makes the table.
+    pub(crate) fn making(self) -> &'static str {
+        match self {
+            Table::Issues => ISSUES,
+            Table::Versions => VERSIONS,
         }
     }
 }
@@ -98,22 +100,44 @@ impl Table {
 /// Refuses a database that is no store, before anything is written to it: one that lists something and
 /// no table of a store, or such a table with other columns.
 pub(crate) fn check_tables<S: Alter>(database: &mut Connection<S>) -> Result<(), StoreFault> {
-    let issues = has_columns(database, Table::Issues)?;
-    let versions = has_columns(database, Table::Versions)?;
-    let old_issues = has_columns(database, Table::OldIssues)?;
-    let old_versions = has_columns(database, Table::OldVersions)?;
-    if issues || versions || old_issues || old_versions || !lists_any(database)? {
+    let has_own = has_any_table(database)?;
+    let has_old = has_any_old_table(database)?;
+    if has_own || has_old || !lists_any(database)? {
         return Ok(());
     }
     Err(StoreFault::Failed)
 }
 
-/// Whether the file has this table. One of its name with other columns is refused.
-fn has_columns<S: Alter>(database: &mut Connection<S>, table: Table) -> Result<bool, StoreFault> {
-    if !has_table(database, table)? {
+fn has_any_table<S: Alter>(database: &mut Connection<S>) -> Result<bool, StoreFault> {
+    let mut has_any = false;
+    for table in TABLES {
+        if has_columns(database, table.name(), table.rows())? {
+            has_any = true;
+        }
+    }
+    Ok(has_any)
+}
+
+fn has_any_old_table<S: Alter>(database: &mut Connection<S>) -> Result<bool, StoreFault> {
+    let mut has_any = false;
+    for table in OLD_TABLES {
+        if has_columns(database, table.name(), table.rows())? {
+            has_any = true;
+        }
+    }
+    Ok(has_any)
+}
+
+/// Whether the file has a table of this name. One with other columns than those of its rows is refused.
+fn has_columns<S: Alter>(
+    database: &mut Connection<S>,
+    name: &str,
+    rows: &str,
+) -> Result<bool, StoreFault> {
+    if !has_table(database, name)? {
         return Ok(false);
     }
-    let _ = answered(database.prepare(table.first_row()))?;
+    let _ = answered(database.prepare(rows))?;
     Ok(true)
 }
 
@@ -126,44 +150,37 @@ pub(crate) fn lists_own_alone<S: Alter>(database: &mut Connection<S>) -> Result<
     let row = first_row(
         database,
         "SELECT COUNT(*) FROM sqlite_schema WHERE type <> 'view' \
-         AND NOT (type = 'table' AND name = 'issues_2' AND sql = ?1) \
-         AND NOT (type = 'table' AND name = 'versions_2' AND sql = ?2) \
-         AND NOT (type = 'index' AND name = 'sqlite_autoindex_issues_2_1') \
-         AND NOT (type = 'index' AND name = 'sqlite_autoindex_versions_2_1')",
+         AND NOT (type = 'table' AND name = 'issues_3' AND sql = ?1) \
+         AND NOT (type = 'table' AND name = 'versions_3' AND sql = ?2) \
+         AND NOT (type = 'index' AND name = 'sqlite_autoindex_issues_3_1') \
+         AND NOT (type = 'index' AND name = 'sqlite_autoindex_versions_3_1')",
         params![ISSUES, VERSIONS],
     )?;
     Ok(!is_above_zero(row)?)
 }
 
-/// Makes the tables if the file has none, and says whether it has made one.
+/// Makes the tables that the file does not have, and says whether it has made one.
 pub(crate) fn make_tables<S: Alter>(database: &mut Connection<S>) -> Result<bool, StoreFault> {
-    let issues = make_table(database, Table::Issues, ISSUES)?;
-    let versions = make_table(database, Table::Versions, VERSIONS)?;
-    Ok(issues || versions)
+    let mut has_made = false;
+    for table in TABLES {
+        if !has_table(database, table.name())? {
+            write(database, table.making(), params![])?;
+            has_made = true;
+        }
+    }
+    Ok(has_made)
 }
 
-fn make_table<S: Alter>(
-    database: &mut Connection<S>,
-    table: Table,
-    statement: &str,
-) -> Result<bool, StoreFault> {
-    if has_table(database, table)? {
-        return Ok(false);
-    }
-    write(database, statement, params![])?;
-    Ok(true)
-}
+/// Counts the tables of a name.
+pub(crate) const COUNT_OF_TABLES: &str =
+    "SELECT COUNT(*) FROM sqlite_schema WHERE type = 'table' AND name = ?1";
 
 /// Whether the file has a table of this name.
 pub(crate) fn has_table<S: Alter>(
     database: &mut Connection<S>,
-    table: Table,
+    name: &str,
 ) -> Result<bool, StoreFault> {
-    let row = first_row(
-        database,
-        "SELECT COUNT(*) FROM sqlite_schema WHERE type = 'table' AND name = ?1",
-        params![table.name()],
-    )?;
+    let row = first_row(database, COUNT_OF_TABLES, params![name])?;
     is_above_zero(row)
 }
 
@@ -176,7 +193,7 @@ pub(crate) fn counts_some<S: Alter>(
     is_above_zero(row)
 }
 
-fn is_above_zero(row: Option<Row>) -> Result<bool, StoreFault> {
+pub(crate) fn is_above_zero(row: Option<Row>) -> Result<bool, StoreFault> {
     match row {
         Some(row) => Ok(number_at(&row, 0)? > 0),
         None => Ok(false),

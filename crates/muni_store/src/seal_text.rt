@@ -21,7 +21,7 @@ pub(crate) fn text_of(seen: &Seen) -> Text
     ensures { result.items ≡ spec.text seen.now }
 {
     let mut text = ArrayVec::new();
-    push(&mut text, b"muni seal 1\n");
+    push(&mut text, b"muni seal 2\n");
     push_marks(&mut text, b"store", &seen.store);
     match &seen.log {
         Some(log) => push_marks(&mut text, b"log", log),

@@ -6,7 +6,7 @@ ghost use Rattle.sqlite.specs.State.{HasCleanDisk, Shown};
 ghost use Rattle.sqlite.specs.Values.{bound};
 ghost use Rattle.muni_store_rows.specs.Issue as issues;
 ghost use Rattle.muni_store_rows.specs.Version as versions;
-ghost use Rattle.muni_store.specs.Ran.{Ran, NotRun, Asked};
+ghost use Rattle.muni_store.specs.Ran.{Ran, Found, NotRun, Asked};
 ghost use Rattle.muni_store.specs.Rows as rows;
 ghost use Rattle.muni_store.specs.Statements as spec;
 
@@ -18,49 +18,115 @@ use crate::schema::{answered, first_row, write};
 use arrayvec::ArrayVec;
 use muni_dec::text::push;
 use muni_msg::{DeskName, Key, Reference, Version};
-use muni_store_rows::{WrittenVersion, issue_columns};
+use muni_store_rows::{WrittenVersion, numbered_columns};
 use muni_store_trees::{issue_values, version_values};
 use muni_terms::Issue;
 use sqlite::types::ValueRef;
 use sqlite::{Alter, Connection, Row};
 
-/// The issue of a CUSIP, if it is kept.
+/// The issue of a CUSIP by its last terms, if it is kept.
 pub(crate) fn find_issue<S: Alter>(
     database: &mut Connection<S>,
     cusip: &[u8; 9],
 ) -> Result<Option<Issue>, StoreFault>
     ensures found { IfOk result (rows.Reads rows.issue_in (state S.Store database.old)
-        (state S.Store database.new) spec.select_issue (spec.cusip_values cusip.now)) }
-    ensures asked { Asked (state S.Store database.old) (state S.Store database.new) spec.select_issue
+        (state S.Store database.new) spec.select_last_issue (spec.cusip_values cusip.now)) }
+    ensures asked { Asked (state S.Store database.old) (state S.Store database.new) spec.select_last_issue
         (spec.cusip_values cusip.now) }
 {
-    let row = first_row(
-        database,
-        "SELECT cusip, name, kind, dated, first, maturity, coupon, calls, basis \
-         FROM issues_2 WHERE cusip = ?1",
-        &[ValueRef::Text(cusip)],
-    )?;
+    let row = last_issue_row(database, cusip)?;
+    match row {
+        Some(row) => {
+            let (_, issue) = read_issue(&row)?;
+            Ok(Some(issue))
+        }
+        None => Ok(None),
+    }
+}
+
+/// The issue of a CUSIP by its last terms, with their number, if it is kept.
+pub(crate) fn find_last_issue<S: Alter>(
+    database: &mut Connection<S>,
+    cusip: &[u8; 9],
+) -> Result<Option<(u32, Issue)>, StoreFault>
+    ensures found { IfOk result (rows.Reads rows.numbered_in (state S.Store database.old)
+        (state S.Store database.new) spec.select_last_issue (spec.cusip_values cusip.now)) }
+    ensures asked { Asked (state S.Store database.old) (state S.Store database.new) spec.select_last_issue
+        (spec.cusip_values cusip.now) }
+{
+    let row = last_issue_row(database, cusip)?;
     match row {
         Some(row) => Ok(Some(read_issue(&row)?)),
         None => Ok(None),
     }
 }
 
-/// Keeps an issue.
+// The row of the last terms of the issue of a CUSIP.
+fn last_issue_row<S: Alter>(
+    database: &mut Connection<S>,
+    cusip: &[u8; 9],
+) -> Result<Option<Row>, StoreFault>
+    ensures found { IfOk result (Found (state S.Store database.old) (state S.Store database.new)
+        spec.select_last_issue (spec.cusip_values cusip.now)) }
+    ensures asked { Asked (state S.Store database.old) (state S.Store database.new) spec.select_last_issue
+        (spec.cusip_values cusip.now) }
+{
+    first_row(
+        database,
+        "SELECT cusip, number, name, kind, dated, first, maturity, coupon, calls, basis \
+         FROM issues_3 WHERE cusip = ?1 ORDER BY number DESC LIMIT 1",
+        &[ValueRef::Text(cusip)],
+    )
+}
+
+fn numbered_cusip_values(cusip: &[u8; 9], number: u32) -> [ValueRef<'_>; 2]
+    ensures { bound result ≡ spec.numbered_cusip_values cusip.now number }
+{
+    [ValueRef::Text(cusip), ValueRef::Int(i64::from(number))]
+}
+
+/// The issue of a CUSIP by its terms with this number, if they are kept.
+pub(crate) fn find_issue_numbered<S: Alter>(
+    database: &mut Connection<S>,
+    cusip: &[u8; 9],
+    number: u32,
+) -> Result<Option<Issue>, StoreFault>
+    ensures found { IfOk result (rows.Reads rows.issue_in (state S.Store database.old)
+        (state S.Store database.new) spec.select_issue (spec.numbered_cusip_values cusip.now number)) }
+    ensures asked { Asked (state S.Store database.old) (state S.Store database.new) spec.select_issue
+        (spec.numbered_cusip_values cusip.now number) }
+{
+    let row = first_row(
+        database,
+        "SELECT cusip, number, name, kind, dated, first, maturity, coupon, calls, basis \
+         FROM issues_3 WHERE cusip = ?1 AND number = ?2",
+        &numbered_cusip_values(cusip, number),
+    )?;
+    match row {
+        Some(row) => {
+            let (_, issue) = read_issue(&row)?;
+            Ok(Some(issue))
+        }
+        None => Ok(None),
+    }
+}
+
+/// Keeps the terms of an issue with this number.
 pub(crate) fn insert_issue<S: Alter>(
     database: &mut Connection<S>,
+    number: u32,
     issue: &Issue,
 ) -> Result<(), StoreFault>
     ensures ran { OnOk result (Ran (state S.Store database.old) (state S.Store database.new)
-        spec.insert_issue (spec.issue_values (issues.columns_of issue.now))) }
+        spec.insert_issue (spec.issue_values (issues.numbered_columns number issue.now))) }
     ensures undone { OnErr result (NotRun (state S.Store) database.old database.new) }
 {
-    let columns = issue_columns(issue);
+    let columns = numbered_columns(number, issue);
     let values = issue_values(&columns);
     write(
         database,
-        "INSERT INTO issues_2 (cusip, name, kind, dated, first, maturity, coupon, calls, basis) \
-         VALUES (?1, ?2, ?3, ?4, ?5, ?6, ?7, ?8, ?9)",
+        "INSERT INTO issues_3 (cusip, number, name, kind, dated, first, maturity, coupon, calls, basis) \
+         VALUES (?1, ?2, ?3, ?4, ?5, ?6, ?7, ?8, ?9, ?10)",
         &values,
     )
 }
@@ -98,8 +164,8 @@ pub(crate) fn find_version<S: Alter>(
     let row = first_row(
         database,
         "SELECT desk, reference, number, act, cusip, side, par, settle, basis, value, price, yld, \
-         redemption, at_price, label, days, principal, accrued, total, fee, commission \
-         FROM versions_2 WHERE desk = ?1 AND reference = ?2 AND number = ?3",
+         redemption, at_price, label, days, principal, accrued, total, fee, commission, issue \
+         FROM versions_3 WHERE desk = ?1 AND reference = ?2 AND number = ?3",
         &numbered_key_values(key, number),
     )?;
     match row {
@@ -124,8 +190,8 @@ pub(crate) fn find_last<S: Alter>(
     let row = first_row(
         database,
         "SELECT desk, reference, number, act, cusip, side, par, settle, basis, value, price, yld, \
-         redemption, at_price, label, days, principal, accrued, total, fee, commission \
-         FROM versions_2 WHERE desk = ?1 AND reference = ?2 ORDER BY number DESC LIMIT 1",
+         redemption, at_price, label, days, principal, accrued, total, fee, commission, issue \
+         FROM versions_3 WHERE desk = ?1 AND reference = ?2 ORDER BY number DESC LIMIT 1",
         &key_values(key),
     )?;
     match row {
@@ -153,10 +219,10 @@ pub(crate) fn insert_version<S: Alter>(
     let values = version_values(&row);
     write(
         database,
-        "INSERT INTO versions_2 (desk, reference, number, act, cusip, side, par, settle, basis, value, \
-         price, yld, redemption, at_price, label, days, principal, accrued, total, fee, commission) \
+        "INSERT INTO versions_3 (desk, reference, number, act, cusip, side, par, settle, basis, value, \
+         price, yld, redemption, at_price, label, days, principal, accrued, total, fee, commission, issue) \
          VALUES (?1, ?2, ?3, ?4, ?5, ?6, ?7, ?8, ?9, ?10, ?11, ?12, ?13, ?14, ?15, ?16, ?17, ?18, \
-         ?19, ?20, ?21)",
+         ?19, ?20, ?21, ?22)",
         &values,
     )
 }
@@ -173,7 +239,7 @@ pub(crate) fn count_trades<S: Alter>(
 {
     let row = first_row(
         database,
-        "SELECT COUNT(*) FROM versions_2 WHERE desk = ?1 AND number = 1",
+        "SELECT COUNT(*) FROM versions_3 WHERE desk = ?1 AND number = 1",
         &[ValueRef::Text(desk.bytes())],
     )?;
     match row {
@@ -197,7 +263,7 @@ pub(crate) fn references_after<S: Alter>(
         None => b"",
     };
     answered(database.query_all(
-        "SELECT reference FROM versions_2 WHERE desk = ?1 AND reference > ?2 AND number = 1 \
+        "SELECT reference FROM versions_3 WHERE desk = ?1 AND reference > ?2 AND number = 1 \
          ORDER BY reference LIMIT 50",
         &[ValueRef::Text(desk.bytes()), ValueRef::Text(after)],
     ))
@@ -215,7 +281,7 @@ pub(crate) fn find_before_latest<S: Alter>(
 {
     let row = first_row(
         database,
-        "SELECT reference FROM versions_2 WHERE desk = ?1 AND number = 1 \
+        "SELECT reference FROM versions_3 WHERE desk = ?1 AND number = 1 \
          ORDER BY reference DESC LIMIT 1 OFFSET 50",
         &[ValueRef::Text(desk.bytes())],
     )?;
@@ -225,7 +291,7 @@ pub(crate) fn find_before_latest<S: Alter>(
     }
 }
 
-/// The first issue after a CUSIP, or the first of all if none is given, with its CUSIP.
+/// The first issue after a CUSIP, or the first of all if none is given, with its CUSIP and its last terms.
 pub(crate) fn find_issue_past<S: Alter>(
     database: &mut Connection<S>,
     after: &Option<[u8; 9]>,
@@ -237,8 +303,9 @@ pub(crate) fn find_issue_past<S: Alter>(
 {
     let row = first_row(
         database,
-        "SELECT cusip, name, kind, dated, first, maturity, coupon, calls, basis \
-         FROM issues_2 WHERE cusip > ?1 ORDER BY cusip LIMIT 1",
+        "SELECT cusip, number, name, kind, dated, first, maturity, coupon, calls, basis \
+         FROM issues_3 WHERE cusip = (SELECT cusip FROM issues_3 WHERE cusip > ?1 ORDER BY cusip LIMIT 1) \
+         ORDER BY number DESC LIMIT 1",
         &[ValueRef::Text(cusip_or_none(after))],
     )?;
     match row {
@@ -270,7 +337,7 @@ pub(crate) fn find_desk_past<S: Alter>(
     let least = least_past(after);
     let row = first_row(
         database,
-        "SELECT desk FROM versions_2 WHERE desk >= ?1 ORDER BY desk LIMIT 1",
+        "SELECT desk FROM versions_3 WHERE desk >= ?1 ORDER BY desk LIMIT 1",
         &[ValueRef::Text(least.as_slice())],
     )?;
     match row {

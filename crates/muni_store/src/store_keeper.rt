@@ -51,13 +51,33 @@ impl<S: Alter + Drop> Keeper for StoreKeeper<S> {
         }
     }
 
-    fn put_issue(&mut self, issue: &Issue) -> Result<(), KeepFault>
-        ensures puts { spec.PutsIssue S.Store issue.now result self.old self.new }
+    fn issue_numbered(&mut self, cusip: &[u8; 9], number: u32) -> Result<Option<Issue>, KeepFault>
+        ensures looks { spec.LooksUpIssueNumbered S.Store cusip.now number result self.old self.new }
         ensures counted { CountsFailure result (spec.faults_of self.old) (spec.faults_of self.new) }
     {
         match self {
-            StoreKeeper::Sql(keeper) => keeper.put_issue(issue),
-            StoreKeeper::Trees(keeper) => keeper.put_issue(issue),
+            StoreKeeper::Sql(keeper) => keeper.issue_numbered(cusip, number),
+            StoreKeeper::Trees(keeper) => keeper.issue_numbered(cusip, number),
+        }
+    }
+
+    fn last_issue(&mut self, cusip: &[u8; 9]) -> Result<Option<(u32, Issue)>, KeepFault>
+        ensures looks { spec.LooksUpLastIssue S.Store cusip.now result self.old self.new }
+        ensures counted { CountsFailure result (spec.faults_of self.old) (spec.faults_of self.new) }
+    {
+        match self {
+            StoreKeeper::Sql(keeper) => keeper.last_issue(cusip),
+            StoreKeeper::Trees(keeper) => keeper.last_issue(cusip),
+        }
+    }
+
+    fn put_issue(&mut self, number: u32, issue: &Issue) -> Result<(), KeepFault>
+        ensures puts { spec.PutsIssue S.Store number issue.now result self.old self.new }
+        ensures counted { CountsFailure result (spec.faults_of self.old) (spec.faults_of self.new) }
+    {
+        match self {
+            StoreKeeper::Sql(keeper) => keeper.put_issue(number, issue),
+            StoreKeeper::Trees(keeper) => keeper.put_issue(number, issue),
         }
     }
 

@@ -9,7 +9,7 @@ use Rattle.muni_rule.specs.declared.basis.Basis.{Basis}
 use Rattle.muni_rule.specs.declared.basis.Basis.TheVariants.{Thirty360, Actual365}
 use Rattle.std.specs.Char.{is_ascii_alphanumeric}
 use Rattle.std.specs.Result.{result_ok}
-use Rattle.muni_dec.specs.Values.{if_yield, if_percent, if_printed_yield, if_price, if_printed_price, if_par, if_fee, if_money, if_coupon}
+use Rattle.muni_dec.specs.Values.{if_yield, if_printed_yield, if_price, if_printed_price, if_par, if_fee, if_money, if_coupon}
 use Rattle.muni_days.specs.Day.{civil, day_reading, day_text}
 use Rattle.muni_days.specs.declared.day.Day.{Day}
 use Rattle.muni_days.proofs.ReadingLemmas.{read-text}
@@ -260,32 +260,34 @@ figures-is columns figures h =
     (money-is columns.commission commission.0 commission.1) in
     e ∙ ap figure_columns same
 
-abbrev columns_by : (desk reference : List ℕ) (number act : ℤ) (asked : AskedColumns) (figures : FigureColumns) → Columns
-columns_by desk reference number act asked figures = record { desk = desk; reference = reference; number = number; act = act; asked = asked; figures = figures }
+abbrev columns_by : (desk reference : List ℕ) (number act : ℤ) (asked : AskedColumns) (figures : FigureColumns) (issue : ℤ) → Columns
+columns_by desk reference number act asked figures issue = record { desk = desk; reference = reference; number = number; act = act; asked = asked; figures = figures; issue = issue }
 
-columns-same : {d d' r r' : List ℕ} {n n' a a' : ℤ} {q q' : AskedColumns} {f f' : FigureColumns} → d ≡ d' → r ≡ r' → n ≡ n' → a ≡ a' → q ≡ q' → f ≡ f'
-    → columns_by d r n a q f ≡ columns_by d' r' n' a' q' f'
-columns-same d r n a q f = rw (d, r, n, a, q, f) refl
+columns-same : {d d' r r' : List ℕ} {n n' a a' : ℤ} {q q' : AskedColumns} {f f' : FigureColumns} {i i' : ℤ} → d ≡ d' → r ≡ r' → n ≡ n' → a ≡ a' → q ≡ q' → f ≡ f' → i ≡ i'
+    → columns_by d r n a q f i ≡ columns_by d' r' n' a' q' f' i'
+columns-same d r n a q f i = rw (d, r, n, a, q, f, i) refl
 
 pub trade-is : (columns : Columns) (key : Key) (number : ℕ) (version : Version) → trade_of columns ≡ Some (key, number, version) → columns ≡ columns_of key number version
 unfolding trade_of columns_of
 trade-is columns key number version h =
     let name = bound (key_of columns.desk columns.reference) _ (key, number, version) h in
-    let count = bound (count columns.number) _ (key, number, version) name.2 in
-    let act = bound (act_of columns.act) _ (key, number, version) count.2 in
+    let numbered = bound (count columns.number) _ (key, number, version) name.2 in
+    let act = bound (act_of columns.act) _ (key, number, version) numbered.2 in
     let asked = bound (asked_of columns.asked) _ (key, number, version) act.2 in
     let figures = bound (figures_of columns.figures) _ (key, number, version) asked.2 in
-    let made : Version = record { act = act.0; terms = record { asked = asked.0 }; figures = figures.0 } in
-    let same = some-is (name.0, count.0, made) (key, number, version) figures.2 in
+    let terms = bound (count columns.issue) _ (key, number, version) figures.2 in
+    let made : Version = record { act = act.0; terms = record { asked = asked.0 }; issue_number = terms.0; figures = figures.0 } in
+    let same = some-is (name.0, numbered.0, made) (key, number, version) terms.2 in
     let both = key-is columns.desk columns.reference name.0 name.1 in
-    let e : columns_by columns.desk columns.reference columns.number columns.act columns.asked columns.figures ≡ columns_of name.0 count.0 made =
+    let e : columns_by columns.desk columns.reference columns.number columns.act columns.asked columns.figures columns.issue ≡ columns_of name.0 numbered.0 made =
     columns-same
     both.0
     both.1
-    (count-is columns.number count.0 count.1)
+    (count-is columns.number numbered.0 numbered.1)
     (act-is columns.act act.0 act.1)
     (asked-is columns.asked asked.0 asked.1)
-    (figures-is columns.figures figures.0 figures.1) in
+    (figures-is columns.figures figures.0 figures.1)
+    (count-is columns.issue terms.0 terms.1) in
     e ∙ ap (λ (trade : Key × ℕ × Version). columns_of trade.0 trade.1 trade.2) same
 
 -- ---- issues
@@ -390,3 +392,13 @@ issue-is columns issue h =
     (calls-is columns.calls calls.0 calls.1)
     (basis-is columns.basis basis.0 basis.1) in
     e ∙ ap issues.columns_of same
+
+pub numbered-is : (columns : issues.NumberedColumns) (number : ℕ) (issue : IssueRow) → issues.numbered_of columns ≡ Some (number, issue) → columns ≡ issues.numbered_columns number issue
+unfolding issues.numbered_of issues.numbered_columns
+numbered-is columns number issue h =
+    let at = bound (count columns.number) _ (number, issue) h in
+    let terms = bound (issues.issue_of columns.terms) _ (number, issue) at.2 in
+    let same = some-is (at.0, terms.0) (number, issue) terms.2 in
+    let by : ℤ → issues.Columns → issues.NumberedColumns = λ number terms. record { number = number; terms = terms } in
+    let e : columns ≡ issues.numbered_columns at.0 terms.0 = ap (λ number. by number columns.terms) (count-is columns.number at.0 at.1) ∙ ap (by (pos at.0)) (issue-is columns.terms terms.0 terms.1) in
+    e ∙ ap (λ (found : ℕ × IssueRow). issues.numbered_columns found.0 found.1) same

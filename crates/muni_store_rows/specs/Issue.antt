@@ -10,7 +10,7 @@ use Rattle.muni_msg.specs.Codes.{basis_code, kind_code}
 use Rattle.muni_msg.specs.Fields.{day_in, ◌>>=◌}
 use Rattle.muni_msg.specs.IssueFields.{cusip_reading, issue_name_reading}
 use Rattle.muni_store_rows.specs.Calls.{calls_text, calls_of}
-use Rattle.muni_store_rows.specs.Codes.{natural, coupon_of, basis_of}
+use Rattle.muni_store_rows.specs.Codes.{natural, count, coupon_of, basis_of}
 
 -- the columns: texts as their bytes, and numbers
 pub record Columns : Type 0 where
@@ -24,7 +24,29 @@ pub record Columns : Type 0 where
   pub calls : List ℕ
   pub basis : ℤ
 
+-- the columns of numbered terms
+pub record NumberedColumns : Type 0 where
+  pub number : ℤ
+  pub terms : Columns
+
 -- the columns one by one
+abbrev pub columns_3 : (cusip : List ℕ) (number : ℤ) (name : List ℕ) (kind : ℤ) (dated first maturity : List ℕ) (coupon : ℤ) (calls : List ℕ) (basis : ℤ) → NumberedColumns
+columns_3 cusip number name kind dated first maturity coupon calls basis = record {
+  number = number;
+  terms = record {
+    cusip = cusip;
+    name = name;
+    kind = kind;
+    dated = dated;
+    first = first;
+    maturity = maturity;
+    coupon = coupon;
+    calls = calls;
+    basis = basis;
+  };
+}
+
+-- those without a number
 abbrev pub columns_2 : (cusip name : List ℕ) (kind : ℤ) (dated first maturity : List ℕ) (coupon : ℤ) (calls : List ℕ) (basis : ℤ) → Columns
 columns_2 cusip name kind dated first maturity coupon calls basis = record {
   cusip = cusip;
@@ -38,7 +60,7 @@ columns_2 cusip name kind dated first maturity coupon calls basis = record {
   basis = basis;
 }
 
--- those without a basis, which is 30/360 then
+-- those without a basis too, which is 30/360 then
 abbrev pub columns_1 : (cusip name : List ℕ) (kind : ℤ) (dated first maturity : List ℕ) (coupon : ℤ) (calls : List ℕ) → Columns
 columns_1 cusip name kind dated first maturity coupon calls =
     columns_2 cusip name kind dated first maturity coupon calls (pos 0)
@@ -90,3 +112,14 @@ issue_of columns = do
   coupon ← coupon_of columns.coupon
   calls ← calls_of columns.calls
   result_ok (checked (record { cusip = cusip; name = name; kind = kind; basis = basis; dated = dated; maturity = maturity; coupon = coupon; calls = record { items = calls } }))
+
+-- the columns of numbered terms of an issue
+unfoldable pub numbered_columns : ℕ → IssueRow → NumberedColumns
+numbered_columns number row = record { number = pos number; terms = columns_of row }
+
+-- the number and the terms with these columns, if there are such
+unfoldable pub numbered_of : NumberedColumns → Option (ℕ × IssueRow)
+numbered_of columns = do
+  number ← count columns.number
+  issue ← issue_of columns.terms
+  Some (number, issue)

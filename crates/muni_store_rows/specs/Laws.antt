@@ -6,11 +6,11 @@ use Rattle.muni_msg.specs.declared.version.Version.{Version}
 use Rattle.muni_store_rows.specs.Issue as issues
 use Rattle.muni_store_rows.specs.Version as versions
 
--- columns that are read as an issue are those in which it is written
+-- columns that are read as numbered terms of an issue are those in which they are written
 abbrev pub ReadsIssuesAsWritten : Type 0
 ReadsIssuesAsWritten =
-    (columns : issues.Columns) (issue : IssueRow)
-    → issues.issue_of columns ≡ Some issue → columns ≡ issues.columns_of issue
+    (columns : issues.NumberedColumns) (number : ℕ) (issue : IssueRow)
+    → issues.numbered_of columns ≡ Some (number, issue) → columns ≡ issues.numbered_columns number issue
 
 -- columns that are read as a version are those in which it is written
 abbrev pub ReadsVersionsAsWritten : Type 0

@@ -45,10 +45,12 @@ pub record Columns : Type 0 where
   pub act : ℤ
   pub asked : AskedColumns
   pub figures : FigureColumns
+  -- the number of the terms of its issue
+  pub issue : ℤ
 
 -- the columns one by one
-abbrev pub columns_2 : (desk reference : List ℕ) (number act : ℤ) (cusip : List ℕ) (side par : ℤ) (settle : List ℕ) (basis value price yld : ℤ) (redemption : List ℕ) (at_price label days principal accrued total fee commission : ℤ) → Columns
-columns_2 desk reference number act cusip side par settle basis value price yld redemption at_price label days principal accrued total fee commission = record {
+abbrev pub columns_3 : (desk reference : List ℕ) (number act : ℤ) (cusip : List ℕ) (side par : ℤ) (settle : List ℕ) (basis value price yld : ℤ) (redemption : List ℕ) (at_price label days principal accrued total fee commission issue : ℤ) → Columns
+columns_3 desk reference number act cusip side par settle basis value price yld redemption at_price label days principal accrued total fee commission issue = record {
   desk = desk;
   reference = reference;
   number = number;
@@ -74,9 +76,15 @@ columns_2 desk reference number act cusip side par settle basis value price yld 
     total = total;
     commission = commission;
   };
+  issue = issue;
 }
 
--- those without a fee and a commission, which are 0 then
+-- those without a number of the issue, which is 1 then
+abbrev pub columns_2 : (desk reference : List ℕ) (number act : ℤ) (cusip : List ℕ) (side par : ℤ) (settle : List ℕ) (basis value price yld : ℤ) (redemption : List ℕ) (at_price label days principal accrued total fee commission : ℤ) → Columns
+columns_2 desk reference number act cusip side par settle basis value price yld redemption at_price label days principal accrued total fee commission =
+    columns_3 desk reference number act cusip side par settle basis value price yld redemption at_price label days principal accrued total fee commission (pos 1)
+
+-- those without a fee and a commission too, which are 0 then
 abbrev pub columns_1 : (desk reference : List ℕ) (number act : ℤ) (cusip : List ℕ) (side par : ℤ) (settle : List ℕ) (basis value price yld : ℤ) (redemption : List ℕ) (at_price label days principal accrued total : ℤ) → Columns
 columns_1 desk reference number act cusip side par settle basis value price yld redemption at_price label days principal accrued total =
     columns_2 desk reference number act cusip side par settle basis value price yld redemption at_price label days principal accrued total (pos 0) (pos 0)
@@ -115,6 +123,7 @@ columns_of key number version = record {
   act = pos (act_code version.act);
   asked = asked_columns version.terms.asked;
   figures = figure_columns version.figures;
+  issue = pos version.issue_number;
 }
 
 -- which trade of which desk
@@ -158,4 +167,5 @@ trade_of columns = do
   act ← act_of columns.act
   asked ← asked_of columns.asked
   figures ← figures_of columns.figures
-  Some (key, number, record { act = act; terms = record { asked = asked }; figures = figures })
+  issue_number ← count columns.issue
+  Some (key, number, record { act = act; terms = record { asked = asked }; issue_number = issue_number; figures = figures })

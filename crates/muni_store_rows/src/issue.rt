@@ -6,14 +6,14 @@ ghost use Rattle.muni_days.specs.Day.{civil, day_text};
 ghost use Rattle.muni_store_rows.specs.Issue as spec;
 
 use crate::calls::{CallsText, print_calls, print_day, without_first, written_calls};
-use crate::codes::{natural, read_code, read_coupon, units};
+use crate::codes::{natural, read_code, read_count, read_coupon, units};
 use arrayvec::ArrayVec;
 use muni_days::Day;
 use muni_msg::{basis_code, basis_of_code, kind_code, read_cusip, read_issue_name};
 use muni_terms::{Issue, IssueRow, Kind, check};
 use std::marker::Model;
 
-/// The columns in which an issue is kept.
+/// The columns in which the terms of an issue are kept.
 #[derive(Debug, Drop)]
 pub struct IssueColumns {
     pub cusip: [u8; 9],
@@ -78,6 +78,32 @@ pub fn issue_columns(issue: &Issue) -> IssueColumns
     }
 }
 
+/// The columns in which the terms of an issue are kept with their number.
+#[derive(Debug, Drop)]
+pub struct NumberedColumns {
+    pub number: i64,
+    pub terms: IssueColumns,
+}
+
+impl Model for NumberedColumns {
+    ghost use Rattle.muni_store_rows.specs.Issue as spec;
+
+    ghost Value = { spec.NumberedColumns };
+
+    ghost view = { λ columns. record { number = columns.number; terms = columns.terms } };
+}
+
+/// The columns of an issue by its terms with this number.
+#[tactic(auto, unfolding(crate::specs::Issue::numbered_columns))]
+pub fn numbered_columns(number: u32, issue: &Issue) -> NumberedColumns
+    ensures { result ≡ spec.numbered_columns number issue.now }
+{
+    NumberedColumns {
+        number: i64::from(number),
+        terms: issue_columns(issue),
+    }
+}
+
 fn print_first(kind: Kind) -> ArrayVec<u8, 32>
     ensures { result.items ≡ spec.first_text kind }
 {
@@ -105,7 +131,8 @@ pub fn issue_1(
     issue_2(cusip, name, kind, dated, first, maturity, coupon, calls, 0)
 }
 
-/// The issue with these columns, if there is one.
+/// The issue with these columns, if there is one. There was no column for a number when an issue had its
+/// first terms alone.
 #[tactic(auto, unfolding(crate::specs::Issue::issue_of))]
 pub fn issue_2(
     cusip: &str,
@@ -132,6 +159,30 @@ pub fn issue_2(
         calls: written_calls(calls.as_bytes())?,
     };
     check(row).ok()
+}
+
+/// The number and the terms with these columns, if there are such.
+#[tactic(auto, unfolding(crate::specs::Issue::numbered_of))]
+pub fn issue_3(
+    cusip: &str,
+    number: i64,
+    name: &str,
+    kind: i64,
+    dated: &str,
+    first: &str,
+    maturity: &str,
+    coupon: i64,
+    calls: &str,
+    basis: i64,
+) -> Option<(u32, Issue)>
+    ensures read { result ≡ spec.numbered_of (spec.columns_3 cusip.now number name.now kind dated.now first.now
+        maturity.now coupon calls.now basis) }
+{
+    let number = read_count(number)?;
+    let issue = issue_2(
+        cusip, name, kind, dated, first, maturity, coupon, calls, basis,
+    )?;
+    Some((number, issue))
 }
 
 fn read_kind(kind: i64, first: &[u8]) -> Option<Kind>

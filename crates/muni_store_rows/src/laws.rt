@@ -17,8 +17,17 @@ use muni_dec::{Cents, Fee, Par, Price, Price3, Yield, Yield3};
 use muni_msg::{Act, Asked, Figures, Given, Key, Side, Version};
 use muni_terms::{Issue, Label};
 
-/// A law: the columns in which an issue is written are read as that issue.
-pub fn issues_are_read_again(issue: &Issue)
+/// A law: the columns in which an issue is written by its terms with a number are read as that number and
+/// these terms.
+#[tactic(auto, unfolding(crate::specs::Issue::numbered_of, crate::specs::Issue::numbered_columns))]
+pub fn issues_are_read_again(number: u32, issue: &Issue)
+    ensures { issues.numbered_of (issues.numbered_columns number issue.now) ≡ Some (number, issue.now) }
+{
+    number_is_read_again(number);
+    terms_are_read_again(issue);
+}
+
+fn terms_are_read_again(issue: &Issue)
     ensures { issues.issue_of (issues.columns_of issue.now) ≡ Some issue.now }
 {
     let row = issue.row();
@@ -28,7 +37,7 @@ pub fn issues_are_read_again(issue: &Issue)
     let _calls = row.calls.as_slice();
 }
 
-/// A law: columns that are read as an issue are those in which it is written.
+/// A law: columns that are read as numbered terms of an issue are those in which they are written.
 pub fn issues_are_read_as_written()
     ensures { ReadsIssuesAsWritten }
 {}
@@ -46,6 +55,7 @@ pub fn versions_are_read_again(key: &Key, number: u32, version: &Version)
 {
     key_is_read_again(key);
     number_is_read_again(number);
+    number_is_read_again(version.issue_number);
     act_is_read_again(version.act);
     asked_is_read_again(&version.terms.asked);
     figures_are_read_again(&version.figures);

@@ -9,7 +9,9 @@ mod outside;
 mod version;
 mod written_version;
 
-pub use issue::{IssueColumns, issue_1, issue_2, issue_columns};
-pub use outside::{version_1, version_2};
+pub use issue::{
+    IssueColumns, NumberedColumns, issue_1, issue_2, issue_3, issue_columns, numbered_columns,
+};
+pub use outside::{version_1, version_2, version_3};
 pub use version::{AskedRow, FigureRow, TradeRow};
 pub use written_version::WrittenVersion;

@@ -38,7 +38,8 @@ pub fn version_1(
     )
 }
 
-/// The trade, the number and the version with these columns, if there are such.
+/// The trade, the number and the version with these columns, if there are such. There was no column for the
+/// number of the terms of the issue when an issue had its first terms alone.
 pub fn version_2(
     desk: &str,
     reference: &str,
@@ -65,6 +66,41 @@ pub fn version_2(
     ensures read { result ≡ spec.trade_of (spec.columns_2 desk.now reference.now number act cusip.now side
         par settle.now basis value price yld redemption.now at_price label days principal accrued total
         fee commission) }
+{
+    version_3(
+        desk, reference, number, act, cusip, side, par, settle, basis, value, price, yld,
+        redemption, at_price, label, days, principal, accrued, total, fee, commission, 1,
+    )
+}
+
+/// The trade, the number and the version with these columns, if there are such.
+pub fn version_3(
+    desk: &str,
+    reference: &str,
+    number: i64,
+    act: i64,
+    cusip: &str,
+    side: i64,
+    par: i64,
+    settle: &str,
+    basis: i64,
+    value: i64,
+    price: i64,
+    yld: i64,
+    redemption: &str,
+    at_price: i64,
+    label: i64,
+    days: i64,
+    principal: i64,
+    accrued: i64,
+    total: i64,
+    fee: i64,
+    commission: i64,
+    issue: i64,
+) -> Option<(Key, u32, Version)>
+    ensures read { result ≡ spec.trade_of (spec.columns_3 desk.now reference.now number act cusip.now side
+        par settle.now basis value price yld redemption.now at_price label days principal accrued total
+        fee commission issue) }
 {
     let asked = AskedRow {
         cusip: cusip.as_bytes(),
@@ -94,6 +130,7 @@ pub fn version_2(
         act,
         asked,
         figures,
+        issue,
     };
     row.trade()
 }

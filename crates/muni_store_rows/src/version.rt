@@ -127,6 +127,8 @@ pub struct TradeRow<'a> {
     pub act: i64,
     pub asked: AskedRow<'a>,
     pub figures: FigureRow<'a>,
+    /// The number of the terms of its issue.
+    pub issue: i64,
 }
 
 impl<'a> Model for TradeRow<'a> {
@@ -141,6 +143,7 @@ impl<'a> Model for TradeRow<'a> {
       act = row.act;
       asked = row.asked;
       figures = row.figures;
+      issue = row.issue;
     } };
 }
 
@@ -158,6 +161,7 @@ impl<'a> TradeRow<'a> {
                 asked: self.asked.asked()?,
             },
             figures: self.figures.figures()?,
+            issue_number: read_count(self.issue)?,
         };
         Some((key, number, version))
     }

@@ -61,6 +61,7 @@ impl<'a> WrittenVersion<'a> {
             act: i64::from(self.version.act.code()),
             asked: self.asked_row(),
             figures: self.figure_row(),
+            issue: i64::from(self.version.issue_number),
         }
     }
 

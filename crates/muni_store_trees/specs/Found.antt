@@ -1,5 +1,5 @@
 -- What is found in the trees of the tables.
-use Rattle.std.specs.Prelude.{◌≡◌, ℕ, ℤ, pos, List, [], ◌∷◌, ◌++◌, drop, reverse, take, min, ◌-◌, ◌^◌, length, Bool, true, false, Option, Some, None, slice_get, ⊤, if◌then◌else◌}
+use Rattle.std.specs.Prelude.{◌≡◌, ℕ, ℤ, pos, List, [], ◌∷◌, ◌++◌, drop, reverse, take, min, ◌-◌, ◌^◌, length, Bool, true, false, Option, Some, None, option_map, slice_get, ⊤, if◌then◌else◌}
 use Rattle.std.specs.List.{filter}
 use Rattle.std.specs.Ordering.{int_eq}
 use Rattle.std.specs.Str.{bytes_eq}
@@ -14,8 +14,8 @@ use Rattle.muni_msg.specs.declared.command.Line.{Line}
 use Rattle.muni_msg.specs.declared.version.Version.{Version}
 use Rattle.muni_store_trees.specs.declared.places.Places.{Places}
 use Rattle.muni_store_trees.specs.Entries.{matching, from, Scans}
-use Rattle.muni_store_trees.specs.Keys.{text_key, trade_key, version_key, least_past, trade_key_past}
-use Rattle.muni_store_trees.specs.Rows.{text_in, number_in, issue_in, trade_in, desk_in, reference_at}
+use Rattle.muni_store_trees.specs.Keys.{text_key, issue_key, trade_key, version_key, least_past, trade_key_past}
+use Rattle.muni_store_trees.specs.Rows.{text_in, number_in, numbered_in, trade_in, desk_in, reference_at}
 
 -- a table has one row with the rowid in a value, and it is this
 pub record HasRow (rows : List Row) (value : Value) (row : Row) : Type 0 where
@@ -23,12 +23,21 @@ pub record HasRow (rows : List Row) (value : Value) (row : Row) : Type 0 where
   pub is_id : value ≡ Int id
   pub found : filter (has_rowid id) rows ≡ row ∷ []
 
--- the entry of a CUSIP leads to the row of this issue
-pub record ReadsIssue (rows : List Row) (entry : Row) (issue : IssueRow) : Type 0 where
+-- an entry has the CUSIP and the number of these terms
+pub record HasTerms (entry : Row) (found : ℕ × IssueRow) : Type 0 where
+  pub has_cusip : text_in entry 0 ≡ found.1.cusip
+  pub has_number : number_in entry 1 ≡ pos found.0
+
+-- the entry of a CUSIP and a number leads to the row of these terms
+pub record ReadsIssue (rows : List Row) (entry : Row) (found : ℕ × IssueRow) : Type 0 where
   pub row : Row
-  pub leads : HasRow rows (column entry 1) row
-  pub read : issue_in (drop 1 row) ≡ Some issue
-  pub same : text_in entry 0 ≡ issue.cusip
+  pub leads : HasRow rows (column entry 2) row
+  pub read : numbered_in (drop 1 row) ≡ Some found
+  pub same : HasTerms entry found
+
+-- the same, and they are of the issue of a CUSIP
+abbrev pub ReadsIssueOf : List Row → List ℕ → Row → ℕ × IssueRow → Type 0
+ReadsIssueOf rows cusip entry found = (found.1.cusip ≡ cusip) × ReadsIssue rows entry found
 
 -- an entry has the key of a version
 pub record HasKey (entry : Row) (key : Key) (number : ℕ) : Type 0 where
@@ -87,14 +96,26 @@ abbrev pub first : List Row → Option Row
 first entries = slice_get entries 0
 
 module _ (places : Places) (trees : Trees) where
-  -- the issue of a CUSIP
-  abbrev pub IsIssue : List ℕ → Option IssueRow → Type 0
-  IsIssue cusip = AtEntry (ReadsIssue (trees places.issues)) (first (matching (text_key cusip) (trees places.cusips)))
+  -- the issue of a CUSIP by its last terms, with their number
+  abbrev pub IsLastIssue : List ℕ → Option (ℕ × IssueRow) → Type 0
+  IsLastIssue cusip =
+      AtEntry (ReadsIssueOf (trees places.issues) cusip)
+      (first (reverse (matching (text_key cusip) (trees places.cusips))))
 
-  -- the first issue after a CUSIP, with its own
+  -- the issue of a CUSIP by its last terms
+  abbrev pub IsIssue : List ℕ → Option IssueRow → Type 0
+  IsIssue cusip found = (last : Option (ℕ × IssueRow)) × IsLastIssue cusip last × (found ≡ option_map (λ terms. terms.1) last)
+
+  -- the issue of a CUSIP by its terms with a number
+  abbrev pub IsIssueNumbered : List ℕ → ℕ → Option IssueRow → Type 0
+  IsIssueNumbered cusip number =
+      AtEntry (λ entry issue. ReadsIssueOf (trees places.issues) cusip entry (number, issue))
+      (first (matching (issue_key cusip number) (trees places.cusips)))
+
+  -- the first CUSIP after another, and its issue by its last terms
   abbrev pub IsIssuePast : Option (List ℕ) → Option (List ℕ × IssueRow) → Type 0
   IsIssuePast after =
-      AtEntry (λ entry found. (found.0 ≡ found.1.cusip) × ReadsIssue (trees places.issues) entry found.1)
+      AtEntry (λ entry found. (text_in entry 0 ≡ found.0) × IsIssue found.0 (Some found.1))
       (first (from (text_key (least_past after)) (trees places.cusips)))
 
   -- the first desk after another

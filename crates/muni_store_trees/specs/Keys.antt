@@ -6,9 +6,13 @@ use Rattle.muni_msg.specs.declared.command.Key.{Key}
 use Rattle.muni_store_rows.specs.Issue as issues
 use Rattle.muni_store_rows.specs.Version as versions
 
--- the key of an issue or of a desk
+-- the key of an issue, whatever its terms, or of a desk
 abbrev pub text_key : List ℕ → List Value
 text_key text = Text text ∷ []
+
+-- the key of the terms of an issue with a number
+abbrev pub issue_key : List ℕ → ℕ → List Value
+issue_key cusip number = Text cusip ∷ Int (pos number) ∷ []
 
 abbrev pub trade_key : Key → List Value
 trade_key key = Text key.desk ∷ Text key.reference ∷ []
@@ -25,18 +29,19 @@ least_past (Some text) = text ++ 0 ∷ []
 abbrev pub trade_key_past : List ℕ → Option (List ℕ) → List Value
 trade_key_past desk after = Text desk ∷ Text (least_past after) ∷ []
 
--- the columns of an issue, in this order
-abbrev pub issue_values : issues.Columns → List Value
+-- the columns of numbered terms of an issue, in this order
+abbrev pub issue_values : issues.NumberedColumns → List Value
 issue_values columns =
-    Text columns.cusip
-    ∷ Text columns.name
-    ∷ Int columns.kind
-    ∷ Text columns.dated
-    ∷ Text columns.first
-    ∷ Text columns.maturity
-    ∷ Int columns.coupon
-    ∷ Text columns.calls
-    ∷ Int columns.basis
+    Text columns.terms.cusip
+    ∷ Int columns.number
+    ∷ Text columns.terms.name
+    ∷ Int columns.terms.kind
+    ∷ Text columns.terms.dated
+    ∷ Text columns.terms.first
+    ∷ Text columns.terms.maturity
+    ∷ Int columns.terms.coupon
+    ∷ Text columns.terms.calls
+    ∷ Int columns.terms.basis
     ∷ []
 
 -- the columns of a version, in this order
@@ -63,4 +68,5 @@ version_values columns =
     ∷ Int columns.figures.total
     ∷ Int columns.asked.fee
     ∷ Int columns.figures.commission
+    ∷ Int columns.issue
     ∷ []

@@ -39,25 +39,32 @@ reference_in row = reference_at row 0
 abbrev pub desk_in : List Value → Option (List ℕ)
 desk_in row = result_ok (name_reading is_desk_letter 16 (text_in row 0))
 
--- the issue in a row, if it is one
-abbrev pub issue_in : List Value → Option IssueRow
-issue_in row = issues.issue_of (record {
-  cusip = text_in row 0;
-  name = text_in row 1;
-  kind = number_in row 2;
-  dated = text_in row 3;
-  first = text_in row 4;
-  maturity = text_in row 5;
-  coupon = number_in row 6;
-  calls = text_in row 7;
-  basis = number_in row 8;
+-- the number and the terms of the issue in a row, if there are such
+abbrev pub numbered_in : List Value → Option (ℕ × IssueRow)
+numbered_in row = issues.numbered_of (record {
+  number = number_in row 1;
+  terms = record {
+    cusip = text_in row 0;
+    name = text_in row 2;
+    kind = number_in row 3;
+    dated = text_in row 4;
+    first = text_in row 5;
+    maturity = text_in row 6;
+    coupon = number_in row 7;
+    calls = text_in row 8;
+    basis = number_in row 9;
+  };
 })
+
+-- the terms alone
+abbrev pub issue_in : List Value → Option IssueRow
+issue_in row = option_map (λ found. found.1) (numbered_in row)
 
 -- the same with its CUSIP
 abbrev pub issue_entry_in : List Value → Option (List ℕ × IssueRow)
 issue_entry_in row = option_map (λ issue. (issue.cusip, issue)) (issue_in row)
 
--- the columns of a version in a row, with a fee and a commission
+-- the columns of a version in a row, with a fee, a commission and the number of the terms of the issue
 abbrev pub asked_columns : List Value → ℤ → versions.AskedColumns
 asked_columns row fee = record {
   cusip = text_in row 4;
@@ -83,23 +90,28 @@ figure_columns row commission = record {
   commission = commission;
 }
 
-abbrev pub trade_columns : List Value → ℤ → ℤ → versions.Columns
-trade_columns row fee commission = record {
+abbrev pub trade_columns : List Value → (fee commission issue : ℤ) → versions.Columns
+trade_columns row fee commission issue = record {
   desk = text_in row 0;
   reference = text_in row 1;
   number = number_in row 2;
   act = number_in row 3;
   asked = asked_columns row fee;
   figures = figure_columns row commission;
+  issue = issue;
 }
 
 -- the trade, the number and the version in a row, if there are such
 abbrev pub trade_in : List Value → Option (Key × ℕ × Version)
-trade_in row = versions.trade_of (trade_columns row (number_in row 19) (number_in row 20))
+trade_in row = versions.trade_of (trade_columns row (number_in row 19) (number_in row 20) (number_in row 21))
 
--- whether a row of the table that had no columns for a fee and a commission is that of a version
-abbrev pub is_old_trade : List Value → Bool
-is_old_trade row = is_some (versions.trade_of (trade_columns row (pos 0) (pos 0)))
+-- whether a row of the table that had no column for the number of the terms is that of a version
+abbrev pub is_trade_2 : List Value → Bool
+is_trade_2 row = is_some (versions.trade_of (trade_columns row (number_in row 19) (number_in row 20) (pos 1)))
+
+-- whether a row of the table that had no columns for a fee and a commission either is that of a version
+abbrev pub is_trade_1 : List Value → Bool
+is_trade_1 row = is_some (versions.trade_of (trade_columns row (pos 0) (pos 0) (pos 1)))
 
 abbrev pub version_in : List Value → Option Version
 version_in row = option_map (λ trade. trade.2) (trade_in row)

@@ -7,7 +7,10 @@ ghost use Rattle.muni_store_trees.specs.Found as found;
 ghost use Rattle.muni_store_trees.specs.Puts as puts;
 
 use crate::fault::TreeFault;
-use crate::looks::{find_desk_past, find_issue, find_issue_past, find_last, find_version};
+use crate::looks::{
+    find_desk_past, find_issue, find_issue_numbered, find_issue_past, find_last, find_last_issue,
+    find_version,
+};
 use crate::pages::{count_trades, find_before_latest, read_page};
 use crate::places::Places;
 use crate::puts::{put_issue, put_version};
@@ -116,13 +119,31 @@ impl<S: Store + Drop> Keeper for TreeKeeper<S> {
         self.settled(found)
     }
 
-    fn put_issue(&mut self, issue: &Issue) -> Result<(), KeepFault>
-        ensures adds { Adds S.Store.view S.Store.recovers (λ places. puts.AddsIssue places issue.now)
+    fn issue_numbered(&mut self, cusip: &[u8; 9], number: u32) -> Result<Option<Issue>, KeepFault>
+        ensures finds { Finds S.Store.view S.Store.recovers (λ places trees. found.IsIssueNumbered places trees cusip.now number)
+            result self.old self.new }
+        ensures counted { CountsFailure result self.old.faults self.new.faults }
+    {
+        let found = find_issue_numbered(&mut self.store, self.places, self.alloc, cusip, number);
+        self.settled(found)
+    }
+
+    fn last_issue(&mut self, cusip: &[u8; 9]) -> Result<Option<(u32, Issue)>, KeepFault>
+        ensures finds { Finds S.Store.view S.Store.recovers (λ places trees. found.IsLastIssue places trees cusip.now)
+            result self.old self.new }
+        ensures counted { CountsFailure result self.old.faults self.new.faults }
+    {
+        let found = find_last_issue(&mut self.store, self.places, self.alloc, cusip);
+        self.settled(found)
+    }
+
+    fn put_issue(&mut self, number: u32, issue: &Issue) -> Result<(), KeepFault>
+        ensures adds { Adds S.Store.view S.Store.recovers (λ places. puts.AddsIssue places number issue.now)
             self.old.trades result self.old self.new }
         ensures counted { CountsFailure result self.old.faults self.new.faults }
     {
         self.is_changed = true;
-        let put = put_issue(&mut self.store, self.places, self.alloc, issue);
+        let put = put_issue(&mut self.store, self.places, self.alloc, number, issue);
         self.settled(put)
     }
 

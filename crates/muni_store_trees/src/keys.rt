@@ -9,7 +9,7 @@ ghost use Rattle.muni_store_trees.specs.Keys as spec;
 use arrayvec::ArrayVec;
 use muni_dec::text::push;
 use muni_msg::{DeskName, Key, Reference};
-use muni_store_rows::{IssueColumns, TradeRow};
+use muni_store_rows::{NumberedColumns, TradeRow};
 use sqlite_value::row::Row;
 use sqlite_value::value::ValueRef;
 use std::alloc::{AllocError, Global};
@@ -25,25 +25,27 @@ pub(crate) fn row_of(alloc: Global, values: &[ValueRef<'_>]) -> Result<Row, Allo
     Ok(row)
 }
 
-/// The columns of an issue in the table.
-pub fn issue_values<'a>(columns: &'a IssueColumns) -> [ValueRef<'a>; 9]
+/// The columns of numbered terms of an issue in the table.
+pub fn issue_values<'a>(columns: &'a NumberedColumns) -> [ValueRef<'a>; 10]
     ensures { map owned result ≡ spec.issue_values columns.now }
 {
+    let terms = &columns.terms;
     [
-        ValueRef::Text(&columns.cusip),
-        ValueRef::Text(&columns.name),
-        ValueRef::Int(columns.kind),
-        ValueRef::Text(&columns.dated),
-        ValueRef::Text(&columns.first),
-        ValueRef::Text(&columns.maturity),
-        ValueRef::Int(columns.coupon),
-        ValueRef::Text(columns.calls()),
-        ValueRef::Int(columns.basis),
+        ValueRef::Text(&terms.cusip),
+        ValueRef::Int(columns.number),
+        ValueRef::Text(&terms.name),
+        ValueRef::Int(terms.kind),
+        ValueRef::Text(&terms.dated),
+        ValueRef::Text(&terms.first),
+        ValueRef::Text(&terms.maturity),
+        ValueRef::Int(terms.coupon),
+        ValueRef::Text(terms.calls()),
+        ValueRef::Int(terms.basis),
     ]
 }
 
 /// The columns of a version in the table.
-pub fn version_values<'a>(row: &'a TradeRow<'a>) -> [ValueRef<'a>; 21]
+pub fn version_values<'a>(row: &'a TradeRow<'a>) -> [ValueRef<'a>; 22]
     ensures { map owned result ≡ spec.version_values row.now }
 {
     [
@@ -68,14 +70,25 @@ pub fn version_values<'a>(row: &'a TradeRow<'a>) -> [ValueRef<'a>; 21]
         ValueRef::Int(row.figures.total),
         ValueRef::Int(row.asked.fee),
         ValueRef::Int(row.figures.commission),
+        ValueRef::Int(row.issue),
     ]
 }
 
-/// The key of an issue.
+/// The key of an issue, whatever its terms.
 pub(crate) fn cusip_key(alloc: Global, cusip: &[u8]) -> Result<Row, AllocError>
     ensures { IfOk result (λ key. key ≡ spec.text_key cusip.now) }
 {
     row_of(alloc, &[ValueRef::Text(cusip)])
+}
+
+/// The key of the terms of an issue with a number.
+pub(crate) fn issue_key(alloc: Global, cusip: &[u8], number: u32) -> Result<Row, AllocError>
+    ensures { IfOk result (λ key. key ≡ spec.issue_key cusip.now number) }
+{
+    row_of(
+        alloc,
+        &[ValueRef::Text(cusip), ValueRef::Int(i64::from(number))],
+    )
 }
 
 /// The key of a desk.

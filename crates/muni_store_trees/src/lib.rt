@@ -17,5 +17,5 @@ pub use fault::TreeFault;
 pub use keeper::TreeKeeper;
 pub use keys::{issue_values, version_values};
 pub use places::Places;
-pub use rows::{Columns, is_old_trade, read_issue, read_trade};
+pub use rows::{Columns, is_trade_1, is_trade_2, read_issue, read_trade};
 pub use trade_counts::TradeCounts;

@@ -7,9 +7,9 @@ ghost use Rattle.muni_store_trees.specs.Found as spec;
 ghost use Rattle.muni_store_trees.specs.Looks.{Looks};
 
 use crate::fault::TreeFault;
-use crate::keys::{cusip_key, cusip_key_past, desk_key_past, trade_key, version_key};
+use crate::keys::{cusip_key, cusip_key_past, desk_key_past, issue_key, trade_key, version_key};
 use crate::places::Places;
-use crate::rows::{TableRow, number_in, read_desk, read_issue, read_trade, text_in};
+use crate::rows::{TableRow, number_in, read_cusip, read_desk, read_issue, read_trade, text_in};
 use crate::scan::{first_from, first_match, is_table};
 use muni_msg::{DeskName, Key, Version};
 use muni_terms::Issue;
@@ -44,28 +44,59 @@ pub(crate) fn read_row<S: Store>(
     }
 }
 
-/// The issue to which an entry of the index of CUSIPs leads.
+/// The number and the terms to which an entry of the index of CUSIPs and numbers leads.
 fn read_issue_at<S: Store>(
     store: &mut S,
     places: Places,
     alloc: Global,
     entry: &Row,
-) -> Result<Issue, TreeFault>
-    ensures read { IfOk result (λ issue. IsClean (S.Store.view store.new)
-        → spec.ReadsIssue ((S.Store.view store.old).trees places.issues) entry.now issue) }
+) -> Result<(u32, Issue), TreeFault>
+    ensures read { IfOk result (λ found. IsClean (S.Store.view store.new)
+        → spec.ReadsIssue ((S.Store.view store.old).trees places.issues) entry.now found) }
     ensures looks { Looks S.Store.view S.Store.recovers result store.old store.new }
 {
     let mut row = Row::new(alloc);
-    read_row(store, places.issues, entry.get(1), &mut row)?;
-    let issue = read_issue(&TableRow(&row)).ok_or(TreeFault::Failed)?;
-    if text_in(entry, 0) == issue.row().cusip.as_slice() {
-        Ok(issue)
+    read_row(store, places.issues, entry.get(2), &mut row)?;
+    let (number, issue) = read_issue(&TableRow(&row)).ok_or(TreeFault::Failed)?;
+    if is_entry_of_terms(entry, number, &issue) {
+        Ok((number, issue))
     } else {
         Err(TreeFault::Failed)
     }
 }
 
-/// The issue of a CUSIP, if it is kept.
+/// Whether an entry of the index of CUSIPs and numbers has those of these terms.
+fn is_entry_of_terms(entry: &Row, number: u32, issue: &Issue) -> bool
+    ensures { IsTrue result → spec.HasTerms entry.now (number, issue.now) }
+{
+    text_in(entry, 0) == issue.row().cusip.as_slice() && number_in(entry, 1) == i64::from(number)
+}
+
+/// The issue of a CUSIP by its last terms, with their number, if it is kept.
+pub(crate) fn find_last_issue<S: Store>(
+    store: &mut S,
+    places: Places,
+    alloc: Global,
+    cusip: &[u8; 9],
+) -> Result<Option<(u32, Issue)>, TreeFault>
+    ensures found { IfOk result (λ found. IsClean (S.Store.view store.new)
+        → spec.IsLastIssue places (S.Store.view store.old).trees cusip.now found) }
+    ensures looks { Looks S.Store.view S.Store.recovers result store.old store.new }
+{
+    let key = cusip_key(alloc, cusip)?;
+    let mut entry = Row::new(alloc);
+    if !first_match(store, places.cusips, &key, Direction::Backward, &mut entry)? {
+        return Ok(None);
+    }
+    let (found, issue) = read_issue_at(store, places, alloc, &entry)?;
+    if issue.row().cusip == *cusip {
+        Ok(Some((found, issue)))
+    } else {
+        Err(TreeFault::Failed)
+    }
+}
+
+/// The issue of a CUSIP by its last terms, if it is kept.
 pub(crate) fn find_issue<S: Store>(
     store: &mut S,
     places: Places,
@@ -76,15 +107,38 @@ pub(crate) fn find_issue<S: Store>(
         → spec.IsIssue places (S.Store.view store.old).trees cusip.now found) }
     ensures looks { Looks S.Store.view S.Store.recovers result store.old store.new }
 {
-    let key = cusip_key(alloc, cusip)?;
+    match find_last_issue(store, places, alloc, cusip)? {
+        Some((_, issue)) => Ok(Some(issue)),
+        None => Ok(None),
+    }
+}
+
+/// The issue of a CUSIP by its terms with this number, if they are kept.
+pub(crate) fn find_issue_numbered<S: Store>(
+    store: &mut S,
+    places: Places,
+    alloc: Global,
+    cusip: &[u8; 9],
+    number: u32,
+) -> Result<Option<Issue>, TreeFault>
+    ensures found { IfOk result (λ found. IsClean (S.Store.view store.new)
+        → spec.IsIssueNumbered places (S.Store.view store.old).trees cusip.now number found) }
+    ensures looks { Looks S.Store.view S.Store.recovers result store.old store.new }
+{
+    let key = issue_key(alloc, cusip, number)?;
     let mut entry = Row::new(alloc);
     if !first_match(store, places.cusips, &key, Direction::Forward, &mut entry)? {
         return Ok(None);
     }
-    Ok(Some(read_issue_at(store, places, alloc, &entry)?))
+    let (found, issue) = read_issue_at(store, places, alloc, &entry)?;
+    if issue.row().cusip == *cusip && found == number {
+        Ok(Some(issue))
+    } else {
+        Err(TreeFault::Failed)
+    }
 }
 
-/// The first issue after a CUSIP, or the first of all if none is given.
+/// The first CUSIP after another, or the first of all if none is given, and its issue by its last terms.
 pub(crate) fn find_issue_past<S: Store>(
     store: &mut S,
     places: Places,
@@ -100,8 +154,11 @@ pub(crate) fn find_issue_past<S: Store>(
     if !first_from(store, places.cusips, &key, &mut entry)? {
         return Ok(None);
     }
-    let issue = read_issue_at(store, places, alloc, &entry)?;
-    Ok(Some((issue.row().cusip, issue)))
+    let cusip = read_cusip(&entry).ok_or(TreeFault::Failed)?;
+    match find_issue(store, places, alloc, &cusip)? {
+        Some(issue) => Ok(Some((cusip, issue))),
+        None => Err(TreeFault::Failed),
+    }
 }
 
 /// The first desk with trades after a desk, or the first of all if none is given.

@@ -3,9 +3,9 @@
 /// The trees of the tables and of their keys, by their numbers in a store.
 #[derive(Clone, Copy, Debug, PartialEq, Eq)]
 pub struct Places {
-    /// The table of issues.
+    /// The table of the terms of issues.
     pub issues: u32,
-    /// The index of CUSIPs.
+    /// The index of CUSIPs and numbers.
     pub cusips: u32,
     /// The table of versions.
     pub versions: u32,

@@ -7,7 +7,7 @@ ghost use Rattle.sqlite_value.specs.declared.value.Value.{Value as SqlValue};
 ghost use Rattle.muni_store_trees.specs.Rows as rows;
 
 use muni_msg::{DeskName, Key, Reference, Version};
-use muni_store_rows::{AskedRow, FigureRow, TradeRow, issue_2};
+use muni_store_rows::{AskedRow, FigureRow, TradeRow, issue_3};
 use muni_terms::Issue;
 use sqlite_value::row::Row;
 use sqlite_value::value::ValueRef;
@@ -64,26 +64,28 @@ pub(crate) fn number_at<R: Columns>(row: &R, at: u8) -> Option<i64>
     }
 }
 
-/// The issue in a row, if it is one.
-pub fn read_issue<R: Columns>(row: &R) -> Option<Issue>
-    ensures { IfSome result (λ issue. rows.issue_in (R.Columns.values row.now) ≡ Some issue) }
+/// The number and the terms of the issue in a row, if there are such.
+pub fn read_issue<R: Columns>(row: &R) -> Option<(u32, Issue)>
+    ensures { IfSome result (λ found. rows.numbered_in (R.Columns.values row.now) ≡ Some found) }
 {
-    issue_2(
+    issue_3(
         text_at(row, 0)?,
-        text_at(row, 1)?,
-        number_at(row, 2)?,
-        text_at(row, 3)?,
+        number_at(row, 1)?,
+        text_at(row, 2)?,
+        number_at(row, 3)?,
         text_at(row, 4)?,
         text_at(row, 5)?,
-        number_at(row, 6)?,
-        text_at(row, 7)?,
-        number_at(row, 8)?,
+        text_at(row, 6)?,
+        number_at(row, 7)?,
+        text_at(row, 8)?,
+        number_at(row, 9)?,
     )
 }
 
-/// The columns of a version in a row, with a fee and a commission. Names and days are read from ASCII alone.
-fn trade_row<R: Columns>(row: &R, fee: i64, commission: i64) -> Option<TradeRow<'_>>
-    ensures { IfSome result (λ columns. columns ≡ rows.trade_columns (R.Columns.values row.now) fee commission) }
+/// The columns of a version in a row, with a fee, a commission and the number of the terms of the issue. Names
+/// and days are read from ASCII alone.
+fn trade_row<R: Columns>(row: &R, fee: i64, commission: i64, issue: i64) -> Option<TradeRow<'_>>
+    ensures { IfSome result (λ columns. columns ≡ rows.trade_columns (R.Columns.values row.now) fee commission issue) }
 {
     Some(TradeRow {
         desk: bytes_at(row, 0)?,
@@ -92,6 +94,7 @@ fn trade_row<R: Columns>(row: &R, fee: i64, commission: i64) -> Option<TradeRow<
         act: number_at(row, 3)?,
         asked: asked_row(row, fee)?,
         figures: figure_row(row, commission)?,
+        issue,
     })
 }
 
@@ -130,14 +133,29 @@ fn figure_row<R: Columns>(row: &R, commission: i64) -> Option<FigureRow<'_>>
 pub fn read_trade<R: Columns>(row: &R) -> Option<(Key, u32, Version)>
     ensures { IfSome result (λ trade. rows.trade_in (R.Columns.values row.now) ≡ Some trade) }
 {
-    trade_row(row, number_at(row, 19)?, number_at(row, 20)?)?.trade()
+    trade_row(
+        row,
+        number_at(row, 19)?,
+        number_at(row, 20)?,
+        number_at(row, 21)?,
+    )?
+    .trade()
 }
 
-/// Whether a row that has no columns for a fee and a commission is that of a version, if it has the others.
-pub fn is_old_trade<R: Columns>(row: &R) -> Option<bool>
-    ensures { IfSome result (λ is. is ≡ rows.is_old_trade (R.Columns.values row.now)) }
+/// Whether a row that has no column for the number of the terms of the issue is that of a version, if it has
+/// the others.
+pub fn is_trade_2<R: Columns>(row: &R) -> Option<bool>
+    ensures { IfSome result (λ is. is ≡ rows.is_trade_2 (R.Columns.values row.now)) }
 {
-    Some(trade_row(row, 0, 0)?.trade().is_some())
+    let columns = trade_row(row, number_at(row, 19)?, number_at(row, 20)?, 1)?;
+    Some(columns.trade().is_some())
+}
+
+/// The same of a row that has no columns for a fee and a commission either.
+pub fn is_trade_1<R: Columns>(row: &R) -> Option<bool>
+    ensures { IfSome result (λ is. is ≡ rows.is_trade_1 (R.Columns.values row.now)) }
+{
+    Some(trade_row(row, 0, 0, 1)?.trade().is_some())
 }
 
 /// The text in a column of an entry, or none.
@@ -172,4 +190,11 @@ pub(crate) fn read_desk(entry: &Row) -> Option<DeskName>
     ensures { IfSome result (λ desk. rows.desk_in entry.now ≡ Some desk) }
 {
     DeskName::read(text_in(entry, 0)).ok()
+}
+
+/// The CUSIP in the first column of an entry, if it has nine characters.
+pub(crate) fn read_cusip(entry: &Row) -> Option<[u8; 9]>
+    ensures { IfSome result (λ cusip. cusip ≡ rows.text_in entry.now 0) }
+{
+    <[u8; 9]>::try_from(text_in(entry, 0)).ok()
 }

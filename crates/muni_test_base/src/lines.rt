@@ -172,6 +172,7 @@ fn is_sale_confirmed(issue: &Issue, key: &Key) -> Result<bool, Fail> {
     let version = Version {
         act: Act::Canceled,
         terms: Terms { asked },
+        issue_number: 1,
         figures,
     };
     let mut text = ArrayVec::new();

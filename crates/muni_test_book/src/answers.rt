@@ -14,7 +14,8 @@ use muni_test_samples::key;
 use std::alloc::Global;
 use std::thread::Threads;
 
-/// A trade that is entered, sent again, corrected and canceled, and what is refused on the way.
+/// A trade that is entered, sent again, corrected and canceled, its issue that is amended before the cancel, and what is
+/// refused on the way.
 pub const ROWS: &str =
     "issue,123456AA3,RIVERTON WATER 5S 2025,periodic,2020-01-01,2020-07-01,2025-01-01,5,
 trade,ALPHA,T0001,123456AA3,buy,25000,2024-04-01,yield,4
@@ -22,6 +23,8 @@ trade,ALPHA,T0001,123456AA3,buy,25000,2024-04-01,yield,4
 trade,ALPHA,T0001,123456AA3,buy,30000,2024-04-01,yield,4
 correct,ALPHA,T0001,3,123456AA3,buy,30000,2024-04-01,yield,4
 correct,ALPHA,T0001,2,123456AA3,buy,30000,2024-04-01,yield,4
+amend,123456AA3,3,RIVERTON WATER 5S 2025,periodic,2020-01-01,2020-07-01,2025-01-01,4.5,
+amend,123456AA3,2,RIVERTON WATER 5S 2025,periodic,2020-01-01,2020-07-01,2025-01-01,4.5,
 cancel,ALPHA,T0001,3
 correct,ALPHA,T0001,4,123456AA3,buy,30000,2024-04-01,yield,4
 confirm,T0001
@@ -37,6 +40,8 @@ confirmed,T0001,1,100.725,4.000,2025-01-01,25493.75
 REFUSED 3 Conflict version 1
 REFUSED 12 WrongNumber 2
 confirmed,T0001,2,100.725,4.000,2025-01-01,30592.50
+REFUSED 12 WrongNumber 2
+amended,123456AA3,2
 confirmed,T0001,3,100.725,4.000,2025-01-01,30592.50
 REFUSED 11 Canceled
 confirmed,T0001,3,100.725,4.000,2025-01-01,30592.50

@@ -12,12 +12,12 @@ fn failed_over<R: Threads + Sync>(rt: &R, alloc: Global, call: u64) -> Option<u3
     failed_once(rt, alloc, &mut keeper)
 }
 
-// The commands make 28 calls of their keeper.
+// The commands make 33 calls of their keeper.
 #[test]
 fn a_command_that_failed_is_answered_when_it_is_sent_again(rt: HostRuntime) -> Result<(), Fail> {
-    for call in 0..28_u64 {
+    for call in 0..33_u64 {
         assert_eq!(rt; failed_over(&rt, rt.alloc(), call), Some(1), "call {call}");
     }
-    assert_eq!(rt; failed_over(&rt, rt.alloc(), 28), Some(0));
+    assert_eq!(rt; failed_over(&rt, rt.alloc(), 33), Some(0));
     Ok(())
 }

@@ -10,16 +10,15 @@ use std::alloc::Global;
 use std::test::Fail;
 use std::thread::Threads;
 
-/// How many puts of the issue and of the trade are kept.
+/// How many puts of the issue, of its later terms and of the trade are kept. There is no trade without its issue.
 fn puts<K: Keeper>(keeper: &mut K, key: &Key) -> Option<u32> {
-    let is_kept = keeper.issue(b"123456AA3").ok()?.is_some();
-    let Some((number, _)) = keeper.last(key).ok()? else {
-        return Some(u32::from(is_kept));
-    };
-    if is_kept {
-        Some(number.wrapping_add(1))
-    } else {
-        None
+    let terms = keeper.last_issue(b"123456AA3").ok()?;
+    let last = keeper.last(key).ok()?;
+    match (terms, last) {
+        (None, None) => Some(0),
+        (Some((terms, _)), None) => Some(terms),
+        (Some((terms, _)), Some((versions, _))) => Some(terms.wrapping_add(versions)),
+        (None, Some(_)) => None,
     }
 }
 
@@ -97,8 +96,8 @@ fn are_said_over<R: Threads + Sync>(rt: &R, alloc: Global, failing: u64) -> Opti
 
 #[test]
 fn a_failed_call_and_a_stop_lose_nothing_that_was_answered(rt: HostRuntime) -> Result<(), Fail> {
-    // The sixteen calls of the four puts.
-    for failing in 2..18_u64 {
+    // The twenty calls of the five puts.
+    for failing in 2..22_u64 {
         assert_eq!(rt;
             are_said_over(&rt, rt.alloc(), failing),
             Some(true),

@@ -12,10 +12,10 @@ use std::test::Fail;
 
 /// Keeps an issue, if it is not kept yet.
 fn add_issue<K: Keeper>(keeper: &mut K, issue: &Issue) -> Result<(), KeepFault> {
-    if keeper.issue(&issue.row().cusip)?.is_none() {
-        keeper.put_issue(issue)?;
+    match keeper.last_issue(&issue.row().cusip)? {
+        None => keeper.put_issue(1, issue),
+        Some(_) => Ok(()),
     }
-    Ok(())
 }
 
 /// Keeps a version as the next one of a trade.
@@ -29,13 +29,17 @@ fn add_version<K: Keeper>(keeper: &mut K, key: &Key) -> Result<(), KeepFault>
     put(keeper, key, &version)
 }
 
-/// The nine calls, one after the other, up to the first that fails.
+/// The twelve calls, one after the other, up to the first that fails.
 fn make_calls<K: Keeper>(keeper: &mut K, issue: &Issue, key: &Key) -> Result<(), KeepFault> {
     add_issue(keeper, issue)?;
     add_version(keeper, key)?;
+    let cusip = issue.row().cusip;
+    let _ = keeper.issue(&cusip)?;
+    let _ = keeper.issue_numbered(&cusip, 1)?;
     let _ = keeper.version(key, 1)?;
     let _ = keeper.trades(&key.desk)?;
     let _ = keeper.page(&key.desk, &None)?;
+    let _ = keeper.before_latest(&key.desk)?;
     let _ = keeper.issue_past(&None)?;
     let _ = keeper.desk_past(&None)?;
     Ok(())
@@ -53,14 +57,14 @@ fn twice(alloc: Global, call: u64) -> Result<(Result<(), KeepFault>, Result<(), 
 
 #[test]
 fn each_call_of_a_keeper_fails_where_it_is_listed(rt: HostRuntime) -> Result<(), Fail> {
-    for call in 0..9_u64 {
+    for call in 0..12_u64 {
         assert_eq!(rt;
             twice(rt.alloc(), call)?,
             (Err(KeepFault::Failed), Ok(())),
             "call {call}"
         );
     }
-    assert_eq!(rt; twice(rt.alloc(), 9)?, (Ok(()), Err(KeepFault::Failed)));
+    assert_eq!(rt; twice(rt.alloc(), 12)?, (Ok(()), Err(KeepFault::Failed)));
     Ok(())
 }
 

@@ -39,6 +39,7 @@ fn version(act: Act, cusip: [u8; 9], side: Side, par: Par, total: Cents) -> Vers
             total,
             ..empty.figures
         },
+        ..empty
     }
 }
 

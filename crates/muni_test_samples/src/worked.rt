@@ -52,6 +52,7 @@ pub fn worked_version(act: Act) -> Option<Version> {
     Some(Version {
         act,
         terms: worked_terms()?,
+        issue_number: 1,
         figures: worked_figures()?,
     })
 }

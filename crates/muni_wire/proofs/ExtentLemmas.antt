@@ -10,7 +10,7 @@ use Rattle.muni_edge.specs.declared.source.Source as source
 use Rattle.muni_wire.specs.Extent.{IsTake, TakesOnlyWhile, AwaitsMore, TakesAtMost, TakesHead, IsNoFurther, ReadsNoFurther, awaited_size, piece_limit}
 use Rattle.muni_wire.specs.Head.{HasHead, head_limit}
 use Rattle.muni_wire.specs.Taken.{IsWholeAt}
-use Rattle.muni_wire.specs.declared.routes.Form.{Form}
+use Rattle.muni_wire_body.specs.declared.form.Form.{Form}
 use Rattle.muni_wire.specs.declared.head.Awaited.TheVariants as plan
 use Rattle.muni_wire.proofs.CutLemmas.{cut}
 use Rattle.muni_wire.proofs.TakenLemmas.{none-taken, both-taken}

@@ -14,7 +14,7 @@ use Rattle.muni_msg.specs.NameReading.{name_reading}
 use Rattle.muni_msg.specs.declared.command.Command.TheVariants.{Confirm, List as ListTrades}
 use Rattle.muni_msg.specs.declared.command.Key.{Key}
 use Rattle.muni_wire.specs.Routes.{target_of, of_book_at, look_at, list_at, list_after_at, key_of, key_at}
-use Rattle.muni_wire.specs.declared.look.Request.TheVariants.{Book}
+use Rattle.muni_wire_body.specs.declared.look.Request.TheVariants.{Book}
 use Rattle.muni_wire.specs.declared.routes.Target.TheVariants as target
 use Rattle.muni_wire.specs.PathLaws.{IsKey}
 use Rattle.muni_wire.proofs.PathLemmas.{text-is-name}

@@ -7,8 +7,8 @@ use Rattle.std.proofs.lemmas.List.Folds.{list_any_at, list_any_none, Any-from_li
 use Rattle.std.proofs.lemmas.List.Sums.{AllPass-from_list_all, list_all-from_AllPass}
 use Rattle.muni_wire.specs.BodyLength.{FieldText, is_named, length_in, tells, may_stand_beside, body_limit, within_limit, agreed, by_first, body_length}
 use Rattle.muni_wire.specs.LengthLaw.{HasLength}
-use Rattle.muni_wire.specs.declared.fault.Bad.{Bad}
-use Rattle.muni_wire.specs.declared.fault.Bad.TheVariants as bad
+use Rattle.muni_wire_body.specs.declared.fault.Bad.{Bad}
+use Rattle.muni_wire_body.specs.declared.fault.Bad.TheVariants as bad
 
 abbrev is_length : FieldText → Bool
 is_length = is_named (codes "content-length")

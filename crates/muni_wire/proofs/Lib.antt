@@ -3,19 +3,15 @@ pub mod HeadLemmas
 pub mod TakenLemmas
 pub mod LineLemmas
 pub mod ExtentLemmas
-pub mod BodyLemmas
 pub mod ReadingLemmas
 pub mod FieldCountLemmas
 pub mod UniqueLemmas
 pub mod SomeReadingLemmas
 pub mod StatusLemmas
-pub mod CallLemmas
 pub mod ListLemmas
 mod LookPathLemmas
-pub mod LeftOutLemmas
 pub mod AnswerLemmas
 pub mod PathLemmas
 pub mod FoundPathLemmas
 pub mod LengthLemmas
-pub mod MemberLemmas
 pub mod CodeLemmas

@@ -1,5 +1,5 @@
 -- The paths under which looks at the tables are made.
-use Rattle.std.proofs.Common.{◌≡◌, ◌⊎◌, inl, inr, option_map, ◌+◌, ◌==◌, ◌&&◌, ℕ, suc, List, ◌∷◌, ◌++◌, length, take, drop, get_or, codes, Bool, true, false, cond, Option, Some, None, position, refl, sym, ap, subst, ◌∙◌, arith}
+use Rattle.std.proofs.Common.{◌≡◌, ◌⊎◌, inl, inr, option_map, ◌+◌, ◌==◌, ◌&&◌, ℕ, suc, List, ◌∷◌, ◌++◌, length, take, drop, get_or, codes, Bool, true, false, cond, Option, Some, None, position, sym, ap, subst, ◌∙◌, arith}
 use Rattle.std.specs.Char.{is_ascii_alphanumeric}
 use Rattle.std.specs.List.{list_all}
 use Rattle.std.specs.Option.{option_or}
@@ -10,15 +10,15 @@ use Rattle.std.proofs.lemmas.List.Quantifiers.{position-Some}
 use Rattle.muni_rule.specs.Cusip.{is_cusip_character}
 use Rattle.muni_msg.specs.Fields.{◌>>=◌, version_number}
 use Rattle.muni_msg.specs.IssueFields.{cusip_reading}
-use Rattle.muni_msg.specs.Names.{IsName, is_desk_letter}
+use Rattle.muni_msg.specs.Names.{is_desk_letter}
 use Rattle.muni_msg.specs.NameReading.{name_reading}
 use Rattle.muni_msg.specs.declared.command.Command.TheVariants.{Confirm}
 use Rattle.muni_msg.specs.declared.command.Key.{Key}
 use Rattle.muni_wire.specs.PathLaws.{IsKey, IsPathOf}
 use Rattle.muni_wire.specs.Routes.{target_of, of_book_at, look_at, look_of, list_at, list_after_at, issue_at, version_at, positions_at, latest_at, parts_of, key_of, key_at, behind}
-use Rattle.muni_wire.specs.declared.look.Look.{Look}
-use Rattle.muni_wire.specs.declared.look.Look.TheVariants as look
-use Rattle.muni_wire.specs.declared.look.Request.TheVariants.{Book, Look as LookAt}
+use Rattle.muni_wire_body.specs.declared.look.Look.{Look}
+use Rattle.muni_wire_body.specs.declared.look.Look.TheVariants as look
+use Rattle.muni_wire_body.specs.declared.look.Request.TheVariants.{Book, Look as LookAt}
 use Rattle.muni_wire.specs.declared.routes.Target.{Target}
 use Rattle.muni_wire.specs.declared.routes.Target.TheVariants as target
 use Rattle.muni_wire.proofs.PathLemmas as path

@@ -17,9 +17,9 @@ use Rattle.muni_msg.specs.declared.command.Command.TheVariants.{Confirm, List as
 use Rattle.muni_msg.specs.declared.command.Key.{Key}
 use Rattle.muni_wire.specs.Routes.{target_of, of_book_at, look_at, look_of, post_at, trade_at, list_at, list_after_at, behind, key_of, key_at, form_of, forms, posted_under}
 use Rattle.muni_wire.specs.PathLaws.{IsKey, BodiesArePosted}
-use Rattle.muni_wire.specs.declared.look.Look.{Look}
-use Rattle.muni_wire.specs.declared.look.Request.TheVariants.{Book, Look as LookAt}
-use Rattle.muni_wire.specs.declared.routes.Form.{Form}
+use Rattle.muni_wire_body.specs.declared.look.Look.{Look}
+use Rattle.muni_wire_body.specs.declared.look.Request.TheVariants.{Book, Look as LookAt}
+use Rattle.muni_wire_body.specs.declared.form.Form.{Form}
 use Rattle.muni_wire.specs.declared.routes.Target.{Target}
 use Rattle.muni_wire.specs.declared.routes.Target.TheVariants as target
 
@@ -245,4 +245,4 @@ bodies-have-one-path path posted e = form-found path posted forms (posts path po
 
 pub bodies-posted : BodiesArePosted
 unfolding target_of of_book_at
-bodies-posted = record { issues = refl; trades = refl; corrections = refl; cancels = refl; quotes = refl }
+bodies-posted = record { issues = refl; amendments = refl; trades = refl; corrections = refl; cancels = refl; quotes = refl; checks = refl }

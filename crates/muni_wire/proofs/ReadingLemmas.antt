@@ -3,17 +3,17 @@ use Rattle.std.proofs.Common.{◌≡◌, ◌≤◌, ◌+◌, ◌-◌, ℕ, List,
 use Rattle.std.proofs.lemmas.List.{drop-append-le, take-append-le, append_assoc, length-append, length-drop}
 use Rattle.std.proofs.lemmas.Bool.Decides.{nat_tests}
 use Rattle.std.specs.Io.KnownBytes.{Consumes, IsAtEnd}
-use Rattle.muni_wire.specs.Body.{request_of}
-use Rattle.muni_wire.specs.Faults.{IsOfBody}
+use Rattle.muni_wire_body.specs.Body.{request_of}
+use Rattle.muni_wire_body.specs.Faults.{IsOfBody}
 use Rattle.muni_wire.specs.Head.{IsNoHead, IsHeadTooLarge, EndsInHead}
 use Rattle.muni_wire.specs.Reading.{Reading, Whole, Faulty, Short, carried_out, of_body, Reads, Allows}
 use Rattle.muni_wire.specs.Taken.{IsWholeAt, IsAnswerTo}
-use Rattle.muni_wire.specs.declared.look.Request.{Request}
-use Rattle.muni_wire.specs.declared.fault.Bad.{Bad}
-use Rattle.muni_wire.specs.declared.fault.Bad.TheVariants as bad
-use Rattle.muni_wire.specs.declared.fault.WireFault.{WireFault}
-use Rattle.muni_wire.specs.declared.fault.WireFault.TheVariants as fault
-use Rattle.muni_wire.specs.declared.routes.Form.{Form}
+use Rattle.muni_wire_body.specs.declared.look.Request.{Request}
+use Rattle.muni_wire_body.specs.declared.fault.Bad.{Bad}
+use Rattle.muni_wire_body.specs.declared.fault.Bad.TheVariants as bad
+use Rattle.muni_wire_body.specs.declared.fault.WireFault.{WireFault}
+use Rattle.muni_wire_body.specs.declared.fault.WireFault.TheVariants as fault
+use Rattle.muni_wire_body.specs.declared.form.Form.{Form}
 use Rattle.muni_wire.specs.declared.head.Awaited.{Awaited}
 use Rattle.muni_wire.specs.declared.head.Awaited.TheVariants as plan
 use Rattle.muni_wire.proofs.TakenLemmas.{told, told-at-end}

@@ -9,7 +9,7 @@ use Rattle.httparse.proofs.GrammarLemmas.{ReadsRequest-append}
 use Rattle.muni_wire.specs.Awaited.{plan_of}
 use Rattle.muni_wire.specs.Head.{HasHead, IsUnfinished, head_limit, field_limit}
 use Rattle.muni_wire.specs.Reading.{Reading, Faulty, Short, Reads, carried_out}
-use Rattle.muni_wire.specs.declared.fault.Bad.TheVariants as bad
+use Rattle.muni_wire_body.specs.declared.fault.Bad.TheVariants as bad
 use Rattle.muni_wire.proofs.ExtentLemmas.{head-longer}
 
 -- the lines of a head before its last, and what comes after them

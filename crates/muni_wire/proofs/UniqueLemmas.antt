@@ -8,9 +8,9 @@ use Rattle.muni_wire.specs.Head.{HasHead, IsNoHead, IsUnfinished, EndsInHead, he
 use Rattle.muni_wire.specs.Laws.{IsAmbiguous, IsCutOff, IsTheAnswer, answer_to}
 use Rattle.muni_wire.specs.Awaited.{plan_of}
 use Rattle.muni_wire.specs.Reading.{Reading, Whole, Faulty, Short, HeadAsks, carried_out, Reads, Allows}
-use Rattle.muni_wire.specs.declared.look.Request.{Request}
-use Rattle.muni_wire.specs.declared.fault.WireFault.{WireFault}
-use Rattle.muni_wire.specs.declared.fault.WireFault.TheVariants as fault
+use Rattle.muni_wire_body.specs.declared.look.Request.{Request}
+use Rattle.muni_wire_body.specs.declared.fault.WireFault.{WireFault}
+use Rattle.muni_wire_body.specs.declared.fault.WireFault.TheVariants as fault
 use Rattle.muni_wire.proofs.CutLemmas.{cut}
 use Rattle.muni_wire.proofs.FieldCountLemmas.{overflows}
 

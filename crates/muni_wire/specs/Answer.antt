@@ -6,11 +6,11 @@ use Rattle.muni_confirm.specs.declared.details.Details.{Details}
 use Rattle.muni_confirm.specs.Refusal.{refusal_text}
 use Rattle.muni_dec.specs.Line.{line}
 use Rattle.muni_msg.specs.declared.command.Reply.{Reply}
-use Rattle.muni_msg.specs.declared.command.Reply.TheVariants.{Added, Quoted, Listed, Confirmed, Refused}
+use Rattle.muni_msg.specs.declared.command.Reply.TheVariants.{Added, Amended, Quoted, Listed, Confirmed, Refused}
 use Rattle.muni_wire.specs.List.{list_text}
 use Rattle.muni_wire.specs.HttpStatus.{code, phrase, status_of_reply, status_of_bad}
-use Rattle.muni_wire.specs.declared.fault.Bad.{Bad}
-use Rattle.muni_wire.specs.declared.fault.Bad.TheVariants as bad
+use Rattle.muni_wire_body.specs.declared.fault.Bad.{Bad}
+use Rattle.muni_wire_body.specs.declared.fault.Bad.TheVariants as bad
 use Rattle.muni_wire.specs.declared.status.HttpStatus.{HttpStatus}
 use Rattle.muni_wire.specs.declared.status.HttpStatus.TheVariants as status
 
@@ -55,9 +55,14 @@ success text = answer status.Success [] text
 abbrev pub added_text : List ℕ → List ℕ
 added_text cusip = line (codes "ADDED" ∷ cusip ∷ [])
 
+-- the text of later terms of an issue that are kept
+abbrev pub amended_text : List ℕ → ℕ → List ℕ
+amended_text cusip number = line (codes "AMENDED" ∷ cusip ∷ decimal number ∷ [])
+
 -- the text of a reply, with what is shown after the figures of a quote
 abbrev pub reply_text : Reply → Details → List ℕ
 reply_text (Added cusip) details = added_text cusip
+reply_text (Amended cusip number) details = amended_text cusip number
 reply_text (Quoted issue asked figures shown) details = quoted_text figures asked details
 reply_text (Listed lines) details = list_text lines.items
 reply_text (Confirmed issue key number version) details = confirmation_text issue key number version

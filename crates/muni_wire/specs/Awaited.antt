@@ -4,9 +4,9 @@ use Rattle.httparse.specs.Grammar.{RequestHead}
 use Rattle.httparse.specs.Spans.{name_and_value}
 use Rattle.muni_wire.specs.BodyLength.{FieldText, body_length}
 use Rattle.muni_wire.specs.Routes.{path_of, target_of}
-use Rattle.muni_wire.specs.declared.fault.Bad.{Bad}
-use Rattle.muni_wire.specs.declared.fault.Bad.TheVariants as bad
-use Rattle.muni_wire.specs.declared.routes.Form.{Form}
+use Rattle.muni_wire_body.specs.declared.fault.Bad.{Bad}
+use Rattle.muni_wire_body.specs.declared.fault.Bad.TheVariants as bad
+use Rattle.muni_wire_body.specs.declared.form.Form.{Form}
 use Rattle.muni_wire.specs.declared.routes.Target.{Target}
 use Rattle.muni_wire.specs.declared.routes.Target.TheVariants as target
 use Rattle.muni_wire.specs.declared.head.Awaited.{Awaited}

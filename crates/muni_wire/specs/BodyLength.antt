@@ -3,8 +3,8 @@ use Rattle.std.specs.Prelude.{ℕ, List, Bool, false, ◌||◌, not, ◌==◌, n
 use Rattle.std.specs.List.{list_any, list_all}
 use Rattle.std.specs.Str.{str_eq_ignore_ascii_case}
 use Rattle.muni_dec.specs.Digits.{number_reading}
-use Rattle.muni_wire.specs.declared.fault.Bad.{Bad}
-use Rattle.muni_wire.specs.declared.fault.Bad.TheVariants as bad
+use Rattle.muni_wire_body.specs.declared.fault.Bad.{Bad}
+use Rattle.muni_wire_body.specs.declared.fault.Bad.TheVariants as bad
 
 -- the name and the value of a header field
 abbrev pub FieldText : Type 0

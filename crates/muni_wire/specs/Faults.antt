@@ -4,15 +4,8 @@ use Rattle.muni_edge.specs.Faults.{Rose}
 use Rattle.muni_edge.specs.Link.{OnlyTakes}
 use Rattle.muni_edge.specs.declared.sink.Sink as sink
 use Rattle.muni_edge.specs.declared.source.Source as source
-use Rattle.muni_wire.specs.declared.fault.WireFault.{WireFault}
-use Rattle.muni_wire.specs.declared.fault.WireFault.TheVariants as fault
-
--- the body is bad, or memory ran out
-abbrev pub IsOfBody : WireFault → Type 0
-IsOfBody (fault.Bad kind) = ⊤
-IsOfBody fault.Gone = ⊥
-IsOfBody fault.LinkFault = ⊥
-IsOfBody fault.NoMemory = ⊤
+use Rattle.muni_wire_body.specs.declared.fault.WireFault.{WireFault}
+use Rattle.muni_wire_body.specs.declared.fault.WireFault.TheVariants as fault
 
 -- a take failed, or memory ran out
 abbrev pub IsOfTake : WireFault → Type 0

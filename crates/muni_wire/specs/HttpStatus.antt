@@ -2,11 +2,11 @@
 use Rattle.std.specs.Prelude.{ℕ, List, [], unwrap_or}
 use Rattle.http.specs.StatusCode.{reason_phrase}
 use Rattle.muni_msg.specs.declared.command.Reply.{Reply}
-use Rattle.muni_msg.specs.declared.command.Reply.TheVariants.{Added, Quoted, Listed, Confirmed, Refused}
+use Rattle.muni_msg.specs.declared.command.Reply.TheVariants.{Added, Amended, Quoted, Listed, Confirmed, Refused}
 use Rattle.muni_msg.specs.declared.refusal.Refusal.{Refusal}
 use Rattle.muni_msg.specs.declared.refusal.Refusal.TheVariants as refusal
-use Rattle.muni_wire.specs.declared.fault.Bad.{Bad}
-use Rattle.muni_wire.specs.declared.fault.Bad.TheVariants as bad
+use Rattle.muni_wire_body.specs.declared.fault.Bad.{Bad}
+use Rattle.muni_wire_body.specs.declared.fault.Bad.TheVariants as bad
 use Rattle.muni_wire.specs.declared.status.HttpStatus.{HttpStatus}
 use Rattle.muni_wire.specs.declared.status.HttpStatus.TheVariants as status
 
@@ -47,6 +47,7 @@ status_of_refusal refusal.WrongBasis = status.Unprocessable
 
 abbrev pub status_of_reply : Reply → HttpStatus
 status_of_reply (Added cusip) = status.Success
+status_of_reply (Amended cusip number) = status.Success
 status_of_reply (Quoted issue asked figures shown) = status.Success
 status_of_reply (Listed lines) = status.Success
 status_of_reply (Confirmed issue key number version) = status.Success

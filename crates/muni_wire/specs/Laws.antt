@@ -4,9 +4,9 @@ use Rattle.httparse.specs.Grammar.{EndsInTarget, HasNoRequest}
 use Rattle.httparse.specs.Spans.{RequestExceeds}
 use Rattle.muni_wire.specs.Head.{IsNoHead, head_limit, field_limit}
 use Rattle.muni_wire.specs.Reading.{Reading, Whole, Faulty, Short, HeadAsks, Reads}
-use Rattle.muni_wire.specs.declared.fault.WireFault.{WireFault}
-use Rattle.muni_wire.specs.declared.look.Request.{Request}
-use Rattle.muni_wire.specs.declared.fault.WireFault.TheVariants as fault
+use Rattle.muni_wire_body.specs.declared.fault.WireFault.{WireFault}
+use Rattle.muni_wire_body.specs.declared.look.Request.{Request}
+use Rattle.muni_wire_body.specs.declared.fault.WireFault.TheVariants as fault
 
 -- The first bytes, as many as a head has, end within a target that no head continues, or they hold too
 -- many header fields and no whole head. Then two answers may be right.

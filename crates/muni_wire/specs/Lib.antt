@@ -1,8 +1,5 @@
 pub mod Routes
 pub mod BodyLength
-pub mod Members
-pub mod Calls
-pub mod Body
 pub mod Head
 pub mod Awaited
 pub mod Faults
@@ -10,9 +7,7 @@ pub mod Reading
 pub mod Taken
 pub mod Extent
 pub mod Laws
-pub mod LeftOut
 pub mod StatusLaws
-pub mod OtherMembers
 pub mod LengthLaw
 pub mod PathLaws
 pub mod List

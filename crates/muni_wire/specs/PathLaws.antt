@@ -7,20 +7,22 @@ use Rattle.muni_msg.specs.Names.{IsName, is_desk_letter}
 use Rattle.muni_msg.specs.declared.command.Command.TheVariants.{Confirm, List as ListTrades}
 use Rattle.muni_msg.specs.declared.command.Key.{Key}
 use Rattle.muni_wire.specs.Routes.{posted_under, target_of}
-use Rattle.muni_wire.specs.declared.look.Look.{Look}
-use Rattle.muni_wire.specs.declared.look.Look.TheVariants as look
-use Rattle.muni_wire.specs.declared.look.Request.TheVariants.{Book, Look as LookAt}
-use Rattle.muni_wire.specs.declared.routes.Form.{Form}
-use Rattle.muni_wire.specs.declared.routes.Form.TheVariants as form
+use Rattle.muni_wire_body.specs.declared.look.Look.{Look}
+use Rattle.muni_wire_body.specs.declared.look.Look.TheVariants as look
+use Rattle.muni_wire_body.specs.declared.look.Request.TheVariants.{Book, Look as LookAt}
+use Rattle.muni_wire_body.specs.declared.form.Form.{Form}
+use Rattle.muni_wire_body.specs.declared.form.Form.TheVariants as form
 use Rattle.muni_wire.specs.declared.routes.Target.TheVariants as target
 
 -- a body is posted under each of these
 pub record BodiesArePosted : Type 0 where
   pub issues : target_of (codes "/issues") ≡ Some (target.Post form.Issue)
+  pub amendments : target_of (codes "/amendments") ≡ Some (target.Post form.Amendment)
   pub trades : target_of (codes "/trades") ≡ Some (target.Post form.Trade)
   pub corrections : target_of (codes "/corrections") ≡ Some (target.Post form.Correction)
   pub cancels : target_of (codes "/cancels") ≡ Some (target.Post form.Cancellation)
   pub quotes : target_of (codes "/quotes") ≡ Some (target.Post form.Quote)
+  pub checks : target_of (codes "/checks") ≡ Some (target.Post form.Check)
 
 -- the name of a desk and the reference of a trade
 pub record IsKey (key : Key) : Type 0 where

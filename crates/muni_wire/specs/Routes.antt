@@ -11,11 +11,11 @@ use Rattle.muni_msg.specs.Names.{is_desk_letter}
 use Rattle.muni_msg.specs.NameReading.{name_reading}
 use Rattle.muni_msg.specs.declared.command.Command.TheVariants.{Confirm, List as ListTrades}
 use Rattle.muni_msg.specs.declared.command.Key.{Key}
-use Rattle.muni_wire.specs.declared.look.Look.{Look}
-use Rattle.muni_wire.specs.declared.look.Look.TheVariants as look
-use Rattle.muni_wire.specs.declared.look.Request.TheVariants.{Book, Look as LookAt}
-use Rattle.muni_wire.specs.declared.routes.Form.{Form}
-use Rattle.muni_wire.specs.declared.routes.Form.TheVariants as form
+use Rattle.muni_wire_body.specs.declared.look.Look.{Look}
+use Rattle.muni_wire_body.specs.declared.look.Look.TheVariants as look
+use Rattle.muni_wire_body.specs.declared.look.Request.TheVariants.{Book, Look as LookAt}
+use Rattle.muni_wire_body.specs.declared.form.Form.{Form}
+use Rattle.muni_wire_body.specs.declared.form.Form.TheVariants as form
 use Rattle.muni_wire.specs.declared.routes.Target.{Target}
 use Rattle.muni_wire.specs.declared.routes.Target.TheVariants as target
 
@@ -25,14 +25,16 @@ path_of target = before_first (λ b. b == 63) target
 
 -- the forms of a body, and the path to which one is posted
 abbrev pub forms : List Form
-forms = form.Issue ∷ form.Trade ∷ form.Correction ∷ form.Cancellation ∷ form.Quote ∷ []
+forms = form.Issue ∷ form.Amendment ∷ form.Trade ∷ form.Correction ∷ form.Cancellation ∷ form.Quote ∷ form.Check ∷ []
 
 abbrev pub posted_under : Form → List ℕ
 posted_under form.Issue = codes "/issues"
+posted_under form.Amendment = codes "/amendments"
 posted_under form.Trade = codes "/trades"
 posted_under form.Correction = codes "/corrections"
 posted_under form.Cancellation = codes "/cancels"
 posted_under form.Quote = codes "/quotes"
+posted_under form.Check = codes "/checks"
 
 -- the form of the bodies that are posted to a path
 abbrev pub form_of : List ℕ → Option Form

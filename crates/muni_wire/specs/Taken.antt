@@ -7,10 +7,10 @@ use Rattle.muni_wire.specs.BodyLength.{body_limit}
 use Rattle.muni_wire.specs.Head.{HasHead, IsNoHead, IsHeadTooLarge, EndsInHead}
 use Rattle.muni_wire.specs.Awaited.{plan_of}
 use Rattle.muni_wire.specs.Reading.{Whole, Faulty, Short, carried_out}
-use Rattle.muni_wire.specs.declared.fault.WireFault.{WireFault}
-use Rattle.muni_wire.specs.declared.fault.WireFault.TheVariants as fault
-use Rattle.muni_wire.specs.declared.look.Request.{Request}
-use Rattle.muni_wire.specs.declared.routes.Form.{Form}
+use Rattle.muni_wire_body.specs.declared.fault.WireFault.{WireFault}
+use Rattle.muni_wire_body.specs.declared.fault.WireFault.TheVariants as fault
+use Rattle.muni_wire_body.specs.declared.look.Request.{Request}
+use Rattle.muni_wire_body.specs.declared.form.Form.{Form}
 use Rattle.muni_wire.specs.declared.head.Awaited.{Awaited}
 use Rattle.muni_wire.specs.declared.head.Awaited.TheVariants as plan
 use Rattle.muni_wire.specs.declared.head.Head.{Head}

@@ -10,16 +10,16 @@ ghost use Rattle.muni_wire.specs.Answers.{Answers};
 ghost use Rattle.muni_wire.specs.HttpStatus.{status_of_bad, status_of_refusal, status_of_reply};
 ghost use Rattle.muni_wire.specs.List.{list_text};
 
-use crate::Bad;
 use crate::list::push_list;
 use crate::status::HttpStatus;
 use arrayvec::ArrayVec;
 use itoa::Buffer;
 use muni_confirm::{Details, confirmation, figure_lines, push_details, refusal_line};
-use muni_dec::text::{push, push_line};
+use muni_dec::text::{push, push_line, push_number, push_part};
 use muni_edge::{Failed, Link, NoMemory};
 use muni_msg::{Asked, Figures, Key, Line, Refusal, Reply, Version};
 use muni_terms::Issue;
+use muni_wire_body::Bad;
 use std::alloc::Global;
 
 /// Answers a reply: its status and its text. A confirmation, the lines of figures, the lines of a
@@ -36,6 +36,7 @@ pub fn write_reply<L: Link>(
 {
     match reply {
         Reply::Added { cusip } => write_added(link, cusip),
+        Reply::Amended { cusip, number } => write_amended(link, cusip, *number),
         Reply::Quoted { asked, figures, .. } => write_figures(link, asked, figures, details),
         Reply::Listed(lines) => write_list(link, lines),
         Reply::Confirmed {
@@ -96,6 +97,18 @@ fn write_added<L: Link>(link: &mut L, cusip: &[u8; 9]) -> Result<HttpStatus, Fai
 {
     let mut text = ArrayVec::<u8, 16>::new();
     push_line(&mut text, b"ADDED", cusip);
+    write(link, HttpStatus::Success, b"", &text)
+}
+
+fn write_amended<L: Link>(link: &mut L, cusip: &[u8; 9], number: u32) -> Result<HttpStatus, Failed>
+    ensures { Answers L.Source L.Sink HttpStatus.Success
+        (spec.success (spec.amended_text cusip.now number)) result link.old link.new }
+{
+    let mut text = ArrayVec::<u8, 32>::new();
+    push(&mut text, b"AMENDED");
+    push_part(&mut text, cusip);
+    push_number(&mut text, number);
+    text.push(b'\n');
     write(link, HttpStatus::Success, b"", &text)
 }
 

@@ -7,10 +7,10 @@ ghost use Rattle.muni_wire.specs.Awaited as spec;
 ghost use Rattle.muni_wire.specs.Taken.{IsSeenIn, IsWithinLimit};
 
 use crate::length::body_length;
-use crate::routes::{Form, Target, find_target, path_of};
-use crate::{Bad, Request};
+use crate::routes::{Target, find_target, path_of};
 use httparse::spans::{EMPTY_HEADER_SPAN, HeaderSpan, RequestSpans, parse_request};
 use httparse::{Error, Status};
+use muni_wire_body::{Bad, Form, Request};
 
 /// What is to be done about a request, by its head alone.
 #[derive(Drop)]

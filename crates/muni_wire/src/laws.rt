@@ -1,9 +1,7 @@
 //! What holds of the definitions that the contracts of the reader cite.
 
 ghost use Rattle.muni_wire.specs.Laws.{HeadsAreReadOnce, AreReadOnce, AreAllRead};
-ghost use Rattle.muni_wire.specs.LeftOut.{MayBeLeftOut};
 ghost use Rattle.muni_wire.specs.LengthLaw.{LengthsAreGiven};
-ghost use Rattle.muni_wire.specs.OtherMembers.{OtherMembersAreIgnored};
 ghost use Rattle.muni_wire.specs.PathLaws.{BodiesArePosted, TradesAreConfirmed, ListsAreGiven, ListsGoOn, BodiesHaveOnePath, EachTradeIsConfirmed, EachListIsGiven, EachListGoesOn, LooksHavePaths, EachLookIsMade};
 ghost use Rattle.muni_wire.specs.StatusLaws.{RefusalsHaveCodes};
 
@@ -15,17 +13,6 @@ pub fn bytes_are_read_in_one_way()
     ensures heads { HeadsAreReadOnce }
     ensures others { AreReadOnce }
     ensures some { AreAllRead }
-{}
-
-/// A body without a day count basis is one of 30/360, and one without a commission has the
-/// commission 0.
-pub fn days_and_fee_may_be_left_out()
-    ensures { MayBeLeftOut }
-{}
-
-/// A body asks for the same whatever members it has besides those that its form reads.
-pub fn other_members_are_ignored()
-    ensures { OtherMembersAreIgnored }
 {}
 
 /// Header fields give a body a length if there is no Transfer-Encoding and some Content-Length, each of
@@ -40,7 +27,7 @@ pub fn refusals_have_codes()
     ensures { RefusalsHaveCodes }
 {}
 
-/// Bodies are posted under the five paths of the desk. A trade is confirmed under `/trades/`, its
+/// Bodies are posted under the six paths of the desk. A trade is confirmed under `/trades/`, its
 /// desk, a slash and its reference, and under no other path. A list is given under `/lists/` and its
 /// desk, and goes on after a reference if a slash and that reference follow, and under no other path.
 /// Desk and reference are names.

@@ -5,9 +5,9 @@ ghost use Rattle.std.specs.List.{list_any, list_all};
 ghost use Rattle.httparse.specs.Spans.{IsHeaderWithin, header_bytes};
 ghost use Rattle.muni_wire.specs.BodyLength as spec;
 
-use crate::Bad;
 use httparse::spans::HeaderSpan;
 use muni_dec::digits::read_number;
+use muni_wire_body::Bad;
 
 /// The length of a body.
 #[tactic(auto, unfolding(crate::specs::BodyLength::body_length))]

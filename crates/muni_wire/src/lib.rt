@@ -2,21 +2,15 @@
 #![tactic(auto)]
 
 mod answer;
-mod body;
-mod calls;
-mod fault;
 mod head;
 pub mod laws;
 mod length;
 mod list;
-mod look;
 mod request;
 mod routes;
 mod status;
 mod taking;
 
 pub use answer::{success, write_bad, write_reply, write_success, write_unavailable};
-pub use fault::{Bad, WireFault};
-pub use look::{Look, Request};
 pub use request::read_request;
 pub use status::HttpStatus;

@@ -9,12 +9,10 @@ ghost use Rattle.muni_wire.specs.Laws.{IsTheAnswer};
 ghost use Rattle.muni_wire.specs.Reading.{Allows};
 ghost use Rattle.muni_wire.specs.Taken.{IsAnswerTo};
 
-use crate::body::read_body;
 use crate::head::{Awaited, Head};
-use crate::routes::Form;
 use crate::taking::{fill, read_head};
-use crate::{Bad, Request, WireFault};
 use muni_edge::Link;
+use muni_wire_body::{Bad, Form, Request, WireFault, read_body};
 use std::alloc::Global;
 
 /// Reads one request of HTTP/1.0 or HTTP/1.1 (RFC 9112), by all bytes of the connection, however

@@ -3,19 +3,9 @@
 ghost use Rattle.std.specs.Prelude.{◌≡◌, option_map};
 ghost use Rattle.muni_wire.specs.Routes as spec;
 
-use crate::{Look, Request};
 use muni_dec::text::find;
 use muni_msg::{Command, DeskName, Key, Reference, read_cusip, read_version_number};
-
-/// What a body asks for.
-#[derive(Clone, Copy, Debug, PartialEq, Eq)]
-pub(crate) enum Form {
-    Issue,
-    Trade,
-    Correction,
-    Cancellation,
-    Quote,
-}
+use muni_wire_body::{Form, Look, Request};
 
 /// What is asked under a path: a body of a form is posted, or something kept is got.
 #[derive(Drop)]
@@ -80,6 +70,8 @@ fn find_form(path: &[u8]) -> Option<Form>
 {
     if path == b"/issues".as_slice() {
         Some(Form::Issue)
+    } else if path == b"/amendments".as_slice() {
+        Some(Form::Amendment)
     } else if path == b"/trades".as_slice() {
         Some(Form::Trade)
     } else if path == b"/corrections".as_slice() {
@@ -88,6 +80,8 @@ fn find_form(path: &[u8]) -> Option<Form>
         Some(Form::Cancellation)
     } else if path == b"/quotes".as_slice() {
         Some(Form::Quote)
+    } else if path == b"/checks".as_slice() {
+        Some(Form::Check)
     } else {
         None
     }

@@ -3,9 +3,9 @@
 ghost use Rattle.std.specs.Prelude.{◌≡◌, ◌≤◌, length};
 ghost use Rattle.muni_wire.specs.HttpStatus as spec;
 
-use crate::Bad;
 use http::StatusCode;
 use muni_msg::Refusal;
+use muni_wire_body::Bad;
 
 /// The statuses of answers (RFC 9110, section 15).
 #[derive(Clone, Copy, Debug, PartialEq, Eq)]

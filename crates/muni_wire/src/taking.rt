@@ -10,9 +10,9 @@ ghost use Rattle.muni_wire.specs.Head.{EndsInHead, head_limit};
 ghost use Rattle.muni_wire.specs.Taken as spec;
 ghost use Rattle.muni_wire.specs.Taken.{AreBefore, IsHeadOf, IsSeenIn};
 
-use crate::WireFault;
 use crate::head::{Head, look};
 use muni_edge::{Failed, Link};
+use muni_wire_body::WireFault;
 use std::alloc::Global;
 
 /// Reads the head of a request, and returns it with all that was taken.

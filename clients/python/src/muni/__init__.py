@@ -22,33 +22,35 @@ import base64
 import csv
 import enum
 import http.client
+import io
 import json
 import os
 import re
 import ssl
 import time
 import urllib.parse
-from collections.abc import Iterator
+from collections.abc import Iterator, Mapping
 from dataclasses import dataclass, replace
 from datetime import date
 from decimal import Decimal
 from typing import Any, ClassVar, Union
 
-from ._checks import check
+from ._checks import Checked, Field, Reading, Verdict, check, members, read_checked
 from ._frames import figures, figures_by_part
 from ._program import Ended, Error, Path, ran
 from ._refusals import WORDS
 
 __all__ = [
-    "Act", "BadTerms", "Basis", "Call", "CallKind", "Canceled", "Candidate", "Client", "Confirmation", "Conflict",
-    "DayCount", "DeskFull", "Ended", "Error", "Figures", "GivenOutOfRange", "Issue", "Kind", "Label", "Listed", "NoTime", "PAGE",
-    "Position", "REFUSALS", "Redemption", "Refused", "Risk", "SettleOutside", "Side", "Status", "Trade", "Unanswered",
-    "Undecided", "UnknownIssue", "UnknownTrade", "VersionsFull", "WrongBasis", "WrongNumber", "YieldAbove",
-    "YieldBelow", "check", "export", "figures", "figures_by_part", "read_confirmation", "read_figures", "read_issue",
-    "read_list", "read_positions",
+    "Act", "BadTerms", "Basis", "Call", "CallKind", "Canceled", "Candidate", "Checked", "Client", "Confirmation",
+    "Conflict", "DayCount", "DeskFull", "Ended", "Error", "Field", "Figures", "GivenOutOfRange", "Issue", "Kind",
+    "Label", "Listed", "NoTime", "PAGE", "Position", "REFUSALS", "Reading", "Redemption", "Refused", "Risk",
+    "SettleOutside", "Side", "Status", "Trade", "Unanswered", "Undecided", "UnknownIssue", "UnknownTrade", "Verdict",
+    "VersionsFull", "WrongBasis", "WrongNumber", "YieldAbove", "YieldBelow", "check", "export", "figures",
+    "figures_by_part", "read_checked", "read_confirmation", "read_figures", "read_issue", "read_list", "read_positions",
+    "read_terms",
 ]
 
-__version__ = "1.9.0"
+__version__ = "1.10.0"
 
 Amount = Union[Decimal, int]
 
@@ -141,7 +143,8 @@ class Issue:
 
 @dataclass(frozen=True)
 class Trade:
-    """A trade to be entered or corrected. `fee` is the commission in dollars per 100 of par."""
+    """A trade to be entered or corrected. `fee` is the commission in dollars per 100 of par. `issue` is the number of
+    the terms of its issue by which it is figured; without one it is figured by the last ones."""
 
     desk: str
     reference: str
@@ -152,6 +155,7 @@ class Trade:
     basis: Basis
     value: Amount
     fee: Amount = 0
+    issue: int | None = None
 
 
 @dataclass(frozen=True)
@@ -304,7 +308,7 @@ class UnknownTrade(Refused):
 
 
 class Conflict(Refused):
-    """Refusal 3: other contents are kept. `version` is the number that is kept, or None for an issue."""
+    """Refusal 3: other contents are kept. `version` is the number that is kept, or None for terms of an issue."""
 
     number = 3
 
@@ -373,7 +377,8 @@ class Canceled(Refused):
 
 
 class WrongNumber(Refused):
-    """Refusal 12: the number of the version is wrong. `next` is the number that the desk takes."""
+    """Refusal 12: the number of a version, or of terms of an issue, is wrong. `next` is the number that comes next; a
+    trade may name terms below it."""
 
     number = 12
 
@@ -383,7 +388,7 @@ class WrongNumber(Refused):
 
 
 class VersionsFull(Refused):
-    """Refusal 13: the trade has 99 versions."""
+    """Refusal 13: the trade has 99 versions, or the issue 99 terms."""
 
     number = 13
 
@@ -405,6 +410,8 @@ REFUSALS: dict[int, type[Refused]] = {each.number: each for each in (
     Undecided, Canceled, WrongNumber, VersionsFull, DeskFull, WrongBasis)}
 
 _REFUSAL = re.compile(r"REFUSED (\d+) (\w+) ?(.*)")
+
+_AMENDED = re.compile(r"AMENDED [0-9A-Z]{9} (\d+)\n")
 
 _EACH = re.compile(r"EACH (\S+) ([\d.]+) (MATURITY|PAR OPTION|CALLED|CALL) "
                    r"(?:(?:PRICE|YIELD) (-?[\d.]+)|(UNDECIDED (?:price|yield) -?[\d.]+|BELOW|ABOVE|NO TIME))")
@@ -595,21 +602,43 @@ def _kept_call(text: str) -> Call:
     return Call(date.fromisoformat(day), Decimal(number), CallKind(price[len(number):]))
 
 
+def _kept_terms(fields: list[str]) -> Issue:
+    """The terms of a row, without its name and its number."""
+    cusip, name, kind, dated, first, maturity, coupon, calls, days = fields
+    has_coupon = Kind(kind) in (Kind.PERIODIC, Kind.AT_REDEMPTION)
+    return Issue(cusip, name, Kind(kind), date.fromisoformat(dated), date.fromisoformat(maturity),
+                 coupon=Decimal(coupon) if has_coupon else None, first=date.fromisoformat(first) if first else None,
+                 calls=tuple(_kept_call(call) for call in calls.split()), day_count=DayCount(days))
+
+
+def read_terms(text: str) -> dict[int, Issue]:
+    """Reads the rows of an issue, as an export has them: its terms by their numbers, from 1 on.
+
+    >>> read = read_terms('''issue,990010AC4,FERRY 5S 2030,periodic,2020-01-01,2020-07-01,2030-01-01,5.0000000,,30/360
+    ... amend,990010AC4,2,FERRY 5S 2031,periodic,2020-01-01,2020-07-01,2031-01-01,5.0000000,,30/360
+    ... ''')
+    >>> [(number, issue.name, issue.maturity.year) for number, issue in read.items()]
+    [(1, 'FERRY 5S 2030', 2030), (2, 'FERRY 5S 2031', 2031)]
+    """
+    read: dict[int, Issue] = {}
+    for number, (row, cusip, *fields) in enumerate(csv.reader(io.StringIO(text, newline="")), 1):
+        name, numbers = ("issue", []) if number == 1 else ("amend", [str(number)])
+        if row != name or fields[:len(numbers)] != numbers:
+            raise ValueError(f"no terms of an issue: {text!r}")
+        read[number] = _kept_terms([cusip, *fields[len(numbers):]])
+    if not read:
+        raise ValueError(f"no issue: {text!r}")
+    return read
+
+
 def read_issue(text: str) -> Issue:
-    """Reads the row of an issue, as an export has it.
+    """Reads the rows of an issue, as an export has them: its last terms.
 
     >>> read = read_issue('issue,990081AB7,"MARLOW, NOTES",at-redemption,2024-02-29,,2025-02-28,3.9000000,,actual/365\\n')
     >>> read.name, read.coupon, read.first, read.calls, read.day_count.name
     ('MARLOW, NOTES', Decimal('3.9000000'), None, (), 'ACTUAL_365')
     """
-    # A name may hold the end of a line, so the row is read as a whole.
-    [(row, cusip, name, kind, dated, first, maturity, coupon, calls, days)] = csv.reader([text])
-    if row != "issue":
-        raise ValueError(f"no issue: {text!r}")
-    has_coupon = Kind(kind) in (Kind.PERIODIC, Kind.AT_REDEMPTION)
-    return Issue(cusip, name, Kind(kind), date.fromisoformat(dated), date.fromisoformat(maturity),
-                 coupon=Decimal(coupon) if has_coupon else None, first=date.fromisoformat(first) if first else None,
-                 calls=tuple(_kept_call(call) for call in calls.split()), day_count=DayCount(days))
+    return list(read_terms(text).values())[-1]
 
 
 def export(store: Path, desk: str = "", *, program: Path = "muni") -> str:
@@ -702,7 +731,8 @@ def _trade(trade: Trade) -> dict[str, Any]:
     """
     return {"desk": _desk(trade.desk), "reference": _reference(trade.reference), "side": trade.side.value,
             **_given(trade.cusip, trade.par, trade.settle, trade.basis, trade.value),
-            "fee": _amount("fee", trade.fee, 3, "0", "10")}
+            "fee": _amount("fee", trade.fee, 3, "0", "10"),
+            **({} if trade.issue is None else {"issue": _amount("issue", trade.issue, 0, "1", "99")})}
 
 
 def _issue(issue: Issue) -> dict[str, Any]:
@@ -781,11 +811,24 @@ class Client:
             self._fields["Authorization"] = "Basic " + word
 
     def add_issue(self, issue: Issue) -> str:
-        """Has an issue kept, and gives its CUSIP. What is kept is never changed."""
+        """Has an issue kept, and gives its CUSIP. Its terms have the number 1, and stay; `amend` adds others."""
         text = self._ask("POST", "/issues", _issue(issue))
         if not text.startswith("ADDED "):
             raise Status(200, text)
         return text[6:].rstrip("\n")
+
+    def amend(self, issue: Issue, number: int) -> int:
+        """Has the next terms of an issue kept, and gives their number.
+
+        They are all terms anew, those that change and those that stay. `number` is the one after that of the terms that
+        were seen, from 2 to 99. Versions of trades that are kept stay as they were figured.
+        """
+        body = {**_issue(issue), "number": _amount("number", number, 0, "1", "99")}
+        text = self._ask("POST", "/amendments", body)
+        found = _AMENDED.fullmatch(text)
+        if not found:
+            raise Status(200, text)
+        return int(found[1])
 
     def quote(self, cusip: str, par: int, settle: date, basis: Basis, value: Amount, each: bool = False,
               risk: bool = False) -> Figures:
@@ -795,12 +838,28 @@ class Client:
         wanted = {name: True for name, is_wanted in (("each", each), ("risk", risk)) if is_wanted}
         return self._figures(self._ask("POST", "/quotes", {**_given(cusip, par, settle, basis, value), **wanted}))
 
+    def check(self, row: Mapping[str, Field], desk: str | None = None) -> Checked:
+        """What is said of figures that another firm printed; nothing is kept by it.
+
+        The row has the columns of a file of `muni check`, as docs/FORMATS.md has them: what was traded, what was
+        printed, and for an issue that is not kept its terms. With a desk `reference` names a trade that it keeps, and
+        what the row leaves out of it is looked up. A field is a Decimal, an int, a text, a day or an Enum of the client;
+        None, as a column that is left out, is not stated. Another column is a ValueError, and a float a TypeError.
+        """
+        named = {} if desk is None else {"desk": _desk(desk)}
+        text = self._ask("POST", "/checks", {**named, **members(row)})
+        try:
+            return read_checked(text)
+        except (ArithmeticError, IndexError, KeyError, ValueError) as error:
+            raise Status(200, text) from error
+
     def enter(self, trade: Trade) -> Confirmation:
         """Enters a trade. One that was entered before, with equal contents, is answered as the first time."""
         return self._confirmation(self._ask("POST", "/trades", _trade(trade)))
 
     def correct(self, trade: Trade, number: int) -> Confirmation:
-        """Corrects a trade; `number` is that of the new version, the one after the version that was seen."""
+        """Corrects a trade; `number` is that of the new version, the one after the version that was seen. Without
+        `trade.issue` it is figured by the last terms of the issue, also if the version before was not."""
         return self._confirmation(self._ask("POST", "/corrections", {**_trade(trade), "number": _number(number)}))
 
     def cancel(self, desk: str, reference: str, number: int) -> Confirmation:
@@ -809,10 +868,14 @@ class Client:
         return self._confirmation(self._ask("POST", "/cancels", body))
 
     def issue(self, cusip: str) -> Issue:
-        """The terms of an issue that is kept."""
+        """The last terms of an issue that is kept."""
+        return list(self.terms(cusip).values())[-1]
+
+    def terms(self, cusip: str) -> dict[int, Issue]:
+        """All terms of an issue that is kept, by their numbers from 1 on."""
         text = self._ask("GET", f"/issues/{_cusip(cusip)}")
         try:
-            return read_issue(text)
+            return read_terms(text)
         except (ValueError, csv.Error) as error:
             raise Status(200, text) from error
 

@@ -1,23 +1,72 @@
-"""The figures that another firm printed, as a frame of pandas: which are right, and what the others are by.
+"""The figures that another firm printed, a row or a frame of pandas: which are right, and what the others are by.
 
 pandas is imported when a frame is asked about, so the rest of the client does without it.
 """
 from __future__ import annotations
 
 import csv
+import enum
 import importlib
 import io
 import os
-from collections.abc import Callable
+import re
+from collections.abc import Callable, Mapping, Sequence
+from dataclasses import dataclass
 from datetime import date
 from decimal import Decimal
-from typing import Any
+from typing import Any, Union
 
-from ._frames import Frame, texts_of
+from ._frames import Frame, text_of, texts_of
 from ._program import Ended, Error, Path, pieces
 
+# A field of a row. None is not stated.
+Field = Union[Decimal, int, str, date, enum.Enum, None]
+# A figure of a row, as its column has it.
+Figure = Union[Decimal, int, date]
+
+
+class Verdict(enum.Enum):
+    """What is said of a row."""
+
+    RIGHT = "right"
+    DIFFERS = "differs"
+    UNDECIDED = "undecided"
+    REFUSED = "refused"
+    MISSING = "missing"
+    BAD = "bad"
+
+
+class Reading(enum.Enum):
+    """A formula by which figures come out that are not those of the rule. docs/FORMATS.md says what each does."""
+
+    MATURITY = "MATURITY"
+    FIRST_CALL = "FIRST CALL"
+    ROUNDED = "ROUNDED"
+    COMPOUNDED = "COMPOUNDED"
+    FEBRUARY = "FEBRUARY"
+    GROSS = "GROSS"
+    REGULAR = "REGULAR"
+
+
+@dataclass(frozen=True)
+class Checked:
+    """What is said of a row of figures that another firm printed.
+
+    Of a row that differs `differs` is the first column that does, `ours` and `theirs` are the figure of the rule and
+    the one that is stated, and `reading` is the formula that gives theirs, or None. `reason` is the name of a refusal,
+    the column that is undecided, the reference of a trade that is not kept, or the first column that does not read.
+    """
+
+    verdict: Verdict
+    differs: str | None = None
+    ours: Figure | None = None
+    theirs: Figure | None = None
+    reading: Reading | None = None
+    reason: str | None = None
+
+
 # What the program knows the columns of a file by. Those of the figures have the forms of what it tells of them.
-STATED: dict[str, Callable[[str], Any]] = {
+STATED: dict[str, Callable[[str], Figure]] = {
     "price": Decimal, "yield": Decimal, "redemption": date.fromisoformat, "days": int, "principal": Decimal,
     "accrued": Decimal, "total": Decimal}
 COLUMNS = ("reference", "cusip", "side", "par", "settle", "basis", "value", "fee", *STATED, "kind", "dated", "first",
@@ -98,11 +147,50 @@ def _beside(frame: Frame, names: list[str], lines: list[str]) -> Frame:
 
 def _columns(row: list[str], names: list[str]) -> tuple[Any, ...]:
     """What a line tells, as the new columns."""
-    _, verdict, *rest = row
-    if verdict == "differs":
-        name, ours, _, *reading = rest
-        return verdict, name, STATED[name](ours), reading[0] if reading else None, None
-    if verdict == "bad":
-        return verdict, None, None, None, names[int(rest[1]) - 1] if rest[0] == "2" else "row"
-    reason = {"refused": 1, "undecided": 0}.get(verdict)
-    return verdict, None, None, None, None if reason is None else rest[reason]
+    found = _checked(row, names)
+    reason = None if found.verdict is Verdict.MISSING else found.reason
+    return (found.verdict.value, found.differs, found.ours, None if found.reading is None else found.reading.value,
+            reason)
+
+
+def _checked(row: Sequence[str], names: Sequence[str]) -> Checked:
+    """What the fields of a line tell of a row with these columns."""
+    _, word, *rest = row
+    verdict = Verdict(word)
+    if verdict is Verdict.DIFFERS:
+        name, ours, theirs, *reading = rest
+        read = STATED[name]
+        return Checked(verdict, name, read(ours), read(theirs), Reading(reading[0]) if reading else None)
+    if verdict is Verdict.BAD:
+        return Checked(verdict, reason=names[int(rest[1]) - 1] if rest[0] == "2" else "row")
+    if verdict is Verdict.RIGHT:
+        return Checked(verdict)
+    return Checked(verdict, reason=rest[1 if verdict is Verdict.REFUSED else 0])
+
+
+def read_checked(text: str) -> Checked:
+    """Reads the line on a row that has every column.
+
+    >>> found = read_checked("1,differs,price,108.584,114.957,MATURITY\\n")
+    >>> found.verdict.name, found.differs, found.ours, found.theirs, found.reading.name
+    ('DIFFERS', 'price', Decimal('108.584'), Decimal('114.957'), 'MATURITY')
+    >>> read_checked("1,bad,2,4\\n").reason
+    'par'
+    """
+    return _checked(text.rstrip("\n").split(","), COLUMNS)
+
+
+def members(row: Mapping[str, Field]) -> dict[str, str]:
+    """The texts of a row, one for each column, so that a column which does not read is told by its place.
+
+    >>> found = members({"settle": date(2024, 4, 3), "value": Decimal("4.50")})
+    >>> found["settle"], found["value"], found["par"]
+    ('2024-04-03', '4.5', '')
+    """
+    for name, value in row.items():
+        if name not in COLUMNS:
+            raise ValueError(f"columns: {name} is none of {', '.join(COLUMNS)}")
+        if isinstance(value, bool) or not isinstance(value, (Decimal, int, str, date, enum.Enum, type(None))):
+            raise TypeError(f"{name}: a Decimal, an int, a text or a day, not a {type(value).__name__}")
+    # What is put for other letters, quotes and backslashes stands in no field that reads, as they do not.
+    return {name: re.sub(r'[^ !#-\[\]-~]', "?", text_of(row.get(name))) for name in COLUMNS}

@@ -114,13 +114,13 @@ def texts_of(name: str, column: Any) -> list[str]:
     if kinds <= {str}:
         return values
     if Decimal in kinds:
-        return list(map(_text, values))
+        return list(map(text_of, values))
     # Few days stand in many rows.
-    texts = {value: _text(value) for value in set(values)}
+    texts = {value: text_of(value) for value in set(values)}
     return [texts[value] for value in values]
 
 
-def _text(value: Any) -> str:
+def text_of(value: Any) -> str:
     """A field, in one form for equal values."""
     if isinstance(value, Decimal):
         text = str(value)

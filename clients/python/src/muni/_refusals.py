@@ -13,10 +13,11 @@ WORDS: dict[int, tuple[str, str]] = {
         "check the desk and the reference, in which capitals and small letters differ",
     ),
     3: (
-        "this CUSIP, or this number of the trade, is kept with other contents or by another act; what is sent"
-        " again as it was is answered as before",
-        "an issue: compare the terms, since what is kept is never changed. A trade: correct it under the next"
-        " number, or enter it under another reference",
+        "this number of the terms of the issue, or of the trade, is kept with other contents or by another "
+        "act, or the trade by other terms of its issue; what is sent again as it was is answered as before",
+        "an issue: compare the terms, since those that are kept are never changed. If they are wrong, or have"
+        " changed, amend the issue under the next number. A trade: correct it under the next number, or enter"
+        " it under another reference",
     ),
     4: (
         "the terms fail a test, so the desk cannot price the issue",
@@ -55,12 +56,14 @@ WORDS: dict[int, tuple[str, str]] = {
         "enter a new trade under another reference",
     ),
     12: (
-        "the number is neither one that is kept nor the next one",
-        "read the last version, which may be another's correction, and send the number that is named",
+        "the number, of a version or of terms of an issue, is neither one that is kept nor the next one; or a"
+        " trade is to go by terms of its issue that are not kept",
+        "read the last version, which may be another's correction, or the last terms of the issue, and send "
+        "the number that is named. A trade goes by terms that are kept: their numbers are below it",
     ),
     13: (
-        "the trade has 99 versions",
-        "cancel it, which is still taken, and enter a new one",
+        "the trade has 99 versions, or the issue 99 terms",
+        "cancel the trade, which is still taken, and enter a new one. The last terms of an issue stay",
     ),
     14: (
         "the desk has as many trades as it may have: 100,000, if it was given no other number",

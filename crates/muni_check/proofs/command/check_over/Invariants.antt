@@ -2,7 +2,7 @@ use Rattle.std.proofs.Common.{◌≡◌, ◌≤◌, false}
 use Rattle.std.specs.Prelude.{IfSome}
 use Rattle.muni_check.specs.Cache.{IsSoundCache}
 use Rattle.muni_check.specs.Judging.{over}
-use Rattle.muni_check.specs.Tallies.{IsSmall}
+use Rattle.muni_check_rows.specs.Tallies.{IsSmall}
 use Rattle.muni_check.proofs.CheckLemmas.{IsAt}
 use Rattle.muni_check.proofs.command.check_over.Given as goal
 

@@ -1,6 +1,6 @@
 use Rattle.std.proofs.Common.{◌≡◌, ◌∙◌, ◌++◌, [], inr, refl, ap}
 use Rattle.std.proofs.lemmas.Result.{err_from_is_err_and}
-use Rattle.muni_check.specs.Line.{names_line}
+use Rattle.muni_check_rows.specs.Line.{names_line}
 use Rattle.muni_check.specs.declared.command.CheckEnd.TheVariants.{BadNames}
 use Rattle.muni_check.proofs.WriteLemmas.{written-none}
 use Rattle.muni_check.proofs.command.refuse_names.Goals as goal

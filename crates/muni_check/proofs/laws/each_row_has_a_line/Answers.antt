@@ -1,8 +1,8 @@
 use Rattle.std.proofs.Common.{◌++◌, ◌∙◌, ap}
-use Rattle.muni_check.specs.Judging.{over, rule}
-use Rattle.muni_check.specs.Line.{total_line, unseen_lines}
-use Rattle.muni_check.specs.Said.{IsToldOf}
-use Rattle.muni_check.specs.Tallies.{tally_of}
+use Rattle.muni_check_rows.specs.Judging.{rule}
+use Rattle.muni_check_rows.specs.Line.{total_line, unseen_lines}
+use Rattle.muni_check_rows.specs.Said.{IsToldOf}
+use Rattle.muni_check_rows.specs.Tallies.{tally_of}
 use Rattle.muni_check.proofs.LawLemmas.{as-long}
 use Rattle.muni_check.proofs.laws.each_row_has_a_line.Goals as goal
 

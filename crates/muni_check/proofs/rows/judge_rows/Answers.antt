@@ -1,7 +1,7 @@
-use Rattle.std.proofs.Common.{◌≡◌, ◌∙◌, [], refl, ap, sym, map, take, arith}
+use Rattle.std.proofs.Common.{◌∙◌, refl, ap, map, take, arith}
 use Rattle.csv.specs.Records.{fields_of}
 use Rattle.muni_check.specs.Judging.{over}
-use Rattle.muni_check.specs.declared.tally.Tally.{Tally}
+use Rattle.muni_check_rows.specs.declared.tally.Tally.{Tally}
 use Rattle.muni_check.proofs.GoLemmas.{goes-more, goes-none, rows-next}
 use Rattle.muni_check.proofs.rows.judge_rows.Goals as goal
 

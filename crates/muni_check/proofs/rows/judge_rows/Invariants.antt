@@ -4,7 +4,7 @@ use Rattle.csv.specs.Records.{fields_of}
 use Rattle.muni_check.specs.Cache.{IsSoundCache}
 use Rattle.muni_check.specs.GoesOn.{GoesOn}
 use Rattle.muni_check.specs.Judging.{over}
-use Rattle.muni_check.specs.Tallies.{IsSmall}
+use Rattle.muni_check_rows.specs.Tallies.{IsSmall}
 use Rattle.muni_check.proofs.rows.judge_rows.Given as goal
 
 -- the rows so far are done

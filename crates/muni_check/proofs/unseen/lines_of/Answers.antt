@@ -1,6 +1,6 @@
-use Rattle.std.proofs.Common.{◌≡◌, ◌+◌, ◌∙◌, ◌∷◌, ◌++◌, [], sym, ap, append_assoc, drop, length, arith}
+use Rattle.std.proofs.Common.{◌+◌, ◌∙◌, ◌∷◌, ◌++◌, [], sym, ap, append_assoc, drop, length, arith}
 use Rattle.std.proofs.lemmas.List.{length-append}
-use Rattle.muni_check.specs.Line.{unseen_lines}
+use Rattle.muni_check_rows.specs.Line.{unseen_lines}
 use Rattle.muni_check.specs.Named.{has}
 use Rattle.muni_check.specs.Unseen.{unseen_of}
 use Rattle.muni_check.proofs.UnseenLemmas.{unseen-next}

@@ -1,5 +1,5 @@
 use Rattle.std.proofs.Common.{◌≡◌, ◌≤◌, ◌+◌, ◌++◌, length, drop}
-use Rattle.muni_check.specs.Line.{unseen_lines}
+use Rattle.muni_check_rows.specs.Line.{unseen_lines}
 use Rattle.muni_check.specs.Named.{has}
 use Rattle.muni_check.specs.Unseen.{unseen_of}
 use Rattle.muni_check.proofs.unseen.lines_of.Given as goal

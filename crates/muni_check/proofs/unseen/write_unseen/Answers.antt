@@ -1,10 +1,10 @@
-use Rattle.std.proofs.Common.{◌≡◌, ◌+◌, ◌∙◌, ◌++◌, ℕ, List, Err, [], refl, ap, sym, subst, length, arith, rules}
+use Rattle.std.proofs.Common.{◌≡◌, ◌∙◌, ◌++◌, [], refl, sym, subst, length, arith, rules}
 use Rattle.std.specs.Prelude.{IfSome, Some, slice_get, ◌-◌}
 use Rattle.std.proofs.lemmas.List.{length-append}
 use Rattle.std.proofs.lemmas.Result.{err_from_is_err_and}
 use Rattle.muni_edge.specs.Sink.{HasWritten, HasWrittenPart}
 use Rattle.muni_keep.specs.Tables.{page_at}
-use Rattle.muni_check.specs.Line.{unseen_lines}
+use Rattle.muni_check_rows.specs.Line.{unseen_lines}
 use Rattle.muni_check.specs.Named.{has}
 use Rattle.muni_check.specs.Unseen.{unseen_of}
 use Rattle.muni_check.proofs.UnseenLemmas.{before-none, before-page}

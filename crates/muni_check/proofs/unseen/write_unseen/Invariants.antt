@@ -1,6 +1,6 @@
 use Rattle.std.proofs.Common.{◌≡◌, ◌≤◌, ◌*◌, List, ℕ, length}
 use Rattle.muni_edge.specs.Sink.{HasWritten}
-use Rattle.muni_check.specs.Line.{unseen_lines}
+use Rattle.muni_check_rows.specs.Line.{unseen_lines}
 use Rattle.muni_check.specs.Named.{has}
 use Rattle.muni_check.proofs.UnseenLemmas.{AreBefore}
 use Rattle.muni_check.proofs.unseen.write_unseen.Given as goal

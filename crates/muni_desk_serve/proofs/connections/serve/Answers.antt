@@ -1,6 +1,6 @@
 use Rattle.std.proofs.Common.{Err, ap, refl, rules, ◌∙◌}
 use Rattle.std.proofs.lemmas.Result.{err_from_is_err_and}
-use Rattle.muni_book.specs.Rules.{book_rules}
+use Rattle.muni_desk_serve.specs.Rules.{serving_rules}
 use Rattle.muni_desk_serve.specs.Serves.{traffic}
 use Rattle.muni_desk_serve.proofs.StoreLemmas.{unfetched, unfetched-counted, run-over}
 use Rattle.muni_desk_serve.proofs.connections.serve.Goals as goal
@@ -9,7 +9,7 @@ pub returns-in_err-keeper-clause-served : goal.returns-in_err-keeper-clause-serv
 returns-in_err-keeper-clause-served g c =
     let p = err_from_is_err_and c.from_residual.result c.from_residual.ensures.1 in
     record {
-      run = unfetched (book_rules c.args.book.now.limit (g.E.Encloser.ends c.args.book.now.calculator.now.encloser.now)) (traffic g.D.L.Source.left g.D.L.Sink.bytes g.D.L.Source.faults g.D.L.Sink.faults)
+      run = unfetched (serving_rules c.args.book.now.limit (g.E.Encloser.ends c.args.book.now.calculator.now.encloser.now)) (traffic g.D.L.Source.left g.D.L.Sink.bytes g.D.L.Source.faults g.D.L.Sink.faults)
           c.args.port c.args.connections (g.D.Door.state c.args.door.now) (g.C.Cabinet.told c.args.cabinet.now c.args.store.now) (g.C.Cabinet.told c.fetch.new.self c.args.store.now)
           (g.C.Cabinet.faults c.args.cabinet.now) (g.C.Cabinet.faults c.fetch.new.self) c.in_err-keeper.field-0.0 c.from_residual.result (p.1 ∙ ap Err p.2)
           (c.in_err-keeper.ensures.unchanged c.args.store.now) c.fetch.ensures.later;
@@ -26,7 +26,7 @@ returns-clause-served g c =
     let served = c.serve_links-end.ensures in
     let back = c.give_back.ensures in
     record {
-      run = run-over (book_rules c.args.book.now.limit (g.E.Encloser.ends c.args.book.now.calculator.now.encloser.now)) (traffic g.D.L.Source.left g.D.L.Sink.bytes g.D.L.Source.faults g.D.L.Sink.faults)
+      run = run-over (serving_rules c.args.book.now.limit (g.E.Encloser.ends c.args.book.now.calculator.now.encloser.now)) (traffic g.D.L.Source.left g.D.L.Sink.bytes g.D.L.Source.faults g.D.L.Sink.faults)
           c.args.port c.args.connections (g.D.Door.state c.args.door.now) (g.D.Door.state c.serve_links-end.new.door) c.args.store.now (g.C.K.Keeper.lent_as c.in_ok-keeper.keeper)
           (g.C.Cabinet.told c.args.cabinet.now) (g.C.Cabinet.told c.fetch.new.self) (g.C.Cabinet.told c.give_back.new.self) (g.C.Cabinet.out c.fetch.new.self)
           (g.C.K.Keeper.tables c.in_ok-keeper.keeper) (g.C.K.Keeper.tables c.serve_links-end.new.keeper)

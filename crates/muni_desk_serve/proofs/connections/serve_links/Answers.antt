@@ -1,5 +1,5 @@
 use Rattle.std.proofs.Common.{rules, arith, ◌≡◌, ◌∙◌, option_map, inl, refl}
-use Rattle.muni_book.specs.Rules.{book_rules}
+use Rattle.muni_desk_serve.specs.Rules.{serving_rules}
 use Rattle.muni_edge.specs.Door.{bound_to}
 use Rattle.muni_desk_serve.specs.Serves.{traffic}
 use Rattle.muni_desk_serve.proofs.ConnectionLemmas.{not-bound, first-on, next-on, goes-on, bound-port}
@@ -9,7 +9,7 @@ pub returns-then-is_err-clause-run : goal.returns-then-is_err-clause-run
 returns-then-is_err-clause-run g c =
     let told = traffic g.D.L.Source.left g.D.L.Sink.bytes g.D.L.Source.faults g.D.L.Sink.faults in
     let same : g.D.Door.state c.bind.new.self ≡ g.D.Door.state c.args.door.now = search rules in
-    not-bound (book_rules c.args.book.now.limit (g.E.Encloser.ends c.args.book.now.calculator.now.encloser.now)) told c.args.port c.args.connections
+    not-bound (serving_rules c.args.book.now.limit (g.E.Encloser.ends c.args.book.now.calculator.now.encloser.now)) told c.args.port c.args.connections
     (g.D.Door.state c.args.door.now) (g.D.Door.state c.bind.new.self) (g.K.Keeper.tables c.args.keeper.now) (g.K.Keeper.faults c.args.keeper.now) same
 
 pub loop-count-init : goal.loop-count-init
@@ -17,7 +17,7 @@ loop-count-init g c =
     let told = traffic g.D.L.Source.left g.D.L.Sink.bytes g.D.L.Source.faults g.D.L.Sink.faults in
     let bound : g.D.Door.state c.bind.new.self ≡ option_map (bound_to c.args.port) (g.D.Door.state c.args.door.now) = search rules in
     record {
-      run = first-on (book_rules c.args.book.now.limit (g.E.Encloser.ends c.args.book.now.calculator.now.encloser.now)) told c.args.port (g.D.Door.state c.args.door.now) (g.D.Door.state c.bind.new.self)
+      run = first-on (serving_rules c.args.book.now.limit (g.E.Encloser.ends c.args.book.now.calculator.now.encloser.now)) told c.args.port (g.D.Door.state c.args.door.now) (g.D.Door.state c.bind.new.self)
           (g.K.Keeper.tables c.args.keeper.now) (g.K.Keeper.faults c.args.keeper.now) bound;
       no_fault = inl refl;
       port = bound-port (g.D.Door.state c.args.door.now) (g.D.Door.state c.bind.new.self) c.args.port bound;
@@ -35,7 +35,7 @@ loop-count-preserved g c =
     let served = c.in-Ok-Some.served in
     record {
       run = rw c.after-end.ensures
-          (next-on (book_rules c.args.book.now.limit (g.E.Encloser.ends c.args.book.now.calculator.now.encloser.now)) told c.args.port c.loop-count._count
+          (next-on (serving_rules c.args.book.now.limit (g.E.Encloser.ends c.args.book.now.calculator.now.encloser.now)) told c.args.port c.loop-count._count
           (g.D.Door.state c.args.door.now) (g.D.Door.state c.loop-count.door) (g.D.Door.state c.serve_next.new.door)
           (g.K.Keeper.tables c.args.keeper.now) (g.K.Keeper.tables c.loop-count.keeper) (g.K.Keeper.tables c.serve_next.new.keeper)
           (g.K.Keeper.faults c.args.keeper.now) (g.K.Keeper.faults c.loop-count.keeper) (g.K.Keeper.faults c.serve_next.new.keeper)

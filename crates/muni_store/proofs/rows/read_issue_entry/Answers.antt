@@ -4,5 +4,5 @@ use Rattle.muni_store.proofs.rows.read_issue_entry.Goals as goal
 
 pub returns : goal.returns
 returns c =
-    ap (option_map (λ (issue : IssueRow). (issue.cusip, issue))) c.in_ok-issue.ensures
+    ap (λ found. option_map (λ (issue : IssueRow). (issue.cusip, issue)) (option_map (λ terms. terms.1) found)) c.in_ok-issue.ensures
     ∙ ap (λ (row : IssueRow). Some (row.cusip, c.in_ok-issue.issue)) (sym c.row.ensures.value)

@@ -5,6 +5,6 @@ use Rattle.muni_store.proofs.statements.insert_issue.Goals as goal
 
 pub returns : goal.returns
 returns g c = record {
-  ran = rw (bound-of _ _ (c.issue_values-values.ensures ∙ ap issue_values c.issue_columns-columns.ensures)) at c.write.ensures.ran;
+  ran = rw (bound-of _ _ (c.issue_values-values.ensures ∙ ap issue_values c.numbered_columns-columns.ensures)) at c.write.ensures.ran;
   undone = c.write.ensures.undone;
 }

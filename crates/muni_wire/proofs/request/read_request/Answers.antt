@@ -2,8 +2,8 @@ use Rattle.std.proofs.Common.{Ok, Err, arith, ◌+◌, ◌-◌, length, vec_len,
 use Rattle.muni_wire.proofs.ExtentLemmas.{fewer, head_no_further, body_no_further, head_ready, body_ready}
 use Rattle.muni_wire.proofs.ReadingLemmas.{refused, asked, no-head, large-head, short-head, told-body}
 use Rattle.muni_wire.proofs.UniqueLemmas.{told_answer}
-use Rattle.muni_wire.specs.declared.fault.Bad.TheVariants as bad
-use Rattle.muni_wire.specs.declared.fault.WireFault.TheVariants as fault
+use Rattle.muni_wire_body.specs.declared.fault.Bad.TheVariants as bad
+use Rattle.muni_wire_body.specs.declared.fault.WireFault.TheVariants as fault
 use Rattle.muni_wire.proofs.request.read_request.Goals as goal
 
 pub returns-in-Never-clause-allowed : goal.returns-in-Never-clause-allowed

@@ -1,11 +1,11 @@
-use Rattle.std.proofs.Common.{◌≡◌, ◌≢◌, ◌==◌, ℕ, false, sym, ap, ◌∙◌, refl, arith, Some, None}
+use Rattle.std.proofs.Common.{sym, ap, ◌∙◌, refl, Some, None}
 use Rattle.std.specs.FinMap as map
 use Rattle.std.specs.BTreeMap.{is_at}
 use Rattle.std.proofs.lemmas.Map.Steps.{set_value_same}
-use Rattle.std.proofs.lemmas.Bool.Decides.{nat_tests}
 use Rattle.std.proofs.lemmas.Result.{on_err_weaker}
 use Rattle.muni_keep.specs.History.{grown}
 use Rattle.muni_keep.specs.Trades.{by_bytes}
+use Rattle.muni_keep.proofs.HistoryLemmas.{not_first}
 use Rattle.muni_keep.proofs.MapLemmas.{get_found, insert_one}
 use Rattle.muni_keep.proofs.trades.Trades.put_next.Goals as goal
 
@@ -25,9 +25,6 @@ returns g c =
       refused = λ is. ap (λ written. map.from_entries (c.get_mut.follows.lender written).entries) (c.add_next.ensures.refused is) ∙ ap map.from_entries still ∙ c.self.view_is;
       unchanged = on_err_weaker c.add_next.result (λ same. ap (λ written. map.from_entries (c.get_mut.follows.lender written).entries) same ∙ ap map.from_entries still ∙ c.self.view_is) c.add_next.ensures.unchanged;
     }
-
-not_first : (number : ℕ) → number ≢ 1 → false ≡ (number == 1)
-not_first number apart = grind (arith, nat_tests)
 
 pub returns-in_default : goal.returns-in_default
 returns-in_default g c =

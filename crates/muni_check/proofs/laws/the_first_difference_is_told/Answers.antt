@@ -1,5 +1,0 @@
-use Rattle.muni_check.proofs.LawLemmas.{differs-first}
-use Rattle.muni_check.proofs.laws.the_first_difference_is_told.Goals as goal
-
-pub returns : goal.returns
-returns c = λ ends issue asked stated shown which figures reading judged. differs-first ends issue asked stated shown which figures reading judged

@@ -1,0 +1,10 @@
+pub mod Columns
+pub mod Judging
+pub mod Laws
+pub mod Line
+pub mod Rows
+pub mod Said
+pub mod StatedFigures
+pub mod Tallies
+pub mod Terms
+pub mod Trade

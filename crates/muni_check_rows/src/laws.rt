@@ -1,0 +1,15 @@
+//! Laws of what is said of rows, over every issue and every stated figure.
+
+ghost use Rattle.muni_check_rows.specs.Laws.{RightIsExact, TheFirstDifferenceIsTold};
+
+/// A law of the definitions: of a row of an issue `right` is said exactly if there are figures of the rule, and each
+/// stated one is that of the rule.
+pub fn right_is_exact()
+    ensures { RightIsExact }
+{}
+
+/// A law of the definitions: the field that is said to differ is the first of the stated ones that is not that of the
+/// rule.
+pub fn the_first_difference_is_told()
+    ensures { TheFirstDifferenceIsTold }
+{}

@@ -1,0 +1,21 @@
+//! Rows of figures that another firm printed: what they say, and the line that each is told.
+#![tactic(auto)]
+
+mod columns;
+pub mod laws;
+mod line;
+mod records;
+mod row;
+mod said;
+mod stated;
+mod tally;
+mod terms;
+mod trade;
+
+pub use columns::{Columns, read_columns};
+pub use line::{add_line, total_line};
+pub use records::read_records;
+pub use row::{CheckRow, Fields, read_reference, read_row};
+pub use said::{CheckSaid, compared_said, refused_said};
+pub use tally::Tally;
+pub use trade::Known;

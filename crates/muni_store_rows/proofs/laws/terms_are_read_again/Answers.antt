@@ -1,0 +1,12 @@
+use Rattle.muni_store_rows.proofs.IssueLemmas.{issue-again}
+use Rattle.muni_store_rows.proofs.laws.terms_are_read_again.Goals as goal
+
+pub returns : goal.returns
+returns c =
+    let row = c.row-row.ensures.value in
+    issue-again c.args.issue.now
+    (rw row at c.nine_characters.ensures)
+    (rw (c.as_slice-name.ensures.value, row) at c.as_slice-name.ensures.fits)
+    (rw (c.units-coupon.ensures.value, row) at c.units-coupon.ensures.range.1)
+    (rw (c.as_slice-calls.ensures.value, row) at c.as_slice-calls.ensures.fits)
+    c.row-row.ensures.passed

@@ -1,5 +1,0 @@
-use Rattle.muni_wire.proofs.MemberLemmas.{other-members-are-ignored}
-use Rattle.muni_wire.proofs.laws.other_members_are_ignored.Goals as goal
-
-pub returns : goal.returns
-returns c = other-members-are-ignored

@@ -1,0 +1,5 @@
+pub mod BodyLemmas
+pub mod CallLemmas
+pub mod LeftOutLemmas
+pub mod MemberLemmas
+pub mod StatedLemmas

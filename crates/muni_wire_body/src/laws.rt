@@ -1,0 +1,16 @@
+//! What holds of the definitions that the contract of the reader of bodies cites.
+
+ghost use Rattle.muni_wire_body.specs.LeftOut.{MayBeLeftOut};
+ghost use Rattle.muni_wire_body.specs.OtherMembers.{OtherMembersAreIgnored};
+
+/// A body that is no check is one of 30/360 without a day count basis, and has the commission 0 without
+/// one.
+pub fn days_and_fee_may_be_left_out()
+    ensures { MayBeLeftOut }
+{}
+
+/// A body asks for the same whatever members it has besides those that its form reads. The body of a check has to be
+/// an object all the same.
+pub fn other_members_are_ignored()
+    ensures { OtherMembersAreIgnored }
+{}
