@@ -12,6 +12,7 @@ mod keeper;
 mod mem_cabinet;
 mod mem_keeper;
 mod mem_tables;
+pub mod outside;
 mod page;
 mod past;
 mod store_name;

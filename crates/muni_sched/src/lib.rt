@@ -30,7 +30,7 @@ pub use candidate::{Candidate, Shape};
 pub use lowest::lowest_of;
 pub use muni_terms::{Boundary, Label};
 pub use outcome::{CandidateOutcome, Ranked};
-pub use outside::{candidates, lowest_price, lowest_yield};
+pub use outside::{candidates, in_range, lowest_price, lowest_yield};
 pub use prices::price_to_worst;
 pub use range::out_of_range;
 pub use redemptions::put_candidates;

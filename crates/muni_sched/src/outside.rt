@@ -1,20 +1,20 @@
 //! For callers outside; the program goes by `Schedule` and `price_to_worst`.
 
-ghost use Rattle.std.specs.Prelude.{◌≡◌, ◌<◌, ◌≤◌, ◌+◌, ◌^◌, true, length, All, AllPairs, Err};
+ghost use Rattle.std.specs.Prelude.{◌≡◌, ◌↔◌, ◌<◌, ◌≤◌, ◌+◌, ◌^◌, true, length, All, AllPairs, Err, None};
 ghost use Rattle.muni_terms.specs.Issue.{settles};
 ghost use Rattle.muni_sched.specs.Answer.{IsLowestAnswer};
 ghost use Rattle.muni_sched.specs.Candidates.{AreCandidates, IsCandidate, IsRedeemedEarlier};
 ghost use Rattle.muni_sched.specs.GivenFigure.{at_price, at_yield};
 ghost use Rattle.muni_sched.specs.LowAnswers.{low_price, low_yield};
 ghost use Rattle.muni_sched.specs.PriceOutcome.{IsAtYield};
-ghost use Rattle.muni_sched.specs.Range.{IsGivenFor};
+ghost use Rattle.muni_sched.specs.Range.{IsGivenFor, side_of_first};
 ghost use Rattle.muni_sched.specs.SearchedOut.{CountsRounds};
 
 use crate::search::{OpenSearch, Search};
 use crate::yields::{lowest_of_search, search_yields};
 use crate::{
     Calculator, Candidate, Figure, LowAnswer, LowestPrice, LowestYield, NoPrice, NoYield, Workers,
-    price_to_worst, put_candidates,
+    out_of_range, price_to_worst, put_candidates,
 };
 use arrayvec::ArrayVec;
 use muni_days::Day;
@@ -22,6 +22,7 @@ use muni_dec::{Price, Yield};
 use muni_edge::{Gate, Steps};
 use muni_multi::Encloser;
 use muni_terms::{Boundary, Issue};
+use std::cmp::Ordering;
 use std::sync::ledger::Ledger;
 use std::thread::Threads;
 
@@ -41,9 +42,17 @@ pub fn candidates(issue: &Issue, settlement: Day) -> ArrayVec<Candidate, 100>
     list
 }
 
+/// None exactly if a yield may be given for every redemption candidate, and otherwise the side on
+/// which it leaves the range of the first that excludes it.
+pub fn in_range(list: &[Candidate], y: Yield) -> Option<Ordering>
+    ensures inside { (result ≡ None) ↔ All (IsGivenFor y) list.now }
+    ensures first { result ≡ side_of_first y list.now }
+{
+    out_of_range(list, y)
+}
+
 /// The lowest dollar price at a yield over the redemption candidates of an issue (MSRB Rule
-/// G-15(a)). They are those of `candidates`, in order of date, and `out_of_range` of the yield is
-/// None.
+/// G-15(a)). They are those of `candidates`, in order of date, and `in_range` of the yield is None.
 ///
 /// The issue is no discounted note. The answer is neither `Above` nor `NoTime`.
 pub fn lowest_price<E: Encloser>(list: &[Candidate], y: Yield, encloser: &E) -> LowAnswer
