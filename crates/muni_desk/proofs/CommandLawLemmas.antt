@@ -35,7 +35,7 @@ use Rattle.muni_desk.specs.QuoteOne.{values_reading, quote_one_of}
 use Rattle.muni_desk.specs.declared.command.DeskCommand.TheVariants.{QuoteOne, Quote, Drill}
 use Rattle.muni_desk.specs.declared.command.CommandLine.{CommandLine}
 use Rattle.muni_desk.specs.declared.drill.options.DrillRequest.{DrillRequest}
-use Rattle.muni_desk.specs.declared.quote_one.QuoteOneRequest.{QuoteOneRequest}
+use Rattle.muni_desk.specs.declared.one_period.QuoteOneRequest.{QuoteOneRequest}
 use Rattle.muni_desk.specs.declared.request.QuoteRequest.{QuoteRequest}
 use Rattle.muni_desk.specs.OptionLaws.{IsSingle, Says, Reads, Lacks, ReadsOr}
 use Rattle.muni_desk.specs.WordLaws.{IsCall, IsCommandLine, IsDrill, IsQuote, IsQuoteOne, SaysAsked, SaysTerms, SaysKind, SaysNoteDays, SaysDays, SaysCoupon, SaysCalls, SaysGiven}

@@ -10,7 +10,7 @@ use Rattle.muni_days.proofs.CivilLemmas.{is_civil, is_of_desk}
 use Rattle.muni_days.proofs.EarlyLemmas.{IsEarly}
 use Rattle.muni_desk.specs.NextInterestDate.{is_next}
 use Rattle.muni_desk.specs.QuoteOne.{period_start, settles, accrued_days}
-use Rattle.muni_desk.specs.declared.quote_one.QuoteOneRequest.{QuoteOneRequest}
+use Rattle.muni_desk.specs.declared.one_period.QuoteOneRequest.{QuoteOneRequest}
 
 -- the six months before a day that every month has
 record IsPeriod (start next : Civil) : Type 0 where

@@ -17,7 +17,7 @@ use Rattle.muni_msg.specs.declared.refusal.Refusal.{Refusal}
 use Rattle.muni_msg.specs.declared.refusal.Refusal.TheVariants.{SettleOutside, GivenOutOfRange}
 use Rattle.muni_desk.specs.NextInterestDate.{is_next}
 use Rattle.muni_desk.specs.QuoteOne.{settles, accrued_days, payment_of, range_refusal, early_refusal, IsPrice, IsRefusal, IsPriced}
-use Rattle.muni_desk.specs.declared.quote_one.QuoteOneRequest.{QuoteOneRequest}
+use Rattle.muni_desk.specs.declared.one_period.QuoteOneRequest.{QuoteOneRequest}
 use Rattle.muni_desk.proofs.PeriodLemmas.{accrued_days-within}
 
 -- ---- if there is no early refusal

@@ -21,7 +21,7 @@ use Rattle.muni_desk.specs.declared.command.DeskCommand.{DeskCommand}
 use Rattle.muni_desk.specs.declared.command.DeskCommand.TheVariants.{QuoteOne, Quote, Import, Load, Confirm, Serve, Positions, Mark, Check, CheckAlone, Export, Drill, Help}
 use Rattle.muni_desk.specs.declared.command.DeskCommand.TheVariants as asks
 use Rattle.muni_desk.specs.declared.drill.options.DrillRequest.{DrillRequest}
-use Rattle.muni_desk.specs.declared.quote_one.QuoteOneRequest.{QuoteOneRequest}
+use Rattle.muni_desk.specs.declared.one_period.QuoteOneRequest.{QuoteOneRequest}
 use Rattle.muni_desk.specs.declared.request.QuoteRequest.{QuoteRequest}
 use Rattle.muni_desk.specs.declared.status.Answer.{Answer}
 use Rattle.muni_desk.specs.declared.status.Status.{Status}

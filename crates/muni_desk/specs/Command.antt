@@ -1,5 +1,5 @@
 -- What words ask the desk for.
-use Rattle.std.specs.Prelude.{Bool, false, if◌then◌else◌, List, ℕ, [], ◌∷◌, codes, Option, None}
+use Rattle.std.specs.Prelude.{Bool, false, if◌then◌else◌, List, ℕ, [], ◌∷◌, codes, Option, Some, None, option_and_then}
 use Rattle.std.specs.Str.{bytes_eq}
 use Rattle.muni_desk.specs.DrillOptions.{drill_of}
 use Rattle.muni_desk.specs.QuoteOne.{quote_one_of}
@@ -7,6 +7,9 @@ use Rattle.muni_desk.specs.Help.{help_of}
 use Rattle.muni_desk.specs.QuoteOptions.{quote_of}
 use Rattle.muni_desk.specs.StoreOptions.{import_of, load_of, confirm_of, serve_of, positions_of, mark_of, export_of, list_of, check_store_of, figures_of, check_of}
 use Rattle.muni_desk.specs.declared.command.CommandLine.{CommandLine}
+use Rattle.muni_desk.specs.declared.command.DeskCommand.{DeskCommand}
+use Rattle.muni_desk.specs.declared.command.DeskCommand.TheVariants as asks
+use Rattle.muni_desk.specs.declared.one_period.QuoteOneRequest.{QuoteOneRequest}
 
 -- the command of that name, and of the words after it, that only writes what a store keeps
 unfoldable pub of_kept_of : List ℕ → List (List ℕ) → Option CommandLine
@@ -35,6 +38,15 @@ command_of (name ∷ words) =
     else (if bytes_eq name (codes "quote") then quote_of words
     else (if bytes_eq name (codes "drill") then drill_of words
     else (if bytes_eq name (codes "help") then help_of words else over_store_of name words)))
+
+-- what a command asks of `quote-one`, if it is that command
+abbrev pub quote_one_in : DeskCommand → Option QuoteOneRequest
+quote_one_in (asks.QuoteOne request) = Some request
+quote_one_in command = None
+
+-- what words ask of it
+abbrev pub quote_one_asked : List (List ℕ) → Option QuoteOneRequest
+quote_one_asked words = option_and_then (λ line. quote_one_in line.command) (command_of words)
 
 -- the words ask for a check of a store
 abbrev pub is_check : List (List ℕ) → Bool

@@ -19,7 +19,7 @@ use Rattle.muni_desk.specs.NextInterestDate.{if_next}
 use Rattle.muni_desk.specs.Words.{◌>>=◌, word}
 use Rattle.muni_desk.specs.declared.command.DeskCommand.TheVariants.{QuoteOne}
 use Rattle.muni_desk.specs.declared.command.CommandLine.{CommandLine}
-use Rattle.muni_desk.specs.declared.quote_one.QuoteOneRequest.{QuoteOneRequest}
+use Rattle.muni_desk.specs.declared.one_period.QuoteOneRequest.{QuoteOneRequest}
 
 -- the five values that texts say, if each of them reads
 abbrev pub values_reading : (coupon next settlement redemption yld : List ℕ) → Option CommandLine

@@ -28,7 +28,7 @@ use Rattle.muni_desk.specs.declared.command.DeskCommand.{DeskCommand}
 use Rattle.muni_desk.specs.declared.command.DeskCommand.TheVariants.{QuoteOne, Quote, Import, Load, Confirm, Serve, Positions, Mark, Figures, Check, CheckAlone, Export, Drill, Help}
 use Rattle.muni_desk.specs.declared.command.CommandLine.{CommandLine}
 use Rattle.muni_desk.specs.declared.drill.options.DrillRequest.{DrillRequest}
-use Rattle.muni_desk.specs.declared.quote_one.QuoteOneRequest.{QuoteOneRequest}
+use Rattle.muni_desk.specs.declared.one_period.QuoteOneRequest.{QuoteOneRequest}
 use Rattle.muni_desk.specs.declared.request.QuoteRequest.{QuoteRequest}
 use Rattle.muni_desk.specs.OptionLaws.{IsOption, IsKnown, IsKnownBeside, AreOnceAtMost, Has, IsSingle, Says, Reads, Lacks, ReadsOr}
 use Rattle.muni_desk.specs.StoreWordLaws.{IsImport, IsConfirm, IsConfirmAll, IsLoad, IsServe, IsPositions, IsStoreAlone, IsFigures, IsCheck, IsExport, IsList}

@@ -7,7 +7,7 @@ ghost use Rattle.muni_desk.specs.Answers as spec;
 
 use crate::drill::{DrillRequest, summary_of};
 use crate::help::help_text;
-use crate::quote_one::last_period_price;
+use crate::one_period::last_period_price;
 use crate::{Answer, QuoteOneRequest, QuoteRequest, Status};
 use arrayvec::ArrayVec;
 use muni_book::{Calculator, details, figures};

@@ -5,7 +5,7 @@ ghost use Rattle.muni_desk.specs.Command as spec;
 
 use crate::drill::{DrillRequest, read_drill};
 use crate::help::read_help;
-use crate::quote_one::{QuoteOneRequest, read_quote_one};
+use crate::one_period::{QuoteOneRequest, read_quote_one};
 use crate::quote_options::read_quote;
 use crate::request::QuoteRequest;
 use crate::store_options::{

@@ -176,7 +176,7 @@ fn carry_out<
     }
 }
 
-fn say<O: Sink>(answer: &Answer, output: &mut O) -> Status
+pub(crate) fn say<O: Sink>(answer: &Answer, output: &mut O) -> Status
     requires { answer.now.status ≢ Status.WriteFault }
     ensures written { ((result ≡ answer.now.status) × HasWritten (O.bytes output.old) (O.bytes output.new) answer.now.text.items)
         ⊎ ((result ≡ Status.WriteFault) × HasWrittenPart (O.bytes output.old) (O.bytes output.new) answer.now.text.items) }

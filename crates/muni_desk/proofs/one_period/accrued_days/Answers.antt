@@ -2,7 +2,7 @@ use Rattle.std.proofs.Common.{◌≡◌, arith}
 use Rattle.std.proofs.lemmas.Int.{ints}
 use Rattle.muni_desk.specs.QuoteOne as spec
 use Rattle.muni_desk.proofs.PeriodLemmas.{accrued_days-within}
-use Rattle.muni_desk.proofs.quote_one.accrued_days.Goals as goal
+use Rattle.muni_desk.proofs.one_period.accrued_days.Goals as goal
 
 pub returns-clause-range : goal.returns-clause-range
 returns-clause-range c =
