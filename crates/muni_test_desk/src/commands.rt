@@ -1,27 +1,31 @@
+mod clap_words;
 mod faults;
 mod gates;
+mod journals;
 mod kept;
 mod quotes;
 mod runs;
 mod watch;
 
-ghost use Rattle.std.specs.Prelude.{◌≡◌, None};
+ghost use Rattle.std.specs.Prelude.{◌≡◌, None, IfOk};
 
 use muni_desk::{Status, desk};
-use muni_edge::{MemDoor, MemLink, MemSink, MemSource};
+use muni_edge::{Gate, MemDoor, MemLink, MemSink, MemSource};
 use muni_keep::{Cabinet, MemCabinet, MemKeeper};
+use muni_multi::Encloser;
 use std::alloc::Global;
 use std::test::Fail;
 use std::thread::Threads;
 use watch::Watch;
 
-/// Which calls of each object fail, counted from 0.
+/// Which calls of each object fail, counted from 0, and for how many bytes the output has room.
 #[derive(Clone, Copy)]
 struct Failing<'a> {
     /// Of the input.
     takes: &'a [u64],
     /// Of the output.
     puts: &'a [u64],
+    room: usize,
     /// Of the cabinet.
     fetches: &'a [u64],
     /// Of the keeper that it lends.
@@ -39,6 +43,7 @@ const NONE: &[u64] = &[];
 const NONE_FAILS: Failing<'static> = Failing {
     takes: NONE,
     puts: NONE,
+    room: 4096,
     fetches: NONE,
     calls: NONE,
     accepts: NONE,
@@ -91,19 +96,20 @@ fn door_of(alloc: Global, asked: &Asked<'_>) -> Result<MemDoor, Fail> {
 }
 
 // How a command over a cabinet ends.
-fn ask<R: Threads + Sync, C: Cabinet>(
+fn ask<R: Threads + Sync, C: Cabinet, E: Encloser + Sync, G: Gate + Sync>(
     rt: &R,
     alloc: Global,
     asked: &Asked<'_>,
     cabinet: &mut C,
-    watch: &Watch,
+    encloser: &E,
+    gate: &G,
 ) -> Result<Outcome, Fail>
     requires { C.out cabinet.old ≡ None }
     ensures { C.out cabinet.new ≡ None }
 {
     let words = words_of(alloc, asked.words)?;
     let mut input = MemSource::new(alloc, asked.input, asked.failing.takes)?;
-    let mut output = MemSink::new(alloc, 4096, asked.failing.puts)?;
+    let mut output = MemSink::new(alloc, asked.failing.room, asked.failing.puts)?;
     let mut door = door_of(alloc, asked)?;
     let status = desk(
         rt,
@@ -113,8 +119,8 @@ fn ask<R: Threads + Sync, C: Cabinet>(
         &mut output,
         cabinet,
         &mut door,
-        watch,
-        watch,
+        encloser,
+        gate,
     );
     Ok(Outcome {
         status,
@@ -123,8 +129,45 @@ fn ask<R: Threads + Sync, C: Cabinet>(
     })
 }
 
-// How two commands over a new cabinet end, one after the other, with what fails at each. The calls of the
-// cabinet and of its keeper are counted over both, and fail if the first says so.
+// How two commands over a cabinet end, one after the other, with what fails at each.
+fn ask_over<'a, R: Threads + Sync, C: Cabinet>(
+    rt: &R,
+    alloc: Global,
+    cabinet: &mut C,
+    failing: [Failing<'a>; 2],
+    first: (&'a str, &'a [u8]),
+    second: (&'a str, &'a [u8]),
+) -> Result<(Outcome, Outcome), Fail>
+    requires { C.out cabinet.old ≡ None }
+    ensures { C.out cabinet.new ≡ None }
+{
+    let [before, after] = failing;
+    let idle = Watch::idle();
+    let asked = Asked {
+        words: &[first.0],
+        input: first.1,
+        failing: before,
+    };
+    let before = ask(rt, alloc, &asked, cabinet, &idle, &idle)?;
+    let asked = Asked {
+        words: &[second.0],
+        input: second.1,
+        failing: after,
+    };
+    let after = ask(rt, alloc, &asked, cabinet, &idle, &idle)?;
+    Ok((before, after))
+}
+
+// A cabinet with the empty store S. Its calls fail, and those of its keeper, counted over all commands.
+fn cabinet_of(alloc: Global, failing: Failing<'_>) -> Result<MemCabinet, Fail>
+    ensures { IfOk result (λ cabinet. cabinet.out ≡ None) }
+{
+    let mut keepers = Vec::new(alloc);
+    keepers.push((b"S".to_vec(alloc)?, MemKeeper::new(alloc, failing.calls)?))?;
+    Ok(MemCabinet::new(alloc, keepers, failing.fetches)?)
+}
+
+// How two commands over a new cabinet end, whose calls fail if the first says so.
 fn ask_both<'a, R: Threads + Sync>(
     rt: &R,
     alloc: Global,
@@ -133,31 +176,17 @@ fn ask_both<'a, R: Threads + Sync>(
     second: (&'a str, &'a [u8]),
 ) -> Result<(Outcome, Outcome), Fail> {
     let [before, after] = failing;
-    let mut keepers = Vec::new(alloc);
-    keepers.push((b"S".to_vec(alloc)?, MemKeeper::new(alloc, before.calls)?))?;
-    let mut cabinet = MemCabinet::new(alloc, keepers, before.fetches)?;
-    let idle = Watch::idle();
-    let asked = Asked {
-        words: &[first.0],
-        input: first.1,
-        failing: before,
-    };
-    let before = ask(rt, alloc, &asked, &mut cabinet, &idle)?;
-    let asked = Asked {
-        words: &[second.0],
-        input: second.1,
-        failing: after,
-    };
-    let after = ask(rt, alloc, &asked, &mut cabinet, &idle)?;
-    Ok((before, after))
+    let mut cabinet = cabinet_of(alloc, before)?;
+    ask_over(rt, alloc, &mut cabinet, [before, after], first, second)
 }
 
 // How a command ends that needs no input, no store and no door: any call of them fails.
-fn ask_alone<R: Threads + Sync>(
+fn ask_alone<R: Threads + Sync, E: Encloser + Sync, G: Gate + Sync>(
     rt: &R,
     alloc: Global,
     words: &[&str],
-    watch: &Watch,
+    encloser: &E,
+    gate: &G,
 ) -> Result<Outcome, Fail> {
     let asked = Asked {
         words,
@@ -169,5 +198,5 @@ fn ask_alone<R: Threads + Sync>(
         },
     };
     let mut cabinet = MemCabinet::new(alloc, Vec::new(alloc), &[0])?;
-    ask(rt, alloc, &asked, &mut cabinet, watch)
+    ask(rt, alloc, &asked, &mut cabinet, encloser, gate)
 }

@@ -40,6 +40,9 @@ const REPORT: &[u8] = b"1,added,123456AA3
 123456AA3 2 25000 10000 15000 15296.25
 ";
 
+// How many bytes so many lines of it have.
+const ENDS_OF_LINES: [usize; 5] = [0, 18, 72, 126, 165];
+
 const MARKS: &[u8] = b"123456AA3,25000,2024-04-01,4\n";
 
 pub(super) const FIRST_CALL: &[u64] = &[0];
@@ -49,9 +52,9 @@ pub(super) const SECOND_CALL: &[u64] = &[1];
 // How often an import of the rows asks the keeper.
 pub(super) const CALLS: u64 = 10;
 
-// How an import of the rows ends, how many whole lines of its report it writes, if it writes nothing else, and
-// whether a trade is then confirmed.
-fn imported_with<'a, R: Threads + Sync>(
+// How an import of the rows ends, how many bytes of its report it writes, if it writes nothing else, and whether a
+// trade is then confirmed.
+fn imported_part<'a, R: Threads + Sync>(
     rt: &R,
     alloc: Global,
     words: &'a str,
@@ -61,11 +64,23 @@ fn imported_with<'a, R: Threads + Sync>(
     let both = [failing, NONE_FAILS];
     let (imported, asked) = ask_both(rt, alloc, both, (words, ROWS), (confirm, b""))?;
     let text = imported.output.bytes();
-    if !REPORT.starts_with(text) || !(text.is_empty() || text.ends_with(b"\n")) {
-        return Err("lines of the report")?;
+    if !REPORT.starts_with(text) {
+        return Err("a part of the report")?;
     }
-    let lines = text.iter().filter(|byte| **byte == b'\n').count();
-    Ok((imported.status, lines, asked.status == Status::Done))
+    Ok((imported.status, text.len(), asked.status == Status::Done))
+}
+
+// The same with the number of its lines, if each of them is whole.
+fn imported_with<'a, R: Threads + Sync>(
+    rt: &R,
+    alloc: Global,
+    words: &'a str,
+    failing: Failing<'a>,
+    confirm: &'a str,
+) -> Result<(Status, usize, bool), Fail> {
+    let (status, count, is_kept) = imported_part(rt, alloc, words, failing, confirm)?;
+    let lines = ENDS_OF_LINES.iter().position(|end| *end == count);
+    Ok((status, lines.ok_or("whole lines")?, is_kept))
 }
 
 #[test]
@@ -83,6 +98,28 @@ fn a_put_that_fails_ends_an_import_after_its_row(rt: HostRuntime) -> Result<(), 
         for (confirm, is_kept) in [(FIRST, first), (SECOND, second)] {
             let found = imported_with(&rt, rt.alloc(), IMPORT, failing, confirm)?;
             assert_eq!(rt; found, (status, lines, is_kept), "put {put}");
+        }
+    }
+    Ok(())
+}
+
+// The row of a line that does not fit is applied, and its line is written in part.
+#[test]
+fn an_output_without_room_has_a_part_of_a_line(rt: HostRuntime) -> Result<(), Fail> {
+    for (room, status, first, second) in [
+        (0, Status::WriteFault, false, false),
+        (17, Status::WriteFault, false, false),
+        (18, Status::WriteFault, true, false),
+        (19, Status::WriteFault, true, false),
+        (71, Status::WriteFault, true, false),
+        (72, Status::WriteFault, true, true),
+        (125, Status::WriteFault, true, true),
+        (126, Status::Done, true, true),
+    ] {
+        let failing = Failing { room, ..NONE_FAILS };
+        for (confirm, is_kept) in [(FIRST, first), (SECOND, second)] {
+            let found = imported_part(&rt, rt.alloc(), IMPORT, failing, confirm)?;
+            assert_eq!(rt; found, (status, room, is_kept), "{room} bytes");
         }
     }
     Ok(())

@@ -3,6 +3,8 @@
 use super::{ask_alone, written};
 use crate::commands::watch::Watch;
 use muni_desk::Status;
+use muni_edge::{Gate, NoGate};
+use muni_multi::{Doubling, Encloser, Horner};
 use std::alloc::Global;
 use std::sync::atomic::Ordering;
 use std::test::Fail;
@@ -32,14 +34,15 @@ const PAR_ANSWER: &str = "PRICE 100.000 GIVEN/YIELD 4.000 COMPUTED/\
     REDEMPTION 2034-01-01 100.000000 PAR OPTION/ACCRUED DAYS 0/PRINCIPAL 100.00/ACCRUED 0.00/\
     TOTAL 100.00";
 
-// What is answered under a watch to a command that is done.
-fn answered<R: Threads + Sync>(
+// What is answered to a command that is done.
+pub(super) fn answered<R: Threads + Sync, E: Encloser + Sync, G: Gate + Sync>(
     rt: &R,
     alloc: Global,
     words: &[&str],
-    watch: &Watch,
+    encloser: &E,
+    gate: &G,
 ) -> Result<String, Fail> {
-    let outcome = ask_alone(rt, alloc, words, watch)?;
+    let outcome = ask_alone(rt, alloc, words, encloser, gate)?;
     if outcome.status != Status::Done {
         return Err("an answer")?;
     }
@@ -57,7 +60,7 @@ fn side_by_side<R: Threads + Sync>(
     [line, price, workers]: [&str; 3],
     watch: Watch,
 ) -> Result<u32, Fail> {
-    if answered(rt, alloc, &[line, price, workers], &watch)?.as_str() != answer_at(price) {
+    if answered(rt, alloc, &[line, price, workers], &watch, &watch)?.as_str() != answer_at(price) {
         return Err("the answer")?;
     }
     Ok(watch.most.load(Ordering::SeqCst))
@@ -71,7 +74,7 @@ fn seen<R: Threads + Sync>(
     wanted: u32,
 ) -> Result<(Watch, String), Fail> {
     let watch = Watch::new(wanted, 100_000_000);
-    let text = answered(rt, alloc, words, &watch)?;
+    let text = answered(rt, alloc, words, &watch, &watch)?;
     Ok((watch, text))
 }
 
@@ -139,5 +142,26 @@ fn trades_of_a_drill_are_answered_side_by_side(rt: HostRuntime) -> Result<(), Fa
     let words = ["drill --count=2 --seed=7 --workers=2"];
     let (watch, _) = seen(&rt, rt.alloc(), &words, 2)?;
     assert_eq!(rt; watch.most.load(Ordering::SeqCst), 2);
+    Ok(())
+}
+
+const DRILL: &str = "drill --count=200 --seed=7 --workers=1";
+
+// The sums were computed outside the program, with exact whole numbers.
+const SUMS: &str =
+    "DRILL 200/PRINTED 138/UNDECIDED 0/OUTSIDE 62/YIELDS 451661/ACCRUED 768144.49/CALLED 58";
+
+fn has_the_sums<R: Threads + Sync, E: Encloser + Sync>(
+    rt: &R,
+    alloc: Global,
+    encloser: &E,
+) -> Result<bool, Fail> {
+    Ok(answered(rt, alloc, &[DRILL], encloser, &NoGate)?.as_str() == SUMS)
+}
+
+#[test]
+fn a_book_has_the_same_sums_by_either_encloser(rt: HostRuntime) -> Result<(), Fail> {
+    assert!(rt; has_the_sums(&rt, rt.alloc(), &Horner)?);
+    assert!(rt; has_the_sums(&rt, rt.alloc(), &Doubling)?);
     Ok(())
 }

@@ -1,8 +1,9 @@
 //! How the price moves with the yield, as a quote says it.
 
 use super::watch::Watch;
-use super::{ask_alone, written};
-use muni_desk::Status;
+use super::{ask_alone, words_of, written};
+use muni_desk::{Status, quote_one};
+use muni_edge::MemSink;
 use std::alloc::Global;
 use std::test::Fail;
 use std::thread::Threads;
@@ -24,7 +25,8 @@ const DISCOUNT: &str =
 
 // What a quote writes, with a slash for each line end but the last.
 fn quoted<R: Threads + Sync>(rt: &R, alloc: Global, words: &[&str]) -> Result<String, Fail> {
-    let outcome = ask_alone(rt, alloc, words, &Watch::idle())?;
+    let idle = Watch::idle();
+    let outcome = ask_alone(rt, alloc, words, &idle, &idle)?;
     match outcome.status {
         Status::Done => written(alloc, &outcome.output),
         _ => Err("figures".into()),
@@ -81,9 +83,42 @@ fn the_lines_stand_after_those_of_each_redemption(rt: HostRuntime) -> Result<(),
 
 #[test]
 fn the_word_stands_once_and_without_a_value(rt: HostRuntime) -> Result<(), Fail> {
+    let idle = Watch::idle();
     for words in ["--risk=1", "--risk=", "--risk --risk", "--Risk", "risk"] {
-        let outcome = ask_alone(&rt, rt.alloc(), &[CALLED, words], &Watch::idle())?;
+        let outcome = ask_alone(&rt, rt.alloc(), &[CALLED, words], &idle, &idle)?;
         assert_eq!(rt; outcome.status, Status::Usage, "{words}");
+    }
+    Ok(())
+}
+
+// How `quote-one` alone ends, and what it writes, if the output has room for so many bytes.
+fn quoted_alone(alloc: Global, words: &[&str], room: usize) -> Result<(Status, String), Fail> {
+    let words = words_of(alloc, words)?;
+    let mut output = MemSink::new(alloc, room, &[])?;
+    let status = quote_one(&words, &mut output);
+    Ok((status, written(alloc, &output)?))
+}
+
+#[test]
+fn one_period_is_quoted_alone(rt: HostRuntime) -> Result<(), Fail> {
+    let worked = "quote-one 5 2024-07-01 2024-04-01 100 4";
+    let early = "quote-one 5 2024-07-01 2023-12-31 100 4";
+    for (words, room, wanted) in [
+        // 102.5 / 1.01 - 1.25, and 102.5 - 2.5
+        (&[worked] as &[&str], 64, (Status::Done, "100.235")),
+        (
+            &["quote-one 5 2024-01-01 2023-12-31 100 4"],
+            64,
+            (Status::Done, "100.000"),
+        ),
+        (&[early], 64, (Status::Refused, "REFUSED 5 SettleOutside")),
+        (&[worked], 3, (Status::WriteFault, "100")),
+        (&["quote-one 5"], 64, (Status::Usage, "")),
+        (&["help"], 64, (Status::Usage, "")),
+        (&[], 64, (Status::Usage, "")),
+    ] {
+        let (status, text) = quoted_alone(rt.alloc(), words, room)?;
+        assert_eq!(rt; (status, text.as_str()), wanted);
     }
     Ok(())
 }

@@ -1,8 +1,12 @@
 //! Connections over a store while an object fails.
 
+ghost use Rattle.std.specs.Prelude.{◌≡◌, None};
+
 use super::faults::{CALLS, FIRST_CALL, IMPORT, ROWS, SECOND_CALL};
-use super::{Failing, NONE, NONE_FAILS, ask_both};
+use super::{Failing, NONE, NONE_FAILS, ask_both, ask_over, cabinet_of};
 use muni_desk::Status;
+use muni_edge::MemDoor;
+use muni_keep::Cabinet;
 use std::alloc::Global;
 use std::test::Fail;
 use std::thread::Threads;
@@ -95,6 +99,55 @@ fn each_fault_of_a_run_is_told_or_costs_one_client(rt: HostRuntime) -> Result<()
         };
         let found = served_with(&rt, rt.alloc(), SERVE, [before, after])?;
         assert_eq!(rt; found, wanted);
+    }
+    Ok(())
+}
+
+pub(super) const ISSUE: &[u8] =
+    b"issue,123456AA3,RIVERTON WATER 5S 2025,periodic,2020-01-01,2020-07-01,2025-01-01,5,\n";
+
+const TRADE: &[u8] =
+    b"POST /trades HTTP/1.1\r\nHost: localhost\r\nContent-Type: application/json\r\n\
+    Content-Length: 133\r\n\r\n{\"desk\":\"ALPHA\",\"reference\":\"T0001\",\"cusip\":\"123456AA3\",\
+    \"side\":\"buy\",\"par\":\"25000\",\"settle\":\"2024-04-01\",\"basis\":\"yield\",\"value\":\"4\"}";
+
+// Whether the answer to a client begins and ends so.
+fn is_answered(door: &MemDoor, place: usize, begin: &[u8], end: &[u8]) -> bool {
+    match door.served().get(place) {
+        Some(link) => link.written().starts_with(begin) && link.written().ends_with(end),
+        None => false,
+    }
+}
+
+// Adds the issue, and serves two clients that enter the trade. Whether the first is answered by 503 and the second
+// confirmed.
+pub(super) fn is_entered_again<R: Threads + Sync, C: Cabinet>(
+    rt: &R,
+    alloc: Global,
+    cabinet: &mut C,
+) -> Result<bool, Fail>
+    requires { C.out cabinet.old ≡ None }
+{
+    let both = [NONE_FAILS, NONE_FAILS];
+    let (_, run) = ask_over(rt, alloc, cabinet, both, (IMPORT, ISSUE), (SERVE, TRADE))?;
+    let is_unavailable = is_answered(&run.door, 0, b"HTTP/1.1 503 ", b"");
+    let is_entered = is_answered(&run.door, 1, b"HTTP/1.1 200 ", b"TOTAL 25493.75\n");
+    Ok(run.status == Status::Done && is_unavailable && is_entered)
+}
+
+// The issue takes two calls, and the trade the next four, of which the last puts it.
+#[test]
+fn a_trade_whose_put_fails_is_answered_when_it_is_sent_again(rt: HostRuntime) -> Result<(), Fail> {
+    for call in 2..6_u64 {
+        let failing = Failing {
+            calls: &[call],
+            ..NONE_FAILS
+        };
+        let mut cabinet = cabinet_of(rt.alloc(), failing)?;
+        assert!(rt;
+            is_entered_again(&rt, rt.alloc(), &mut cabinet)?,
+            "call {call}"
+        );
     }
     Ok(())
 }
