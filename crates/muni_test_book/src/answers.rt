@@ -5,10 +5,11 @@ ghost use Rattle.std.specs.Prelude.{◌≡◌};
 use arrayvec::ArrayVec;
 use muni_book::apply;
 use muni_confirm::refusal_line;
+use muni_dec::Coupon;
 use muni_edge::NoGate;
 use muni_import::{read_rows, report_row};
-use muni_keep::Keeper;
-use muni_msg::{Command, DeskName, Line, Reply};
+use muni_keep::{KeepFault, Keeper};
+use muni_msg::{Command, DeskName, Key, Line, Reply, Version};
 use muni_multi::Horner;
 use muni_test_samples::key;
 use std::alloc::Global;
@@ -116,21 +117,50 @@ pub fn said<R: Threads + Sync, K: Keeper>(
     Some(text)
 }
 
-/// How many rows failed at first and were answered so when they were sent again, if all the others are
-/// answered so at once.
+/// What a keeper has of the worked issue, of a trade, and of the desk of the trade.
+#[derive(Clone, Copy, Debug, PartialEq, Eq)]
+pub struct Kept {
+    /// The number of its last terms, and their coupon.
+    pub terms: Option<(u32, Coupon)>,
+    pub last: Option<(u32, Version)>,
+    pub trades: u32,
+}
+
+/// Looks at the tables of a keeper.
+pub fn kept_of<K: Keeper>(keeper: &mut K, key: &Key) -> Result<Kept, KeepFault> {
+    let terms = match keeper.last_issue(b"123456AA3")? {
+        Some((number, issue)) => Some((number, issue.row().coupon)),
+        None => None,
+    };
+    Ok(Kept {
+        terms,
+        last: keeper.last(key)?,
+        trades: keeper.trades(&key.desk)?,
+    })
+}
+
+/// How many rows failed at first and were answered so when they were sent again, if all the others are answered so at
+/// once. From the first that fails on, the tables are those of a keeper that does not fail, before a row and after it.
 pub fn failed_once<R: Threads + Sync, K: Keeper>(
     rt: &R,
     alloc: Global,
     keeper: &mut K,
+    sound: &mut K,
 ) -> Option<u32> {
+    let key = key("ALPHA", "T0001")?;
     let mut failed = 0_u32;
     for (row, answer) in ROWS.lines().zip(ANSWERS.lines()) {
         let mut text = said(rt, alloc, keeper, row);
         if text.is_none() {
             failed = failed.wrapping_add(1);
+            if kept_of(keeper, &key).ok()? != kept_of(sound, &key).ok()? {
+                return None;
+            }
             text = said(rt, alloc, keeper, row);
         }
-        if text?.strip_suffix(b"\n")? != answer.as_bytes() {
+        let wanted = said(rt, alloc, sound, row);
+        let has_changed = failed > 0 && kept_of(keeper, &key).ok()? != kept_of(sound, &key).ok()?;
+        if has_changed || text != wanted || text?.strip_suffix(b"\n")? != answer.as_bytes() {
             return None;
         }
     }

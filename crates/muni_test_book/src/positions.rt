@@ -1,6 +1,7 @@
 //! Positions after lists of puts, and if calls of the keeper inside fail.
 
 mod put_cases;
+mod unlisted;
 
 ghost use Rattle.std.specs.Prelude.{IsSome};
 
@@ -14,6 +15,7 @@ use muni_test_cases::bytes_of;
 use put_cases::CASES;
 use std::alloc::Global;
 use std::test::Fail;
+use unlisted::Unlisted;
 
 fn desk(name: &str) -> Result<DeskName, Fail> {
     Ok(DeskName::read(name.as_bytes()).ok().ok_or("a desk")?)
@@ -267,5 +269,44 @@ fn follows_many<K: Keeper + Drop>(alloc: Global, inner: K) -> Result<bool, Fail>
 fn a_desk_with_more_than_the_usual_trades_is_watched(rt: HostRuntime) -> Result<(), Fail> {
     let inner = MemKeeper::new(rt.alloc(), &[])?;
     assert!(rt; follows_many(rt.alloc(), inner)?);
+    Ok(())
+}
+
+// A version whose sums have no room: what the trade was last is taken off, which was never counted.
+fn bought() -> Version {
+    version(
+        Act::Entered,
+        *b"123456AA3",
+        Side::Buy,
+        Par::new(1_000),
+        Cents::new(100_500),
+    )
+}
+
+// Whether a put for which there is no room fails and puts nothing, with the watch as it was; and while puts are
+// followed is put and ends the watch.
+fn refuses_or_ends(alloc: Global) -> Result<bool, Fail> {
+    let alpha = desk("ALPHA")?;
+    let key = trade_of(1)?;
+    let mut keeper = over(alloc, Unlisted::new(bought()));
+    keeper.watch(&alpha)?;
+    let refused = keeper.put_version(&key, 2, &sale());
+    let is_watched = keeper.watches(&alpha) && lines(alloc, &keeper)?.is_empty();
+    let unlisted = keeper.back();
+    let is_refused = refused == Err(KeepFault::Failed) && is_watched && unlisted.puts() == 0;
+    let mut keeper = over(alloc, unlisted);
+    keeper.watch(&alpha)?;
+    let mut following = follow(keeper);
+    following.put_version(&key, 2, &sale())?;
+    let keeper = following.back();
+    let is_ended = keeper.watched().is_none();
+    Ok(is_refused && is_ended && keeper.back().puts() == 1)
+}
+
+#[test]
+fn a_trade_for_which_there_is_no_room_is_refused_or_ends_the_watch(
+    rt: HostRuntime,
+) -> Result<(), Fail> {
+    assert!(rt; refuses_or_ends(rt.alloc())?);
     Ok(())
 }
