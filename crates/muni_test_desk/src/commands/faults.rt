@@ -1,6 +1,6 @@
 //! Commands over a store while an object fails.
 
-use super::{Failing, NONE, NONE_FAILS, ask_both};
+use super::{Failing, NONE, NONE_FAILS, Outcome, ask_both};
 use muni_desk::Status;
 use std::alloc::Global;
 use std::test::Fail;
@@ -40,9 +40,6 @@ const REPORT: &[u8] = b"1,added,123456AA3
 123456AA3 2 25000 10000 15000 15296.25
 ";
 
-// How many bytes so many lines of it have.
-const ENDS_OF_LINES: [usize; 5] = [0, 18, 72, 126, 165];
-
 const MARKS: &[u8] = b"123456AA3,25000,2024-04-01,4\n";
 
 pub(super) const FIRST_CALL: &[u64] = &[0];
@@ -52,25 +49,23 @@ pub(super) const SECOND_CALL: &[u64] = &[1];
 // How often an import of the rows asks the keeper.
 pub(super) const CALLS: u64 = 10;
 
-// How an import of the rows ends, how many bytes of its report it writes, if it writes nothing else, and whether a
-// trade is then confirmed.
-fn imported_part<'a, R: Threads + Sync>(
+// An import of the rows, if it writes nothing but a part of its report, and whether a trade is then confirmed.
+fn imported<'a, R: Threads + Sync>(
     rt: &R,
     alloc: Global,
     words: &'a str,
     failing: Failing<'a>,
     confirm: &'a str,
-) -> Result<(Status, usize, bool), Fail> {
+) -> Result<(Outcome, bool), Fail> {
     let both = [failing, NONE_FAILS];
     let (imported, asked) = ask_both(rt, alloc, both, (words, ROWS), (confirm, b""))?;
-    let text = imported.output.bytes();
-    if !REPORT.starts_with(text) {
+    if !REPORT.starts_with(imported.output.bytes()) {
         return Err("a part of the report")?;
     }
-    Ok((imported.status, text.len(), asked.status == Status::Done))
+    Ok((imported, asked.status == Status::Done))
 }
 
-// The same with the number of its lines, if each of them is whole.
+// How it ends, how many lines it writes, if each of them is whole, and whether the trade is confirmed.
 fn imported_with<'a, R: Threads + Sync>(
     rt: &R,
     alloc: Global,
@@ -78,9 +73,25 @@ fn imported_with<'a, R: Threads + Sync>(
     failing: Failing<'a>,
     confirm: &'a str,
 ) -> Result<(Status, usize, bool), Fail> {
-    let (status, count, is_kept) = imported_part(rt, alloc, words, failing, confirm)?;
-    let lines = ENDS_OF_LINES.iter().position(|end| *end == count);
-    Ok((status, lines.ok_or("whole lines")?, is_kept))
+    let (outcome, is_kept) = imported(rt, alloc, words, failing, confirm)?;
+    let text = outcome.output.bytes();
+    if !(text.is_empty() || text.ends_with(b"\n")) {
+        return Err("whole lines")?;
+    }
+    let lines = text.iter().filter(|byte| **byte == b'\n').count();
+    Ok((outcome.status, lines, is_kept))
+}
+
+// How it ends if its output has room for so many bytes, how many it writes, and whether the trade is confirmed.
+fn imported_into<'a, R: Threads + Sync>(
+    rt: &R,
+    alloc: Global,
+    room: usize,
+    confirm: &'a str,
+) -> Result<(Status, usize, bool), Fail> {
+    let failing = Failing { room, ..NONE_FAILS };
+    let (outcome, is_kept) = imported(rt, alloc, IMPORT, failing, confirm)?;
+    Ok((outcome.status, outcome.output.bytes().len(), is_kept))
 }
 
 #[test]
@@ -103,7 +114,7 @@ fn a_put_that_fails_ends_an_import_after_its_row(rt: HostRuntime) -> Result<(), 
     Ok(())
 }
 
-// The row of a line that does not fit is applied, and its line is written in part.
+// The lines end after 18, 72 and 126 bytes. The row of a line that does not fit is applied.
 #[test]
 fn an_output_without_room_has_a_part_of_a_line(rt: HostRuntime) -> Result<(), Fail> {
     for (room, status, first, second) in [
@@ -116,9 +127,8 @@ fn an_output_without_room_has_a_part_of_a_line(rt: HostRuntime) -> Result<(), Fa
         (125, Status::WriteFault, true, true),
         (126, Status::Done, true, true),
     ] {
-        let failing = Failing { room, ..NONE_FAILS };
         for (confirm, is_kept) in [(FIRST, first), (SECOND, second)] {
-            let found = imported_part(&rt, rt.alloc(), IMPORT, failing, confirm)?;
+            let found = imported_into(&rt, rt.alloc(), room, confirm)?;
             assert_eq!(rt; found, (status, room, is_kept), "{room} bytes");
         }
     }

@@ -101,24 +101,40 @@ fn quoted_alone(alloc: Global, words: &[&str], room: usize) -> Result<(Status, S
 
 #[test]
 fn one_period_is_quoted_alone(rt: HostRuntime) -> Result<(), Fail> {
-    let worked = "quote-one 5 2024-07-01 2024-04-01 100 4";
-    let early = "quote-one 5 2024-07-01 2023-12-31 100 4";
-    for (words, room, wanted) in [
+    for (words, room, status, text) in [
         // 102.5 / 1.01 - 1.25, and 102.5 - 2.5
-        (&[worked] as &[&str], 64, (Status::Done, "100.235")),
         (
-            &["quote-one 5 2024-01-01 2023-12-31 100 4"],
+            "quote-one 5 2024-07-01 2024-04-01 100 4",
             64,
-            (Status::Done, "100.000"),
+            Status::Done,
+            "100.235",
         ),
-        (&[early], 64, (Status::Refused, "REFUSED 5 SettleOutside")),
-        (&[worked], 3, (Status::WriteFault, "100")),
-        (&["quote-one 5"], 64, (Status::Usage, "")),
-        (&["help"], 64, (Status::Usage, "")),
-        (&[], 64, (Status::Usage, "")),
+        (
+            "quote-one 5 2024-01-01 2023-12-31 100 4",
+            64,
+            Status::Done,
+            "100.000",
+        ),
+        (
+            "quote-one 5 2024-07-01 2023-12-31 100 4",
+            64,
+            Status::Refused,
+            "REFUSED 5 SettleOutside",
+        ),
+        (
+            "quote-one 5 2024-07-01 2024-04-01 100 4",
+            3,
+            Status::WriteFault,
+            "100",
+        ),
+        ("quote-one 5", 64, Status::Usage, ""),
+        ("help", 64, Status::Usage, ""),
     ] {
-        let (status, text) = quoted_alone(rt.alloc(), words, room)?;
-        assert_eq!(rt; (status, text.as_str()), wanted);
+        let (end, found) = quoted_alone(rt.alloc(), &[words], room)?;
+        assert_eq!(rt; end, status, "{words}");
+        assert_eq!(rt; found.as_str(), text, "{words}");
     }
+    let (end, _) = quoted_alone(rt.alloc(), &[], 64)?;
+    assert_eq!(rt; end, Status::Usage);
     Ok(())
 }
