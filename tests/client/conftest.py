@@ -9,7 +9,7 @@ import pytest
 
 import muni
 from support.books import Book
-from support.exported import Row, issue, text_of
+from support.exported import Row, held, issue
 from support.issues import DISCOUNT, ELM_GROVE, MARLOW, NOTE, RIVERTON, ZERO
 from support.program import Program, program_path
 from support.server import Server
@@ -44,10 +44,9 @@ def issues() -> list[Row]:
 
 @pytest.fixture(scope="module")
 def book(tmp_path_factory: pytest.TempPathFactory, issues: list[Row]) -> Book:
-    """A store with the issues."""
-    found = Book(Program(program_path()), Store("sqlite", tmp_path_factory.mktemp("book") / "store"))
-    assert found.said("load", rows=text_of(issues)).status == 0
-    return found
+    """A store with the issues, some of which are amended, and with trades."""
+    return Book(Program(program_path()), Store("sqlite", tmp_path_factory.mktemp("book") / "store")).with_rows(
+        held(random.Random(7), issues))
 
 
 @pytest.fixture(scope="module")

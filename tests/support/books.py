@@ -7,10 +7,14 @@ from typing import NamedTuple
 
 import pytest
 
+from support.exported import Row, text_of
 from support.program import Program, Said
 from support.stores import Store
 
 ISSUE = "issue,123456AA3,RIVERTON WATER 5S 2025,periodic,2020-01-01,2020-07-01,2025-01-01,5,\n"
+
+# What a report says of a row that was taken.
+TAKEN = (b"added", b"amended", b"confirmed")
 
 # What a confirmation of each trade of `trade` has.
 TOTAL = "TOTAL 25493.75"
@@ -35,6 +39,12 @@ class Book(NamedTuple):
     def said(self, command: str, *words: str, rows: bytes | str = b"") -> Said:
         """How a command over the store ends."""
         return self.muni.run(command, self.store.word, *words, rows=rows)
+
+    def with_rows(self, rows: list[Row]) -> Book:
+        """The book after an import, of which every row was taken."""
+        report = self.report(text_of(rows)).splitlines()
+        assert all(line.split(b",")[1] in TAKEN for line in report) and len(report) == len(rows)
+        return self
 
     def report(self, rows: bytes | str) -> bytes:
         """What an import writes that ends well."""

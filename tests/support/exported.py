@@ -49,6 +49,12 @@ def issue(source: random.Random, place: int, names: str = PLAIN_NAMES) -> Row:
     return ["issue", cusip(place), name, kind, dated, first, maturity, coupon, "" if is_note else calls(source), days]
 
 
+def amendment(source: random.Random, place: int, number: int = 2, names: str = PLAIN_NAMES) -> Row:
+    """Other terms of that issue, under a number after the first."""
+    _, number_of_issue, *terms = issue(source, place, names)
+    return ["amend", number_of_issue, str(number), *terms]
+
+
 def calls(source: random.Random) -> str:
     """None, or several whose prices fall, of which the last may say that the issue has been called."""
     found = [f"{2026 + 2 * each}-01-01:{104 - each}{source.choice(['', '.5', '.123456'])}{source.choice(['', '+'])}"
@@ -74,6 +80,15 @@ def trade(source: random.Random, issues: list[Row], reference: str, corrections:
     rows = [["trade", *key, *asked(source, source.choice(issues))]]
     rows += [["correct", *key, str(2 + each), *asked(source, source.choice(issues))] for each in range(corrections)]
     return rows + ([["cancel", *key, str(2 + corrections)]] if is_canceled else [])
+
+
+def held(source: random.Random, issues: list[Row]) -> list[Row]:
+    """A small book over issues that `issue` gave from the place 0 on: a third of them are amended once and one twice,
+    after a trade of each. Of the trades the first is canceled, the second corrected, and the others stand."""
+    again = range(0, len(issues), 3)
+    entered = [trade(source, [issues[place]], f"T{at}", at == 1, at == 0) for at, place in enumerate(again)]
+    later = [amendment(source, place) for place in again] + [amendment(source, 0, 3)]
+    return issues + [row for rows in entered for row in rows] + later
 
 
 def references(source: random.Random, count: int) -> list[str]:
