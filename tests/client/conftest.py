@@ -4,13 +4,15 @@ from __future__ import annotations
 import pathlib
 import random
 from collections.abc import Iterator
+from dataclasses import replace
+from datetime import date
 
 import pytest
 
 import muni
 from support.books import Book
 from support.exported import Row, held, issue
-from support.issues import DISCOUNT, ELM_GROVE, MARLOW, NOTE, RIVERTON, ZERO
+from support.issues import DISCOUNT, ELM_GROVE, MARLOW, NOTE, RIVERTON, WRONG, ZERO
 from support.program import Program, program_path
 from support.server import Server
 from support.stores import Store
@@ -28,10 +30,18 @@ def served(tmp_path_factory: pytest.TempPathFactory) -> Iterator[Server]:
 
 @pytest.fixture(scope="module")
 def desk(served: Server) -> muni.Client:
-    """A client of the server, which has the issues."""
+    """A client of the server, which has the issues. The coupon of one was mended, and a desk has a trade in it that is
+    corrected and one that is canceled."""
     client = muni.Client(served.address, tries=9)
-    for issue in (ELM_GROVE, MARLOW, RIVERTON, ZERO, DISCOUNT, NOTE):
+    assert client.add_issue(WRONG) == RIVERTON.cusip
+    assert client.amend(RIVERTON, 2) == 2
+    for issue in (ELM_GROVE, MARLOW, ZERO, DISCOUNT, NOTE):
         assert client.add_issue(issue) == issue.cusip
+    for place, reference in enumerate(("H0001", "H0002")):
+        held = muni.Trade("HELDOUT", reference, RIVERTON.cusip, muni.Side.BUY, 5_000, date(2024, 4, 1), muni.Basis.YIELD, 4)
+        assert client.enter(held).number == 1
+        again = client.cancel("HELDOUT", reference, 2) if place else client.correct(replace(held, par=10_000), 2)
+        assert again.number == 2
     return client
 
 

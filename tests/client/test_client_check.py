@@ -12,7 +12,7 @@ import pytest
 import muni
 from support.books import Book
 from support.program import ROOT, Program, program_path
-from support.stores import ROWS, Store
+from support.stores import AMENDED_ROWS, Store
 
 pandas: Any = pytest.importorskip("pandas", reason="pandas is missing")
 PROGRAM = Program(program_path())
@@ -24,9 +24,9 @@ TRADED: dict[str, Any] = {"cusip": "123456AA3", "par": 25000, "settle": date(202
 
 @pytest.fixture(scope="module")
 def kept(tmp_path_factory: pytest.TempPathFactory) -> Book:
-    """A store with an issue and two trades of ALPHA in it."""
+    """A store with an issue that was amended and trades of ALPHA in it, of which three are live."""
     found = Book(PROGRAM, Store("sqlite", tmp_path_factory.mktemp("checks") / "store"))
-    found.report(ROWS)
+    found.report(AMENDED_ROWS)
     return found
 
 
@@ -69,7 +69,7 @@ def test_the_trades_of_a_desk_are_looked_up(kept: Book) -> None:
     frame = pandas.DataFrame({"reference": ["T0002", "T9"], "price": ["100.725", "1"]})
     found = checked(frame, kept, desk="ALPHA")
     assert verdicts(found) == [("right", None, None, None, None), ("missing", None, None, None, None)]
-    assert found.attrs["missing"] == ["T0001"]
+    assert found.attrs["missing"] == ["T0001", "T0003"]
 
 
 def test_refusals_and_what_does_not_read_have_their_reasons(kept: Book) -> None:
@@ -80,13 +80,20 @@ def test_refusals_and_what_does_not_read_have_their_reasons(kept: Book) -> None:
     assert list(checked(frame[["cusip", "par"]], kept)["reason"]) == ["row", "par", "row"]
 
 
+def test_floats_are_the_numbers_that_were_typed(kept: Book) -> None:
+    frame = pandas.DataFrame([TRADED | {"value": 4.0, "price": 100.725, "total": 25493.75},
+                              TRADED | {"value": 4.0, "price": 100.726, "total": 25493.75}])
+    assert verdicts(checked(frame, kept)) == [("right", None, None, None, None),
+                                              ("differs", "price", Decimal("100.725"), None, None)]
+
+
 def test_no_rows_have_no_verdicts(kept: Book) -> None:
     found = checked(pandas.DataFrame({"cusip": [], "price": []}), kept)
     assert list(found.columns) == ["cusip", "price"] + NEW and len(found) == 0
 
 
 @pytest.mark.parametrize(("frame", "error"), [
-    ({"name": ["x"]}, ValueError), ({"cusip": ["123456AA3"], "ours": [1]}, ValueError), ({"value": [4.5]}, TypeError),
+    ({"name": ["x"]}, ValueError), ({"cusip": ["123456AA3"], "ours": [1]}, ValueError), ({"value": [0.1 + 0.2]}, ValueError),
     ({"cusip": ["12\r3"]}, ValueError)])
 def test_a_frame_that_cannot_be_asked_is_told(frame: dict[str, Any], error: type[Exception]) -> None:
     with pytest.raises(error):

@@ -6,15 +6,16 @@ import pytest
 import muni
 from support.program import Program, program_path
 from support.server import Server
-from support.stores import ROWS, Store
+from support.stores import AMENDED_ROWS, Store
 
 PROGRAM = Program(program_path())
 
 
 def test_an_export_is_what_the_program_writes(store: Store) -> None:
     assert muni.export(store.name, program=PROGRAM.path) == ""
-    assert PROGRAM.run("import", store.word, rows=ROWS).status == 0
+    assert PROGRAM.run("import", store.word, rows=AMENDED_ROWS).status == 0
     assert muni.export(store.name, program=PROGRAM.path) == PROGRAM.run("export", store.word).text
+    assert muni.export(store.name, program=PROGRAM.path).count("\n") == AMENDED_ROWS.count(b"\n")
     one = PROGRAM.run("export", store.word, "--desk=ALPHA")
     assert muni.export(store.name, "ALPHA", program=PROGRAM.path) == one.text
 

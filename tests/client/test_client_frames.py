@@ -2,8 +2,10 @@
 from __future__ import annotations
 
 import itertools
+import json
 import pathlib
 import random
+import warnings
 from collections.abc import Iterator
 from datetime import date, datetime
 from decimal import Decimal
@@ -13,16 +15,20 @@ import pytest
 
 import muni
 from support.books import Book
-from support.exported import issue, text_of
+from support.exported import held, issue
 from support.program import Program, program_path
 from support.stores import ROWS, Store
 from support.valued import lines
 
 pandas: Any = pytest.importorskip("pandas", reason="pandas is missing")
 PROGRAM = Program(program_path())
+# Many rows of these tests have no figures.
+pytestmark = pytest.mark.filterwarnings("ignore:.* rows have no figures")
 NEW = ["price", "yield", "redemption", "redemption_price", "redemption_label", "days", "principal", "accrued",
        "commission", "total", "refusal"]
-KNOWN = ROWS.splitlines(keepends=True)[0]
+AMOUNTS = ["price", "yield", "redemption_price", "principal", "accrued", "commission", "total"]
+RISK = ["current_yield", "duration", "convexity", "dv01"]
+KNOWN = ROWS.decode().splitlines()[0].split(",")
 CUSIP = "123456AA3"
 COLUMNS = ["cusip", "par", "settle", "basis", "value", "fee", "side"]
 
@@ -32,13 +38,10 @@ ROW: dict[str, Any] = {"cusip": CUSIP, "par": 25000, "settle": date(2024, 4, 3),
 
 @pytest.fixture(scope="module")
 def book(tmp_path_factory: pytest.TempPathFactory) -> Book:
-    """A store with an issue that is known, and others of every kind."""
+    """A store with an issue that is known, and others of every kind, some of which are amended, and with trades."""
     store = Store("sqlite", tmp_path_factory.mktemp("frames") / "store")
     source = random.Random(3)
-    found = Book(PROGRAM, store)
-    rows = KNOWN + text_of(issue(source, place) for place in range(20))
-    assert found.said("load", rows=rows).status == 0
-    return found
+    return Book(PROGRAM, store).with_rows([KNOWN, *held(source, [issue(source, place) for place in range(20)])])
 
 
 @pytest.fixture(scope="module")
@@ -54,11 +57,11 @@ def valued(book: Book, frame: Any, **how: Any) -> Any:
     return muni.figures(frame, book.store.name, program=PROGRAM.path, **how)
 
 
-def told(book: Book, rows: list[list[str]]) -> list[list[str]]:
-    """The fields that the program writes on rows, behind their places."""
-    said = book.said("figures", rows="".join(",".join(row) + "\n" for row in rows))
+def told(book: Book, rows: list[list[str]], *words: str) -> list[list[str]]:
+    """The fields that the program writes on rows, behind their places, and those of its last line."""
+    said = book.said("figures", *words, rows="".join(",".join(row) + "\n" for row in rows))
     assert said.status == 0
-    return [line.split(",")[1:] for line in said.text.splitlines()[:-1]]
+    return [line.split(",")[1:] for line in said.text.splitlines()]
 
 
 def as_text(row: Any) -> str:
@@ -139,16 +142,87 @@ def test_fields_may_have_other_types_than_those_of_a_trade(book: Book) -> None:
         NEW].equals(plain[NEW])
 
 
-@pytest.mark.parametrize(("name", "wrong"), [("value", 4.0), ("par", 25000.0), ("fee", 0.5), ("par", True),
-                                             ("value", b"4"), ("side", ["buy"])], ids=str)
+@pytest.mark.parametrize(("name", "wrong"), [("par", True), ("value", b"4"), ("side", ["buy"]), ("fee", 1j)], ids=str)
 def test_another_type_is_refused_by_its_column(book: Book, name: str, wrong: Any) -> None:
     with pytest.raises(TypeError, match=f"^{name}: .*not a {type(wrong).__name__}"):
         valued(book, pandas.DataFrame([ROW, {**ROW, name: wrong}]).astype(object))
 
 
-def test_a_column_of_floats_says_how_it_comes_about(book: Book) -> None:
-    with pytest.raises(TypeError, match="^par: .*float; .* beside a missing value, .*Int64"):
-        valued(book, pandas.DataFrame([ROW, {**ROW, "par": None}]))
+@pytest.mark.parametrize("value", ["104.25", "101.123456", "99.000001", "100", "3.65", "0.00001", "1234.1"])
+def test_a_float_is_the_number_that_was_typed(book: Book, value: str) -> None:
+    """Also one that pandas makes of an int beside a missing value."""
+    plain = valued(book, pandas.DataFrame([{**ROW, "value": Decimal(value)}, {**ROW, "par": None}]))
+    frame = pandas.DataFrame([{**ROW, "value": float(value), "fee": 0.125}, {**ROW, "value": 104.25, "par": None}])
+    assert (str(frame.value.dtype), str(frame.par.dtype)) == ("float64", "float64")
+    assert valued(book, frame)[NEW].equals(plain[NEW])
+    assert plain.refusal[1] == "bad par"
+
+
+@pytest.mark.parametrize("wrong", [0.1 + 0.2, 1e-7, 99.1234567, 1e22, 12345678901234567.0, 1234567890.1234567,
+                                   float("inf")], ids=str)
+def test_a_float_that_may_not_be_what_was_typed_says_what_to_do(book: Book, wrong: float) -> None:
+    with pytest.raises(ValueError, match=r"^value: .* may not be what was typed: round .*\.round\(3\), or give "):
+        valued(book, pandas.DataFrame([ROW, {**ROW, "value": wrong}]))
+
+
+def test_floats_that_are_rounded_as_the_error_says_are_taken(book: Book) -> None:
+    frame = pandas.DataFrame([{**ROW, "value": 101.1}]).astype({"value": "float32"})
+    with pytest.raises(ValueError, match="^value: 101.099998"):
+        valued(book, frame)
+    rounded = valued(book, frame.assign(value=frame.value.astype(float).round(3)))
+    assert list(rounded.price) == [Decimal("101.100")]
+
+
+@pytest.mark.parametrize("risk", [False, True], ids=["plain", "risk"])
+def test_amounts_are_floats_if_that_is_asked(book: Book, drawn: list[list[str]], risk: bool) -> None:
+    """They plot and correlate, and a row without figures has no number in them."""
+    frame = pandas.DataFrame(drawn, columns=COLUMNS)
+    plain, found = valued(book, frame, risk=risk), valued(book, frame, risk=risk, floats=True)
+    amounts = AMOUNTS + (RISK if risk else [])
+    assert {str(found[name].dtype) for name in amounts} == {"float64"}
+    for name in amounts:
+        assert found[name].equals(plain[name].map(float, na_action="ignore").astype(float))
+    assert list(found.select_dtypes("number").columns) == [name for name in found.columns if name in {*amounts, "days"}]
+    assert found[amounts].describe().loc["count", "price"] == found.refusal.isna().sum() > 2000
+    assert found[["price", "yield", "accrued"]].corr().notna().all(axis=None)
+    others = [name for name in found.columns if name not in amounts]
+    assert found[others].equals(plain[others]) and found.attrs == plain.attrs
+
+
+def test_risk_adds_what_the_program_does(book: Book, drawn: list[list[str]]) -> None:
+    found = valued(book, pandas.DataFrame(drawn, columns=COLUMNS), workers=2, risk=True)
+    assert list(found.columns) == COLUMNS + NEW[:-1] + RISK + NEW[-1:]
+    lacking = set()
+    for (_, row), line in zip(found.iterrows(), told(book, drawn, "--risk")):
+        if line[0] == "figures":
+            assert ["" if row[name] is None else str(row[name]) for name in RISK] == line[-4:]
+            lacking.add(tuple(row[name] is None for name in RISK))
+        else:
+            assert row[RISK].isna().all()
+    # All four are there, a note has no current yield, and a discounted note has none of them.
+    assert lacking == {(False,) * 4, (True, False, False, False), (True,) * 4}
+
+
+def test_the_total_says_how_many_rows_are_not_in_it(book: Book, drawn: list[list[str]]) -> None:
+    frame = pandas.DataFrame(drawn, columns=COLUMNS)
+    with pytest.warns(UserWarning, match="rows have no figures") as said:
+        found = valued(book, frame)
+    priced, money, rows = told(book, drawn)[-1]
+    refused = int(found.refusal.notna().sum())
+    assert found.attrs["total"] == {"priced": int(priced), "money": money, "rows": int(rows), "refused": refused}
+    assert (int(priced), refused) == (len(drawn) - refused, refused) and 200 < refused < len(drawn)
+    assert sum(found.total.dropna()) == Decimal(money)
+    assert json.loads(json.dumps(found.attrs)) == found.attrs and frame.attrs == {}
+    [warning] = said
+    assert str(warning.message).startswith(f"{refused} of {rows} rows ") and warning.filename == __file__
+
+
+def test_rows_that_all_have_figures_warn_of_nothing(book: Book) -> None:
+    with warnings.catch_warnings():
+        warnings.simplefilter("error")
+        found = valued(book, pandas.DataFrame([ROW, ROW]))
+        assert list(muni.figures_by_part([found[COLUMNS]], book.store.name, program=PROGRAM.path))[0].equals(found)
+    assert found.attrs["total"]["refused"] == 0 and found.attrs["total"]["rows"] == 2
 
 
 @pytest.mark.parametrize("wrong", ["A,B", "A\nB", "A\r", "\n"], ids=repr)
@@ -180,6 +254,10 @@ def test_frames_that_come_one_after_the_other_give_the_same(book: Book, drawn: l
     parts = list(muni.figures_by_part(read, book.store.name, program=PROGRAM.path))
     assert [len(part) for part in parts] == [700] * (len(frame) // 700) + [len(frame) % 700]
     assert pandas.concat(parts)[NEW].equals(whole[NEW])
+    assert sum(part.attrs["total"]["refused"] for part in parts) == whole.attrs["total"]["refused"]
+    how: dict[str, Any] = {"program": PROGRAM.path, "risk": True, "floats": True}
+    [numbers] = muni.figures_by_part([frame], book.store.name, **how)
+    assert numbers.equals(muni.figures(frame, book.store.name, **how))
 
 
 def test_no_more_frames_are_taken_than_are_used(book: Book) -> None:

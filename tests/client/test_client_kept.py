@@ -10,7 +10,7 @@ import pytest
 
 import muni
 from muni import Basis, Issue, Kind, Position, Side, Trade
-from support.issues import DISCOUNT, ELM_GROVE, MARLOW, NOTE, RIVERTON, ZERO
+from support.issues import DISCOUNT, ELM_GROVE, MARLOW, NOTE, RIVERTON, WRONG, ZERO
 
 SALE = Trade("KEPT", "K0001", ELM_GROVE.cusip, Side.SELL, 25_000, date(2024, 4, 3), Basis.PRICE, Decimal("104.2505"),
              Decimal("0.375"))
@@ -22,10 +22,11 @@ CALLED = Issue("990000093", 'PINE "BRIDGE", 5S', Kind.PERIODIC, date(2020, 1, 1)
 @pytest.mark.parametrize("issue", [ELM_GROVE, MARLOW, RIVERTON, ZERO, DISCOUNT, NOTE, CALLED],
                          ids=[issue.cusip for issue in (ELM_GROVE, MARLOW, RIVERTON, ZERO, DISCOUNT, NOTE, CALLED)])
 def test_the_terms_of_an_issue_are_read_as_they_were_added(desk: muni.Client, issue: Issue) -> None:
-    assert desk.add_issue(issue) == issue.cusip
-    kept = desk.issue(issue.cusip)
-    assert kept == issue
-    assert desk.add_issue(kept) == issue.cusip
+    """RIVERTON is what an issue was amended to."""
+    assert desk.add_issue(WRONG if issue == RIVERTON else issue) == issue.cusip
+    assert desk.issue(issue.cusip) == issue
+    for number, kept in desk.terms(issue.cusip).items():
+        assert (desk.add_issue(kept) == issue.cusip) if number == 1 else (desk.amend(kept, number) == number)
 
 
 def test_terms_that_are_not_kept_are_refused(desk: muni.Client) -> None:

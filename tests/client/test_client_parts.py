@@ -1,6 +1,7 @@
 """A file of rows that is valued in parts, and what goes wrong with a part."""
 from __future__ import annotations
 
+import json
 import os
 import pathlib
 import subprocess
@@ -21,8 +22,12 @@ SIZE = 4_000
 @pytest.fixture
 def folder(tmp_path: pathlib.Path, book: Book, file: pathlib.Path) -> Folder:
     """A folder whose parts are all to be answered."""
-    found = Folder(tmp_path / "folder")
-    assert len(found.begin(file, book.store.name, SIZE, PROGRAM.path).parts) > 5
+    return begun(tmp_path / "folder", book, file)
+
+
+def begun(path: pathlib.Path, book: Book, file: pathlib.Path, risk: bool = False) -> Folder:
+    found = Folder(path)
+    assert len(found.begin(file, book.store.name, SIZE, PROGRAM.path, risk).parts) > 5
     return found
 
 
@@ -106,6 +111,44 @@ def test_an_answer_is_held_against_its_last_line() -> None:
     assert parts.checked(alone, Part(0, 0, 9, 1)).priced == 1
 
 
+# The same rows, of which the first has all sensitivities and the last one none.
+RISK_ANSWER = ANSWER.replace(b",25493.75\n", b",25493.75,4.964,0.246,0.183,0.002502\n", 1).replace(
+    b",-0.07\n", b",-0.07,,,,\n")
+
+
+def test_an_answer_with_sensitivities_is_held_against_its_last_line() -> None:
+    total = parts.checked(RISK_ANSWER, PART, risk=True)
+    assert (str(total), total.refused) == ("TOTAL,2,25493.68,3", 1)
+    for answer, risk in [(RISK_ANSWER, False), (ANSWER, True), (RISK_ANSWER.replace(b",,,,", b",,,"), True),
+                         (RISK_ANSWER.replace(b"25493.75,4", b"25493.76,4"), True)]:
+        with pytest.raises(PartFault):
+            parts.checked(answer, PART, risk)
+
+
+def test_parts_with_sensitivities_are_the_whole(book: Book, file: pathlib.Path, folder: Folder,
+                                                tmp_path: pathlib.Path) -> None:
+    risked = begun(tmp_path / "risked", book, file, risk=True)
+    totals = value_all(risked)
+    assert totals == value_all(folder)
+    assert risked.join(tmp_path / "result") == sum(totals, Total())
+    assert (tmp_path / "result").read_bytes() == book.said("figures", "--risk", rows=file.read_bytes()).output
+    # An answer without them is none there.
+    risked.answer(1).write_bytes(folder.answer(1).read_bytes())
+    with pytest.raises(PartFault):
+        parts.checked(risked.answer(1).read_bytes(), risked.plan().parts[1], risk=True)
+    value_all(risked)
+    risked.join(tmp_path / "again")
+    assert (tmp_path / "again").read_bytes() == (tmp_path / "result").read_bytes()
+
+
+def test_a_folder_of_before_there_were_sensitivities_goes_on(book: Book, file: pathlib.Path, folder: Folder) -> None:
+    kept = folder.path / "plan"
+    assert sorted(json.loads(kept.read_bytes())) == ["changed", "file", "parts", "size"]
+    assert not folder.begin(file, book.store.name, SIZE, PROGRAM.path).risk
+    with pytest.raises(PartFault, match="plan is of another file, store or size, or of other figures"):
+        folder.begin(file, book.store.name, SIZE, PROGRAM.path, risk=True)
+
+
 @pytest.mark.parametrize(("old", "new"), [
     (b"25493.75\n", b"25493.76\n"), (b",-0.07\n", b",0.07\n"), (b"25493.68", b"25493.69"), (b"TOTAL,2", b"TOTAL,3"),
     (b",3\n", b",4\n"), (b"5,figures", b"4,figures"), (b"7,figures", b"8,figures"), (b"6,refused,1,UnknownIssue\n", b""),
@@ -177,17 +220,18 @@ def test_the_store_of_a_folder_has_the_issues_alone(book: Book, folder: Folder) 
     assert not path.parent.exists()
 
 
+@pytest.mark.parametrize("risk", [[], ["--risk"]], ids=["plain", "risk"])
 def test_its_commands_value_a_file(book: Book, file: pathlib.Path, tmp_path: pathlib.Path,
-                                   capsys: pytest.CaptureFixture[str]) -> None:
+                                   capsys: pytest.CaptureFixture[str], risk: list[str]) -> None:
     folder, result, program = str(tmp_path / "f"), str(tmp_path / "result"), ["--program", str(PROGRAM.path)]
-    assert parts.main(["cut", str(file), book.store.name, folder, "--bytes", f"{SIZE}", *program]) == 0
+    assert parts.main(["cut", str(file), book.store.name, folder, "--bytes", f"{SIZE}", *risk, *program]) == 0
     count = int(capsys.readouterr().out)
     assert parts.main(["join", folder, result]) == 1
     assert capsys.readouterr().err.startswith(f"muni.parts: part 0 of {count}: ")
     # The last numbers are those of no part.
     assert parts.main(["value", folder, *map(str, range(count + 2)), "--scratch", str(tmp_path), *program]) == 0
     assert parts.main(["join", folder, result]) == 0
-    said = book.said("figures", rows=file.read_bytes()).output
+    said = book.said("figures", *risk, rows=file.read_bytes()).output
     assert pathlib.Path(result).read_bytes() == said
     assert capsys.readouterr().out.encode() == said.splitlines(keepends=True)[-1]
     assert names(tmp_path) == ["f", "result", "rows"]

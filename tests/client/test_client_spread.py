@@ -28,7 +28,7 @@ PROGRAM = Program(program_path())
 SIZE = 2_000
 COLUMNS = ["cusip", "par", "settle", "basis", "value"]
 # One cluster serves all of these.
-pytestmark = pytest.mark.xdist_group("dask")
+pytestmark = [pytest.mark.xdist_group("dask"), pytest.mark.filterwarnings("ignore:.* rows have no figures")]
 
 
 @pytest.fixture(scope="module")
@@ -82,9 +82,28 @@ def test_a_file_has_the_lines_of_the_whole(cluster: Cluster, book: Book, file: p
     assert len(list((tmp_path / "folder/answers").iterdir())) > 5 and len(copies) == 2
 
 
-def test_a_frame_has_the_figures_of_the_whole(cluster: Cluster, book: Book, rows: bytes, tmp_path: pathlib.Path) -> None:
+def test_sensitivities_are_those_of_the_whole(cluster: Cluster, book: Book, file: pathlib.Path, rows: bytes,
+                                              tmp_path: pathlib.Path) -> None:
+    frame = frame_of(rows)
+    how: dict[str, Any] = {"program": PROGRAM.path, "risk": True}
+    with cluster.workers(*folders(tmp_path, 1)):
+        spread.figures(cluster.client, file, book.store.name, tmp_path / "folder", tmp_path / "result", size=SIZE, **how)
+        found = [spread.frame_figures(cluster.client, frame, book.store.name, rows=200, floats=floats, **how)
+                 for floats in (False, True)]
+    assert (tmp_path / "result").read_bytes() == book.said("figures", "--risk", rows=rows).output
+    for each, floats in zip(found, (False, True)):
+        assert each.equals(muni.figures(frame, book.store.name, floats=floats, **how))
+        assert each.attrs["total"]["refused"] == each.refusal.notna().sum() > 0
+
+
+def frame_of(rows: bytes) -> Any:
+    """A frame of the rows, without their fees and sides."""
     fields = [row.decode().split(",") for row in rows.splitlines()]
-    frame = pandas.DataFrame([row[:5] for row in fields if len(row) >= 5], columns=COLUMNS)
+    return pandas.DataFrame([row[:5] for row in fields if len(row) >= 5], columns=COLUMNS)
+
+
+def test_a_frame_has_the_figures_of_the_whole(cluster: Cluster, book: Book, rows: bytes, tmp_path: pathlib.Path) -> None:
+    frame = frame_of(rows)
     frame.index = frame.index[::-1]
     how: dict[str, Any] = {"rows": 60, "program": PROGRAM.path}
     with cluster.workers(*folders(tmp_path, 2)):

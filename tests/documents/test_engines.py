@@ -71,6 +71,13 @@ class Desk:
         assert said.returncode == 0, (command, said.stdout, said.stderr)
         return said.stdout
 
+    def has_risk(self, words: str) -> None:
+        """Sees that a script writes what the program writes with sensitivities."""
+        name = f"{words.split()[0].rpartition('/')[2]}.risk"
+        total = self.run(f"{words} {name}.parts {name}.valued")
+        self.run(f"./muni figures --store=D --risk <holdings | cmp - {name}.valued")
+        assert total == self.run(f"tail -n 1 {name}.valued")
+
     def instead(self, folder: pathlib.Path, text: str) -> dict[str, str]:
         """The environment with a script for the program."""
         path = folder / "bin/muni"
@@ -108,14 +115,19 @@ class TestPage:
         if not subprocess.run(["parallel", "--version"], capture_output=True).stdout.startswith(b"GNU parallel"):
             pytest.skip("parallel is not that of GNU")
         begun.follow(section("GNU parallel"))
+        begun.has_risk("examples/spread/over-parallel --risk holdings D")
         assert len(list((begun.folder / "parallel.parts/answers").iterdir())) > 4
 
     def test_dask(self, begun: Desk) -> None:
         needs("dask-scheduler", "dask-worker")
-        begun.follow(section("Dask").replace("8786", f"{free_port()}"))
+        port = f"{free_port()}"
+        begun.follow(section("Dask").replace("8786", port))
+        begun.has_risk(f"examples/spread/over-dask --risk tcp://127.0.0.1:{port} holdings D")
 
     def test_a_pipe(self, begun: Desk) -> None:
         begun.follow(section("Spark"))
+        begun.run("examples/spread/pipe --risk issues <holdings | cmp - <(./muni figures --store=D --risk <holdings | "
+                  "head -n -1)")
 
     @pytest.mark.parametrize("fault", ["| head -c 900", "| sed 3d", "| sed '$d'", "; exit 5"])
     def test_a_pipe_that_is_cut_has_a_status(self, begun: Desk, tmp_path: pathlib.Path, fault: str) -> None:
@@ -144,4 +156,8 @@ class TestPage:
             assert process.returncode == 0, slurm.told()
             assert output.decode() == first.shown
             assert slurm.restarts() == 1
+            environment = begun.environment
+            begun.environment = environment | slurm.environment
+            begun.has_risk("examples/spread/over-slurm --risk holdings D")
+            begun.environment = environment
         assert begun.run(compared.command) == ""

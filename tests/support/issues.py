@@ -1,4 +1,5 @@
 """Issues of each kind, as the client has them."""
+from dataclasses import replace
 from datetime import date
 from decimal import Decimal
 
@@ -13,6 +14,8 @@ MARLOW = Issue("990081AB7", "COUNTY OF MARLOW TAX NOTES 2025", Kind.AT_REDEMPTIO
                coupon=Decimal("3.9"), day_count=DayCount.ACTUAL_365)
 RIVERTON = Issue("123456AA3", "RIVERTON WATER 5S 2025", Kind.PERIODIC, date(2020, 1, 1), date(2025, 1, 1), coupon=5,
                  first=date(2020, 7, 1))
+# The same with the coupon that was wrong, before it was amended.
+WRONG = replace(RIVERTON, name="RIVERTON WATER 4S 2025", coupon=4)
 ZERO = Issue("990000010", "ZERO 2026", Kind.ZERO, date(2020, 1, 1), date(2026, 7, 1))
 DISCOUNT = Issue("990000028", "DISCOUNT 2024", Kind.DISCOUNT, date(2024, 1, 1), date(2024, 4, 1))
 NOTE = Issue("990000036", "NOTE 2026", Kind.AT_REDEMPTION, date(2024, 1, 1), date(2026, 1, 1), coupon=30)

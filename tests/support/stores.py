@@ -17,6 +17,16 @@ REPORT = b"""1,added,123456AA3
 3,confirmed,T0002,1,100.725,4.001,2025-01-01,10197.50
 """
 
+# The same trades, in a book in which the coupon of the issue was mended before them, and a trade that is corrected and
+# one that is canceled.
+AMENDED_ROWS = b"""issue,123456AA3,RIVERTON WATER 4S 2025,periodic,2020-01-01,2020-07-01,2025-01-01,4,
+amend,123456AA3,2,RIVERTON WATER 5S 2025,periodic,2020-01-01,2020-07-01,2025-01-01,5,
+trade,ALPHA,T0003,123456AA3,buy,5000,2024-04-01,yield,4
+correct,ALPHA,T0003,2,123456AA3,buy,25000,2024-04-01,yield,4
+trade,ALPHA,T0004,123456AA3,sell,5000,2024-04-01,yield,4
+cancel,ALPHA,T0004,2
+""" + b"".join(ROWS.splitlines(keepends=True)[1:])
+
 
 def empty_folder() -> tempfile.TemporaryDirectory[str]:
     """A folder in memory if there is one, where a sync takes no time."""

@@ -83,8 +83,8 @@ def check(frame: Frame, store: Path | None = None, *, desk: str | None = None, p
     `value` and perhaps `side` and `fee`; what was printed, of `price`, `yield`, `redemption`, `days`, `principal`,
     `accrued` and `total`; and without a store, or for an issue that it does not keep, the terms `kind`, `dated`, `first`,
     `maturity`, `coupon`, `calls` and `day_count`. With a desk, `reference` names a trade that the store keeps, and what
-    a row leaves out of it is looked up. A field is a Decimal, an int, a text, a day or an Enum of the client; a float is
-    a TypeError. A missing value is not stated. Other columns stay as they are and are not looked at.
+    a row leaves out of it is looked up. A field is a Decimal, an int, a text, a day, an Enum of the client, or a float
+    as `figures` takes it. A missing value is not stated. Other columns stay as they are and are not looked at.
 
     The frame that is returned has the same index, rows and columns, and after them `verdict`: `right`, `differs`,
     `undecided`, `refused`, `missing` or `bad`. Of a row that differs `differs` is the first column that does, `ours`

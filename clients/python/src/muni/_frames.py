@@ -6,9 +6,10 @@ from __future__ import annotations
 
 import importlib
 import os
+import warnings
 from collections.abc import Callable, Iterable, Iterator
 from contextlib import contextmanager
-from dataclasses import dataclass
+from dataclasses import dataclass, replace
 from datetime import date
 from decimal import Decimal
 from enum import Enum
@@ -22,6 +23,8 @@ Frame = Any
 
 # How many texts of a column are kept with what they read as.
 _MOST_KEPT = 100_000
+# How many digits a float keeps, and how many decimals a field has at most.
+_MOST_DIGITS, _MOST_DECIMALS = 15, 6
 
 
 @dataclass(frozen=True)
@@ -35,48 +38,90 @@ class Question:
     more: tuple[str, ...]
     told: dict[str, Callable[[str], Any]]
     few: frozenset[str]
+    words: tuple[str, ...] = ()
+
+
+def _number(text: str) -> Decimal | None:
+    """A number, or None if there is none."""
+    return Decimal(text) if text else None
+
+
+def _float(text: str) -> float:
+    """The same as a float, which is not a number if there is none."""
+    return float(text or "nan")
 
 
 FIGURES = Question("figures", ("cusip", "par", "settle", "basis", "value"), ("fee", "side"), {
     "price": Decimal, "yield": Decimal, "redemption": date.fromisoformat, "redemption_price": Decimal,
     "redemption_label": str, "days": int, "principal": Decimal, "accrued": Decimal, "commission": Decimal,
     "total": Decimal}, frozenset(["yield", "redemption", "redemption_price", "redemption_label", "days", "commission"]))
+RISK = replace(FIGURES, words=("--risk",), told=FIGURES.told | dict.fromkeys(
+    ("current_yield", "duration", "convexity", "dv01"), _number))
+# What reads a number as a float.
+_FLOATS: dict[Any, Callable[[str], float]] = {Decimal: float, _number: _float}
 
 
-def figures(frame: Frame, store: Path, *, workers: int = 1, program: Path = "muni", progress: bool = False) -> Frame:
+def question(risk: bool, floats: bool) -> Question:
+    """What is asked of the program, and whether its amounts are read as floats."""
+    found = RISK if risk else FIGURES
+    if floats:
+        found = replace(found, told={name: _FLOATS.get(read, read) for name, read in found.told.items()})
+    return found
+
+
+def figures(frame: Frame, store: Path, *, workers: int = 1, program: Path = "muni", progress: bool = False,
+            risk: bool = False, floats: bool = False) -> Frame:
     """A frame with the figures of each of its rows, which `muni figures` computes with the issues of a store.
 
     The columns `cusip`, `par`, `settle`, `basis` and `value` have to be there, in any order, and `fee` and `side` may:
     the forms and ranges are those of a Trade. `fee` is in dollars per 100 of par. A field is a Decimal, an int, a text,
-    a day or a Basis or Side. A float is a TypeError, since it seldom is the number that was typed. A missing value is
-    an empty field: no fee, the side `buy`, and in another column a row that does not read.
+    a day, a Basis or Side, or a float, which is taken as it was typed: by its `repr`. One of more than six decimals or
+    15 digits is a ValueError. A missing value is an empty field: no fee, the side `buy`, and in another column a row
+    that does not read.
 
     The frame that is returned has the same index, rows and columns, and behind them `price` and `yield`, `redemption`
     (a day), `redemption_price`, `redemption_label`, `days`, `principal`, `accrued`, `commission` and `total`. Amounts
     are Decimals, and money is in dollars. The last column, `refusal`, is None, or the name of the refusal as
-    `UnknownIssue`, or `bad` and the first column that does not read, as `bad par`. Then there are no figures.
+    `UnknownIssue`, or `bad` and the first column that does not read, as `bad par`. Then there are no figures. If there
+    are such rows, a UserWarning says how many. `attrs["total"]` has the last line of the program: how many rows are
+    `priced`, the `money` that their totals come to, as a text, how many `rows` there are, and how many are `refused`.
+
+    With `risk` there are `current_yield`, `duration`, `convexity` and `dv01` behind `total`, None where the program
+    has none. With `floats` the amounts are columns of float64, to plot and to correlate; add up Decimals.
 
     `workers` is 1 to 16. `progress` shows a bar if tqdm is installed. A frame that has one of the new columns already,
     or a text with a comma or the end of a line, is a ValueError. If the program does not end with status 0, the
     exception is Ended; the store must not be open elsewhere.
     """
     with _bar(progress, len(frame)) as advance:
-        return _asked(FIGURES, frame, store, workers, program, advance)
+        found = _asked(question(risk, floats), frame, store, workers, program, advance)
+    warn_of_refused(found)
+    return found
 
 
 def figures_by_part(frames: Iterable[Frame], store: Path, *, workers: int = 1, program: Path = "muni",
-                    progress: bool = False) -> Iterator[Frame]:
+                    progress: bool = False, risk: bool = False, floats: bool = False) -> Iterator[Frame]:
     """The same for frames that come one after the other, as pandas.read_csv with `chunksize` gives them: each with its
     figures as soon as it has them. So no more than one of them is in memory. The program is started for each."""
     with _bar(progress, None) as advance:
         for frame in frames:
-            yield _asked(FIGURES, frame, store, workers, program, advance)
+            found = _asked(question(risk, floats), frame, store, workers, program, advance)
+            warn_of_refused(found)
+            yield found
+
+
+def warn_of_refused(found: Frame) -> None:
+    """Says how many rows have no figures. pandas leaves them out of a sum without a word."""
+    total = found.attrs["total"]
+    if total["refused"]:
+        warnings.warn(f"{total['refused']} of {total['rows']} rows have no figures: the column refusal says why",
+                      stacklevel=3)
 
 
 def _asked(question: Question, frame: Frame, store: Path, workers: int, program: Path,
            advance: Callable[[int], None]) -> Frame:
     answer = Answer(question)
-    words = (question.command, f"--store={os.fspath(store)}", f"--workers={workers}")
+    words = (question.command, f"--store={os.fspath(store)}", f"--workers={workers}", *question.words)
     for some in lines(program, *words, rows=rows_of(question, frame)):
         advance(answer.add(some))
     return answer.beside(frame)
@@ -107,17 +152,28 @@ def texts_of(name: str, column: Any) -> list[str]:
     values: list[Any] = (objects if there.all() else objects.where(there, None)).tolist()
     kinds = set(map(type, values))
     for kind in kinds:
-        if issubclass(kind, bool) or not issubclass(kind, (str, int, Decimal, date, Enum, type(None))):
-            note = ("; pandas makes floats of ints beside a missing value, but not in a column of the type Int64"
-                    if issubclass(kind, float) and None in values else "")
-            raise TypeError(f"{name}: a Decimal, an int, a text or a day, not a {kind.__name__}{note}")
+        if issubclass(kind, bool) or not issubclass(kind, (str, int, float, Decimal, date, Enum, type(None))):
+            raise TypeError(f"{name}: a Decimal, an int, a float, a text or a day, not a {kind.__name__}")
     if kinds <= {str}:
         return values
+    if any(issubclass(kind, float) for kind in kinds):
+        values = [_typed(name, each) if isinstance(each, float) else each for each in values]
+        kinds.add(Decimal)
     if Decimal in kinds:
         return list(map(text_of, values))
     # Few days stand in many rows.
     texts = {value: text_of(value) for value in set(values)}
     return [texts[value] for value in values]
+
+
+def _typed(name: str, value: float) -> Decimal:
+    """The number that was typed, if a float tells it: it keeps 15 digits, and a field has six decimals at most."""
+    number = Decimal(repr(float(value)))
+    decimals = -min(0, int(number.as_tuple().exponent)) if number.is_finite() else _MOST_DIGITS
+    if decimals > _MOST_DECIMALS or number.adjusted() + decimals >= _MOST_DIGITS:
+        raise ValueError(f"{name}: {float(value)!r} may not be what was typed: round the column to the decimals that "
+                         "were, as by .astype(float).round(3), or give Decimals or texts")
+    return number
 
 
 def text_of(value: Any) -> str:
@@ -147,12 +203,14 @@ class Answer:
         self.question = question
         self.rows = 0
         self.last = ""
-        self._priced, self._money = 0, Decimal()
+        self._priced = self._cents = 0
         self._numpy = importlib.import_module("numpy")
         self._readers = [_Kept(read).__getitem__ if name in question.few else read
                          for name, read in question.told.items()]
+        self._types = [float if read in _FLOATS.values() else object for read in question.told.values()]
+        self._total = list(question.told).index("total")
         # Pieces of each column. An array, unlike a list, is not walked whenever Python looks for what to free.
-        self._pieces: list[list[Any]] = [[self._array([], 0)] for _ in (*question.told, "refusal")]
+        self._pieces: list[list[Any]] = [[self._array([], 0, kind)] for kind in (*self._types, object)]
 
     def add(self, some: bytes) -> int:
         """Adds the next lines, each with its end, and gives how many rows they answer. The last line of all is the
@@ -180,7 +238,7 @@ class Answer:
                                 for good, line in zip(has_figures, lines)), len(lines))
         columns = []
         for found in self._figures(b"".join(line for line in lines if b",figures," in line), sum(has_figures)):
-            columns.append(self._numpy.full(len(lines), None, dtype=object))
+            columns.append(self._numpy.full(len(lines), None, dtype=found.dtype))
             columns[-1][where] = found
         return columns, refusals
 
@@ -191,15 +249,16 @@ class Answer:
         fields = lines.decode("ascii").replace("\n", ",").split(",")
         if len(fields) != width * count + 1:
             raise Error(f"a line is cut: {lines.splitlines()[-1]!r}")
-        columns = [self._array(map(reader, fields[place::width]), count)
-                   for place, reader in enumerate(self._readers, 3)]
+        texts = [fields[place::width] for place in range(3, width)]
         self._priced += count
-        self._money += sum(columns[-1].tolist(), Decimal())
-        return columns
+        # A sum of floats would not be exact.
+        self._cents += sum(map(int, " ".join(texts[self._total]).replace(".", "").split()))
+        return [self._array(map(reader, some), count, kind)
+                for reader, some, kind in zip(self._readers, texts, self._types)]
 
-    def _array(self, values: Iterable[Any], count: int) -> Any:
+    def _array(self, values: Iterable[Any], count: int, kind: type = object) -> Any:
         """So many values as they are. numpy.array would ask each whether it is an array itself."""
-        return self._numpy.fromiter(values, dtype=object, count=count)
+        return self._numpy.fromiter(values, dtype=kind, count=count)
 
     def _refusal(self, line: str) -> str:
         """The name of a refusal, or which column does not read."""
@@ -213,12 +272,17 @@ class Answer:
         """The frame with the columns behind its own, if the total is that of the lines."""
         pandas = importlib.import_module("pandas")
         *columns, refusals = map(self._numpy.concatenate, self._pieces)
-        said = f"TOTAL,{self._priced},{self._money:.2f},{self.rows}"
+        money = f"{Decimal(self._cents).scaleb(-2):.2f}"
+        said = f"TOTAL,{self._priced},{money},{self.rows}"
         if self.last != said or self.rows != len(frame):
             raise Error(f"{self.rows} lines for {len(frame)} rows, and {self.last!r} at their end, not {said!r}")
-        new = {name: pandas.Series(column, index=frame.index, dtype="Int64" if name == "days" else object)
+        new = {name: pandas.Series(column, index=frame.index, dtype="Int64" if name == "days" else column.dtype)
                for name, column in zip((*self.question.told, "refusal"), (*columns, refusals))}
-        return frame.assign(**new)
+        found = frame.assign(**new)
+        # Plain values, which a frame keeps where it is written to a file that takes attrs.
+        found.attrs["total"] = {"priced": self._priced, "money": money, "rows": self.rows,
+                                "refused": self.rows - self._priced}
+        return found
 
 
 class _Kept(dict[str, Any]):

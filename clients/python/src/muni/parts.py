@@ -1,12 +1,13 @@
 """A file of rows for `muni figures`, valued in parts by whatever runs commands: Slurm, GNU parallel, or a shell.
 
-    python3 -m muni.parts cut ROWS STORE FOLDER [--bytes=4000000] [--program=muni]
+    python3 -m muni.parts cut ROWS STORE FOLDER [--bytes=4000000] [--risk] [--program=muni]
     python3 -m muni.parts value FOLDER NUMBER.. [--scratch=FOLDER] [--program=muni] [--patience=SECONDS]
     python3 -m muni.parts join FOLDER RESULT
 
 `cut` makes a folder with the plan, and a store with the issues of STORE alone, and prints how many parts there are.
 `value` values parts by their numbers from 0 on, over a copy of that store which is its own. `join` writes the lines of
-all parts and one total, which are the bytes that the program writes on the whole file, and prints that total.
+all parts and one total, which are the bytes that the program writes on the whole file, and prints that total. With
+`--risk` they are those of `muni figures --risk`.
 
 The figures of a row hang on the row, its place and its issue alone. So a part may be valued again, here or elsewhere,
 also by two at a time: its answer is a file that is renamed into place when it is whole, and is always the same. A part
@@ -38,6 +39,7 @@ SIZE = 4_000_000
 _MARK = b"\xef\xbb\xbf"
 _TOTAL = re.compile(rb"TOTAL,(\d+),(-?\d+\.\d\d),(\d+)\n")
 _PRICED = re.compile(rb",figures,.*,(-?\d+\.\d\d)\n")
+_PRICED_WITH_RISK = re.compile(rb",figures,.*,(-?\d+\.\d\d)(?:,[^,\n]*){4}\n")
 # More bytes than the last two lines of an answer have.
 _LAST = 1_000
 
@@ -67,18 +69,29 @@ class Total:
     def __add__(self, other: Total) -> Total:
         return Total(self.priced + other.priced, self.money + other.money, self.rows + other.rows)
 
+    @property
+    def refused(self) -> int:
+        """How many rows have no figures, which are not in the sum."""
+        return self.rows - self.priced
+
     def __str__(self) -> str:
         return f"TOTAL,{self.priced},{self.money:.2f},{self.rows}"
 
 
 @dataclass(frozen=True)
 class Plan:
-    """A file as it was when it was cut, and its parts. `changed` is in nanoseconds of the system's clock."""
+    """A file as it was when it was cut, and its parts, perhaps with sensitivities. `changed` is in nanoseconds of the
+    system's clock."""
 
     file: str
     size: int
     changed: int
     parts: tuple[Part, ...]
+    risk: bool = False
+
+    def text(self) -> bytes:
+        """The plan as a folder keeps it. One without sensitivities is as it was before there were any."""
+        return json.dumps({name: each for name, each in asdict(self).items() if name != "risk" or each}).encode()
 
     def rows(self, number: int) -> bytes:
         """The rows of a part as the program is given them, if the file is still the same."""
@@ -98,7 +111,7 @@ def rows_at(file: int, part: Part) -> bytes:
     return rows if part.start == 0 else b"\n" + rows
 
 
-def cut(file: Path, size: int = SIZE) -> Plan:
+def cut(file: Path, size: int = SIZE, risk: bool = False) -> Plan:
     """The parts of a file, each of about so many bytes and ending with a line. An empty file has one part.
 
     >>> with tempfile.NamedTemporaryFile() as rows:
@@ -117,7 +130,7 @@ def cut(file: Path, size: int = SIZE) -> Plan:
             start, first = start + len(block), first + count
             if not block:
                 break
-    return Plan(path, state.st_size, state.st_mtime_ns, tuple(parts))
+    return Plan(path, state.st_size, state.st_mtime_ns, tuple(parts), risk)
 
 
 def _rows_in(block: bytes) -> int:
@@ -139,9 +152,9 @@ def _told(end: bytes, lines: int, part: Part) -> Total:
     return Total(int(found[1]), Decimal(found[2].decode()), part.rows)
 
 
-def checked(answer: bytes, part: Part) -> Total:
+def checked(answer: bytes, part: Part, risk: bool = False) -> Total:
     """The same, if the total is also what the lines come to, and the places are those of the part."""
-    check = Check(part)
+    check = Check(part, risk)
     check.add(answer)
     return check.total()
 
@@ -149,8 +162,9 @@ def checked(answer: bytes, part: Part) -> Total:
 class Check:
     """Holds an answer against its last line while it comes, some bytes at a time."""
 
-    def __init__(self, part: Part) -> None:
+    def __init__(self, part: Part, risk: bool = False) -> None:
         self._part = part
+        self._form = _PRICED_WITH_RISK if risk else _PRICED
         self._lines = self._figures = self._priced = self._cents = 0
         self._first = self._last = self._rest = b""
 
@@ -158,7 +172,7 @@ class Check:
         """The next bytes. They may end within a line, which is counted when all of it is there."""
         text = self._rest + some if self._rest else some
         end = text.rfind(b"\n") + 1
-        priced = _PRICED.findall(text, 0, end)
+        priced = self._form.findall(text, 0, end)
         self._figures += text.count(b",figures,", 0, end)
         self._priced += len(priced)
         self._cents += sum(map(int, b" ".join(priced).replace(b".", b"").split()))
@@ -224,21 +238,20 @@ class OwnStore:
 
 
 def value(rows: bytes, part: Part, store: str, keep: Callable[[bytes], object], program: Path = "muni",
-          patience: float | None = None) -> Total:
+          patience: float | None = None, risk: bool = False) -> Total:
     """Hands the answer on the rows of a part to `keep`, some bytes at a time, while the program goes on, and gives its
     total. If it is not whole, that is a PartFault at the end. A program that takes longer than `patience` seconds is
     ended."""
-    check = Check(part)
-    with closing(_answer(part, store, rows, program, patience)) as answer:
+    check = Check(part, risk)
+    words = ("figures", f"--store={store}", f"--from={part.first}", *(["--risk"] if risk else []))
+    with closing(_answer(words, rows, program, patience)) as answer:
         for some in answer:
             check.add(some)
             keep(some)
     return check.total()
 
 
-def _answer(part: Part, store: str, rows: bytes, program: Path,
-            patience: float | None) -> Generator[bytes, None, None]:
-    words = "figures", f"--store={store}", f"--from={part.first}"
+def _answer(words: Sequence[str], rows: bytes, program: Path, patience: float | None) -> Generator[bytes, None, None]:
     try:
         yield from pieces(program, *words, rows=rows, patience=patience)
     except (Ended, OSError, subprocess.TimeoutExpired) as error:
@@ -252,24 +265,24 @@ class Folder:
     def __init__(self, folder: Path) -> None:
         self.path = pathlib.Path(folder)
 
-    def begin(self, file: Path, store: Path, size: int = SIZE, program: Path = "muni") -> Plan:
-        """Makes the folder. One that was begun before goes on, and the file, the issues and the size have to be the
-        same."""
+    def begin(self, file: Path, store: Path, size: int = SIZE, program: Path = "muni", risk: bool = False) -> Plan:
+        """Makes the folder. One that was begun before goes on, and the file, the issues, the size and whether there are
+        sensitivities have to be the same."""
         (self.path / "answers").mkdir(parents=True, exist_ok=True)
         rows = issues(store, program)
-        for name, data in (("plan", json.dumps(asdict(cut(file, size))).encode()), ("issues.csv", rows)):
+        for name, data in (("plan", cut(file, size, risk).text()), ("issues.csv", rows)):
             path = self.path / name
             if not path.exists():
                 _write(path, data)
             elif path.read_bytes() != data:
-                raise PartFault(f"{path} is of another file, store or size: take a new folder")
+                raise PartFault(f"{path} is of another file, store or size, or of other figures: take a new folder")
         if not (self.path / "issues").exists():
             _write(self.path / "issues", store_of(rows, program))
         return self.plan()
 
     def plan(self) -> Plan:
         found = json.loads((self.path / "plan").read_bytes())
-        return Plan(found["file"], found["size"], found["changed"], tuple(Part(**part) for part in found["parts"]))
+        return Plan(**found | {"parts": tuple(Part(**part) for part in found["parts"])})
 
     def issues(self) -> bytes:
         """The store with the issues alone, for an OwnStore."""
@@ -284,9 +297,9 @@ class Folder:
         """Sees to the answer of a part, and gives its total. An answer that is not whole is written anew."""
         path = self.answer(number)
         with suppress(FileNotFoundError, PartFault):
-            return checked(path.read_bytes(), plan.parts[number])
+            return checked(path.read_bytes(), plan.parts[number], plan.risk)
         with _whole(path) as file:
-            return value(plan.rows(number), plan.parts[number], store, file.write, program, patience)
+            return value(plan.rows(number), plan.parts[number], store, file.write, program, patience, plan.risk)
 
     def join(self, result: Path) -> Total:
         """Writes the lines of all parts and one total to a file. A part without a whole answer is a PartFault."""
@@ -327,7 +340,7 @@ def main(words: Sequence[str] | None = None) -> int:
     folder = Folder(given.folder)
     try:
         if given.command == "cut":
-            print(len(folder.begin(given.rows, given.store, given.bytes, given.program).parts))
+            print(len(folder.begin(given.rows, given.store, given.bytes, given.program, given.risk).parts))
         elif given.command == "join":
             print(folder.join(given.result))
         else:
@@ -355,6 +368,7 @@ def _parser() -> argparse.ArgumentParser:
     cutting.add_argument("store")
     cutting.add_argument("folder")
     cutting.add_argument("--bytes", type=int, default=SIZE, help="of a part, about")
+    cutting.add_argument("--risk", action="store_true", help="with the sensitivities of each row")
     valuing = commands.add_parser("value", help="value parts")
     valuing.add_argument("folder")
     valuing.add_argument("number", type=int, nargs="+", help="of a part, from 0 on")

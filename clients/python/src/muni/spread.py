@@ -25,7 +25,7 @@ from collections.abc import Iterator
 from contextlib import contextmanager
 from typing import Any
 
-from ._frames import FIGURES, Answer, Frame, rows_of
+from ._frames import Answer, Frame, question, rows_of, warn_of_refused
 from ._program import Error, Path
 from .parts import SIZE, Folder, OwnStore, Part, PartFault, Total, issues, store_of, told, value
 
@@ -51,16 +51,17 @@ class WorkerFault(PartFault):
 
 
 def figures(client: Cluster, rows: Path, store: Path, folder: Path, result: Path, *, size: int = SIZE,
-            program: Path = "muni", tries: int = 3, patience: float | None = None) -> Total:
+            program: Path = "muni", tries: int = 3, patience: float | None = None, risk: bool = False) -> Total:
     """Writes to `result` what `muni figures` writes on the file `rows` with the issues of `store`, and gives its total.
+    With `risk` it is what `muni figures --risk` writes.
 
     `folder` and `rows` are on a file system that all workers see by the same name. The folder keeps the answers: if a
-    run fails, the same call goes on with the parts that have none. For another file or other issues take a new folder.
-    `size` is the bytes of a part, about. A part is tried `tries` times, and the last PartFault is raised. `patience` is
-    the seconds after which the program on a part is ended. No server may have the store open at the begin.
+    run fails, the same call goes on with the parts that have none. For another file, other issues or other figures take
+    a new folder. `size` is the bytes of a part, about. A part is tried `tries` times, and the last PartFault is raised.
+    `patience` is the seconds after which the program on a part is ended. No server may have the store open at the begin.
     """
     shared = Folder(os.path.abspath(os.fspath(folder)))
-    plan = shared.begin(rows, store, size, program)
+    plan = shared.begin(rows, store, size, program, risk)
     kept = _given(client, shared.issues())
     tasks = ((_value_at, shared, number, kept, program, patience) for number in range(len(plan.parts)))
     for _ in _ended(client, tasks, tries):
@@ -69,21 +70,24 @@ def figures(client: Cluster, rows: Path, store: Path, folder: Path, result: Path
 
 
 def frame_figures(client: Cluster, frame: Frame, store: Path, *, rows: int = ROWS, program: Path = "muni",
-                  tries: int = 3, patience: float | None = None) -> Frame:
+                  tries: int = 3, patience: float | None = None, risk: bool = False, floats: bool = False) -> Frame:
     """The same as `muni.figures` of a frame, of which each part has so many rows. No file system is shared. The rows go
     to the workers, and the lines come back, as text; they become Decimals here, which takes the time of one processor.
     """
+    asked = question(risk, floats)
     kept = _given(client, store_of(issues(store, program), program))
     parts = [Part(0, 0, start + 1, min(rows, len(frame) - start)) for start in range(0, max(1, len(frame)), rows)]
-    tasks = ((_answer_at, rows_of(FIGURES, frame.iloc[part.first - 1:part.first - 1 + part.rows]), part, kept, program,
-              patience) for part in parts)
+    tasks = ((_answer_at, rows_of(asked, frame.iloc[part.first - 1:part.first - 1 + part.rows]), part, kept, program,
+              patience, risk) for part in parts)
     found = {number: future.result() for number, future in _ended(client, tasks, tries)}
-    answer, total = Answer(FIGURES), Total()
+    answer, total = Answer(asked), Total()
     for number, part in enumerate(parts):
         total += told(found[number], part)
         answer.add(found.pop(number))
     answer.last = str(total)
-    return answer.beside(frame)
+    valued = answer.beside(frame)
+    warn_of_refused(valued)
+    return valued
 
 
 def _given(client: Cluster, data: bytes) -> Any:
@@ -153,11 +157,12 @@ def _value_at(shared: Folder, number: int, kept: tuple[str, bytes], program: Pat
         return shared.value(shared.plan(), number, store, program, patience)
 
 
-def _answer_at(rows: bytes, part: Part, kept: tuple[str, bytes], program: Path, patience: float | None) -> bytes:
+def _answer_at(rows: bytes, part: Part, kept: tuple[str, bytes], program: Path, patience: float | None,
+               risk: bool) -> bytes:
     """The answer on rows, at a worker."""
     answer: list[bytes] = []
     with _lent(*kept) as store:
-        value(rows, part, store, answer.append, program, patience)
+        value(rows, part, store, answer.append, program, patience, risk)
     return b"".join(answer)
 
 
