@@ -9,7 +9,7 @@ import pytest
 from hypothesis import event, given, settings
 from hypothesis import strategies as st
 
-from support.books import Book
+from support.books import TAKEN, Book
 from support.exported import PLAIN_NAMES, Kept, Row, book as book_of, text_of
 from support.program import Program, Said
 from support.reference import Reference
@@ -50,7 +50,7 @@ def test_an_export_moves_a_book_to_a_journal_and_back(muni, rows, end):
         assert first.said("export") == wanted
         for book in (journal, last):
             came = [line.split(b",")[1] for line in book.report(wanted.output).splitlines()]
-            assert set(came) <= {b"added", b"confirmed"} and len(came) == wanted.output.count(b"\n")
+            assert set(came) <= set(TAKEN) and len(came) == wanted.output.count(b"\n")
             assert book.said("export") == wanted
         if wanted.output:
             for table in ("issues_3", "versions_3"):

@@ -11,7 +11,7 @@ from hypothesis import strategies as st
 
 from support.books import Book
 from support.drawn import any_of, hostile_fields, many, mutated, one_in, whole
-from support.exported import Row, issue, text_of
+from support.exported import Row, held, issue, text_of
 from support.program import Program
 from support.reference import Reference
 from support.stores import Store, empty_folder
@@ -40,10 +40,10 @@ def test_each_figure_of_many_rows_is_that_of_an_exact_calculator(muni: Program, 
     rows = [wide(source, row) if source.randrange(20) == 0 else row
             for row in lines(source, kept, LONG if is_long else COUNT)]
     reference = Reference()
-    assert reference.imported(text_of(kept))[0] == 0
+    put_in = held(source, kept)
+    assert reference.imported(text_of(put_in))[0] == 0
     with empty_folder() as folder:
-        book = Book(muni, Store("journal", pathlib.Path(folder, "S")))
-        assert book.said("load", rows=text_of(kept)).status == 0
+        book = Book(muni, Store("journal", pathlib.Path(folder, "S"))).with_rows(put_in)
         said = book.said("figures", "--workers=4", rows=b"\n".join(rows))
     *told, total = said.output.splitlines()
     assert (said.status, len(told)) == (0, len(rows))
@@ -78,7 +78,7 @@ def text(draw) -> bytes:
 
 
 def test_what_is_told_of_any_text_is_that_of_an_exact_calculator(muni: Program):
-    kept = text_of(issues(random.Random(0))[:20])
+    kept = text_of(held(random.Random(1), issues(random.Random(0))[:20]))
 
     @given(text(), whole(1, 16), whole(1, 2**63 - 1))
     def tried(sent: bytes, workers: int, first: int) -> None:

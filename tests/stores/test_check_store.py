@@ -89,7 +89,10 @@ def test_many_issues_and_trades_are_counted_as_they_were_put_in(muni, tmp_path, 
     kept.take(rows, book.report(text_of(rows)))
     desks = {desk: sum(map(len, versions.values())) for desk, versions in sorted(kept.desks.items())}
     assert len(desks) > 1
-    assert checked(book) == sound(60, **desks)
+    # Each of the terms of an issue counts.
+    terms = sum(map(len, kept.issues.values()))
+    assert len(kept.issues) == 60 < terms
+    assert checked(book) == sound(terms, **desks)
     if kind == "sqlite":
         assert list(desks.items()) == book.sql("SELECT desk, COUNT(*) FROM versions_3 GROUP BY desk ORDER BY desk")
 

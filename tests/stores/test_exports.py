@@ -9,7 +9,7 @@ from collections.abc import Callable, Iterator
 
 import pytest
 
-from support.books import Book, trades
+from support.books import TAKEN, Book, trades
 from support.exported import Kept, Row, book as book_of, text_of
 from support.program import PATIENCE, ROOT, Program, Said
 from support.stores import KINDS, ROWS, Store, empty_folder
@@ -47,7 +47,7 @@ def exported(book: Book, *words: str) -> bytes:
 def imported(book: Book, rows: bytes) -> None:
     """Imports rows of which each is kept."""
     came = [line.split(b",")[1] for line in book.report(rows).splitlines()]
-    assert set(came) <= {b"added", b"confirmed"} and len(came) == rows.count(b"\n")
+    assert set(came) <= set(TAKEN) and len(came) == rows.count(b"\n")
 
 
 def filled(book: Book, rows: str) -> Book:

@@ -12,7 +12,7 @@ import pytest
 from calculator.valued import HEADER, RISK_HEADER
 
 from support.books import Book
-from support.exported import Row, cusip, issue, text_of
+from support.exported import Row, cusip, held, issue, text_of
 from support.faults import Fault, Faults
 from support.program import PATIENCE, Program, Said
 from support.stores import KINDS, REPORT, ROWS, Store, empty_folder
@@ -37,14 +37,20 @@ def issues() -> list[Row]:
 
 
 @pytest.fixture(scope="module")
-def valued(issues: list[Row]) -> Valued:
-    return Valued(text_of(issues))
+def put_in(issues: list[Row]) -> list[Row]:
+    """The rows of a book of them, in which some are amended, and trades are corrected and canceled."""
+    return held(random.Random(4), issues)
 
 
 @pytest.fixture(scope="module")
-def sensitive(issues: list[Row]) -> Valued:
+def valued(put_in: list[Row]) -> Valued:
+    return Valued(text_of(put_in))
+
+
+@pytest.fixture(scope="module")
+def sensitive(put_in: list[Row]) -> Valued:
     """With the columns of the sensitivities."""
-    return Valued(text_of(issues), is_risk=True)
+    return Valued(text_of(put_in), is_risk=True)
 
 
 @pytest.fixture(scope="module")
@@ -57,12 +63,10 @@ def rows(issues: list[Row]) -> list[bytes]:
 
 
 @pytest.fixture(scope="module")
-def kept(muni: Program, issues: list[Row]) -> Iterator[Book]:
-    """A journal in memory with the issues."""
+def kept(muni: Program, put_in: list[Row]) -> Iterator[Book]:
+    """A journal in memory with the book."""
     with empty_folder() as folder:
-        book = Book(muni, Store("journal", pathlib.Path(folder, "kept")))
-        assert book.said("load", rows=text_of(issues)).status == 0
-        yield book
+        yield Book(muni, Store("journal", pathlib.Path(folder, "kept"))).with_rows(put_in)
 
 
 def text(rows: list[bytes], end: bytes = b"\n") -> bytes:
@@ -96,10 +100,10 @@ def test_bytes_that_come_one_at_a_time_give_the_same_lines(kept, valued, rows):
     assert by_pieces(kept, "--workers=2", pieces=cut(sent, 1)) == Said(0, valued.text(some))
 
 
-def test_both_kinds_of_store_give_the_same_lines(muni, tmp_path, issues, valued, rows):
+def test_both_kinds_of_store_give_the_same_lines(muni, tmp_path, put_in, valued, rows):
     for kind in KINDS:
         book = Book(muni, Store(kind, tmp_path / kind))
-        assert book.said("load", rows=text_of(issues)).status == 0
+        book.with_rows(put_in)
         before = book.store.state()
         assert book.said("figures", "--workers=4", "--header", rows=text(rows)) == Said(
             0, valued.text(rows, has_header=True))

@@ -10,7 +10,7 @@ from collections.abc import Callable, Iterator
 
 import pytest
 
-from support.books import Book
+from support.books import TAKEN, Book
 from support.exported import Row, book as book_of, text_of
 from support.faults import Fault, Faults
 from support.program import PATIENCE, ROOT, Program, Said
@@ -135,7 +135,7 @@ def test_an_export_that_is_cut_off_loads_its_front_part(memory, large):
     assert whole.said("load", rows=rows).status == 0
     report = cut.said("load", rows=front).output.splitlines()
     assert len(report) in (lines, lines + 1)
-    assert all(line.split(b",")[1] in (b"added", b"confirmed") for line in report[:lines])
+    assert all(line.split(b",")[1] in TAKEN for line in report[:lines])
     cut.said("load", rows=rows)
     assert cut.said("export") == whole.said("export")
 

@@ -99,12 +99,22 @@ def references(source: random.Random, count: int) -> list[str]:
 
 
 def book(source: random.Random, issues: int, trades: int, names: str = PLAIN_NAMES) -> list[Row]:
-    """The rows of a book, the issues in any order and then the trades."""
+    """The rows of a book, the issues in any order and then the trades, among which some issues are amended."""
     added = [issue(source, place, names) for place in range(issues)]
+    later = [amendment(source, place, number, names) for place in range(issues)
+             for number in range(2, 3 if place == 0 else source.choice([2, 2, 3, 5]))]
     source.shuffle(added)
     entered = [trade(source, added, reference, source.choice([0, 0, 0, 1, 4, 12]), source.randrange(5) == 0)
                for reference in references(source, trades)]
-    return added + [row for rows in entered for row in rows]
+    return added + among(source, [row for rows in entered for row in rows], later)
+
+
+def among(source: random.Random, rows: list[Row], others: list[Row]) -> list[Row]:
+    """The rows with others among them, both in their order."""
+    is_other = [False] * len(rows) + [True] * len(others)
+    source.shuffle(is_other)
+    left, right = iter(rows), iter(others)
+    return [next(right if each else left) for each in is_other]
 
 
 # What is kept of them
@@ -115,9 +125,10 @@ def fixed(text: str, places: int) -> str:
 
 
 def kept_issue(row: Row) -> Row:
-    word, number, name, kind, dated, first, maturity, coupon, schedule, *days = row
+    head = 3 if row[0] == "amend" else 2
+    name, kind, dated, first, maturity, coupon, schedule, *days = row[head:]
     written = [kept_call(each) for each in schedule.split()]
-    return [word, number, name, kind, dated, first, maturity, fixed(coupon, 7), " ".join(written),
+    return [*row[:head], name, kind, dated, first, maturity, fixed(coupon, 7), " ".join(written),
             "".join(days) or "30/360"]
 
 
@@ -136,20 +147,26 @@ class Kept:
     """What a store keeps of rows that were imported, by the report on them."""
 
     def __init__(self) -> None:
-        self.issues: dict[str, Row] = {}
+        # All terms of each issue, and the versions of each trade, with the number of the terms that each goes by.
+        self.issues: dict[str, list[Row]] = {}
         self.desks: dict[str, dict[str, list[Row]]] = {}
+        self.terms: dict[tuple[str, str, int], int] = {}
 
     def take(self, rows: list[Row], report: bytes) -> None:
         lines = report.decode().splitlines()
         assert len(lines) == len(rows)
         for row, (_, came, *rest) in zip(rows, csv.reader(lines)):
-            if came == "added":
-                self.issues[row[1]] = kept_issue(row)
+            # A row that is sent again adds no terms and no version.
+            if came in ("added", "amended"):
+                terms = self.issues.setdefault(row[1], [])
+                if int("".join(rest[1:]) or 1) == len(terms) + 1:
+                    terms.append(kept_issue(row))
             elif came == "confirmed":
                 versions = self.desks.setdefault(row[1], {}).setdefault(row[2], [])
-                # A row that is sent again adds no version.
                 if int(rest[1]) == len(versions) + 1:
                     versions.append(self.version(row))
+                    if row[0] != "cancel":
+                        self.terms[row[1], row[2], len(versions)] = len(self.issues[versions[-1][-7]])
 
     @staticmethod
     def version(row: Row) -> Row:
@@ -166,9 +183,17 @@ class Kept:
 
     def export(self, desk: str = "", is_issues: bool = False) -> bytes:
         desks = [] if is_issues else [desk] if desk else sorted(self.desks)
-        rows = [row for each in desks for _, versions in self.trades(each) for row in versions]
-        named = {row[-7] for row in rows if row[0] != "cancel"} if desk else set(self.issues)
-        return text_of([self.issues[number] for number in sorted(named)] + rows)
+        versions = [(each, reference, number, row) for each in desks for reference, rows in self.trades(each)
+                    for number, row in enumerate(rows, 1)]
+        named = {row[-7] for *_, row in versions if row[0] != "cancel"} if desk else set(self.issues)
+        return text_of([terms for number in sorted(named) for terms in self.issues[number]]
+                       + [row + self.earlier_terms(*key, row) for *key, row in versions])
+
+    def earlier_terms(self, desk: str, reference: str, number: int, row: Row) -> Row:
+        """The number of the terms that a version goes by, if they are not the last ones. A cancel names none."""
+        if row[0] == "cancel" or self.terms[desk, reference, number] == len(self.issues[row[-7]]):
+            return []
+        return [str(self.terms[desk, reference, number])]
 
     def listing(self, desk: str, confirmations: dict[str, str]) -> bytes:
         """The list of a desk, by the confirmation of each of its trades."""
