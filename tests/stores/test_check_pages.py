@@ -21,7 +21,7 @@ KEY = ",\n  PRIMARY KEY (desk, reference, number)"
 def large(database):
     """A store of some pages."""
     database.report(ROWS.decode() + trades(400))
-    assert checked(database) == sound(1, ALPHA=402)
+    assert checked(database) == sound(2, ALPHA=402, HELD=4)
     return database
 
 
@@ -66,7 +66,7 @@ def test_a_page_that_a_disk_has_spoiled_is_seen_by_a_check_alone(large):
         assert checked(large) == REFUSED, page
         large.store.path.write_bytes(good)
     assert answered > len(pages(large)) // 4
-    assert checked(large) == sound(1, ALPHA=402)
+    assert checked(large) == sound(2, ALPHA=402, HELD=4)
 
 
 def with_the_index_hidden(book: Book, change: Callable[[], object]) -> None:

@@ -13,6 +13,15 @@ from support.stores import Store
 
 ISSUE = "issue,123456AA3,RIVERTON WATER 5S 2025,periodic,2020-01-01,2020-07-01,2025-01-01,5,\n"
 
+# The same issue with a wrong coupon, the rows of another desk before it is mended, and the row that mends it.
+WRONG_ISSUE = ISSUE.replace(",5,", ",4,")
+HELD = """trade,HELD,H1,123456AA3,buy,25000,2024-04-01,yield,4
+trade,HELD,H2,123456AA3,sell,25000,2024-04-01,yield,4
+correct,HELD,H1,2,123456AA3,buy,5000,2024-04-01,yield,4
+cancel,HELD,H2,2
+"""
+MENDED = ISSUE.replace("issue,123456AA3,", "amend,123456AA3,2,")
+
 # What a report says of a row that was taken.
 TAKEN = (b"added", b"amended", b"confirmed")
 
@@ -26,8 +35,9 @@ def trade(reference: str) -> str:
 
 
 def trades(count: int, first: int = 0) -> str:
-    """The rows of the issue and of so many trades."""
-    return ISSUE + "".join(trade(f"T{each:05d}") for each in range(first, first + count))
+    """The rows of the issue, whose coupon was mended, and of so many trades. Another desk has a trade by the wrong coupon
+    that is corrected and one that is canceled."""
+    return WRONG_ISSUE + HELD + MENDED + "".join(trade(f"T{each:05d}") for each in range(first, first + count))
 
 
 class Book(NamedTuple):
