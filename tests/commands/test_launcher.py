@@ -91,6 +91,9 @@ PRINCIPAL 25181.25
 ACCRUED 312.50
 TOTAL 25493.75"""
 
+# The issue of ROWS with its next terms.
+AMENDED = b"amend,123456AA3,%d,RIVERTON WATER 5S 2025,periodic,2020-01-01,2020-07-01,2025-01-01,4,\n"
+
 # Words that are no command, and the first one at fault.
 FAULTS = [
     ("'qoute' is no command", ("qoute",)),
@@ -169,14 +172,18 @@ def test_each_status_is_said_on_standard_error(tmp_path):
     with open("/dev/full", "wb") as full:
         check(MUNI.run(*QUOTE, stdout=full), 5, "", "muni: status 5: *")
     check(MUNI.run("mark", f"--store={tmp_path}/S", rows=b"x" * 1_048_577), 9, "", "muni: status 9: *muni figures*")
+    check(MUNI.run("import", f"--store={tmp_path}/S", rows=b"x" * 4_194_305), 9, "",
+          "muni: status 9: the input is too long: 'muni load' takes rows of any number")
     check(MUNI.run("check", rows=b"x\n"), 3, "0,bad,2,1", "muni: status 3: not every row is right*")
 
 
 def test_the_rows_of_a_report_in_a_file_are_counted(tmp_path):
     report, store = tmp_path / "report", f"--store={tmp_path}/S"
     report.write_text("1,confirmed,that,was,there,before\n")
+    amended = b"".join(AMENDED % number for number in (2, 3))
     counts = []
     for command, rows in [("import", ROWS), ("import", b"x\n" + ROWS + b"cancel,ALPHA,T9,2\n"), ("import", b""),
+                          ("import", amended), ("load", amended + b"x\n" + AMENDED % 5),
                           ("mark", b"123456AA3,25000,2024-04-01,4\n123456AA3,25000,2024-04-01,4,x\n"),
                           ("positions", b""), ("figures", b"123456AA3,25000,2024-04-01,yield,4\nx\nx\n")]:
         desk = ["--desk=ALPHA"] if command == "positions" else []
@@ -184,6 +191,7 @@ def test_the_rows_of_a_report_in_a_file_are_counted(tmp_path):
             counts.append(MUNI.run(command, store, *desk, rows=rows, stdout=output).error.decode())
     kept = len(ROWS.splitlines())
     assert counts == [f"muni: rows: {kept} kept, 0 refused, 0 bad\n", f"muni: rows: {kept} kept, 1 refused, 1 bad\n", "",
+                      "muni: rows: 2 kept, 0 refused, 0 bad\n", "muni: rows: 2 kept, 1 refused, 1 bad\n",
                       "muni: rows: 1 marked, 0 refused, 1 bad\n", "",
                       "muni: rows: 1 with figures, 2 refused or bad\n"]
 
@@ -274,6 +282,12 @@ def test_why_a_store_fails_is_told_from_its_file(tmp_path, name, why):
     check(MUNI.run("import", f"--store={name}", folder=tmp_path), 6, "", f"muni: status 6: the store failed: {why}")
 
 
+def test_one_fault_of_words_is_told_and_not_two():
+    said = MUNI.run("quote", "--kind=periodic")
+    first, second = said.error.decode().splitlines()
+    assert first.startswith(f"{WORDS_FAULT}--dated is missing: ") and second.startswith("muni: 'muni help' tells ")
+
+
 def test_what_a_check_could_not_read_is_told_of(tmp_path):
     MUNI.run("import", "--store=S", rows=ROWS, folder=tmp_path)
     sql(tmp_path / "S", "UPDATE versions_3 SET act = 99")
@@ -331,6 +345,27 @@ def test_words_input_and_folder_reach_the_program(tmp_path, echo):
 def test_the_status_of_the_program_is_that_of_the_script(tmp_path, echo, status):
     said = echo.run("x", folder=tmp_path, changes={"STATUS": str(status)})
     check(said, status, f"[x]{tmp_path}", f"muni: status {status}: *")
+
+
+@pytest.mark.parametrize("words", [("positions", "--desk=A"), ("figures",), ("check-store",), ("list", "--desk=A"),
+                                   ("export",), ("confirm", "--desk=A", "--all"), ("mark",), ("check",)],
+                         ids=lambda words: words[0])
+def test_a_store_that_is_not_there_is_told_to_who_only_reads(tmp_path, echo, words):
+    no_store = {"STATUS": "6"}
+    for name in ("typo", "journal:typo"):
+        said = echo.run(*words, f"--store={name}", folder=tmp_path, changes=no_store)
+        assert said.error.decode() == (f"muni: status 6: the store failed: there is no store {name}: "
+                                       "'muni import' makes it, or the name is mistyped\n")
+    (tmp_path / "typo").touch()
+    assert b"there is no store" not in echo.run(*words, "--store=typo", folder=tmp_path, changes=no_store).error
+    said = echo.run("load", "--store=other", folder=tmp_path, changes=no_store)
+    assert said.error == b"muni: status 6: the store failed\n"
+
+
+def test_a_journal_without_a_name_is_no_store(tmp_path, echo):
+    said = echo.run("export", "--store=journal:", folder=tmp_path, changes={"STATUS": "2"})
+    fault = f"{WORDS_FAULT}'--store=journal:' does not read: after journal: there is no name\n"
+    assert said.error.decode().startswith(fault)
 
 
 def test_a_program_that_is_named_is_not_built_and_is_the_one_that_is_installed(tmp_path, echo):
