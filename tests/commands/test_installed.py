@@ -118,6 +118,8 @@ def test_the_installed_program_answers_as_the_script_does(spaced, tmp_path):
     told = subprocess.run(["bash", "muni", *QUOTE], cwd=spaced.prefix / "bin", env=spaced.muni.environment(None),
                           capture_output=True)
     assert (told.returncode, told.stdout, told.stderr) == (0, b"100.235\n", b"")
+    told = subprocess.run(["sh", "-c", 'exec "$0" "$@" <&-', spaced.prefix / "bin/muni", *QUOTE], capture_output=True)
+    assert (told.returncode, told.stdout, told.stderr) == (0, b"100.235\n", b"")
     check(spaced.muni.run("quote-one", "5"), 2, "", "muni: status 2: *: NEXT is missing*")
     check(spaced.muni.run("qoute"), 2, "", "muni: status 2: *: 'qoute' is no command*")
     assert f"muni: installed: {spaced.prefix}/bin/muni, " in spaced.said
@@ -338,7 +340,7 @@ def test_a_fresh_copy_knows_whether_its_sources_are_those_of_the_program(fresh, 
     # Times of files are told apart by some milliseconds, which a price may take.
     later = time.time() + 1
     os.utime(source, (later, later))
-    check(fresh.run(*QUOTE), 1, "", "muni: the program is not of these sources, and rt, *")
+    check(fresh.run(*QUOTE), 1, "", "muni: status 1: there is no program to start: dist/muni is of other sources, *")
     check(fresh.run("qoute"), 2, "", "muni: status 2: *'qoute' is no command*")
     said = fresh.run("--help")
     assert (said.status, said.text.splitlines()[0]) == (0, (
