@@ -6,7 +6,7 @@ import re
 from collections.abc import Callable
 from typing import TypeVar
 
-from calculator import fields, numerals
+from calculator import exported, fields, numerals
 from calculator.book import Act, Book, Version, refused_terms
 from calculator.figures import Asked, Choice, Figures, Given, Refusal, Refused, Side, answers, likely
 from calculator.numerals import Unreadable, shown_figure, shown_money
@@ -15,11 +15,12 @@ from calculator.rows import BadRow, bad_line, records, refused_line
 from calculator.terms import Issue
 
 Read = TypeVar("Read")
-# The columns of what is asked, of the figures, in the order in which they are compared, and of the terms of an issue.
-ASKED = ("reference", "cusip", "side", "par", "settle", "basis", "value", "fee")
+# The columns of what was traded, of the figures, and of the terms of an issue. Of a kept trade what was traded is
+# compared first, then the terms, and then the figures.
+TRADED = ("cusip", "side", "par", "settle", "basis", "value", "fee")
 STATED = ("price", "yield", "redemption", "days", "principal", "accrued", "total")
 TERMS = ("kind", "dated", "first", "maturity", "coupon", "calls", "day_count")
-COLUMNS = (*ASKED, *STATED, *TERMS)
+COLUMNS = ("reference", *TRADED, *STATED, *TERMS)
 # The name and the CUSIP of an issue whose terms a row has.
 UNNAMED = ("000000000", "CHECK")
 # What is not asked of a trade that is not kept.
@@ -74,6 +75,9 @@ class Row:
     def stated(self, column: str, reader: Callable[[str], Read]) -> Read | None:
         return self.read(column, reader) if self.text(column) else None
 
+    def states_any(self, columns: tuple[str, ...]) -> bool:
+        return any(map(self.text, columns))
+
 
 class Unread(Exception):
     """A row that does not read."""
@@ -109,15 +113,17 @@ def asked_by(row: Row, known: Asked | None) -> Asked:
     given = one("basis", "given", fields.given)
     if row.text("value"):
         value = row.read("value", lambda text: fields.value(given, text))
-    elif known is not None and known.given is given:
+    elif known is not None:
         value = known.value
     else:
         raise Unread(row.fault("value"))
     return Asked(cusip, par, settlement, given, value, side, one("fee", "fee", fields.fee))
 
 
-def issue_by(row: Row, cusip: str) -> Issue:
-    """The issue whose terms a row has."""
+def issue_by(row: Row, cusip: str) -> Issue | None:
+    """The issue whose terms a row has, if it has any."""
+    if not row.states_any(TERMS):
+        return None
     kind = row.read("kind", fields.kind)
     dated = row.read("dated", numerals.day)
     first = row.read("first", lambda text: fields.first_interest(kind, text))
@@ -128,19 +134,32 @@ def issue_by(row: Row, cusip: str) -> Issue:
                  row.read("day_count", fields.day_basis))
 
 
+def figures_by(row: Row) -> dict[str, object]:
+    """The figures that a row states, and None for each other one."""
+    return {column: row.stated(column, READERS[column]) for column in STATED}
+
+
+def texts_of(asked: Asked, issue: Issue) -> dict[str, str]:
+    """What was traded and the terms of its issue, by their columns, as an export writes them."""
+    _, _, *terms = exported.terms(issue)
+    return dict(zip((*TRADED, *TERMS), map(str, [*exported.asked(asked), *terms])))
+
+
 @dataclasses.dataclass
 class Tally:
     rows: int = 0
     right: int = 0
     differ: int = 0
     missing: int = 0
+    again: int = 0
+    nothing: int = 0
 
     @property
     def is_all_right(self) -> bool:
         return self.right == self.rows and self.missing == 0
 
     def line(self) -> str:
-        return f"TOTAL,{self.rows},{self.right},{self.differ},{self.missing}"
+        return ",".join(map(str, ["TOTAL", *dataclasses.astuple(self)]))
 
 
 class Check:
@@ -148,7 +167,8 @@ class Check:
 
     def __init__(self, book: Book, desk: str, columns: list[str], choose: Choice = likely) -> None:
         self.book, self.desk, self.columns, self.choose = book, desk, columns, choose
-        self.named: set[str] = set()
+        # The place of the first row of each reference.
+        self.named: dict[str, int] = {}
         self.tally = Tally()
 
     def line(self, record: list[str]) -> str:
@@ -159,22 +179,43 @@ class Check:
             if len(record) != len(self.columns):
                 raise Unread(BadRow())
             reference = row.stated("reference", numerals.reference)
-            last = None
-            if self.desk and reference is not None:
-                self.named.add(reference)
-                versions = self.book.versions(self.desk, reference)
-                if not versions or versions[-1].act is Act.CANCELED:
-                    self.tally.missing += 1
-                    return f"{place},missing,{reference}"
-                last = versions[-1]
-            return self.judged(place, row, last)
+            if not self.desk or reference is None:
+                return self.alone(place, row)
+            return self.named_trade(place, row, reference)
         except Unread as unread:
             return bad_line(place, unread.bad)
 
-    def judged(self, place: int, row: Row, last: Version | None) -> str:
-        asked = asked_by(row, last and last.asked)
-        stated = {column: row.stated(column, READERS[column]) for column in STATED}
-        issue = issue_by(row, asked.cusip) if row.text("kind") else self.issue_for(asked.cusip, last)
+    def named_trade(self, place: int, row: Row, reference: str) -> str:
+        """What is said of a row that names a trade of the desk."""
+        first = self.named.setdefault(reference, place)
+        if first != place:
+            self.tally.again += 1
+            return f"{place},again,{first}"
+        versions = self.book.versions(self.desk, reference)
+        if not versions or versions[-1].act is Act.CANCELED:
+            self.tally.missing += 1
+            return f"{place},missing,{reference}"
+        return self.kept(place, row, versions[-1])
+
+    def kept(self, place: int, row: Row, last: Version) -> str:
+        """What is said of a row of a trade that is kept: what it states of the trade comes before its figures."""
+        issue = self.book.terms(last.asked.cusip)[last.terms - 1]
+        asked, figures = asked_by(row, last.asked), figures_by(row)
+        ours, theirs = texts_of(last.asked, issue), texts_of(asked, issue_by(row, asked.cusip) or issue)
+        for column, text in ours.items():
+            if theirs[column] != text:
+                return self.differs(place, column, text, theirs[column])
+        if not row.states_any(COLUMNS[1:]):
+            return self.nothing(place)
+        return self.compared(place, issue, last.asked, last.figures, figures)
+
+    def alone(self, place: int, row: Row) -> str:
+        """What is said of a row that goes by what it states and by the last terms of its issue."""
+        asked, figures = asked_by(row, None), figures_by(row)
+        issue = issue_by(row, asked.cusip)
+        if not row.states_any(STATED):
+            return self.nothing(place)
+        issue = issue or self.book.issue(asked.cusip)
         if issue is None:
             return refused_line(place, Refusal(Refused.UNKNOWN_ISSUE))
         ours = refused_terms(issue) or self.choose(answers(issue, asked))
@@ -182,24 +223,25 @@ class Check:
             if ours.number is Refused.UNDECIDED:
                 return f"{place},undecided,{'price' if asked.given is Given.YIELD else 'yield'}"
             return refused_line(place, ours)
-        return self.compared(place, issue, asked, ours, stated)
+        return self.compared(place, issue, asked, ours, figures)
 
-    def issue_for(self, cusip: str, last: Version | None) -> Issue | None:
-        """The issue of a row: by the terms by which its trade was figured, or of another CUSIP by the last ones."""
-        if last is not None and last.asked.cusip == cusip:
-            return self.book.terms(cusip)[last.terms - 1]
-        return self.book.issue(cusip)
+    def nothing(self, place: int) -> str:
+        self.tally.nothing += 1
+        return f"{place},nothing"
 
-    def compared(self, place: int, issue: Issue, asked: Asked, ours: Figures, stated: dict[str, object]) -> str:
-        for column, theirs in stated.items():
+    def differs(self, place: int, *words: str) -> str:
+        self.tally.differ += 1
+        return ",".join([str(place), "differs", *words])
+
+    def compared(self, place: int, issue: Issue, asked: Asked, ours: Figures, figures: dict[str, object]) -> str:
+        for column, theirs in figures.items():
             name = OF_FIGURES.get(column, column)
             if theirs is None or getattr(ours, name) == theirs:
                 continue
-            self.tally.differ += 1
             reading = reading_of(issue, asked, ours, name, theirs)
             shown = SHOWN[column]
-            words = [str(place), "differs", column, shown(getattr(ours, name)), shown(theirs)]
-            return ",".join(words + ([reading] if reading else []))
+            words = [column, shown(getattr(ours, name)), shown(theirs)]
+            return self.differs(place, *words, *([reading] if reading else []))
         self.tally.right += 1
         return f"{place},right"
 

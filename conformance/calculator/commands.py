@@ -12,10 +12,13 @@ from calculator.numerals import shown_figure
 from calculator.sensitivities import risk_of
 from calculator.texts import (confirmation, each_lines, figure_lines, position_line, refusal_line, risk_lines,
                               text_of)
-from calculator.words import Drill, Help, OverStore, QuoteOne, QuoteTerms, Usage, job
+from calculator.words import NO_STORE, Drill, Help, OverStore, QuoteOne, QuoteTerms, Usage, job
 
-IMPORTED_MAX = 4_194_304
-MARKED_MAX = 1_048_576
+# The commands with an input, and how long that of some may be.
+READING = ("import", "load", "mark", "figures", "check")
+LONGEST = {"import": 4_194_304, "mark": 1_048_576}
+# The commands that make a store which is not there. The others only read one.
+MAKING = ("import", "load")
 HELP = """\
 quote-one COUPON NEXT SETTLE REDEMPTION YIELD
 quote --kind --dated --maturity --settle --yield|--price|--rate --first --coupon --call --par --workers --days --each --risk
@@ -39,6 +42,7 @@ class Status(enum.IntEnum):
     DONE = 0
     USAGE = 2
     REFUSED = 3
+    STORE_FAULT = 6
     TOO_LARGE = 9
 
 
@@ -75,9 +79,7 @@ def run(words: Sequence[str], books: dict[str, Book] | None = None, data: bytes 
         case QuoteTerms():
             return quoted(asked, choose)
         case OverStore():
-            book = ({} if books is None else books).setdefault(asked.store, Book())
-            book.limit = asked.limit
-            return over_store(asked, book, data, choose)
+            return over_store(asked, {} if books is None else books, data, choose)
 
 
 def quoted(asked: QuoteTerms, choose: Choice) -> Said:
@@ -89,7 +91,20 @@ def quoted(asked: QuoteTerms, choose: Choice) -> Said:
     return said([*figure_lines(asked.asked, found), *each_lines(asked.asked, each), *risk_lines(risk)])
 
 
-def over_store(asked: OverStore, book: Book, data: bytes | Callable[[], bytes], choose: Choice) -> Said:
+def over_store(asked: OverStore, books: dict[str, Book], data: bytes | Callable[[], bytes], choose: Choice) -> Said:
+    text = b"" if asked.name not in READING else data if isinstance(data, bytes) else data()
+    if len(text) > LONGEST.get(asked.name, len(text)):
+        return Said(Status.TOO_LARGE)
+    if asked.name in MAKING:
+        books.setdefault(asked.store, Book())
+    book = Book() if asked.store == NO_STORE else books.get(asked.store)
+    if book is None:
+        return Said(Status.STORE_FAULT)
+    book.limit = asked.limit
+    return over_book(asked, book, text, choose)
+
+
+def over_book(asked: OverStore, book: Book, text: bytes, choose: Choice) -> Said:
     match asked.name:
         case "confirm" if asked.is_all:
             return said(confirmations(book, asked.desk))
@@ -105,22 +120,17 @@ def over_store(asked: OverStore, book: Book, data: bytes | Callable[[], bytes], 
         case "check-store":
             return said(exported.counted(book))
         case "import":
-            text = data if isinstance(data, bytes) else data()
-            if len(text) > IMPORTED_MAX:
-                return Said(Status.TOO_LARGE)
             return said(rows.report(book, text, choose) + positions(book, asked.desk))
         case "load":
-            return said(rows.report(book, data if isinstance(data, bytes) else data(), choose))
+            return said(rows.report(book, text, choose))
         case "figures":
-            text = data if isinstance(data, bytes) else data()
             form = valued.Form(asked.first, asked.has_header, asked.is_risk)
             return said(valued.report(book, text, form, choose))
         case "check":
-            lines, is_right = checked.report(book, asked.desk, data if isinstance(data, bytes) else data(), choose)
+            lines, is_right = checked.report(book, asked.desk, text, choose)
             return said(lines, Status.DONE if is_right else Status.REFUSED)
         case _:
-            text = data if isinstance(data, bytes) else data()
-            return Said(Status.TOO_LARGE) if len(text) > MARKED_MAX else said(rows.marks(book, text, choose))
+            return said(rows.marks(book, text, choose))
 
 
 def confirmations(book: Book, desk: str) -> list[str]:

@@ -209,6 +209,8 @@ def posted(path: str, body: bytes) -> Command | CheckOfRow:
 
 
 def row_of(members: Members) -> CheckOfRow:
+    if not {"desk", *checked.COLUMNS}.issuperset(members.body):
+        raise Unreadable
     columns = [column for column in checked.COLUMNS if column in members]
     desk = numerals.desk(members["desk"]) if "desk" in members else ""
     return CheckOfRow(desk, columns, [members[column] for column in columns])

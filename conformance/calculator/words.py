@@ -136,7 +136,8 @@ def number(low: int, high: int) -> Callable[[str], int]:
 
 
 def store_name(text: str) -> str:
-    return numerals.name(text, "[!-~]{1,200}")
+    """The name of a store. What names a journal has more than the beginning of such names."""
+    return numerals.name(text, "(?!journal:$)[!-~]{1,200}")
 
 
 def job(words: Sequence[str]) -> Job:
