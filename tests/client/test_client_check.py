@@ -62,7 +62,8 @@ def test_each_kind_of_figure_is_of_its_type(kept: Book) -> None:
 def test_a_missing_value_is_not_stated_and_other_columns_stay(kept: Book) -> None:
     frame = pandas.DataFrame([TRADED | {"price": None, "desk": "X"}, TRADED | {"price": Decimal("100.725"), "desk": None}])
     found = checked(frame, kept)
-    assert list(found["verdict"]) == ["right", "right"] and list(found["desk"]) == ["X", None]
+    assert verdicts(found) == [("nothing", None, None, None, None), ("right", None, None, None, None)]
+    assert list(found["desk"]) == ["X", None]
 
 
 def test_the_trades_of_a_desk_are_looked_up(kept: Book) -> None:
@@ -72,8 +73,40 @@ def test_the_trades_of_a_desk_are_looked_up(kept: Book) -> None:
     assert found.attrs["missing"] == ["T0001", "T0003"]
 
 
+def test_what_is_stated_of_a_kept_trade_is_compared_with_it(kept: Book) -> None:
+    """The trade is bought: 25,000 of an issue of 5 percent at a yield of 4."""
+    same = {"side": muni.Side.BUY, "fee": Decimal(0), "kind": muni.Kind.PERIODIC, "dated": date(2020, 1, 1),
+            "first": date(2020, 7, 1), "maturity": date(2025, 1, 1), "coupon": 5, "calls": None, "day_count": "30/360"}
+    whole = {"reference": "T0001", "price": Decimal("100.725")} | TRADED | same
+    wrong = {"cusip": "990000010", "side": muni.Side.SELL, "par": 2500, "settle": date(2024, 4, 2),
+             "basis": muni.Basis.PRICE, "value": Decimal("4.5"), "fee": Decimal("0.25"), "kind": muni.Kind.ZERO,
+             "dated": date(2019, 1, 1), "first": date(2021, 1, 1), "maturity": date(2026, 1, 1),
+             "coupon": Decimal("5.5"), "calls": "2024-07-01:100", "day_count": "actual/365"}
+    ours = {"cusip": "123456AA3", "side": "buy", "par": 25000, "settle": date(2024, 4, 1), "basis": "yield",
+            "value": Decimal("4.0000"), "fee": Decimal("0.000"), "kind": "periodic", "dated": date(2020, 1, 1),
+            "first": date(2020, 7, 1), "maturity": date(2025, 1, 1), "coupon": Decimal(5), "calls": "",
+            "day_count": "30/360"}
+    right, none = ("right", None, None, None, None), ("nothing", None, None, None, None)
+    assert verdicts(checked(pandas.DataFrame([whole]), kept, desk="ALPHA")) == [right]
+    for name, value in wrong.items():
+        # An issue that pays no interest has no first interest date.
+        rest = {"first": None, "coupon": None} if name == "kind" else {}
+        frame = pandas.DataFrame([whole | {name: value} | rest, {"reference": "T0002"}], dtype=object)
+        assert verdicts(checked(frame, kept, desk="ALPHA")) == [("differs", name, ours[name], None, None), none]
+
+
+def test_a_reference_that_comes_again_names_the_row_of_the_first(kept: Book) -> None:
+    frame = pandas.DataFrame({"reference": ["T0002", "T9", "T0002", "T9"], "price": ["1", "1", "100.725", ""]},
+                             index=["a", "b", "c", "d"])
+    found = checked(frame, kept, desk="ALPHA")
+    assert verdicts(found) == [("differs", "price", Decimal("100.725"), None, None), ("missing", *[None] * 4),
+                               ("again", None, None, None, "a"), ("again", None, None, None, "b")]
+    assert list(checked(frame, kept)["verdict"]) == ["bad"] * 4
+
+
 def test_refusals_and_what_does_not_read_have_their_reasons(kept: Book) -> None:
-    frame = pandas.DataFrame([TRADED | {"cusip": "990000010"}, TRADED | {"par": 0}, TRADED | {"value": 101}])
+    stated = TRADED | {"price": 1}
+    frame = pandas.DataFrame([stated | {"cusip": "990000010"}, stated | {"par": 0}, stated | {"value": 101}])
     assert verdicts(checked(frame, kept)) == [
         ("refused", None, None, None, "UnknownIssue"), ("bad", None, None, None, "par"),
         ("refused", None, None, None, "GivenOutOfRange")]
@@ -102,14 +135,20 @@ def test_a_frame_that_cannot_be_asked_is_told(frame: dict[str, Any], error: type
 
 def test_a_program_that_fails_is_told(tmp_path: pathlib.Path) -> None:
     (tmp_path / "S").write_bytes(b"no store")
-    with pytest.raises(muni.Ended) as ended:
-        muni.check(pandas.DataFrame({"cusip": ["x"]}), tmp_path / "S", program=PROGRAM.path)
-    assert ended.value.status == 6
+    for name in ("S", "none"):
+        with pytest.raises(muni.Ended) as ended:
+            muni.check(pandas.DataFrame({"cusip": ["x"]}), tmp_path / name, program=PROGRAM.path)
+        assert ended.value.status == 6
+    assert [each.name for each in tmp_path.iterdir()] == ["S"]
 
 
-def test_lines_that_are_not_whole_are_told(tmp_path: pathlib.Path) -> None:
+def test_lines_that_are_not_whole_are_told(tmp_path: pathlib.Path, monkeypatch: pytest.MonkeyPatch) -> None:
     program = tmp_path / "program"
-    program.write_text("#!/bin/sh\necho 1,right\necho TOTAL,2,2,0,0\n")
+    program.write_text("#!/bin/sh\necho 1,right\necho $TOTAL\n")
     program.chmod(0o755)
-    with pytest.raises(muni.Error):
-        muni.check(pandas.DataFrame({"cusip": ["x"]}), program=program)
+    for total in ("TOTAL,2,2,0,0,0,0", "TOTAL,1,1,0,0,0,1", "TOTAL,1,1,0,0"):
+        monkeypatch.setenv("TOTAL", total)
+        with pytest.raises(muni.Error):
+            muni.check(pandas.DataFrame({"cusip": ["x"]}), program=program)
+    monkeypatch.setenv("TOTAL", "TOTAL,1,1,0,0,0,0")
+    assert list(muni.check(pandas.DataFrame({"cusip": ["x"]}), program=program)["verdict"]) == ["right"]

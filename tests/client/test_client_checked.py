@@ -58,16 +58,35 @@ def test_a_kept_trade_is_looked_up_by_its_reference(desk: muni.Client) -> None:
         Checked(Verdict.MISSING, reason=each) for each in ("K2", "K9")]
 
 
+def test_what_is_stated_of_a_kept_trade_is_compared_with_it(desk: muni.Client) -> None:
+    desk.enter(replace(COMMITTED, reference="K3"))
+    same: dict[str, muni.Field] = {"reference": "K3", "cusip": ELM_GROVE.cusip, "side": Side.SELL, "par": 25_000,
+                                   "settle": date(2024, 4, 3), "basis": Basis.PRICE, "value": Decimal("104.25"),
+                                   "fee": Decimal("0.375")}
+    assert desk.check(same, "STREET") == Checked(Verdict.RIGHT)
+    assert desk.check({"reference": "K3"}, "STREET") == Checked(Verdict.NOTHING)
+    wrong: dict[str, tuple[muni.Field, object, object]] = {
+        "cusip": (RIVERTON.cusip, ELM_GROVE.cusip, RIVERTON.cusip), "side": (Side.BUY, "sell", "buy"),
+        "par": (250_000, 25_000, 250_000),
+        "settle": (date(2024, 4, 4), date(2024, 4, 3), date(2024, 4, 4)), "basis": (Basis.YIELD, "price", "yield"),
+        "value": ("104.5", Decimal("104.25"), Decimal("104.5")), "fee": (0, Decimal("0.375"), Decimal(0))}
+    for name, (field, ours, theirs) in wrong.items():
+        found = desk.check(same | {name: field, "price": "104.250"}, "STREET")
+        assert found == Checked(Verdict.DIFFERS, name, ours, theirs)
+    assert desk.check({"reference": "K3", "coupon": 4}, "STREET") == Checked(Verdict.BAD, reason="kind")
+
+
 def test_refusals_ties_and_what_does_not_read_have_their_reasons(desk: muni.Client) -> None:
     asked: list[Mapping[str, muni.Field]] = [
-        TRADED | {"cusip": "000000000"}, TRADED | {"value": 101},
+        TRADED | {"cusip": "000000000", "days": 1}, TRADED | {"value": 101, "days": 1},
         TRADED | {"cusip": ZERO.cusip, "settle": date(2024, 1, 1), "value": 50, "price": Decimal("32.768")},
-        TRADED | {"par": 0}, TRADED | {"price": "1.0005"}, {"value": 4}, TRADED | {"day_count": "x", "kind": "zero"}]
+        TRADED | {"par": 0}, TRADED | {"price": "1.0005"}, {"value": 4}, TRADED | {"day_count": "x", "kind": "zero"},
+        TRADED]
     assert [desk.check(row) for row in asked] == [
         Checked(Verdict.REFUSED, reason="UnknownIssue"), Checked(Verdict.REFUSED, reason="GivenOutOfRange"),
         Checked(Verdict.UNDECIDED, reason="price"), Checked(Verdict.BAD, reason="par"),
         Checked(Verdict.BAD, reason="price"), Checked(Verdict.BAD, reason="cusip"),
-        Checked(Verdict.BAD, reason="dated")]
+        Checked(Verdict.BAD, reason="dated"), Checked(Verdict.NOTHING)]
 
 
 def test_nothing_of_a_row_has_to_be_escaped() -> None:

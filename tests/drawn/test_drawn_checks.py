@@ -6,13 +6,14 @@ import pathlib
 import random
 import tempfile
 
+import pytest
 from hypothesis import given
 from hypothesis import strategies as st
 
 from support.books import Book
-from support.checked import ASKED, STATED, TERMS, issues, rows, text_of
+from support.checked import ASKED, STATED, TERMS, issues, parts_of, rows, text_of, text_of_fields, whole_trades
 from support.drawn import any_of, mutated, one_in, whole
-from support.exported import book
+from support.exported import Row, book, trade
 from support.exported import text_of as text_of_rows
 from support.program import Program
 from support.reference import Reference
@@ -58,19 +59,34 @@ def test_rows_with_the_terms_of_their_issues_need_no_store(muni: Program, tmp_pa
     assert said[1] == wanted(text_of_rows(kept), sent=text_of([*COLUMNS[1:], "cusip"], printed))[1][1]
 
 
-def test_the_trades_of_a_desk_are_looked_up_and_those_without_a_row_told(muni: Program):
-    source = random.Random(3)
-    kept = book(source, 30, 300)
-    references = [row[2] for row in kept if row[0] == "trade" and row[1] == "ALPHA"]
-    sent = b"reference,price\n" + b"".join(f"{each},{source.choice(['', '100.000'])}\n".encode()
-                                           for each in [*references[::2], *references[:9], "NONE1"])
-    reference, said = wanted(text_of_rows(kept), "--desk=ALPHA", sent=sent)
-    assert reference.is_sure
+def amended(source: random.Random) -> list[Row]:
+    """The rows of a book, some of whose issues are amended between its trades."""
+    first = book(source, 30, 200)
+    added = [row for row in first if row[0] == "issue"]
+    others = [["amend", row[1], "2", *row[2:7], "7.25", *row[8:]] for row in added[::3] if row[7]]
+    later = [trade(source, added, f"Z{place}", source.choice([0, 0, 1]), place % 9 == 0) for place in range(200)]
+    return [*first, *others, *(row for rows in later for row in rows)]
+
+
+@pytest.mark.parametrize("kind", KINDS)
+def test_what_rows_state_of_kept_trades_is_compared_with_them(muni: Program, kind: str, request):
+    """By the calculator; and what the store itself has of its live trades is right, all of it."""
+    source = random.Random() if request.config.getoption("--long") else random.Random(3)
+    entered, columns = text_of_rows(amended(source)), ["reference", *COLUMNS, *TERMS]
+    reference, _ = wanted(entered, sent=b"reference\n")
+    wholes = whole_trades(reference.book, "ALPHA")
+    parts = [*parts_of(source, wholes), {"reference": "NONE1"}]
+    source.shuffle(columns)
     with empty_folder() as folder:
-        found = Book(muni, Store("sqlite", pathlib.Path(folder, "S")))
-        found.said("load", rows=text_of_rows(kept))
-        told = found.said("check", "--desk=ALPHA", rows=sent)
-    assert (told.status, told.output.splitlines()) == (said[0], said[1].splitlines())
+        found = Book(muni, Store(kind, pathlib.Path(folder, "S")))
+        found.said("load", rows=entered)
+        for sent in (text_of_fields(columns, each) for each in (wholes, parts, parts[::2])):
+            status, lines = reference.ran("check", "--desk=ALPHA", rows=sent)
+            told = found.said("check", "--desk=ALPHA", rows=sent)
+            assert (told.status, told.output.splitlines()) == (status, lines.splitlines())
+        told = found.said("check", "--desk=ALPHA", rows=text_of_fields(columns, wholes)).output
+    assert reference.is_sure
+    assert {line.split(b",")[1] for line in told.splitlines()[:-1]} == {b"right", b"missing"}
 
 
 @st.composite

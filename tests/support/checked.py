@@ -6,7 +6,8 @@ import dataclasses
 import io
 import random
 
-from calculator.checked import OF_FIGURES, SHOWN, STATED
+from calculator.book import Book
+from calculator.checked import OF_FIGURES, SHOWN, STATED, texts_of
 from calculator.figures import Figures, answers
 from calculator.readings import Reading, figures_by
 from calculator.rows import Columns
@@ -108,9 +109,38 @@ def rows(source: random.Random, issues: list[Row], count: int) -> list[Printed]:
     return found
 
 
+def whole_trades(book: Book, desk: str) -> list[dict[str, str]]:
+    """All that can be stated of each trade of a desk, as it is kept."""
+    found = []
+    for reference, versions in sorted(book.desks[desk].items()):
+        last = versions[-1]
+        issue = book.terms(last.asked.cusip)[last.terms - 1]
+        found.append({"reference": reference} | texts_of(last.asked, issue) | shown(last.figures))
+    return found
+
+
+def parts_of(source: random.Random, whole: list[dict[str, str]]) -> list[dict[str, str]]:
+    """A part of what can be stated of each trade, of some of them with a field of another, and some of them again."""
+    found = []
+    for row in whole:
+        parts = [column for column in (*ASKED, *STATED) if source.randrange(2)] + [*TERMS] * source.randrange(2)
+        part = {column: row[column] for column in ("reference", *parts)}
+        if source.randrange(3) == 0:
+            column = source.choice([*ASKED, *STATED, *TERMS])
+            part[column] = source.choice(whole)[column]
+        found += [part] * (1 + (source.randrange(6) == 0))
+    source.shuffle(found)
+    return found
+
+
 def text_of(columns: list[str], printed: list[Printed]) -> bytes:
     """The rows as a file with these columns."""
+    return text_of_fields(columns, [{column: row.field(column) for column in columns} for row in printed])
+
+
+def text_of_fields(columns: list[str], rows: list[dict[str, str]]) -> bytes:
     written = io.StringIO(newline="")
-    csv.writer(written, lineterminator="\n").writerows(
-        [columns, *([row.field(column) for column in columns] for row in printed)])
+    writer = csv.DictWriter(written, columns, restval="", lineterminator="\n")
+    writer.writeheader()
+    writer.writerows(rows)
     return written.getvalue().encode()

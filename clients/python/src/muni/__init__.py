@@ -842,8 +842,8 @@ class Client:
         """What is said of figures that another firm printed; nothing is kept by it.
 
         The row has the columns of a file of `muni check`, as docs/FORMATS.md has them: what was traded, what was
-        printed, and for an issue that is not kept its terms. With a desk `reference` names a trade that it keeps, and
-        what the row leaves out of it is looked up. A field is a Decimal, an int, a text, a day or an Enum of the client;
+        printed, and for an issue that is not kept its terms. With a desk `reference` names a trade that it keeps: what
+        the row states of it is compared with what is kept, and the figures with those of the trade. A field is a Decimal, an int, a text, a day or an Enum of the client;
         None, as a column that is left out, is not stated. Another column is a ValueError, and a float a TypeError.
         """
         named = {} if desk is None else {"desk": _desk(desk)}

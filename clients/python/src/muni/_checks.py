@@ -10,6 +10,7 @@ import importlib
 import io
 import os
 import re
+from collections import Counter
 from collections.abc import Callable, Mapping, Sequence
 from dataclasses import dataclass
 from datetime import date
@@ -21,8 +22,8 @@ from ._program import Ended, Error, Path, pieces
 
 # A field of a row. None is not stated.
 Field = Union[Decimal, int, str, date, enum.Enum, None]
-# A figure of a row, as its column has it.
-Figure = Union[Decimal, int, date]
+# A figure of a row, or what it states of a trade, as its column has it.
+Figure = Union[Decimal, int, date, str]
 
 
 class Verdict(enum.Enum):
@@ -34,6 +35,8 @@ class Verdict(enum.Enum):
     REFUSED = "refused"
     MISSING = "missing"
     BAD = "bad"
+    AGAIN = "again"
+    NOTHING = "nothing"
 
 
 class Reading(enum.Enum):
@@ -52,9 +55,10 @@ class Reading(enum.Enum):
 class Checked:
     """What is said of a row of figures that another firm printed.
 
-    Of a row that differs `differs` is the first column that does, `ours` and `theirs` are the figure of the rule and
-    the one that is stated, and `reading` is the formula that gives theirs, or None. `reason` is the name of a refusal,
-    the column that is undecided, the reference of a trade that is not kept, or the first column that does not read.
+    Of a row that differs `differs` is the first column that does, `ours` and `theirs` are what the trade has that is
+    kept, or the figure of the rule, and what is stated, and `reading` is the formula that gives theirs, or None.
+    `reason` is the name of a refusal, the column that is undecided, the reference of a trade that is not kept, or the
+    first column that does not read.
     """
 
     verdict: Verdict
@@ -65,13 +69,20 @@ class Checked:
     reason: str | None = None
 
 
-# What the program knows the columns of a file by. Those of the figures have the forms of what it tells of them.
+# What the program knows the columns of a file by, with the forms of what it tells of them.
 STATED: dict[str, Callable[[str], Figure]] = {
     "price": Decimal, "yield": Decimal, "redemption": date.fromisoformat, "days": int, "principal": Decimal,
     "accrued": Decimal, "total": Decimal}
-COLUMNS = ("reference", "cusip", "side", "par", "settle", "basis", "value", "fee", *STATED, "kind", "dated", "first",
-           "maturity", "coupon", "calls", "day_count")
+TRADED: dict[str, Callable[[str], Figure]] = {
+    "cusip": str, "side": str, "par": int, "settle": date.fromisoformat, "basis": str, "value": Decimal, "fee": Decimal}
+TERMS: dict[str, Callable[[str], Figure]] = {
+    "kind": str, "dated": date.fromisoformat, "first": date.fromisoformat, "maturity": date.fromisoformat,
+    "coupon": Decimal, "calls": str, "day_count": str}
+READERS = {**TRADED, **STATED, **TERMS}
+COLUMNS = ("reference", *READERS)
 TOLD = ("verdict", "differs", "ours", "reading", "reason")
+# The words of lines in the order in which the total counts them.
+COUNTED = ("right", "differs", "missing", "again", "nothing")
 # The status of a check in which not every row is right.
 NOT_ALL_RIGHT = 3
 
@@ -82,15 +93,18 @@ def check(frame: Frame, store: Path | None = None, *, desk: str | None = None, p
     The columns are those of a file of `muni check`, in any order: what was traded, as `cusip`, `par`, `settle`, `basis`,
     `value` and perhaps `side` and `fee`; what was printed, of `price`, `yield`, `redemption`, `days`, `principal`,
     `accrued` and `total`; and without a store, or for an issue that it does not keep, the terms `kind`, `dated`, `first`,
-    `maturity`, `coupon`, `calls` and `day_count`. With a desk, `reference` names a trade that the store keeps, and what
-    a row leaves out of it is looked up. A field is a Decimal, an int, a text, a day, an Enum of the client, or a float
-    as `figures` takes it. A missing value is not stated. Other columns stay as they are and are not looked at.
+    `maturity`, `coupon`, `calls` and `day_count`. With a desk, `reference` names a trade that the store keeps: what a
+    row states of it and of its terms is compared with what is kept, and the figures with those of the trade. A field is
+    a Decimal, an int, a text, a day, an Enum of the client, or a float as `figures` takes it. A missing value is not
+    stated. Other columns stay as they are and are not looked at.
 
     The frame that is returned has the same index, rows and columns, and after them `verdict`: `right`, `differs`,
-    `undecided`, `refused`, `missing` or `bad`. Of a row that differs `differs` is the first column that does, `ours`
-    the figure of the rule, and `reading` the name of the formula that gives theirs, or None. `reason` is the name of a
-    refusal, the column that is undecided, or the first column that does not read. The references of the desk's live
-    trades for which no row came are in `attrs["missing"]`.
+    `undecided`, `refused`, `missing`, `bad`, `again` if the reference came in an earlier row, or `nothing` if nothing
+    is stated that could be right. Of a row that differs `differs` is the first column that does, `ours` what the trade
+    has that is kept, or the figure of the rule, and `reading` the name of the formula that gives theirs, or None.
+    `reason` is the name of a refusal, the column that is undecided, the first column that does not read, or the index
+    of the row in which the reference came first. The references of the desk's live trades for which no row came are in
+    `attrs["missing"]`.
 
     A frame that has one of the new columns, or none that is known, is a ValueError. If the program ends with another
     status than 0 or 3, the exception is Ended; the store must not be open elsewhere.
@@ -134,21 +148,23 @@ def _beside(frame: Frame, names: list[str], lines: list[str]) -> Frame:
     pandas = importlib.import_module("pandas")
     told = [line.split(",") for line in lines]
     rows, unseen, last = told[:len(frame)], told[len(frame):-1], lines[-1] if lines else ""
-    counts = [sum(row[1] == verdict for row in rows) for verdict in ("right", "differs", "missing")]
-    said = f"TOTAL,{len(frame)},{counts[0]},{counts[1]},{counts[2] + len(unseen)}"
+    counts = Counter(row[1] for row in rows) + Counter(missing=len(unseen))
+    said = ",".join(map(str, ["TOTAL", len(frame), *(counts[each] for each in COUNTED)]))
     if last != said or any(row[:2] != ["0", "missing"] for row in unseen):
         raise Error(f"{len(lines)} lines for {len(frame)} rows, and {last!r} at their end, not {said!r}")
-    columns = zip(*(_columns(row, names) for row in rows)) if rows else [()] * len(TOLD)
+    columns = zip(*(_columns(row, names, frame.index) for row in rows)) if rows else [()] * len(TOLD)
     found = frame.assign(**{name: pandas.Series(list(column), index=frame.index, dtype=object)
                             for name, column in zip(TOLD, columns)})
     found.attrs["missing"] = [row[2] for row in unseen]
     return found
 
 
-def _columns(row: list[str], names: list[str]) -> tuple[Any, ...]:
+def _columns(row: list[str], names: list[str], index: Any) -> tuple[Any, ...]:
     """What a line tells, as the new columns."""
     found = _checked(row, names)
-    reason = None if found.verdict is Verdict.MISSING else found.reason
+    reason: Any = None if found.verdict is Verdict.MISSING else found.reason
+    if found.verdict is Verdict.AGAIN:
+        reason = index[int(row[2]) - 1]
     return (found.verdict.value, found.differs, found.ours, None if found.reading is None else found.reading.value,
             reason)
 
@@ -159,11 +175,11 @@ def _checked(row: Sequence[str], names: Sequence[str]) -> Checked:
     verdict = Verdict(word)
     if verdict is Verdict.DIFFERS:
         name, ours, theirs, *reading = rest
-        read = STATED[name]
+        read = READERS[name]
         return Checked(verdict, name, read(ours), read(theirs), Reading(reading[0]) if reading else None)
     if verdict is Verdict.BAD:
         return Checked(verdict, reason=names[int(rest[1]) - 1] if rest[0] == "2" else "row")
-    if verdict is Verdict.RIGHT:
+    if verdict in (Verdict.RIGHT, Verdict.NOTHING):
         return Checked(verdict)
     return Checked(verdict, reason=rest[1 if verdict is Verdict.REFUSED else 0])
 
