@@ -57,6 +57,7 @@ async function sent(body) {
 // What the desk says of a row, or the answer that says nothing of it.
 async function judge(row, desk) {
   if (!row.isWhole) return { row, verdict: "bad", kind: "1" };
+  if (desk && row.first < row.place) return { row, verdict: "again", first: row.first };
   const answer = await sent(bodyOf(row, desk));
   const said = answer.kind === "done" ? readVerdict(answer.text) : {};
   if (!ORDER.includes(said.verdict)) return { answer };

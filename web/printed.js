@@ -38,12 +38,20 @@ function rowOf(fields, names, place) {
   return { place, reference, texts, isWhole, count: fields.length };
 }
 
+// The rows, each with the place of the first one of its reference.
+function withFirsts(rows) {
+  const firsts = new Map();
+  for (const { reference, place } of rows) if (reference && !firsts.has(reference)) firsts.set(reference, place);
+  return rows.map(row => ({ ...row, first: firsts.get(row.reference) ?? row.place }));
+}
+
 // The columns and the rows of a file, or what is wrong with it. Places count from 1.
 export function readPrinted(text) {
   const [names, ...records] = readCsv(text);
   if (!names) return { fault: ["The file is empty", "What to do: choose one whose first line names the columns."] };
   const fault = faultOf(names, records);
-  return fault ? { fault } : { names, rows: records.map((fields, place) => rowOf(fields, names, place + 1)) };
+  if (fault) return { fault };
+  return { names, rows: withFirsts(records.map((fields, place) => rowOf(fields, names, place + 1))) };
 }
 
 // Whether what was traded can only be looked up by the references.

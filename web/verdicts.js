@@ -5,8 +5,13 @@ import { scaled } from "./texts.js";
 
 export const FIGURES = { price: "Price", yield: "Yield", redemption: "Redemption", days: "Days accrued",
   principal: "Principal", accrued: "Accrued interest", total: "Total" };
+// What a row states of a trade that is kept, and of the terms by which it was figured.
+const TRADED = { cusip: "CUSIP", side: "Side", par: "Par", settle: "Settlement", basis: "Basis", value: "Value",
+  fee: "Commission" };
+const TERMS = { kind: "Kind", dated: "Dated date", first: "First interest date", maturity: "Maturity",
+  coupon: "Coupon", calls: "Calls", day_count: "Day count" };
 // In this order the rows are shown.
-export const ORDER = ["differs", "undecided", "refused", "missing", "bad", "right"];
+export const ORDER = ["differs", "undecided", "refused", "missing", "bad", "again", "nothing", "right"];
 
 // At a given yield the price follows from the redemption, and with it the money.
 const DECIDED = { yield: "yield", price: "price", principal: "price", total: "price" };
@@ -60,8 +65,19 @@ function ofBad({ row, kind, number }) {
 const UNKNOWN = ["", "a refusal that this page does not know", "ask whoever runs the desk"];
 const sentence = words => words[0].toUpperCase() + words.slice(1) + ".";
 
+// What is not that of the trade that is kept: the words of each firm, of which calls may be none.
+function ofTrade({ column, ours, theirs }) {
+  const isTerm = column in TERMS;
+  const name = (isTerm ? TERMS : TRADED)[column];
+  const lower = column === "cusip" ? name : name.toLowerCase();
+  return [name, isTerm ? "not the terms of the trade that is kept" : "not that of the trade that is kept",
+    `For ${lower} we have ${ours || "none"} and you have ${theirs || "none"}; ` +
+    `compare ${isTerm ? "the terms" : "the tickets"}.`];
+}
+
 const WORDS = {
   differs: found => {
+    if (!(found.column in FIGURES)) return ofTrade(found);
     const [what, say] = READINGS[found.reading] ?? UNREAD;
     return [FIGURES[found.column], what, say(found)];
   },
@@ -75,6 +91,9 @@ const WORDS = {
     ? ["", "no live trade is kept under this reference", "We have no trade of this reference; send us its terms."]
     : ["", "a live trade of the desk for which no row came", "Send us your figures of this trade."],
   bad: ofBad,
+  again: ({ first }) => ["", `its reference came before, in row ${first}`,
+    `The reference stands in row ${first} too; send one row of each trade.`],
+  nothing: () => ["", "nothing is stated that could be right", "The row states no figure; send us yours of this trade."],
   right: () => ["", "", ""],
 };
 

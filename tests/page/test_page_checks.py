@@ -93,21 +93,51 @@ def test_there_are_words_for_each_reading_and_no_other(page):
 
 
 def test_rows_come_by_what_is_said_of_them(page):
-    page.enter("KEPT1")
+    for number in (1, 2, 3):
+        page.enter(f"KEPT{number}")
     wanted = {
-        "right": ["KEPT1", "", "", "", "", ""], "bad": ["KEPT1", "", "2024-04-03", "yield", "4", "1.0005"],
-        "missing": ["KEPT9", "", "", "", "", ""], "refused": ["", "000000000", "2024-04-03", "yield", "4", ""],
+        "right": ["KEPT1", "990034AA8", "2024-04-03", "yield", "4", ""],
+        "bad": ["KEPT2", "", "2024-04-03", "yield", "4", "1.0005"],
+        "missing": ["KEPT9", "", "", "", "", ""], "again": ["KEPT1", "", "", "", "", "1"],
+        "refused": ["", "000000000", "2024-04-03", "yield", "4", "1"],
         "undecided": ["", "990000010", "2024-01-01", "yield", "50", "32.768"],
-        "differs": ["KEPT1", "", "", "", "", "1"]}
+        "differs": ["KEPT3", "", "", "", "", "1"], "nothing": ["", "990034AA8", "2024-04-03", "yield", "4", ""]}
     said = dropped(page, text_of(["reference", "cusip", "settle", "basis", "value", "price", "par"],
                                  *[[*row, "5000"] for row in wanted.values()]), "RETAIL")
-    assert "6 rows checked: 1 differs, 1 undecided, 1 refused, 1 missing, 1 bad, 1 right." in said
-    assert [line[0] for line in lines(page)] == ["KEPT1 row 6", "row 5", "row 4", "KEPT9 row 3", "KEPT1 row 2"]
-    assert [line[4] for line in lines(page)] == [
+    assert ("8 rows checked: 1 differs, 1 undecided, 1 refused, 1 missing, 1 bad, 1 again, 1 nothing, 1 right."
+            in said)
+    assert [line[0] for line in lines(page)[:7]] == ["KEPT3 row 7", "row 6", "row 5", "KEPT9 row 3", "KEPT2 row 2",
+                                                     "KEPT1 row 4", "row 8"]
+    assert [line[4] for line in lines(page)[:7]] == [
         "no formula that is known", "undecided: the exact one lies at the boundary of two printed ones",
         "no figures: no issue of this CUSIP is kept", "no live trade is kept under this reference",
-        "price does not read: 1.0005"]
+        "price does not read: 1.0005", "its reference came before, in row 1", "nothing is stated that could be right"]
     assert right(page) == "KEPT1"
+    assert len(sent(page)) == 7
+
+
+def test_what_is_not_that_of_the_kept_trade_is_told(page):
+    """What was traded and the terms, before the figures. The issue has calls, and pays 4.125 percent."""
+    columns = ["reference", "side", "par", "price", "kind", "dated", "first", "maturity", "coupon", "calls"]
+    terms = ["periodic", "2023-08-01", "2024-02-01", "2039-08-01"]
+    rows = [["SAME1", "buy", "5000", "1", *[""] * 6], ["SAME2", "sell", "50000", "1", *[""] * 6],
+            ["SAME3", "", "50000", "1", *[""] * 6], ["SAME4", "", "", "", *terms, "4.25", ""],
+            ["SAME5", "", "", "", *terms, "4.125", ""]]
+    for reference, *_ in rows:
+        page.enter(reference)
+    said = dropped(page, text_of(columns, *rows), "RETAIL")
+    assert "5 rows checked: 5 differ." in said
+    price = f"{page.kept('SAME1').figures.price}"
+    calls = "2033-08-01:102.000000+ 2034-08-01:101.000000+ 2035-08-01:100.000000+"
+    kept, terms_of = "not that of the trade that is kept", "not the terms of the trade that is kept"
+    assert [line[1:] for line in lines(page)[:5]] == [
+        ["Price", price, "1.000", "no formula that is known",
+         "No formula that we know gives your price; how do you compute it?"],
+        ["Side", "buy", "sell", kept, "For side we have buy and you have sell; compare the tickets."],
+        ["Par", "5000", "50000", kept, "For par we have 5000 and you have 50000; compare the tickets."],
+        ["Coupon", "4.1250000", "4.2500000", terms_of,
+         "For coupon we have 4.1250000 and you have 4.2500000; compare the terms."],
+        ["Calls", calls, "", terms_of, f"For calls we have {calls} and you have none; compare the terms."]]
 
 
 def test_a_file_of_a_desk_needs_no_more_than_references(page):
