@@ -12,12 +12,20 @@ PROGRAM = Program(program_path())
 
 
 def test_an_export_is_what_the_program_writes(store: Store) -> None:
+    assert PROGRAM.run("import", store.word).status == 0
     assert muni.export(store.name, program=PROGRAM.path) == ""
     assert PROGRAM.run("import", store.word, rows=AMENDED_ROWS).status == 0
     assert muni.export(store.name, program=PROGRAM.path) == PROGRAM.run("export", store.word).text
     assert muni.export(store.name, program=PROGRAM.path).count("\n") == AMENDED_ROWS.count(b"\n")
     one = PROGRAM.run("export", store.word, "--desk=ALPHA")
     assert muni.export(store.name, "ALPHA", program=PROGRAM.path) == one.text
+
+
+def test_a_store_that_is_not_there_is_not_exported(store: Store) -> None:
+    with pytest.raises(muni.Ended) as ended:
+        muni.export(store.name, program=PROGRAM.path)
+    assert ended.value.status == 6
+    assert list(store.path.parent.iterdir()) == []
 
 
 def test_a_store_that_is_served_is_not_exported(store: Store) -> None:

@@ -236,8 +236,10 @@ def test_the_example_of_a_command_runs(tmp_path, command, example):
     (tmp_path / "examples").symlink_to(ROOT / "examples")
     (tmp_path / "portfolio.csv").write_text("990034AA8,25000,2024-04-01,3\n")
     (tmp_path / "holdings.csv").write_text("990034AA8,25000,2024-04-01,yield,3\n")
-    # The live trades of the desk, of which nothing is stated.
-    (tmp_path / "street.csv").write_text("reference\n" + "".join(f"R{each:04}\n" for each in (1, 2, 3, 4, 5, 8, 9, 10)))
+    # The live trades of the desk, each with its side.
+    sides = {1: "sell", 2: "buy", 3: "sell", 4: "sell", 5: "sell", 8: "sell", 9: "buy", 10: "buy"}
+    (tmp_path / "street.csv").write_text(
+        "reference,side\n" + "".join(f"R{each:04},{side}\n" for each, side in sides.items()))
     if "--store=S" in example and command != "import":
         MUNI.run("import", "--store=S", rows=(ROOT / "examples/book.csv").read_bytes(), folder=tmp_path)
     told = subprocess.run(["sh", "-c", f'"$0" {example}', ROOT / "muni"], cwd=tmp_path, env=MUNI.environment(None),

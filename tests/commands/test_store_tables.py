@@ -56,6 +56,7 @@ def test_a_command_over_a_store_ends_and_writes_as_the_table_has_it(muni, tmp_pa
 @pytest.mark.parametrize("command", LONGEST)
 def test_the_longest_input_is_read_and_one_byte_more_is_not(muni, store, command):
     length, answer = LONGEST[command]
+    assert muni.run("import", store.word).status == 0
     said = muni.run(command, store.word, rows=b"a" * length)
     assert (said.status, said.text) == (0, answer)
     said = muni.run(command, store.word, rows=b"a" * (length + 1))

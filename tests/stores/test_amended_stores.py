@@ -5,6 +5,7 @@ from __future__ import annotations
 import pytest
 
 from support.books import ISSUE, Book, trade
+from support.checked import listed
 from support.earlier import earlier_program
 from support.faults import KILLED, Fault
 from support.program import Program, Said
@@ -110,6 +111,13 @@ def looks(book: Book) -> list[Said]:
         ("confirm", f"--desk={desk}", "--all"), ("list", f"--desk={desk}"), ("positions", f"--desk={desk}"))]
 
 
+def is_right(book: Book) -> bool:
+    """Whether a check finds right all that the lists have of the live trades."""
+    found = [book.said("check", f"--desk={desk}", rows=listed(book.said("list", f"--desk={desk}").text))
+             for desk in ("ALPHA", "BETA")]
+    return all(said.status == 0 and said.output.count(b",right\n") > COUNT // 4 for said in found)
+
+
 @pytest.fixture(scope="session")
 def earlier(tmp_path_factory) -> Program:
     return earlier_program("1.9.0", tmp_path_factory.mktemp("earlier"))
@@ -128,6 +136,7 @@ def test_a_store_of_an_earlier_version_is_moved_amended_exported_and_loaded(muni
     assert looks(book) == told
     assert book.report(rows.splitlines(keepends=True)[1]).startswith(b"1,confirmed,T0000,1,")
     assert book.report(trade("NEW")) == b"1,confirmed,NEW,1,101.102,4.000,2024-07-01,25556.75\n"
+    assert is_right(book)
     moved = book.said("export")
     # Each trade and correction of before names the first terms, and the new one is by the last.
     marked = [row + ",1" if row.startswith(("trade", "correct")) else row for row in exported.text.splitlines()]
@@ -143,6 +152,7 @@ def test_a_store_of_an_earlier_version_is_moved_amended_exported_and_loaded(muni
         assert {line.split(b",")[1] for line in report.output.splitlines()} == {b"added", b"amended", b"confirmed"}
         assert loaded.said("export") == moved
         assert looks(loaded) == told
+        assert is_right(loaded)
         assert loaded.said("check-store") == book.said("check-store")
 
 

@@ -9,6 +9,7 @@ import shutil
 import pytest
 
 from support.books import Book
+from support.checked import listed
 from support.earlier import earlier_program
 from support.faults import KILLED, Fault
 from support.program import ROOT, Program, Said
@@ -72,6 +73,22 @@ def test_a_store_of_an_earlier_version_is_exported_as_the_same_rows_in_a_new_one
     anew = Book(muni, Store(kind, tmp_path / "anew"))
     assert b"refused" not in anew.report((KEPT / version / "rows.csv").read_bytes())
     assert book.said("export") == anew.said("export")
+
+
+@pytest.mark.parametrize("kind", KINDS)
+@pytest.mark.parametrize("version", VERSIONS)
+def test_what_a_store_of_an_earlier_version_has_of_its_trades_is_right(muni, tmp_path, version, kind):
+    """A file of all that its list has of the live ones; and with another par or another yield none of it."""
+    book = kept(muni, version, kind, tmp_path)
+    for desk in DESKS:
+        words, live = ("check", f"--desk={desk}"), book.said("list", f"--desk={desk}").text
+        said = book.said(*words, rows=listed(live))
+        count = said.output.count(b",right\n")
+        assert (said.status, said.text.splitlines()[-1]) == (0, f"TOTAL,{count},{count},0,0,0,0") and count > 0
+        for column, text in (("par", "1"), ("yield", "-1.234")):
+            said = book.said(*words, rows=listed(live, **{column: text}))
+            assert (said.status, said.text.splitlines()[-1]) == (3, f"TOTAL,{count},0,{count},0,0,0")
+            assert said.output.count(f",differs,{column},".encode()) == count
 
 
 @pytest.mark.parametrize("version", VERSIONS)

@@ -57,8 +57,9 @@ def filled(book: Book, rows: str) -> Book:
 
 @pytest.mark.parametrize("words", WAYS.values(), ids=WAYS)
 def test_an_empty_store_has_no_rows(book, words):
-    assert book.said("export", *words) == Said(0, b"")
     book.store.file.touch()
+    assert book.said("export", *words) == Said(0, b"")
+    book.report("")
     assert book.said("export", *words) == Said(0, b"")
 
 

@@ -25,8 +25,47 @@ def test_an_import_that_is_sent_again_has_the_same_report(book):
     assert "TOTAL 10197.50" in book.confirmed("T0002").text.splitlines()
 
 
-def test_a_store_that_is_not_there_is_an_empty_one(book):
-    assert book.confirmed("T0001") == Said(3, b"REFUSED 2 UnknownTrade\n")
+# Each command that only reads, with an input if it has one.
+READING = {
+    "confirm": ("--desk=ALPHA", "--ref=T0001"), "confirm all": ("--desk=ALPHA", "--all"),
+    "positions": ("--desk=ALPHA",), "mark": (), "export": (), "export of issues": ("--issues",),
+    "export of a desk": ("--desk=ALPHA",), "list": ("--desk=ALPHA",), "check-store": (), "figures": ("--header",),
+    "check": (), "check of a desk": ("--desk=ALPHA",)}
+INPUT = b"123456AA3,25000,2024-04-01,4\n"
+
+
+@pytest.mark.parametrize("name", READING)
+def test_a_command_that_only_reads_makes_no_store(book, name):
+    """Neither in a folder without files nor beside other files, and not if it is told again."""
+    command, words = name.split()[0], READING[name]
+    for _ in range(2):
+        assert book.said(command, *words, rows=INPUT) == Said(6, b"")
+    beside = book.store.path.with_name(book.store.path.name + "-other")
+    beside.write_bytes(b"")
+    assert book.said(command, *words, rows=INPUT) == Said(6, b"")
+    assert list(book.store.path.parent.iterdir()) == [beside]
+
+
+@pytest.mark.parametrize("name", READING)
+def test_a_store_whose_file_is_gone_is_not_there(book, name):
+    """What stands beside it, as the seal of a file of sqlite, is left as it was."""
+    book.report(ROWS)
+    book.store.file.unlink()
+    before = {each: each.read_bytes() for each in book.store.path.parent.iterdir()}
+    assert book.said(name.split()[0], *READING[name], rows=INPUT) == Said(6, b"")
+    assert {each: each.read_bytes() for each in book.store.path.parent.iterdir()} == before
+
+
+@pytest.mark.parametrize("command", ["import", "load"])
+def test_a_command_that_puts_makes_a_store_that_is_not_there(book, command):
+    assert book.said(command) == Said(0, b"")
+    assert book.store.file.exists()
+    assert [book.said(name.split()[0], *words).status for name, words in READING.items()] == [3] + [0] * 9 + [3, 3]
+
+
+def test_an_input_that_is_too_long_is_told_before_a_store_that_is_not_there(book):
+    assert book.said("mark", rows=b"a" * 1_048_577) == Said(9, b"")
+    assert list(book.store.path.parent.iterdir()) == []
 
 
 def test_sqlite_reads_the_rows(database):
@@ -130,8 +169,8 @@ def is_read(book) -> None:
                   ("confirm", "--desk=ALPHA", "--all"), ("check-store",), ("figures",)):
         said = book.said(*words)
         assert (said.status, bool(said.output)) == (0, True)
-    assert book.said("check", "--desk=ALPHA", rows="reference\nT0001\n") == Said(
-        3, b"1,right\n0,missing,T0002\nTOTAL,1,1,0,1\n")
+    assert book.said("check", "--desk=ALPHA", rows="reference,par\nT0001,25000\n") == Said(
+        3, b"1,right\n0,missing,T0002\nTOTAL,1,1,0,1,0,0\n")
     assert book.store.state() == before
 
 

@@ -47,7 +47,8 @@ def test_a_desk_without_trades_has_the_names_alone_and_no_confirmation(book, row
     assert all_confirmed(book, "BETA") == ""
 
 
-def test_a_store_that_is_not_there_is_an_empty_one(book):
+def test_a_file_of_nothing_is_an_empty_store(book):
+    book.store.file.touch()
     assert book.said("list", "--desk=ALPHA") == Said(0, NAMES.encode())
     assert book.said("confirm", "--all", "--desk=ALPHA") == Said(0, b"")
 

@@ -139,8 +139,16 @@ def text_of(columns: list[str], printed: list[Printed]) -> bytes:
 
 
 def text_of_fields(columns: list[str], rows: list[dict[str, str]]) -> bytes:
+    """The same of rows by their columns, of which some may be missing, and others are left out."""
     written = io.StringIO(newline="")
-    writer = csv.DictWriter(written, columns, restval="", lineterminator="\n")
+    writer = csv.DictWriter(written, columns, restval="", extrasaction="ignore", lineterminator="\n")
     writer.writeheader()
     writer.writerows(rows)
     return written.getvalue().encode()
+
+
+def listed(text: str, **change: str) -> bytes:
+    """A file of all that a list has of the live trades of a desk, perhaps with another field in each row."""
+    live = [{"settle": row["settlement"]} | row | change for row in csv.DictReader(io.StringIO(text))
+            if row["state"] == "LIVE"]
+    return text_of_fields(["reference", *ASKED, *STATED], live)
