@@ -7,6 +7,7 @@ from collections.abc import Mapping
 from dataclasses import replace
 from datetime import date
 from decimal import Decimal
+from typing import Any
 
 import pytest
 
@@ -65,7 +66,7 @@ def test_what_is_stated_of_a_kept_trade_is_compared_with_it(desk: muni.Client) -
                                    "fee": Decimal("0.375")}
     assert desk.check(same, "STREET") == Checked(Verdict.RIGHT)
     assert desk.check({"reference": "K3"}, "STREET") == Checked(Verdict.NOTHING)
-    wrong: dict[str, tuple[muni.Field, object, object]] = {
+    wrong: dict[str, tuple[muni.Field, Any, Any]] = {
         "cusip": (RIVERTON.cusip, ELM_GROVE.cusip, RIVERTON.cusip), "side": (Side.BUY, "sell", "buy"),
         "par": (250_000, 25_000, 250_000),
         "settle": (date(2024, 4, 4), date(2024, 4, 3), date(2024, 4, 4)), "basis": (Basis.YIELD, "price", "yield"),
