@@ -28,7 +28,8 @@ MEMBERS = {
     "nothing": '"desk":null,',
 }
 WAYS = {"as it is": {}, "in chunks": {"Transfer_Encoding": "chunked"}, "with X-Allowed": {"X_Allowed": "yes"}}
-SPELLINGS = {"none": "", "much": PAD, "blanks before it": "\r\n \t", "the word as a text": '"x":"desk",'}
+SPELLINGS = {"none": "", "much": " " * 60_000, "blanks before it": "\r\n \t",
+             "the word as a text": '"reference":"desk",'}
 
 
 @pytest.fixture(scope="module", autouse=True)
@@ -52,10 +53,17 @@ def test_figures_of_an_issue_are_checked_by_all_who_may_quote(site, name, user):
     assert (answer.status, answer.text) == (200, "1,right\n")
 
 
+def test_a_member_that_is_no_column_is_refused_by_the_desk(site):
+    answer = site.ask("POST", "/checks", '{"Price":"104.250",' + ROW)
+    assert (answer.status, answer.text.split("\n")[0][:15]) == (400, "400 Bad Request")
+
+
 def test_figures_of_a_trade_of_the_own_desk_are_checked(site):
     body = '{"desk":"ALPHA","reference":"C2","yield":"3.700"}'
     assert site.ask("POST", "/checks", body)[::2] == (200, "1,differs,yield,3.663,3.700\n")
     assert site.ask("POST", "/checks", body.replace("C2", "C1"))[::2] == (200, "1,missing,C1\n")
+    turned = body.replace("{", '{"side":"sell",')
+    assert site.ask("POST", "/checks", turned)[::2] == (200, "1,differs,side,buy,sell\n")
 
 
 @pytest.mark.parametrize("body", ["", "[]", '"x"', " ", '{"x":"\\u0041"}'])

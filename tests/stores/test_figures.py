@@ -222,7 +222,8 @@ def test_places_count_on_from_the_first_one(book):
         assert said == Said(0, told(*[FIELDS] * 3000, first=first))
 
 
-def test_a_store_that_is_not_there_has_no_issue(book):
+def test_an_empty_store_has_no_issue(book):
+    book.report("")
     said = book.said("figures", "--workers=2", rows=text([ROW, b"x", ROW]))
     assert said == Said(0, told(b"refused,1,UnknownIssue", BAD, b"refused,1,UnknownIssue"))
     assert book.report(ROWS) == REPORT
