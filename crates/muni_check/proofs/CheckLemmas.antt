@@ -19,8 +19,8 @@ use Rattle.muni_check_rows.specs.Rows.{records_of}
 use Rattle.muni_check.specs.declared.rows.BlockDone.TheVariants.{Lines, BadNames}
 use Rattle.muni_check.specs.declared.rows.SoFar.{SoFar}
 use Rattle.muni_check_rows.specs.declared.tally.Tally.{Tally}
-use Rattle.muni_check.proofs.GoLemmas.{rows-after}
-use Rattle.muni_check.proofs.LawLemmas.{as-long}
+use Rattle.muni_check.specs.Named.{place_in}
+use Rattle.muni_check.proofs.GoLemmas.{rows-after, told-long}
 use Rattle.muni_check.proofs.StateLemmas.{AreDone, block-done, done-lines}
 use Rattle.muni_check.proofs.WriteLemmas.{written-more, written-part}
 
@@ -140,7 +140,7 @@ all-records over text left ended block held so_far had has taken =
 rows-few : (over : Over) (done : List (List (List ℕ))) (so_far : SoFar) (lines : List ℕ) → AreDone over done so_far lines → so_far.progress.tally.rows ≤ length done
 rows-few over [] so_far lines are = omega (arith, ap (λ (t : Tally). t.rows) are.2.tally)
 rows-few over (names ∷ rows) so_far lines are =
-    omega (arith, ap (λ (t : Tally). t.rows) are.goes.counted, rows-after are.start.tally are.goes.said, ap (λ (t : Tally). t.rows) are.starts.tally, as-long _ rows are.goes.said are.goes.each)
+    omega (arith, ap (λ (t : Tally). t.rows) are.goes.counted, rows-after are.start.tally are.goes.said, ap (λ (t : Tally). t.rows) are.starts.tally, told-long over are.columns.items (place_in are.start.named) (are.start.tally.rows + 1) rows are.goes.said are.goes.each)
 
 stopped-by : (over : Over) (text : List ℕ) (left now had has : Option (List ℕ)) (ended : Bool) (block held : List ℕ) (so_far : SoFar) (tail : List (List (List ℕ))) (fault : Fault) → (taken : IsTaken over (Some text) left ended block held so_far had has)
     → records_of text ≡ (taken.done ++ records_of block) ++ tail → IsFirstText over (records_of text) taken.lines → IsOfRows fault → (fault ≡ TooLarge → 2 ^ 64 ≤ so_far.progress.tally.rows + length (records_of block))

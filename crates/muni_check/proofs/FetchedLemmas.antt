@@ -1,7 +1,6 @@
 -- What is written, by the tables that a cabinet exposes.
-use Rattle.std.proofs.Common.{◌≡◌, ℕ, ℤ, inl, inr, List, [], ◌∷◌, Option, Some, None, Result, Ok, Err, refl, subst}
+use Rattle.std.proofs.Common.{◌≡◌, ◌+◌, ℕ, ℤ, inl, inr, List, [], ◌∷◌, Option, Some, None, Result, Ok, Err, refl, subst}
 use Rattle.std.specs.Prelude.{IfSome}
-use Rattle.std.specs.List.{AllZip}
 use Rattle.muni_rule.specs.Payments.{PaymentSeries}
 use Rattle.muni_rule.specs.WorthEnds.{WorthEnds}
 use Rattle.muni_keep.specs.Tables.{Tables}
@@ -11,14 +10,15 @@ use Rattle.muni_import.specs.declared.row.RowFault.{RowFault}
 use Rattle.muni_desk_io.specs.Fault.{of_keeper}
 use Rattle.muni_desk_io.specs.declared.fault.Fault.{Fault}
 use Rattle.muni_desk_io.specs.declared.fault.Fault.TheVariants.{Read, Write, Store, NoMemory, TooLarge}
-use Rattle.muni_check.specs.Answer.{AreChecked, IsAnswer, IsAnswerIn, IsAnswerToRows, Over}
+use Rattle.muni_check.specs.Answer.{AreChecked, AreTold, IsAnswer, IsAnswerIn, IsAnswerToRows, Over}
 use Rattle.muni_check.specs.Checked.{AreLinesOf, IsBegunText, IsFirstText, IsLastText, IsSomeText, IsTextWithUnseen, WroteChecked}
 use Rattle.muni_check.specs.Judging.{over}
-use Rattle.muni_check_rows.specs.Rows.{records_of}
-use Rattle.muni_check_rows.specs.Said.{IsToldOf}
+use Rattle.muni_check_rows.specs.Rows.{named_in, records_of}
+use Rattle.muni_check.specs.Named.{Places, again_of, came_after, no_places}
 use Rattle.muni_columns.specs.declared.column.Column.{Column}
 use Rattle.muni_check.specs.declared.command.CheckEnd.{CheckEnd}
 use Rattle.muni_check_rows.specs.declared.said.CheckSaid.{CheckSaid}
+use Rattle.muni_check.proofs.BlindLemmas.{blind-told}
 use Rattle.muni_check.proofs.CheckLemmas.{no-lines}
 use Rattle.muni_check.proofs.WriteLemmas.{written-none}
 
@@ -28,14 +28,15 @@ blind over = record { judging = over.judging; desk = over.desk; told = None }
 
 -- what is answered by some tables is answered, whatever they are
 module _ (by : Over) where
-  blind-each : (columns : List Column) (rows : List (List (List ℕ))) (said : List CheckSaid) → AllZip (IsToldOf by.judging by.desk by.told columns) rows said → AllZip (IsToldOf by.judging by.desk None columns) rows said
-  blind-each columns [] [] are = tt
-  blind-each columns [] (one ∷ said) are = absurd are
-  blind-each columns (row ∷ rows) [] are = absurd are
-  blind-each columns (row ∷ rows) (one ∷ said) are = (tt, blind-each columns rows said are.1)
+  blind-each : (columns : List Column) (came : Places) (place : ℕ) (rows : List (List (List ℕ))) (said : List CheckSaid) → AreTold by columns came place rows said → AreTold (blind by) columns came place rows said
+  blind-each columns came place [] [] are = tt
+  blind-each columns came place [] (one ∷ said) are = absurd are
+  blind-each columns came place (row ∷ rows) [] are = absurd are
+  blind-each columns came place (row ∷ rows) (one ∷ said) are =
+      (blind-told by.judging by.desk by.told columns (again_of came (named_in columns row)) row one are.0, blind-each columns (came_after by.desk came place (named_in columns row)) (place + 1) rows said are.1)
 
   blind-checked : (columns : List Column) (rows : List (List (List ℕ))) (said : List CheckSaid) (lines : List ℕ) → AreChecked by columns rows said lines → AreChecked (blind by) columns rows said lines
-  blind-checked columns rows said lines checked = record { each = blind-each columns rows said checked.each; written = checked.written }
+  blind-checked columns rows said lines checked = record { each = blind-each columns no_places 1 rows said checked.each; written = checked.written }
 
   blind-rows : (columns : List Column) (rows : List (List (List ℕ))) (end : CheckEnd) (text : List ℕ) → IsAnswerToRows by columns rows end text → IsAnswerToRows (blind by) columns rows end text
   blind-rows columns rows end text answer = record {

@@ -1,15 +1,14 @@
 -- Rows that are judged one after another.
 use Rattle.std.proofs.Common.{◌≡◌, ◌<◌, ◌+◌, ◌∙◌, ◌||◌, ℕ, suc, List, [], ◌∷◌, ◌++◌, length, map, take, get_or, Bool, true, false, Option, Some, None, refl, sym, ap, ap₂, subst, arith}
-use Rattle.std.specs.List.{AllZip}
 use Rattle.std.proofs.lemmas.List.{append-nil, append_assoc, map-append}
 use Rattle.std.proofs.lemmas.List.Elements.{filter_map-append}
 use Rattle.std.proofs.lemmas.List.Folds.{list_any-append}
 use Rattle.std.proofs.Math.Seq.{take-suc}
 use Rattle.csv.specs.Records.{Row, fields_of}
-use Rattle.muni_check.specs.Answer.{Over}
+use Rattle.muni_check.specs.Answer.{AreTold, Over}
 use Rattle.muni_check.specs.GoesOn.{GoesOn, tally_after}
 use Rattle.muni_check_rows.specs.Line.{said_line, said_lines}
-use Rattle.muni_check.specs.Named.{AddsNames, References, has}
+use Rattle.muni_check.specs.Named.{AddsNames, Places, References, again_of, came_after, came_after_rows, came_with, has, place_in}
 use Rattle.muni_check_rows.specs.Rows.{named_by, named_in}
 use Rattle.muni_check_rows.specs.Said.{IsToldOf}
 use Rattle.muni_check_rows.specs.Tallies.{with_said}
@@ -29,11 +28,69 @@ lines-append place (one ∷ said) more =
     ap (λ l. said_line place one ++ l) (lines-append (place + 1) said more ∙ ap (λ n. said_lines (place + 1) said ++ said_lines n more) next)
     ∙ sym (append_assoc (said_line place one) (said_lines (place + 1) said) (said_lines (place + length (one ∷ said)) more))
 
-pub zip-append : {A B : Type 0} (R : A → B → Type 0) (xs more : List A) (ys others : List B) → AllZip R xs ys → AllZip R more others → AllZip R (xs ++ more) (ys ++ others)
-zip-append R [] more [] others are also = also
-zip-append R [] more (y ∷ ys) others are also = absurd are
-zip-append R (x ∷ xs) more [] others are also = absurd are
-zip-append R (x ∷ xs) more (y ∷ ys) others are also = (are.0, zip-append R xs more ys others are.1 also)
+-- a line on each row
+pub told-long : (over : Over) (columns : List Column) (came : Places) (place : ℕ) (rows : List (List (List ℕ))) (said : List CheckSaid) → AreTold over columns came place rows said → length said ≡ length rows
+told-long over columns came place [] [] are = refl
+told-long over columns came place [] (one ∷ said) are = absurd are
+told-long over columns came place (row ∷ rows) [] are = absurd are
+told-long over columns came place (row ∷ rows) (one ∷ said) are =
+    omega (arith, told-long over columns (came_after over.desk came place (named_in columns row)) (place + 1) rows said are.1)
+
+-- what came is told by its places alone
+same-with : (came other : Places) (place : ℕ) (reference : List ℕ) → ((r : List ℕ) → came r ≡ other r) → (r : List ℕ) → came_with came place reference r ≡ came_with other place reference r
+same-with came other place reference same r = rw (same reference, same r) refl
+
+same-after : (desk : Option (List ℕ)) (came other : Places) (place : ℕ) (name : Option (List ℕ)) → ((r : List ℕ) → came r ≡ other r)
+    → (r : List ℕ) → came_after desk came place name r ≡ came_after desk other place name r
+same-after None came other place name same r = same r
+same-after (Some desk) came other place None same r = same r
+same-after (Some desk) came other place (Some reference) same r = same-with came other place reference same r
+
+pub same-rows : (desk : Option (List ℕ)) (columns : List Column) (came other : Places) (place : ℕ) (rows : List (List (List ℕ))) → ((r : List ℕ) → came r ≡ other r)
+    → (r : List ℕ) → came_after_rows desk columns came place rows r ≡ came_after_rows desk columns other place rows r
+same-rows desk columns came other place [] same r = same r
+same-rows desk columns came other place (row ∷ rows) same r =
+    same-rows desk columns (came_after desk came place (named_in columns row)) (came_after desk other place (named_in columns row)) (place + 1) rows
+    (same-after desk came other place (named_in columns row) same) r
+
+same-again : (came other : Places) (name : Option (List ℕ)) → ((r : List ℕ) → came r ≡ other r) → again_of came name ≡ again_of other name
+same-again came other None same = refl
+same-again came other (Some reference) same = same reference
+
+pub told-same : (over : Over) (columns : List Column) (came other : Places) (place : ℕ) (rows : List (List (List ℕ))) (said : List CheckSaid) → ((r : List ℕ) → came r ≡ other r)
+    → AreTold over columns came place rows said → AreTold over columns other place rows said
+told-same over columns came other place [] [] same are = tt
+told-same over columns came other place [] (one ∷ said) same are = absurd are
+told-same over columns came other place (row ∷ rows) [] same are = absurd are
+told-same over columns came other place (row ∷ rows) (one ∷ said) same are = (
+  subst (λ again. IsToldOf over.judging over.desk over.told columns again row one) (same-again came other (named_in columns row) same) are.0,
+  told-same over columns (came_after over.desk came place (named_in columns row)) (came_after over.desk other place (named_in columns row)) (place + 1) rows said
+      (same-after over.desk came other place (named_in columns row) same) are.1,
+)
+
+-- rows, and rows after them
+pub told-append : (over : Over) (columns : List Column) (came : Places) (place : ℕ) (rows more : List (List (List ℕ))) (said others : List CheckSaid) → AreTold over columns came place rows said
+    → AreTold over columns (came_after_rows over.desk columns came place rows) (place + length rows) more others → AreTold over columns came place (rows ++ more) (said ++ others)
+told-append over columns came place [] more [] others are also =
+    let here : place + 0 ≡ place = omega arith in
+    subst (λ n. AreTold over columns came n more others) here also
+told-append over columns came place [] more (one ∷ said) others are also = absurd are
+told-append over columns came place (row ∷ rows) more [] others are also = absurd are
+told-append over columns came place (row ∷ rows) more (one ∷ said) others are also =
+    let after = came_after over.desk came place (named_in columns row) in
+    let next : place + length (row ∷ rows) ≡ place + 1 + length rows = omega arith in
+    (are.0, told-append over columns after (place + 1) rows more said others are.1 (subst (λ n. AreTold over columns (came_after_rows over.desk columns after (place + 1) rows) n more others) next also))
+
+pub places-append : (desk : Option (List ℕ)) (columns : List Column) (came : Places) (place : ℕ) (rows more : List (List (List ℕ)))
+    → came_after_rows desk columns came place (rows ++ more) ≡ came_after_rows desk columns (came_after_rows desk columns came place rows) (place + length rows) more
+places-append desk columns came place [] more =
+    let here : place ≡ place + 0 = omega arith in
+    ap (λ n. came_after_rows desk columns came n more) here
+places-append desk columns came place (row ∷ rows) more =
+    let after = came_after desk came place (named_in columns row) in
+    let next : place + 1 + length rows ≡ place + length (row ∷ rows) = omega arith in
+    places-append desk columns after (place + 1) rows more
+    ∙ ap (λ n. came_after_rows desk columns (came_after_rows desk columns after (place + 1) rows) n more) next
 
 -- the tally after rows, and after rows after them
 pub tally-append : (tally : Tally) (said more : List CheckSaid) → tally_after tally (said ++ more) ≡ tally_after (tally_after tally said) more
@@ -78,41 +135,50 @@ goes-none over columns progress = record {
   written = refl;
   counted = refl;
   named = same over.desk;
+  places = λ reference. refl;
 }
   where
     same : (desk : Option (List ℕ)) → AddsNames desk progress.named progress.named []
     same None = tt
     same (Some desk) = λ reference. refl
 
--- one row more
-pub goes-more : (over : Over) (columns : List Column) (rows : List (List (List ℕ))) (row : List (List ℕ)) (said : CheckSaid) (old mid new : Progress) (lines after : List ℕ)
-    → GoesOn over columns rows old mid lines → IsToldOf over.judging over.desk over.told columns row said → new.tally ≡ with_said mid.tally said
-    → AddsNames over.desk mid.named new.named (named_by columns (row ∷ [])) → after ≡ lines ++ said_line new.tally.rows said
-    → GoesOn over columns (rows ++ row ∷ []) old new after
-goes-more over columns rows row said old mid new lines after goes told counted named written =
-    let place : new.tally.rows ≡ old.tally.rows + 1 + length goes.said = omega (arith, ap (λ (t : Tally). t.rows) counted, ap (λ (t : Tally). t.rows) goes.counted, rows-after old.tally goes.said) in
-    record {
-      said = goes.said ++ said ∷ [];
-      each = zip-append (IsToldOf over.judging over.desk over.told columns) rows (row ∷ []) goes.said (said ∷ []) goes.each (told, tt);
-      written = written ∙ ap₂ (λ a n. a ++ said_line n said) goes.written place
-          ∙ ap (λ l. said_lines (old.tally.rows + 1) goes.said ++ l) (sym (append-nil (said_line (old.tally.rows + 1 + length goes.said) said)))
-          ∙ sym (lines-append (old.tally.rows + 1) goes.said (said ∷ []));
-      counted = counted ∙ ap (λ t. with_said t said) goes.counted ∙ sym (tally-append old.tally goes.said (said ∷ []));
-      named = subst (λ l. AddsNames over.desk old.named new.named l) (sym (named-append columns rows (row ∷ [])))
-          (names-append over.desk old.named mid.named new.named (named_by columns rows) (named_by columns (row ∷ [])) goes.named named);
-    }
+-- one row
+pub goes-one : (over : Over) (columns : List Column) (row : List (List ℕ)) (said : CheckSaid) (old new : Progress) (line : List ℕ)
+    → IsToldOf over.judging over.desk over.told columns (again_of (place_in old.named) (named_in columns row)) row said → new.tally ≡ with_said old.tally said
+    → AddsNames over.desk old.named new.named (named_by columns (row ∷ []))
+    → ((reference : List ℕ) → place_in new.named reference ≡ came_after over.desk (place_in old.named) (old.tally.rows + 1) (named_in columns row) reference)
+    → line ≡ said_line (old.tally.rows + 1) said
+    → GoesOn over columns (row ∷ []) old new line
+goes-one over columns row said old new line told counted named places written = record {
+  said = said ∷ [];
+  each = (told, tt);
+  written = written ∙ sym (append-nil (said_line (old.tally.rows + 1) said));
+  counted = counted;
+  named = named;
+  places = places;
+}
 
 -- rows after others
 pub goes-joined : (over : Over) (columns : List Column) (rows more : List (List (List ℕ))) (old mid new : Progress) (lines after : List ℕ)
     → GoesOn over columns rows old mid lines → GoesOn over columns more mid new after → GoesOn over columns (rows ++ more) old new (lines ++ after)
 goes-joined over columns rows more old mid new lines after first second =
+    let long = told-long over columns (place_in old.named) (old.tally.rows + 1) rows first.said first.each in
+    let come = came_after_rows over.desk columns (place_in old.named) (old.tally.rows + 1) rows in
     let place : mid.tally.rows + 1 ≡ old.tally.rows + 1 + length first.said = omega (arith, ap (λ (t : Tally). t.rows) first.counted, rows-after old.tally first.said) in
+    let there : mid.tally.rows + 1 ≡ old.tally.rows + 1 + length rows = omega (arith, place, long) in
     record {
       said = first.said ++ second.said;
-      each = zip-append (IsToldOf over.judging over.desk over.told columns) rows more first.said second.said first.each second.each;
+      each = told-append over columns (place_in old.named) (old.tally.rows + 1) rows more first.said second.said first.each
+          (subst (λ n. AreTold over columns come n more second.said) there
+          (told-same over columns (place_in mid.named) come (mid.tally.rows + 1) more second.said first.places second.each));
       written = ap₂ (λ (a b : List ℕ). a ++ b) first.written (second.written ∙ ap (λ n. said_lines n second.said) place)
           ∙ sym (lines-append (old.tally.rows + 1) first.said second.said);
       counted = second.counted ∙ ap (λ t. tally_after t second.said) first.counted ∙ sym (tally-append old.tally first.said second.said);
       named = subst (λ l. AddsNames over.desk old.named new.named l) (sym (named-append columns rows more))
           (names-append over.desk old.named mid.named new.named (named_by columns rows) (named_by columns more) first.named second.named);
+      places = λ reference.
+          second.places reference
+          ∙ same-rows over.desk columns (place_in mid.named) come (mid.tally.rows + 1) more first.places reference
+          ∙ ap (λ n. came_after_rows over.desk columns come n more reference) there
+          ∙ ap (λ (came : Places). came reference) (sym (places-append over.desk columns (place_in old.named) (old.tally.rows + 1) rows more));
     }

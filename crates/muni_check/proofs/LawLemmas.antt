@@ -1,17 +1,10 @@
 -- What holds of every row and of every answer.
 use Rattle.std.proofs.Common.{◌≡◌, ℕ, zero, suc, List, [], ◌∷◌, length, map, Bool, true, false, refl, ap, arith}
 use Rattle.std.specs.Prelude.{Contains, not, ◌&&◌}
-use Rattle.std.specs.List.{AllZip, filter}
+use Rattle.std.specs.List.{filter}
 use Rattle.muni_rule.proofs.RedemptionLemmas.{contains-filter}
 use Rattle.muni_msg.specs.declared.command.Line.{Line}
 use Rattle.muni_check.specs.Unseen.{is_live, is_named, is_unseen}
-
--- two lists that agree place by place are as long
-pub as-long : {A B : Type 0} (R : A → B → Type 0) (xs : List A) (ys : List B) → AllZip R xs ys → length ys ≡ length xs
-as-long R [] [] are = refl
-as-long R [] (y ∷ ys) are = absurd are
-as-long R (x ∷ xs) [] are = absurd are
-as-long R (x ∷ xs) (y ∷ ys) are = omega (arith, as-long R xs ys are.1)
 
 -- a live trade that no row names is among the unseen ones
 map-get : {A B : Type 0} (f : A → B) (xs : List A) (x : A) → Contains xs x → Contains (map f xs) (f x)

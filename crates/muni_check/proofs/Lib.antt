@@ -1,4 +1,5 @@
 pub mod AnswerLemmas
+pub mod BlindLemmas
 pub mod CheckLemmas
 pub mod EndLemmas
 pub mod FetchedLemmas

@@ -1,25 +1,32 @@
 -- The answer to an input of names and one row, and the line of this row.
-use Rattle.std.proofs.Common.{◌≡◌, ◌∙◌, ℕ, List, [], ◌∷◌, ◌++◌, Option, Some, None, Ok, refl, sym, ap}
+use Rattle.std.proofs.Common.{◌≡◌, ◌∙◌, ℕ, List, [], ◌∷◌, ◌++◌, Option, Some, None, Ok, refl, sym, ap, subst}
 use Rattle.std.specs.Prelude.{IfSome}
-use Rattle.std.specs.List.{AllZip}
 use Rattle.std.proofs.lemmas.List.{append-nil}
 use Rattle.muni_keep.specs.Tables.{Tables}
 use Rattle.muni_columns.specs.declared.column.Column.{Column}
 use Rattle.muni_check_rows.specs.Columns.{columns_in}
 use Rattle.muni_check_rows.specs.Line.{said_line, said_lines, total_line, unseen_lines}
-use Rattle.muni_check_rows.specs.Rows.{named_by}
+use Rattle.muni_check_rows.specs.Rows.{named_by, named_in}
 use Rattle.muni_check_rows.specs.Said.{IsToldOf}
 use Rattle.muni_check_rows.specs.Tallies.{are_all_right, tally_of}
 use Rattle.muni_check_rows.specs.declared.said.CheckSaid.{CheckSaid}
-use Rattle.muni_check.specs.Answer.{IsAnswer, Over, end_of}
+use Rattle.muni_check.specs.Answer.{AreTold, IsAnswer, Over, end_of}
 use Rattle.muni_check.specs.One.{AnswersWithLine, IsRowLine}
+use Rattle.muni_check.specs.Named.{again_of, no_places}
 use Rattle.muni_check.specs.Unseen.{unseen_in}
 use Rattle.muni_check.specs.declared.command.CheckEnd.{CheckEnd}
 
-one-each : {A B : Type 0} (R : A → B → Type 0) (x : A) (ys : List B) → AllZip R (x ∷ []) ys → (y : B) × R x y × (ys ≡ y ∷ [])
-one-each R x [] are = absurd are
-one-each R x (y ∷ []) are = (y, are.0, refl)
-one-each R x (y ∷ z ∷ ys) are = absurd are.1
+-- nothing came before
+none-before : (name : Option (List ℕ)) → again_of no_places name ≡ None
+none-before None = refl
+none-before (Some reference) = refl
+
+one-told : (over : Over) (columns : List Column) (row : List (List ℕ)) (said : List CheckSaid) → AreTold over columns no_places 1 (row ∷ []) said
+    → (one : CheckSaid) × IsToldOf over.judging over.desk over.told columns None row one × (said ≡ one ∷ [])
+one-told over columns row [] are = absurd are
+one-told over columns row (one ∷ []) are =
+    (one, subst (λ again. IsToldOf over.judging over.desk over.told columns again row one) (none-before (named_in columns row)) are.0, refl)
+one-told over columns row (one ∷ other ∷ said) are = absurd are.1
 
 one-line : (said : List CheckSaid) (one : CheckSaid) → said ≡ one ∷ [] → said_lines 1 said ≡ said_line 1 one
 one-line said one is = ap (said_lines 1) is ∙ append-nil (said_line 1 one)
@@ -28,7 +35,7 @@ pub line-of-answer : (over : Over) (columns : List Column) (names fields : List 
     → IsAnswer over (names ∷ fields ∷ []) end text → (line : List ℕ) × AnswersWithLine over columns names fields end text line
 line-of-answer over columns names fields end text named answer =
     let rows = rw named at answer in
-    let one = one-each (IsToldOf over.judging over.desk over.told columns) fields rows.said rows.checked.each in
+    let one = one-told over columns fields rows.said rows.checked.each in
     let first = rows.checked.written ∙ one-line rows.said one.0 one.2 in (
       said_line 1 one.0,
       record {
@@ -56,7 +63,7 @@ answer-of-line over columns names fields line named row =
         answer = rw named (record {
           said = row.said ∷ [];
           lines = line;
-          checked = record { each = (row.told, tt); written = row.written ∙ sym (one-line (row.said ∷ []) row.said refl) };
+          checked = record { each = (subst (λ again. IsToldOf over.judging over.desk over.told columns again fields row.said) (sym (none-before (named_in columns fields))) row.told, tt); written = row.written ∙ sym (one-line (row.said ∷ []) row.said refl) };
           unseen = unseen.0;
           are_unseen = unseen.1;
           written = refl;

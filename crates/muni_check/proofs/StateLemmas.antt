@@ -1,6 +1,6 @@
 -- The records of an input that are done, a block after another.
 use Rattle.std.proofs.Common.{◌≡◌, ◌+◌, ◌∙◌, ◌||◌, ◌&&◌, ℕ, List, [], ◌∷◌, ◌++◌, length, map, cond, Bool, true, false, Option, Some, None, Ok, refl, sym, ap, ap₂, subst, arith}
-use Rattle.std.specs.Prelude.{not, IfSome}
+use Rattle.std.specs.Prelude.{not, is_some, IfSome}
 use Rattle.std.specs.Global.{Vec}
 use Rattle.std.specs.List.{count_by, filter}
 use Rattle.std.proofs.lemmas.List.Sums.{sum_by-cons}
@@ -11,13 +11,13 @@ use Rattle.muni_keep.specs.Tables.{Tables, line}
 use Rattle.muni_keep.specs.Trades.{own}
 use Rattle.muni_check.specs.Ends.{AreUnseenOf}
 use Rattle.muni_check.proofs.ToldLemmas.{if-always, if-told}
-use Rattle.muni_check.specs.Answer.{AreChecked, Over}
+use Rattle.muni_check.specs.Answer.{AreChecked, AreTold, Over}
 use Rattle.muni_check_rows.specs.Columns.{columns_in}
 use Rattle.muni_check.specs.Checked.{AreLinesOf}
 use Rattle.muni_check.specs.GoesOn.{DoesBlock, GoesOn, tally_after}
 use Rattle.muni_check_rows.specs.Line.{said_lines}
-use Rattle.muni_check.specs.Named.{AddsNames, has}
-use Rattle.muni_check_rows.specs.Tallies.{is_different, is_missing, is_right, no_tally, once, tally_of, with_missing, with_said}
+use Rattle.muni_check.specs.Named.{AddsNames, has, no_places, place_in}
+use Rattle.muni_check_rows.specs.Tallies.{is_again, is_different, is_missing, is_nothing, is_right, no_tally, once, tally_of, with_missing, with_said}
 use Rattle.muni_check.specs.Unseen.{is_live, is_named, is_unseen, unseen_at, unseen_in, unseen_of}
 use Rattle.muni_columns.specs.declared.column.Column.{Column}
 use Rattle.muni_check.specs.declared.rows.BlockDone.TheVariants.{Lines}
@@ -25,12 +25,12 @@ use Rattle.muni_check.specs.declared.rows.Progress.{Progress}
 use Rattle.muni_check.specs.declared.rows.SoFar.{SoFar}
 use Rattle.muni_check_rows.specs.declared.said.CheckSaid.{CheckSaid}
 use Rattle.muni_check_rows.specs.declared.tally.Tally.{Tally}
-use Rattle.muni_check.proofs.GoLemmas.{goes-joined, rows-after}
+use Rattle.muni_check.proofs.GoLemmas.{goes-joined, rows-after, told-same}
 
 -- no row has come
 pub record IsStart (progress : Progress) : Type 0 where
   pub tally : progress.tally ≡ no_tally
-  pub named : (reference : List ℕ) → has progress.named reference ≡ false
+  pub named : (reference : List ℕ) → place_in progress.named reference ≡ None
 
 -- of the records that are done the first named the columns, and the others are rows
 pub record AreDoneWith (over : Over) (names : List (List ℕ)) (rows : List (List (List ℕ))) (so_far : SoFar) (lines : List ℕ) : Type 0 where
@@ -83,7 +83,8 @@ block-done over (names ∷ rows) records old new lines after are does =
 pub lines-checked : (over : Over) (columns : List Column) (rows : List (List (List ℕ))) (start progress : Progress) (lines : List ℕ) → IsStart start
     → (goes : GoesOn over columns rows start progress lines) → AreChecked over columns rows goes.said lines
 lines-checked over columns rows start progress lines starts goes = record {
-  each = goes.each;
+  each = told-same over columns (place_in start.named) no_places 1 rows goes.said starts.named
+      (subst (λ (t : Tally). AreTold over columns (place_in start.named) (t.rows + 1) rows goes.said) starts.tally goes.each);
   written = goes.written ∙ ap (λ (t : Tally). said_lines (t.rows + 1) goes.said) starts.tally;
 }
 
@@ -108,6 +109,14 @@ missing-after : (tally : Tally) (said : List CheckSaid) → (tally_after tally s
 missing-after tally [] = omega arith
 missing-after tally (said ∷ more) = omega (arith, missing-after (with_said tally said) more, counted-by is_missing said more)
 
+again-after : (tally : Tally) (said : List CheckSaid) → (tally_after tally said).again ≡ tally.again + count_by is_again said
+again-after tally [] = omega arith
+again-after tally (said ∷ more) = omega (arith, again-after (with_said tally said) more, counted-by is_again said more)
+
+nothing-after : (tally : Tally) (said : List CheckSaid) → (tally_after tally said).nothing ≡ tally.nothing + count_by is_nothing said
+nothing-after tally [] = omega arith
+nothing-after tally (said ∷ more) = omega (arith, nothing-after (with_said tally said) more, counted-by is_nothing said more)
+
 -- the trades that no row named
 filter-same : (p q : Line → Bool) (trades : List Line) → ((trade : Line) → p trade ≡ q trade) → filter p trades ≡ filter q trades
 filter-same p q [] same = refl
@@ -129,7 +138,7 @@ unseen-named told (Some desk) start progress names unseen starts adds are =
     if-told told (λ tables. unseen ≡ unseen_at tables desk (has progress.named)) (λ tables. unseen ≡ unseen_in tables (Some desk) names)
     (λ tables is.
     is ∙ unseen-same (has progress.named) (is_named names) (map line (entries (own desk tables.desks)))
-    (λ reference. adds reference ∙ ap (λ b. is_named names reference || b) (starts.named reference) ∙ or-false (is_named names reference)))
+    (λ reference. adds reference ∙ ap (λ b. is_named names reference || b) (ap is_some (starts.named reference)) ∙ or-false (is_named names reference)))
     are
 
 -- the tally of all rows, with the trades for which none came
@@ -141,4 +150,6 @@ tally-all start progress said unseen starts counted =
     let right : (tally_after no_tally said).right ≡ count_by is_right said = omega (arith, right-after no_tally said) in
     let differ : (tally_after no_tally said).differ ≡ count_by is_different said = omega (arith, differ-after no_tally said) in
     let missing : (tally_after no_tally said).missing ≡ count_by is_missing said = omega (arith, missing-after no_tally said) in
-    rw is (rw (rows, right, differ, missing) refl)
+    let again : (tally_after no_tally said).again ≡ count_by is_again said = omega (arith, again-after no_tally said) in
+    let nothing : (tally_after no_tally said).nothing ≡ count_by is_nothing said = omega (arith, nothing-after no_tally said) in
+    rw is (rw (rows, right, differ, missing, again, nothing) refl)

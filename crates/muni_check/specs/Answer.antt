@@ -1,14 +1,14 @@
 -- The whole answer to an input, and its first part.
-use Rattle.std.specs.Prelude.{◌≡◌, ℕ, Bool, if◌then◌else◌, List, [], ◌∷◌, ◌++◌, Option, Result, Ok, Err, IfSome}
-use Rattle.std.specs.List.{AllZip}
+use Rattle.std.specs.Prelude.{◌≡◌, ◌+◌, ⊤, ⊥, ℕ, Bool, if◌then◌else◌, List, [], ◌∷◌, ◌++◌, Option, Result, Ok, Err, IfSome}
 use Rattle.muni_keep.specs.Tables.{Tables}
 use Rattle.muni_import.specs.declared.row.RowFault.{RowFault}
 use Rattle.muni_import.specs.declared.row.RowFault.TheVariants.{FieldCount}
 use Rattle.muni_check_rows.specs.Columns.{columns_in}
 use Rattle.muni_check_rows.specs.Line.{names_line, said_lines, total_line, unseen_lines}
-use Rattle.muni_check_rows.specs.Rows.{named_by}
+use Rattle.muni_check_rows.specs.Rows.{named_by, named_in}
 use Rattle.muni_check_rows.specs.Said.{IsToldOf, Judging}
 use Rattle.muni_check_rows.specs.Tallies.{are_all_right, tally_of}
+use Rattle.muni_check.specs.Named.{Places, again_of, came_after, no_places}
 use Rattle.muni_check.specs.Unseen.{unseen_in}
 use Rattle.muni_columns.specs.declared.column.Column.{Column}
 use Rattle.muni_check.specs.declared.command.CheckEnd.{CheckEnd}
@@ -21,9 +21,19 @@ pub record Over : Type 1 where
   pub desk : Option (List ℕ)
   pub told : Option Tables
 
--- rows in columns are judged each by itself, and these are their lines
+-- What is said of rows in columns, whose places are counted on: each is judged by itself, but that one whose reference
+-- came before is told so.
+abbrev pub AreTold : Over → List Column → Places → (place : ℕ) → List (List (List ℕ)) → List CheckSaid → Type 0
+AreTold over columns came place [] [] = ⊤
+AreTold over columns came place [] (one ∷ said) = ⊥
+AreTold over columns came place (row ∷ rows) [] = ⊥
+AreTold over columns came place (row ∷ rows) (one ∷ said) =
+    IsToldOf over.judging over.desk over.told columns (again_of came (named_in columns row)) row one
+    × AreTold over columns (came_after over.desk came place (named_in columns row)) (place + 1) rows said
+
+-- rows in columns are judged, and these are their lines
 pub record AreChecked (over : Over) (columns : List Column) (rows : List (List (List ℕ))) (said : List CheckSaid) (lines : List ℕ) : Type 0 where
-  pub each : AllZip (IsToldOf over.judging over.desk over.told columns) rows said
+  pub each : AreTold over columns no_places 1 rows said
   pub written : lines ≡ said_lines 1 said
 
 -- the references of live trades of the desk for which no row came

@@ -1,16 +1,14 @@
 -- What comes of more records of an input.
 use Rattle.std.specs.Prelude.{◌≡◌, ⊤, ℕ, ◌+◌, List, [], ◌∷◌, Option, Some, None, Ok, Err}
-use Rattle.std.specs.List.{AllZip}
 use Rattle.arrayvec.specs.ArrayVec.{ArrayVec}
 use Rattle.muni_import.specs.declared.row.RowFault.{RowFault}
 use Rattle.muni_desk_io.specs.declared.fault.Fault.{Fault}
 use Rattle.muni_desk_io.specs.declared.fault.Fault.TheVariants.{Read, Write, Store, NoMemory, TooLarge}
-use Rattle.muni_check.specs.Answer.{Over}
+use Rattle.muni_check.specs.Answer.{AreTold, Over}
 use Rattle.muni_check_rows.specs.Columns.{columns_in}
 use Rattle.muni_check_rows.specs.Line.{said_lines}
-use Rattle.muni_check.specs.Named.{AddsNames}
+use Rattle.muni_check.specs.Named.{AddsNames, came_after_rows, place_in}
 use Rattle.muni_check_rows.specs.Rows.{named_by}
-use Rattle.muni_check_rows.specs.Said.{IsToldOf}
 use Rattle.muni_check_rows.specs.Tallies.{with_said}
 use Rattle.muni_columns.specs.declared.column.Column.{Column}
 use Rattle.muni_check.specs.declared.rows.BlockDone.{BlockDone}
@@ -25,13 +23,15 @@ abbrev pub tally_after : Tally → List CheckSaid → Tally
 tally_after tally [] = tally
 tally_after tally (said ∷ more) = tally_after (with_said tally said) more
 
--- Rows in columns are judged each by itself, and their lines go on after those before.
+-- Rows in columns are judged after those before, and their lines go on.
 pub record GoesOn (over : Over) (columns : List Column) (rows : List (List (List ℕ))) (old new : Progress) (lines : List ℕ) : Type 0 where
   pub said : List CheckSaid
-  pub each : AllZip (IsToldOf over.judging over.desk over.told columns) rows said
+  pub each : AreTold over columns (place_in old.named) (old.tally.rows + 1) rows said
   pub written : lines ≡ said_lines (old.tally.rows + 1) said
   pub counted : new.tally ≡ tally_after old.tally said
   pub named : AddsNames over.desk old.named new.named (named_by columns rows)
+  pub places : (reference : List ℕ) → place_in new.named reference
+      ≡ came_after_rows over.desk columns (place_in old.named) (old.tally.rows + 1) rows reference
 
 -- Records of which the first names the columns, if there are any, are done.
 pub record BeginsWith (over : Over) (names : List (List ℕ)) (rows : List (List (List ℕ))) (old new : SoFar) (lines : List ℕ) : Type 0 where

@@ -10,15 +10,19 @@ ghost use Rattle.muni_terms.specs.Check.{checked};
 ghost use Rattle.muni_check.specs.Cache.{IsSoundCache};
 ghost use Rattle.muni_check_rows.specs.Judging.{rule};
 ghost use Rattle.muni_check_rows.specs.Line.{HasName};
-ghost use Rattle.muni_check_rows.specs.Rows.{row_in};
+ghost use Rattle.muni_check_rows.specs.Rows.{row_in, trade_row_in};
 ghost use Rattle.muni_check_rows.specs.Said as spec;
+ghost use Rattle.muni_check_rows.specs.StatedFigures.{has_figure};
 
 use crate::cache::IssueCache;
 use muni_book::{Calculator, figures};
-use muni_check_rows::{CheckRow, CheckSaid, Fields, Known, compared_said, read_row, refused_said};
-use muni_edge::Gate;
+use muni_check_rows::{
+    CheckRow, CheckSaid, Fields, TradeRow, compared_said, has_figure, other_in_issue,
+    other_in_trade, read_row, read_trade_row, refused_said, states_nothing,
+};
+use muni_edge::{Gate, NoMemory};
 use muni_keep::{KeepFault, Keeper};
-use muni_msg::{Act, Asked, DeskName, Key, Refusal};
+use muni_msg::{Act, Asked, DeskName, Key, Refusal, Version};
 use muni_multi::Encloser;
 use muni_readings::{Answered, Stated, check_figures};
 use muni_sched::Schedule;
@@ -57,39 +61,36 @@ impl<'a, R: Threads + Sync, E: Encloser + Sync, G: Gate + Sync> Judge<'a, R, E, 
         }
     }
 
-    /// What is said of a row, given what is known of its trade.
-    pub(crate) fn judge<K: Keeper>(
+    /// What is said of a row by itself.
+    pub(crate) fn judge_alone<K: Keeper>(
         &mut self,
         keeper: &mut K,
         fields: &Fields<'_>,
-        known: &Known,
     ) -> Result<CheckSaid, KeepFault>
         requires { IfSome (K.tables keeper.old) (λ t. IsSoundCache t self.old.issues) }
-        ensures said { IfOk result (λ said. IfSome (K.tables keeper.old) (λ t.
-            spec.IsSaidOfRow (rule (E.ends self.old.calculator.now.encloser.now)) (spec.issue_for t known.now)
-            (row_in fields.now.columns.now.items (fields_of fields.now.record.now) known.now) said)) }
+        ensures said { IfOk result (λ said. spec.IsSaidOfRow (rule (E.ends self.old.calculator.now.encloser.now)) (K.tables keeper.old)
+            (row_in fields.now.columns.now.items (fields_of fields.now.record.now)) said) }
         ensures sound { OnOk result (IfSome (K.tables keeper.old) (λ t. IsSoundCache t self.new.issues)) }
         ensures name { IfOk result HasName }
         ensures calculator { self.new.calculator ≡ self.old.calculator }
         ensures desk { self.new.desk ≡ self.old.desk }
         ensures reads { OnlyReads K.Keeper result keeper.old keeper.new }
     {
-        match read_row(fields, known) {
-            Ok(row) => self.judge_row(keeper, row, known),
+        match read_row(fields) {
+            Ok(row) => self.judge_row(keeper, row),
             Err(fault) => Ok(CheckSaid::Bad(fault)),
         }
     }
 
-    // A row goes by the terms that it states, and else by those that are kept for its CUSIP.
+    // A row goes by the terms that it states, and else by the last ones that are kept for its CUSIP.
     fn judge_row<K: Keeper>(
         &mut self,
         keeper: &mut K,
         row: CheckRow,
-        known: &Known,
     ) -> Result<CheckSaid, KeepFault>
         requires { IfSome (K.tables keeper.old) (λ t. IsSoundCache t self.old.issues) }
-        ensures said { IfOk result (λ said. IfSome (K.tables keeper.old) (λ t.
-            spec.IsJudged (rule (E.ends self.old.calculator.now.encloser.now)) (spec.issue_for t known.now) row.asked row.stated row.terms said)) }
+        ensures said { IfOk result (λ said. spec.IsCompared (rule (E.ends self.old.calculator.now.encloser.now)) (K.tables keeper.old)
+            row (has_figure row.stated) said) }
         ensures sound { OnOk result (IfSome (K.tables keeper.old) (λ t. IsSoundCache t self.new.issues)) }
         ensures name { IfOk result HasName }
         ensures calculator { self.new.calculator ≡ self.old.calculator }
@@ -101,12 +102,137 @@ impl<'a, R: Threads + Sync, E: Encloser + Sync, G: Gate + Sync> Judge<'a, R, E, 
             stated,
             terms,
         } = row;
+        if !has_figure(&stated) {
+            return Ok(CheckSaid::Nothing);
+        }
         match terms {
             Some(terms) => Ok(self.by_terms(terms, &asked, &stated)),
-            None => match known.number_for(&asked.cusip) {
-                Some(number) => self.by_number(keeper, number, &asked, &stated),
-                None => self.by_last(keeper, &asked, &stated),
-            },
+            None => self.by_last(keeper, &asked, &stated),
+        }
+    }
+
+    /// What is said of a row of a trade whose reference did not come before.
+    pub(crate) fn judge_key<K: Keeper>(
+        &mut self,
+        keeper: &mut K,
+        fields: &Fields<'_>,
+        key: &Key,
+    ) -> Result<CheckSaid, KeepFault>
+        ensures said { IfOk result (λ said. spec.ByKept (K.tables keeper.old) (λ t. last_at t key.now)
+            (λ last. spec.IsSaidOfTrade (rule (E.ends self.old.calculator.now.encloser.now)) (K.tables keeper.old)
+            fields.now.columns.now.items (fields_of fields.now.record.now) key.now.reference (spec.live_by last) said)) }
+        ensures issues { self.new.issues ≡ self.old.issues }
+        ensures name { IfOk result HasName }
+        ensures calculator { self.new.calculator ≡ self.old.calculator }
+        ensures desk { self.new.desk ≡ self.old.desk }
+        ensures reads { OnlyReads K.Keeper result keeper.old keeper.new }
+    {
+        let last = keeper.last(key)?;
+        self.judge_last(keeper, fields, key, &last)
+    }
+
+    // A row of a trade by its last version, or of one that is missing.
+    fn judge_last<K: Keeper>(
+        &mut self,
+        keeper: &mut K,
+        fields: &Fields<'_>,
+        key: &Key,
+        last: &Option<(u32, Version)>,
+    ) -> Result<CheckSaid, KeepFault>
+        ensures said { IfOk result (λ said. spec.IsSaidOfTrade (rule (E.ends self.old.calculator.now.encloser.now)) (K.tables keeper.old)
+            fields.now.columns.now.items (fields_of fields.now.record.now) key.now.reference (spec.live_by last.now) said) }
+        ensures issues { self.new.issues ≡ self.old.issues }
+        ensures name { IfOk result HasName }
+        ensures calculator { self.new.calculator ≡ self.old.calculator }
+        ensures desk { self.new.desk ≡ self.old.desk }
+        ensures reads { OnlyReads K.Keeper result keeper.old keeper.new }
+    {
+        match live_in(last) {
+            Some(version) => self.judge_trade(keeper, fields, &version),
+            None => Ok(CheckSaid::Missing {
+                reference: key.reference.copy(),
+            }),
+        }
+    }
+
+    // A row of a kept trade: its terms come before those of its issue, and those before the figures.
+    fn judge_trade<K: Keeper>(
+        &mut self,
+        keeper: &mut K,
+        fields: &Fields<'_>,
+        version: &Version,
+    ) -> Result<CheckSaid, KeepFault>
+        ensures said { IfOk result (λ said. spec.IsSaidOfTradeRow (rule (E.ends self.old.calculator.now.encloser.now)) (K.tables keeper.old)
+            fields.now.columns.now.items (fields_of fields.now.record.now) version.now
+            (trade_row_in fields.now.columns.now.items (fields_of fields.now.record.now) version.now.terms.asked) said) }
+        ensures issues { self.new.issues ≡ self.old.issues }
+        ensures name { IfOk result HasName }
+        ensures calculator { self.new.calculator ≡ self.old.calculator }
+        ensures desk { self.new.desk ≡ self.old.desk }
+        ensures reads { OnlyReads K.Keeper result keeper.old keeper.new }
+    {
+        let kept = &version.terms.asked;
+        let row = match read_trade_row(fields, kept) {
+            Ok(row) => row,
+            Err(fault) => return Ok(CheckSaid::Bad(fault)),
+        };
+        if let Some(other) = other_in_trade(self.alloc, kept, &row.texts)? {
+            return Ok(CheckSaid::OtherTerm(other));
+        }
+        if states_nothing(fields, &row.stated) {
+            return Ok(CheckSaid::Nothing);
+        }
+        self.by_number(keeper, version, &row)
+    }
+
+    // By the terms by which the trade was figured.
+    fn by_number<K: Keeper>(
+        &mut self,
+        keeper: &mut K,
+        version: &Version,
+        row: &TradeRow,
+    ) -> Result<CheckSaid, KeepFault>
+        ensures said { IfOk result (λ said. spec.ByKept (K.tables keeper.old)
+            (λ t. issue_numbered t version.now.terms.asked.cusip version.now.issue_number)
+            (λ issue. spec.IsJudgedOfTrade (rule (E.ends self.old.calculator.now.encloser.now)) version.now.terms.asked row.now issue said)) }
+        ensures issues { self.new.issues ≡ self.old.issues }
+        ensures name { IfOk result HasName }
+        ensures calculator { self.new.calculator ≡ self.old.calculator }
+        ensures desk { self.new.desk ≡ self.old.desk }
+        ensures reads { OnlyReads K.Keeper result keeper.old keeper.new }
+    {
+        let kept = &version.terms.asked;
+        let issue = keeper.issue_numbered(&kept.cusip, version.issue_number)?;
+        let said = self.by_issue(&issue, kept, row)?;
+        Ok(said)
+    }
+
+    // By terms that were found, or none.
+    fn by_issue(
+        &mut self,
+        issue: &Option<Issue>,
+        kept: &Asked,
+        row: &TradeRow,
+    ) -> Result<CheckSaid, NoMemory>
+        ensures said { IfOk result (λ said.
+            spec.IsJudgedOfTrade (rule (E.ends self.old.calculator.now.encloser.now)) kept.now row.now issue.now said) }
+        ensures issues { self.new.issues ≡ self.old.issues }
+        ensures name { IfOk result HasName }
+        ensures calculator { self.new.calculator ≡ self.old.calculator }
+        ensures desk { self.new.desk ≡ self.old.desk }
+    {
+        let Some(issue) = issue else {
+            return Ok(refused_said(&Refusal::UnknownIssue));
+        };
+        match other_in_issue(self.alloc, issue.row(), &row.terms)? {
+            Some(other) => Ok(CheckSaid::OtherTerm(other)),
+            None => Ok(compared(
+                self.calculator,
+                issue,
+                kept,
+                &row.stated,
+                &mut self.schedule,
+            )),
         }
     }
 
@@ -124,29 +250,6 @@ impl<'a, R: Threads + Sync, E: Encloser + Sync, G: Gate + Sync> Judge<'a, R, E, 
         }
     }
 
-    // A row of a trade, by the terms by which that was figured.
-    fn by_number<K: Keeper>(
-        &mut self,
-        keeper: &mut K,
-        number: u32,
-        asked: &Asked,
-        stated: &Stated,
-    ) -> Result<CheckSaid, KeepFault>
-        requires { IfSome (K.tables keeper.old) (λ t. IsSoundCache t self.old.issues) }
-        ensures said { IfOk result (λ said. IfSome (K.tables keeper.old) (λ t.
-            spec.IsJudgedByKept (rule (E.ends self.old.calculator.now.encloser.now)) asked.now stated.now (issue_numbered t asked.now.cusip number) said)) }
-        ensures sound { OnOk result (IfSome (K.tables keeper.old) (λ t. IsSoundCache t self.new.issues)) }
-        ensures name { IfOk result HasName }
-        ensures calculator { self.new.calculator ≡ self.old.calculator }
-        ensures desk { self.new.desk ≡ self.old.desk }
-        ensures reads { OnlyReads K.Keeper result keeper.old keeper.new }
-    {
-        match keeper.issue_numbered(&asked.cusip, number)? {
-            Some(issue) => Ok(compared(self.calculator, &issue, asked, stated, &mut self.schedule)),
-            None => Ok(refused_said(&Refusal::UnknownIssue)),
-        }
-    }
-
     // A row of an issue by its last terms, or of none that is kept.
     fn by_last<K: Keeper>(
         &mut self,
@@ -155,8 +258,8 @@ impl<'a, R: Threads + Sync, E: Encloser + Sync, G: Gate + Sync> Judge<'a, R, E, 
         stated: &Stated,
     ) -> Result<CheckSaid, KeepFault>
         requires { IfSome (K.tables keeper.old) (λ t. IsSoundCache t self.old.issues) }
-        ensures said { IfOk result (λ said. IfSome (K.tables keeper.old) (λ t.
-            spec.IsJudgedByKept (rule (E.ends self.old.calculator.now.encloser.now)) asked.now stated.now (issue_at t asked.now.cusip) said)) }
+        ensures said { IfOk result (λ said. spec.ByKept (K.tables keeper.old) (λ t. issue_at t asked.now.cusip)
+            (λ kept. spec.IsJudgedByKept (rule (E.ends self.old.calculator.now.encloser.now)) asked.now stated.now kept said)) }
         ensures sound { OnOk result (IfSome (K.tables keeper.old) (λ t. IsSoundCache t self.new.issues)) }
         ensures name { IfOk result HasName }
         ensures calculator { self.new.calculator ≡ self.old.calculator }
@@ -210,16 +313,15 @@ fn compared<R: Threads + Sync, E: Encloser + Sync, G: Gate + Sync>(
     )
 }
 
-/// What is known of a trade by its last version. One that is canceled is missing.
-pub(crate) fn known_of<K: Keeper>(keeper: &mut K, key: &Key) -> Result<Option<Known>, KeepFault>
-    ensures known { IfOk result (λ known. IfSome (K.tables keeper.old) (λ t. known ≡ spec.known_by (last_at t key.now))) }
-    ensures reads { OnlyReads K.Keeper result keeper.old keeper.new }
+// The last version of a trade, if that is not canceled.
+fn live_in(last: &Option<(u32, Version)>) -> Option<Version>
+    ensures { result ≡ spec.live_by last.now }
 {
-    match keeper.last(key)? {
+    match last {
         Some((_, version)) => match version.act {
-            Act::Entered | Act::Corrected => Ok(Some(Known::of(&version))),
-            Act::Canceled => Ok(None),
+            Act::Entered | Act::Corrected => Some(*version),
+            Act::Canceled => None,
         },
-        None => Ok(None),
+        None => None,
     }
 }

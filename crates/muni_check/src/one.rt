@@ -34,7 +34,7 @@ pub fn check_row<R: Threads + Sync, K: Keeper, E: Encloser + Sync, G: Gate + Syn
 {
     let mut judge = Judge::new(calculator, alloc, desk);
     let mut named = none(alloc);
-    let said = said_of(&mut judge, row, &mut named, keeper)?;
+    let said = said_of(&mut judge, 1, row, &mut named, keeper)?;
     let mut line = Vec::new(alloc);
     add_line(&mut line, 1, &said)?;
     Ok(line)

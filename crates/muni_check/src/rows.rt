@@ -1,6 +1,6 @@
 //! The rows of an input, a block at a time.
 
-ghost use Rattle.std.specs.Prelude.{◌≡◌, ◌≤◌, ◌+◌, ◌^◌, ◌∷◌, [], List, ℕ, None, false, length, map, IfErr, IfOk, IfSome, IsErrOf, OnOk};
+ghost use Rattle.std.specs.Prelude.{◌≡◌, ◌≤◌, ◌+◌, ◌^◌, ◌∷◌, [], List, ℕ, None, length, map, IfErr, IfOk, IfSome, IsErrOf, OnOk};
 ghost use Rattle.csv.specs.Records.{fields_of};
 ghost use Rattle.muni_keep.specs.Keeper.{OnlyReads, SameKeeper};
 ghost use Rattle.muni_check.specs.Cache.{IsSoundCache};
@@ -8,16 +8,16 @@ ghost use Rattle.muni_check.specs.GoesOn.{DoesBeginning, DoesBlock, GoesOn, IsOf
 ghost use Rattle.muni_check.specs.Judging.{over};
 ghost use Rattle.muni_check_rows.specs.Judging.{rule};
 ghost use Rattle.muni_check_rows.specs.Line.{HasName};
-ghost use Rattle.muni_check.specs.Named.{AddsNames, has};
-ghost use Rattle.muni_check_rows.specs.Rows.{named_by, records_of};
+ghost use Rattle.muni_check.specs.Named.{AddsNames, again_of, came_after, place_in};
+ghost use Rattle.muni_check_rows.specs.Rows.{named_by, named_in, records_of};
 ghost use Rattle.muni_check_rows.specs.Said.{IsToldOf};
 ghost use Rattle.muni_check_rows.specs.Tallies.{IsSmall, no_tally};
 
-use crate::judging::{Judge, known_of};
+use crate::judging::Judge;
 use crate::named::{Named, add, none};
 use csv::ByteRecord;
 use muni_check_rows::{
-    CheckSaid, Columns, Fields, Known, Tally, add_line, read_columns, read_records, read_reference,
+    CheckSaid, Columns, Fields, Tally, add_line, read_columns, read_records, read_reference,
 };
 use muni_desk_io::Fault;
 use muni_edge::Gate;
@@ -28,7 +28,7 @@ use muni_multi::Encloser;
 use std::alloc::Global;
 use std::thread::Threads;
 
-/// What rows have come to: their tally, and the references that they name if they are of a desk.
+/// What rows have come to: their tally, and the references that they name if they are of a desk, with their places.
 #[derive(Drop)]
 pub(crate) struct Progress {
     pub tally: Tally,
@@ -48,7 +48,7 @@ impl SoFar {
     pub(crate) fn new(alloc: Global) -> SoFar
         ensures columns { result.columns ≡ None }
         ensures tally { result.progress.tally ≡ no_tally }
-        ensures named { (reference : List ℕ) → has result.progress.named reference ≡ false }
+        ensures named { (reference : List ℕ) → place_in result.progress.named reference ≡ None }
     {
         SoFar {
             columns: None,
@@ -158,26 +158,31 @@ fn judge_rows<R: Threads + Sync, K: Keeper, E: Encloser + Sync, G: Gate + Sync>(
             columns,
             record: row,
         };
-        let said = said_of(judge, &fields, &mut progress.named, keeper)?;
-        progress.tally.add(&said)?;
-        add_line(&mut lines, progress.tally.rows, &said)?;
+        let place = progress.tally.next_place()?;
+        let said = said_of(judge, place, &fields, &mut progress.named, keeper)?;
+        progress.tally.add(&said);
+        add_line(&mut lines, place, &said)?;
     }
     Ok(lines)
 }
 
-/// What is said of a row. The trade that it names, if it is of a desk, is no longer unseen.
+/// What is said of the row at a place. The trade that it names, if it is of a desk, is no longer unseen.
 pub(crate) fn said_of<R: Threads + Sync, K: Keeper, E: Encloser + Sync, G: Gate + Sync>(
     judge: &mut Judge<'_, R, E, G>,
+    place: u64,
     fields: &Fields<'_>,
     named: &mut Named,
     keeper: &mut K,
 ) -> Result<CheckSaid, KeepFault>
     requires sound { IfSome (K.tables keeper.old) (λ t. IsSoundCache t judge.old.issues) }
     ensures said { IfOk result (λ said. IsToldOf (rule (E.ends judge.old.calculator.now.encloser.now)) judge.old.desk.now (K.tables keeper.old)
-        fields.now.columns.now.items (fields_of fields.now.record.now) said) }
+        fields.now.columns.now.items (again_of (place_in named.old) (named_in fields.now.columns.now.items (fields_of fields.now.record.now)))
+        (fields_of fields.now.record.now) said) }
     ensures name { IfOk result HasName }
     ensures named { OnOk result (AddsNames judge.old.desk.now named.old named.new
         (named_by fields.now.columns.now.items (fields_of fields.now.record.now ∷ []))) }
+    ensures places { OnOk result ((reference : List ℕ) → place_in named.new reference
+        ≡ came_after judge.old.desk.now (place_in named.old) place (named_in fields.now.columns.now.items (fields_of fields.now.record.now)) reference) }
     ensures sound { OnOk result (IfSome (K.tables keeper.old) (λ t. IsSoundCache t judge.new.issues)) }
     ensures calculator { judge.new.calculator ≡ judge.old.calculator }
     ensures desk { judge.new.desk ≡ judge.old.desk }
@@ -188,17 +193,16 @@ pub(crate) fn said_of<R: Threads + Sync, K: Keeper, E: Encloser + Sync, G: Gate 
         Err(fault) => return Ok(CheckSaid::Bad(fault)),
     };
     let (Some(desk), Some(reference)) = (judge.desk, reference) else {
-        return judge.judge(keeper, fields, &Known::nothing());
+        return judge.judge_alone(keeper, fields);
     };
-    add(named, &reference)?;
-    let key = Key {
-        desk: desk.copy(),
-        reference,
-    };
-    match known_of(keeper, &key)? {
-        Some(known) => judge.judge(keeper, fields, &known),
-        None => Ok(CheckSaid::Missing {
-            reference: key.reference,
-        }),
+    match add(named, &reference, place)? {
+        Some(first) => Ok(CheckSaid::Again { first }),
+        None => {
+            let key = Key {
+                desk: desk.copy(),
+                reference,
+            };
+            judge.judge_key(keeper, fields, &key)
+        }
     }
 }

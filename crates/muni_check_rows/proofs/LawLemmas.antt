@@ -1,5 +1,6 @@
 -- What holds of every row of an issue.
-use Rattle.std.proofs.Common.{◌≡◌, ℤ, Option, Result, Ok, Err, refl, sym, subst}
+use Rattle.std.proofs.Common.{◌≡◌, ℕ, ℤ, List, Bool, true, false, Option, Some, None, Result, Ok, Err, refl, sym, subst}
+use Rattle.std.specs.Prelude.{IfSome}
 use Rattle.muni_rule.specs.Payments.{PaymentSeries}
 use Rattle.muni_rule.specs.WorthEnds.{WorthEnds}
 use Rattle.muni_terms.specs.declared.row.IssueRow.{IssueRow}
@@ -12,8 +13,16 @@ use Rattle.muni_readings.specs.declared.reading.Reading.{Reading}
 use Rattle.muni_readings.specs.declared.stated.Field.{Field}
 use Rattle.muni_readings.specs.declared.stated.Stated.{Stated}
 use Rattle.muni_check_rows.specs.Judging.{rule}
-use Rattle.muni_check_rows.specs.Laws.{AreRight, IsFirstOther}
-use Rattle.muni_check_rows.specs.Said.{IsComparedWith, IsJudgedBy, refused_said}
+use Rattle.muni_msg.specs.declared.version.Version.{Version}
+use Rattle.muni_keep.specs.Tables.{issue_numbered}
+use Rattle.muni_keep.specs.Tables.{Tables}
+use Rattle.muni_import.specs.declared.row.RowFault.{RowFault}
+use Rattle.muni_columns.specs.declared.column.Column.{Column}
+use Rattle.muni_check_rows.specs.Laws.{AreRight, IsFirstOther, IsOurs}
+use Rattle.muni_check_rows.specs.Other.{OtherTerm, other_in_issue, other_in_trade}
+use Rattle.muni_check_rows.specs.Rows.{states_nothing, trade_row_in}
+use Rattle.muni_check_rows.specs.Said.{IsComparedOfTrade, IsComparedWith, IsJudgedBy, IsJudgedOfTrade, IsOtherOr, IsSaidOfTradeRow, refused_said}
+use Rattle.muni_check_rows.specs.declared.row.TradeRow.{TradeRow}
 use Rattle.muni_check_rows.specs.declared.said.CheckSaid.{CheckSaid}
 use Rattle.muni_check_rows.specs.declared.said.CheckSaid.TheVariants as outcome
 
@@ -24,6 +33,9 @@ IsNoFigure (outcome.Differs which figures stated reading) = ⊥
 IsNoFigure (outcome.Undecided which) = Unit {0}
 IsNoFigure (outcome.Refused number) = Unit {0}
 IsNoFigure (outcome.Missing reference) = Unit {0}
+IsNoFigure (outcome.OtherTerm other) = Unit {0}
+IsNoFigure (outcome.Again first) = Unit {0}
+IsNoFigure outcome.Nothing = Unit {0}
 IsNoFigure (outcome.Bad fault) = Unit {0}
 
 refused-none : (why : Refusal) → IsNoFigure (refused_said why)
@@ -71,3 +83,39 @@ pub differs-first : (ends : PaymentSeries → ℤ → WorthEnds) (issue : IssueR
     → IsJudgedBy (rule ends) issue asked stated (outcome.Differs which figures shown reading) → IsFirstOther ends issue asked stated which figures
 differs-first ends issue asked stated shown which figures reading (answer, priced, compared) =
     differs-by ends issue asked stated shown which figures reading answer priced compared
+
+-- ---- of a kept trade
+figures-ours : (ends : PaymentSeries → ℤ → WorthEnds) (told : Option Tables) (version : Version) (row : TradeRow) (trade : other_in_trade version.terms.asked row.texts ≡ None)
+    (found : Option IssueRow) → IfSome told (λ tables. found ≡ issue_numbered tables version.terms.asked.cusip version.issue_number)
+    → IsJudgedOfTrade (rule ends) version.terms.asked row found outcome.Right → IsOurs ends told version row
+figures-ours ends told version row trade None kept is = absurd (subst IsNoFigure (sym is) tt)
+figures-ours ends told version row trade (Some issue) kept is = terms-ours (other_in_issue issue row.terms) refl is
+  where
+    terms-ours : (other : Option OtherTerm) → other_in_issue issue row.terms ≡ other → IsOtherOr other (IsJudgedBy (rule ends) issue version.terms.asked row.stated) outcome.Right
+        → IsOurs ends told version row
+    terms-ours (Some other) same is = absurd (cc is)
+    terms-ours None same judged = record {
+      trade = trade;
+      issue = issue;
+      kept = kept;
+      terms = same;
+      figures = right-only ends issue version.terms.asked row.stated judged;
+    }
+
+compared-ours : (ends : PaymentSeries → ℤ → WorthEnds) (told : Option Tables) (version : Version) (row : TradeRow) (nothing : Bool) → other_in_trade version.terms.asked row.texts ≡ None
+    → IsComparedOfTrade (rule ends) told version row nothing outcome.Right → IsOurs ends told version row
+compared-ours ends told version row true trade is = absurd (cc is)
+compared-ours ends told version row false trade (found, kept, judged) = figures-ours ends told version row trade found kept judged
+
+trade-ours : (ends : PaymentSeries → ℤ → WorthEnds) (told : Option Tables) (version : Version) (row : TradeRow) (nothing : Bool) (other : Option OtherTerm) → other_in_trade version.terms.asked row.texts ≡ other
+    → IsOtherOr other (IsComparedOfTrade (rule ends) told version row nothing) outcome.Right → IsOurs ends told version row
+trade-ours ends told version row nothing (Some other) same is = absurd (cc is)
+trade-ours ends told version row nothing None same is = compared-ours ends told version row nothing same is
+
+pub right-ours : (ends : PaymentSeries → ℤ → WorthEnds) (told : Option Tables) (columns : List Column) (fields : List (List ℕ)) (version : Version) (read : Result TradeRow RowFault)
+    → trade_row_in columns fields version.terms.asked ≡ read
+    → IsSaidOfTradeRow (rule ends) told columns fields version read outcome.Right
+    → (row : TradeRow) × (trade_row_in columns fields version.terms.asked ≡ Ok row) × IsOurs ends told version row
+right-ours ends told columns fields version (Err fault) same is = absurd (cc is)
+right-ours ends told columns fields version (Ok row) same is =
+    (row, same, trade-ours ends told version row (states_nothing columns fields row.stated) (other_in_trade version.terms.asked row.texts) refl is)

@@ -1,5 +1,5 @@
 -- The columns of an input, which its first line names in any order.
-use Rattle.std.specs.Prelude.{◌||◌, ◌+◌, nat_le, if◌then◌else◌, Bool, ℕ, List, [], ◌∷◌, ◌++◌, length, position, Option, Some, None, Result, Ok, Err}
+use Rattle.std.specs.Prelude.{◌||◌, ◌+◌, ◌==◌, not, nat_le, if◌then◌else◌, Bool, ℕ, List, [], ◌∷◌, ◌++◌, length, position, Option, Some, None, Result, Ok, Err}
 use Rattle.std.specs.List.{list_any}
 use Rattle.std.specs.Str.{bytes_eq}
 use Rattle.muni_import.specs.Row.{◌>>=◌, field}
@@ -41,6 +41,13 @@ text_at fields (Some place) = field (place + 1) fields
 -- the text of a column in a row
 abbrev pub text_in : List Column → List (List ℕ) → Column → List ℕ
 text_in columns fields column = text_at fields (place_of columns column)
+
+-- a row states something in a column, or in one of several
+abbrev pub states : List Column → List (List ℕ) → Column → Bool
+states columns fields column = not (length (text_in columns fields column) == 0)
+
+abbrev pub states_any : List Column → List (List ℕ) → List Column → Bool
+states_any columns fields some = list_any (states columns fields) some
 
 -- a column is needed and does not read, or is not there at all
 abbrev pub fault_at : Option ℕ → RowFault

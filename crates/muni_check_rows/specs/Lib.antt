@@ -1,7 +1,9 @@
+pub mod Basis
 pub mod Columns
 pub mod Judging
 pub mod Laws
 pub mod Line
+pub mod Other
 pub mod Rows
 pub mod Said
 pub mod StatedFigures

@@ -1,5 +1,5 @@
 -- The lines of a check.
-use Rattle.std.specs.Prelude.{◌≤◌, ⊤, ℕ, ◌+◌, List, [], ◌∷◌, ◌++◌, codes, decimal, Option, Some, None}
+use Rattle.std.specs.Prelude.{◌≤◌, ⊤, ⊥, ℕ, ◌+◌, List, [], ◌∷◌, ◌++◌, codes, decimal, Option, Some, None}
 use Rattle.std.specs.Fmt.{signed_decimal}
 use Rattle.std.specs.List.{flat_map}
 use Rattle.muni_dec.specs.Values.{money_text, printed_price_text, printed_yield_text}
@@ -14,6 +14,7 @@ use Rattle.muni_readings.specs.declared.reading.Reading.TheVariants as reading
 use Rattle.muni_readings.specs.declared.stated.Stated.{Stated}
 use Rattle.muni_columns.specs.Columns.{name_of}
 use Rattle.muni_columns.specs.declared.column.Column.TheVariants as column
+use Rattle.muni_check_rows.specs.Other.{OtherTerm}
 use Rattle.muni_check_rows.specs.declared.said.CheckSaid.{CheckSaid}
 use Rattle.muni_check_rows.specs.declared.said.CheckSaid.TheVariants as outcome
 use Rattle.muni_check_rows.specs.declared.tally.Tally.{Tally}
@@ -25,7 +26,22 @@ HasName (outcome.Differs which figures stated reading) = ⊤
 HasName (outcome.Undecided which) = ⊤
 HasName (outcome.Refused number) = (1 ≤ number) × (number ≤ 15)
 HasName (outcome.Missing reference) = ⊤
+HasName (outcome.OtherTerm other) = ⊤
+HasName (outcome.Again first) = ⊤
+HasName outcome.Nothing = ⊤
 HasName (outcome.Bad fault) = ⊤
+
+-- all but two texts of any length
+abbrev pub IsShort : CheckSaid → Type 0
+IsShort outcome.Right = ⊤
+IsShort (outcome.Differs which figures stated reading) = ⊤
+IsShort (outcome.Undecided which) = ⊤
+IsShort (outcome.Refused number) = ⊤
+IsShort (outcome.Missing reference) = ⊤
+IsShort (outcome.OtherTerm other) = ⊥
+IsShort (outcome.Again first) = ⊤
+IsShort outcome.Nothing = ⊤
+IsShort (outcome.Bad fault) = ⊤
 
 -- a figure is named as its column
 abbrev pub field_name : Field → List ℕ
@@ -82,6 +98,11 @@ differs_fields which figures stated reading =
     behind_commas (codes "differs" ∷ field_name which ∷ our_text which figures ∷ their_text which stated ∷ [])
     ++ reading_fields reading
 
+-- a term that is another than the kept one
+abbrev pub other_fields : OtherTerm → List ℕ
+other_fields other =
+    behind_commas (codes "differs" ∷ name_of other.column ∷ other.ours ∷ other.theirs ∷ [])
+
 -- what is told of a row
 unfoldable pub said_fields : CheckSaid → List ℕ
 said_fields outcome.Right = behind_commas (codes "right" ∷ [])
@@ -89,6 +110,9 @@ said_fields (outcome.Differs which figures stated reading) = differs_fields whic
 said_fields (outcome.Undecided which) = behind_commas (codes "undecided" ∷ field_name which ∷ [])
 said_fields (outcome.Refused number) = refused_fields number
 said_fields (outcome.Missing reference) = behind_commas (codes "missing" ∷ reference ∷ [])
+said_fields (outcome.OtherTerm other) = other_fields other
+said_fields (outcome.Again first) = behind_commas (codes "again" ∷ decimal first ∷ [])
+said_fields outcome.Nothing = behind_commas (codes "nothing" ∷ [])
 said_fields (outcome.Bad fault) = bad_fields fault
 
 -- the line of a row, which begins with its place
@@ -110,7 +134,9 @@ unseen_lines references = flat_map unseen_line references
 -- the last line
 unfoldable pub total_line : Tally → List ℕ
 total_line tally =
-    codes "TOTAL" ++ behind_commas (decimal tally.rows ∷ decimal tally.right ∷ decimal tally.differ ∷ decimal tally.missing ∷ []) ++ 10 ∷ []
+    codes "TOTAL"
+    ++ behind_commas (decimal tally.rows ∷ decimal tally.right ∷ decimal tally.differ ∷ decimal tally.missing ∷ decimal tally.again ∷ decimal tally.nothing ∷ [])
+    ++ 10 ∷ []
 
 -- the line of names that are no columns
 abbrev pub names_line : RowFault → List ℕ

@@ -1,5 +1,5 @@
 -- What a row says by itself.
-use Rattle.std.specs.Prelude.{ℕ, ◌==◌, ◌&&◌, Bool, if◌then◌else◌, List, length, Option, Some, None, is_none, Result, Ok, Err}
+use Rattle.std.specs.Prelude.{ℕ, ◌==◌, ◌&&◌, not, Bool, if◌then◌else◌, List, ◌++◌, length, Option, Some, None, Result, Ok, Err}
 use Rattle.std.specs.Char.{is_ascii_alphanumeric}
 use Rattle.std.specs.List.{filter_map}
 use Rattle.std.specs.Result.{result_ok}
@@ -8,13 +8,17 @@ use Rattle.muni_msg.specs.NameReading.{name_reading}
 use Rattle.muni_import.specs.Row.{◌>>=◌}
 use Rattle.muni_import.specs.declared.row.RowFault.{RowFault}
 use Rattle.muni_import.specs.declared.row.RowFault.TheVariants.{FieldCount}
-use Rattle.muni_check_rows.specs.StatedFigures.{figure_in, stated_in}
-use Rattle.muni_check_rows.specs.Terms.{has_terms, no_cusip, terms_in}
-use Rattle.muni_check_rows.specs.Trade.{asked_in}
+use Rattle.muni_msg.specs.declared.asked.Asked.{Asked}
+use Rattle.muni_readings.specs.declared.stated.Stated.{Stated}
+use Rattle.muni_check_rows.specs.Columns.{states_any}
+use Rattle.muni_check_rows.specs.Other.{issue_columns, trade_columns}
+use Rattle.muni_check_rows.specs.StatedFigures.{figure_in, has_figure, stated_in}
+use Rattle.muni_check_rows.specs.Terms.{has_terms, terms_in}
+use Rattle.muni_check_rows.specs.Trade.{asked_in, trade_texts_in}
 use Rattle.muni_columns.specs.declared.column.Column.{Column}
 use Rattle.muni_columns.specs.declared.column.Column.TheVariants as column
 use Rattle.muni_check_rows.specs.declared.row.CheckRow.{CheckRow}
-use Rattle.muni_check_rows.specs.declared.trade.Known.{Known}
+use Rattle.muni_check_rows.specs.declared.row.TradeRow.{TradeRow}
 
 -- the records of a text: a mark of its byte order is no part of it
 unfoldable pub records_of : List ℕ → List (List (List ℕ))
@@ -29,18 +33,31 @@ reference_in columns fields =
     if length fields == length columns
     then figure_in columns fields column.Reference reference_reading else Err FieldCount
 
--- what is known of a trade, or of one whose terms the row states and whose CUSIP nothing hangs on
-abbrev pub with_terms : Bool → Known → Known
-with_terms states known =
-    record known { cusip = if states && is_none known.cusip then Some no_cusip else known.cusip }
-
--- what a row asks for, the figures that it states, and the terms if it states them
-unfoldable pub row_in : List Column → List (List ℕ) → Known → Result CheckRow RowFault
-row_in columns fields known = do
-  asked ← asked_in columns fields (with_terms (has_terms columns fields) known)
+-- ---- a row by itself
+-- what it asks for, the figures that it states, and the terms if it states them
+unfoldable pub row_in : List Column → List (List ℕ) → Result CheckRow RowFault
+row_in columns fields = do
+  asked ← asked_in columns fields (has_terms columns fields)
   stated ← stated_in columns fields
   terms ← terms_in columns fields asked.cusip
   Ok (record { asked = asked; stated = stated; terms = terms })
+
+-- ---- a row of a trade
+-- its terms by what the row states of them, the figures, and the terms of its issue if the row states them
+unfoldable pub trade_row_in : List Column → List (List ℕ) → (kept : Asked) → Result TradeRow RowFault
+trade_row_in columns fields kept = do
+  texts ← trade_texts_in columns fields kept
+  stated ← stated_in columns fields
+  terms ← terms_in columns fields kept.cusip
+  Ok (record { texts = texts; stated = stated; terms = terms })
+
+-- the columns in which a row states something of a trade or of its issue
+abbrev pub all_terms : List Column
+all_terms = trade_columns ++ issue_columns
+
+-- a row states no figure and nothing of the trade
+abbrev pub states_nothing : List Column → List (List ℕ) → Stated → Bool
+states_nothing columns fields stated = not (has_figure stated) && not (states_any columns fields all_terms)
 
 -- the references that rows state
 abbrev pub flat : Option (Option (List ℕ)) → Option (List ℕ)

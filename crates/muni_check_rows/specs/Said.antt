@@ -1,5 +1,5 @@
 -- What is said of a row.
-use Rattle.std.specs.Prelude.{◌≡◌, ℕ, List, Option, Some, None, Result, Ok, Err, IfSome}
+use Rattle.std.specs.Prelude.{◌≡◌, ℕ, Bool, true, false, List, Option, Some, None, Result, Ok, Err, IfSome}
 use Rattle.muni_terms.specs.Check.{checked}
 use Rattle.muni_terms.specs.declared.disclosure.Boundary.{Boundary}
 use Rattle.muni_terms.specs.declared.disclosure.Boundary.TheVariants as boundary
@@ -20,13 +20,14 @@ use Rattle.muni_readings.specs.declared.stated.Field.TheVariants as field
 use Rattle.muni_readings.specs.declared.stated.Stated.{Stated}
 use Rattle.muni_readings.specs.declared.checked.Checked.{Checked}
 use Rattle.muni_readings.specs.declared.checked.Checked.TheVariants as checked
-use Rattle.muni_check_rows.specs.Rows.{reference_in, row_in}
-use Rattle.muni_check_rows.specs.Trade.{known_of, nothing_known, number_for}
+use Rattle.muni_check_rows.specs.Other.{OtherTerm, other_in_issue, other_in_trade}
+use Rattle.muni_check_rows.specs.Rows.{reference_in, row_in, states_nothing, trade_row_in}
+use Rattle.muni_check_rows.specs.StatedFigures.{has_figure}
 use Rattle.muni_columns.specs.declared.column.Column.{Column}
 use Rattle.muni_check_rows.specs.declared.row.CheckRow.{CheckRow}
+use Rattle.muni_check_rows.specs.declared.row.TradeRow.{TradeRow}
 use Rattle.muni_check_rows.specs.declared.said.CheckSaid.{CheckSaid}
 use Rattle.muni_check_rows.specs.declared.said.CheckSaid.TheVariants as outcome
-use Rattle.muni_check_rows.specs.declared.trade.Known.{Known}
 
 -- how figures are found, and how stated ones are compared with them
 pub record Judging : Type 1 where
@@ -71,61 +72,93 @@ abbrev pub IsJudgedByKept : Judging → Asked → Stated → Option IssueRow →
 IsJudgedByKept judging asked stated (Some issue) said = IsJudgedBy judging issue asked stated said
 IsJudgedByKept judging asked stated None said = said ≡ refused_said refusal.UnknownIssue
 
--- a row goes by the terms that it states, and else by those that are kept for its CUSIP
-abbrev pub IsJudged : Judging → (List ℕ → Option IssueRow) → Asked → Stated → Option IssueRow → CheckSaid → Type 0
-IsJudged judging kept asked stated (Some terms) said = IsJudgedByTerms judging asked stated (checked terms) said
-IsJudged judging kept asked stated None said = IsJudgedByKept judging asked stated (kept asked.cusip) said
+-- What a store keeps, as far as it is exposed, and else what it was found to keep.
+abbrev pub ByKept : {A : Type 0} → Option Tables → (Tables → A) → (A → Type 0) → Type 0
+ByKept {A} told kept Is = (found : A) × IfSome told (λ tables. found ≡ kept tables) × Is found
 
--- a row that reads, or one that does not
-abbrev pub IsSaidOfRow : Judging → (List ℕ → Option IssueRow) → Result CheckRow RowFault → CheckSaid → Type 0
-IsSaidOfRow judging kept (Ok row) said = IsJudged judging kept row.asked row.stated row.terms said
-IsSaidOfRow judging kept (Err fault) said = said ≡ outcome.Bad fault
+-- ---- a row by itself
+-- it goes by the terms that it states, and else by the last ones that are kept for its CUSIP
+abbrev pub IsJudged : Judging → Option Tables → Asked → Stated → Option IssueRow → CheckSaid → Type 0
+IsJudged judging told asked stated (Some terms) said = IsJudgedByTerms judging asked stated (checked terms) said
+IsJudged judging told asked stated None said =
+    ByKept told (λ tables. issue_at tables asked.cusip) (λ kept. IsJudgedByKept judging asked stated kept said)
 
--- what is known of a trade by its last version; one that is canceled is missing
-abbrev pub if_live : Act → Known → Option Known
-if_live Entered known = Some known
-if_live Corrected known = Some known
-if_live Canceled known = None
+-- one that states no figure states nothing
+abbrev pub IsCompared : Judging → Option Tables → CheckRow → (has_figure : Bool) → CheckSaid → Type 0
+IsCompared judging told row true said = IsJudged judging told row.asked row.stated row.terms said
+IsCompared judging told row false said = said ≡ outcome.Nothing
 
-abbrev pub known_by : Option (ℕ × Version) → Option Known
-known_by None = None
-known_by (Some last) = if_live last.1.act (known_of last.1)
+-- one that reads, or one that does not
+abbrev pub IsSaidOfRow : Judging → Option Tables → Result CheckRow RowFault → CheckSaid → Type 0
+IsSaidOfRow judging told (Ok row) said = IsCompared judging told row (has_figure row.stated) said
+IsSaidOfRow judging told (Err fault) said = said ≡ outcome.Bad fault
 
--- the terms with a number, or the last ones
-abbrev pub terms_at : Tables → (cusip : List ℕ) → Option ℕ → Option IssueRow
-terms_at tables cusip (Some number) = issue_numbered tables cusip number
-terms_at tables cusip None = issue_at tables cusip
+-- ---- a row of a trade
+-- a term is another than the kept one, or something else is said
+abbrev pub IsOtherOr : Option OtherTerm → (CheckSaid → Type 0) → CheckSaid → Type 0
+IsOtherOr (Some other) Is said = said ≡ outcome.OtherTerm other
+IsOtherOr None Is said = Is said
+
+-- the terms of its issue come before the figures, which are those of the kept trade
+abbrev pub IsJudgedOfTrade : Judging → (kept : Asked) → TradeRow → Option IssueRow → CheckSaid → Type 0
+IsJudgedOfTrade judging kept row (Some issue) said =
+    IsOtherOr (other_in_issue issue row.terms) (IsJudgedBy judging issue kept row.stated) said
+IsJudgedOfTrade judging kept row None said = said ≡ refused_said refusal.UnknownIssue
 
 -- a trade is judged by the terms by which it was figured, whatever came later
-abbrev pub issue_for : Tables → Known → (cusip : List ℕ) → Option IssueRow
-issue_for tables known cusip = terms_at tables cusip (number_for known cusip)
+abbrev pub IsComparedOfTrade : Judging → Option Tables → Version → TradeRow → (nothing : Bool) → CheckSaid → Type 0
+IsComparedOfTrade judging told version row true said = said ≡ outcome.Nothing
+IsComparedOfTrade judging told version row false said =
+    ByKept told (λ tables. issue_numbered tables version.terms.asked.cusip version.issue_number)
+    (λ issue. IsJudgedOfTrade judging version.terms.asked row issue said)
 
--- a row of a trade of which something is known, or of one that is missing
-abbrev pub IsSaidOfTrade : Judging → Tables → List Column → List (List ℕ) → (reference : List ℕ) → Option Known → CheckSaid → Type 0
-IsSaidOfTrade judging tables columns fields reference (Some known) said =
-    IsSaidOfRow judging (issue_for tables known) (row_in columns fields known) said
-IsSaidOfTrade judging tables columns fields reference None said = said ≡ outcome.Missing reference
+-- the terms of the trade come first
+abbrev pub IsSaidOfTradeRow : Judging → Option Tables → List Column → List (List ℕ) → Version → Result TradeRow RowFault → CheckSaid → Type 0
+IsSaidOfTradeRow judging told columns fields version (Ok row) said =
+    IsOtherOr (other_in_trade version.terms.asked row.texts)
+    (IsComparedOfTrade judging told version row (states_nothing columns fields row.stated)) said
+IsSaidOfTradeRow judging told columns fields version (Err fault) said = said ≡ outcome.Bad fault
 
--- a row names a trade only if it is of a desk and has a reference
-abbrev pub IsSaidByName : Judging → (desk : Option (List ℕ)) → Tables → List Column → List (List ℕ) → Option (List ℕ) → CheckSaid → Type 0
-IsSaidByName judging (Some desk) tables columns fields (Some reference) said =
-    IsSaidOfTrade judging tables columns fields reference (known_by (last_at tables (record { desk = desk; reference = reference }))) said
-IsSaidByName judging (Some desk) tables columns fields None said =
-    IsSaidOfRow judging (issue_at tables) (row_in columns fields nothing_known) said
-IsSaidByName judging None tables columns fields reference said =
-    IsSaidOfRow judging (issue_at tables) (row_in columns fields nothing_known) said
+-- the last version of a trade that is not canceled
+abbrev pub if_live : Act → Version → Option Version
+if_live Entered version = Some version
+if_live Corrected version = Some version
+if_live Canceled version = None
 
-abbrev pub IsSaidAfter : Judging → (desk : Option (List ℕ)) → Tables → List Column → List (List ℕ) → Result (Option (List ℕ)) RowFault → CheckSaid → Type 0
-IsSaidAfter judging desk tables columns fields (Ok reference) said =
-    IsSaidByName judging desk tables columns fields reference said
-IsSaidAfter judging desk tables columns fields (Err fault) said = said ≡ outcome.Bad fault
+abbrev pub live_by : Option (ℕ × Version) → Option Version
+live_by None = None
+live_by (Some last) = if_live last.1.act last.1
 
--- What is said of a row, by the row alone and what the tables keep.
-abbrev pub IsSaid : Judging → (desk : Option (List ℕ)) → Tables → List Column → List (List ℕ) → CheckSaid → Type 0
-IsSaid judging desk tables columns fields said =
-    IsSaidAfter judging desk tables columns fields (reference_in columns fields) said
+-- a row of a trade that is live, or of one that is missing
+abbrev pub IsSaidOfTrade : Judging → Option Tables → List Column → List (List ℕ) → (reference : List ℕ) → Option Version → CheckSaid → Type 0
+IsSaidOfTrade judging told columns fields reference (Some version) said =
+    IsSaidOfTradeRow judging told columns fields version (trade_row_in columns fields version.terms.asked) said
+IsSaidOfTrade judging told columns fields reference None said = said ≡ outcome.Missing reference
 
--- by the tables, if they are exposed
-abbrev pub IsToldOf : Judging → (desk : Option (List ℕ)) → Option Tables → List Column → List (List ℕ) → CheckSaid → Type 0
-IsToldOf judging desk told columns fields said =
-    IfSome told (λ tables. IsSaid judging desk tables columns fields said)
+-- a row whose reference came before, or one whose reference is the first of its kind
+abbrev pub IsSaidByReference : Judging → (desk : List ℕ) → Option Tables → List Column → List (List ℕ) → (reference : List ℕ) → (again : Option ℕ) → CheckSaid → Type 0
+IsSaidByReference judging desk told columns fields reference (Some first) said = said ≡ outcome.Again first
+IsSaidByReference judging desk told columns fields reference None said =
+    ByKept told (λ tables. last_at tables (record { desk = desk; reference = reference }))
+    (λ last. IsSaidOfTrade judging told columns fields reference (live_by last) said)
+
+-- ---- any row
+-- it names a trade only if it is of a desk and has a reference
+abbrev pub IsSaidByName : Judging → (desk : Option (List ℕ)) → Option Tables → List Column → List (List ℕ) → Option (List ℕ) → (again : Option ℕ) → CheckSaid → Type 0
+IsSaidByName judging (Some desk) told columns fields (Some reference) again said =
+    IsSaidByReference judging desk told columns fields reference again said
+IsSaidByName judging (Some desk) told columns fields None again said =
+    IsSaidOfRow judging told (row_in columns fields) said
+IsSaidByName judging None told columns fields reference again said =
+    IsSaidOfRow judging told (row_in columns fields) said
+
+abbrev pub IsSaidAfter : Judging → (desk : Option (List ℕ)) → Option Tables → List Column → List (List ℕ) → Result (Option (List ℕ)) RowFault → (again : Option ℕ) → CheckSaid → Type 0
+IsSaidAfter judging desk told columns fields (Ok reference) again said =
+    IsSaidByName judging desk told columns fields reference again said
+IsSaidAfter judging desk told columns fields (Err fault) again said = said ≡ outcome.Bad fault
+
+-- What is said of a row, by the row, by what is kept, and by the place of an earlier row with its reference if there is
+-- one.
+abbrev pub IsToldOf : Judging → (desk : Option (List ℕ)) → Option Tables → List Column → (again : Option ℕ) → List (List ℕ) → CheckSaid → Type 0
+IsToldOf judging desk told columns again fields said =
+    IsSaidAfter judging desk told columns fields (reference_in columns fields) again said

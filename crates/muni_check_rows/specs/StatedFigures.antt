@@ -1,5 +1,5 @@
 -- The figures that a row states, as another firm printed them.
-use Rattle.std.specs.Prelude.{ℕ, ◌+◌, ◌*◌, ◌-◌, ◌^◌, ◌==◌, if◌then◌else◌, List, ℤ, pos, neg_ℤ, length, take, drop, slice_index, position, option_map, option_and_then, Option, Some, None, ok_or, Result, Ok}
+use Rattle.std.specs.Prelude.{ℕ, ◌+◌, ◌*◌, ◌-◌, ◌^◌, ◌==◌, if◌then◌else◌, List, ℤ, pos, neg_ℤ, length, take, drop, slice_index, position, option_map, option_and_then, Option, Some, None, is_some, ok_or, Result, Ok, Bool, ◌||◌}
 use Rattle.muni_dec.specs.Digits.{number_reading}
 use Rattle.muni_dec.specs.Values.{if_printed_yield}
 use Rattle.muni_msg.specs.Fields.{day_in}
@@ -74,3 +74,9 @@ stated_in columns fields = do
   accrued ← figure_in columns fields column.Accrued money_in
   total ← figure_in columns fields column.Total money_in
   Ok (record { price = price; yld = yld; redemption = redemption; days = days; principal = principal; accrued = accrued; total = total })
+
+-- whether there is one
+abbrev pub has_figure : Stated → Bool
+has_figure stated =
+    is_some stated.price || is_some stated.yld || is_some stated.redemption || is_some stated.days
+    || is_some stated.principal || is_some stated.accrued || is_some stated.total

@@ -1,5 +1,5 @@
 -- The terms of an issue in the columns of a row.
-use Rattle.std.specs.Prelude.{ℕ, ◌==◌, not, Bool, if◌then◌else◌, List, length, codes, Option, Some, None, ok_or, Result, Ok, Err}
+use Rattle.std.specs.Prelude.{ℕ, Bool, if◌then◌else◌, List, [], ◌∷◌, codes, Option, Some, None, ok_or, Result, Ok, Err}
 use Rattle.muni_days.specs.declared.day.Day.{Day}
 use Rattle.muni_terms.specs.Check.{pays_interest}
 use Rattle.muni_terms.specs.declared.row.IssueRow.{IssueRow}
@@ -9,7 +9,7 @@ use Rattle.muni_msg.specs.Fields.{basis_field, day_in, kind_reading}
 use Rattle.muni_msg.specs.IssueFields.{coupon_by}
 use Rattle.muni_import.specs.Row.{◌>>=◌, is_kind, not_empty}
 use Rattle.muni_import.specs.declared.row.RowFault.{RowFault}
-use Rattle.muni_check_rows.specs.Columns.{fault_in, text_in}
+use Rattle.muni_check_rows.specs.Columns.{fault_in, states, states_any, text_in}
 use Rattle.muni_columns.specs.declared.column.Column.{Column}
 use Rattle.muni_columns.specs.declared.column.Column.TheVariants as column
 
@@ -46,14 +46,16 @@ issue_in columns fields cusip = do
 
 -- a row states terms if it states a kind
 abbrev pub has_terms : List Column → List (List ℕ) → Bool
-has_terms columns fields = not (length (text_in columns fields column.Kind) == 0)
+has_terms columns fields = states columns fields column.Kind
+
+-- or else another term, which then has no kind
+abbrev pub term_columns : List Column
+term_columns =
+    column.Dated ∷ column.First ∷ column.Maturity ∷ column.Coupon ∷ column.Calls ∷ column.DayCount ∷ []
 
 -- the terms that a row states, if it states any
 abbrev pub terms_in : List Column → List (List ℕ) → List ℕ → Result (Option IssueRow) RowFault
 terms_in columns fields cusip =
     if has_terms columns fields
-    then (issue_in columns fields cusip >>= λ issue. Ok (Some issue)) else Ok None
-
--- the CUSIP of terms that a row states without one
-abbrev pub no_cusip : List ℕ
-no_cusip = codes "000000000"
+    then (issue_in columns fields cusip >>= λ issue. Ok (Some issue))
+    else (if states_any columns fields term_columns then Err (fault_in columns column.Kind) else Ok None)

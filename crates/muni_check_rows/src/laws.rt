@@ -1,6 +1,6 @@
 //! Laws of what is said of rows, over every issue and every stated figure.
 
-ghost use Rattle.muni_check_rows.specs.Laws.{RightIsExact, TheFirstDifferenceIsTold};
+ghost use Rattle.muni_check_rows.specs.Laws.{RightIsExact, RightIsOurTrade, TheFirstDifferenceIsTold};
 
 /// A law of the definitions: of a row of an issue `right` is said exactly if there are figures of the rule, and each
 /// stated one is that of the rule.
@@ -12,4 +12,10 @@ pub fn right_is_exact()
 /// rule.
 pub fn the_first_difference_is_told()
     ensures { TheFirstDifferenceIsTold }
+{}
+
+/// A law of the definitions: of a row of a kept trade `right` is said only if each term that it states of the trade and
+/// of its issue is the kept one, and each figure that of the rule for the kept trade, by the terms by which it was figured.
+pub fn right_is_our_trade()
+    ensures { RightIsOurTrade }
 {}

@@ -8,6 +8,7 @@ ghost use Rattle.muni_days.specs.Day.{civil, day_text};
 ghost use Rattle.muni_import.specs.Line.{behind_commas};
 ghost use Rattle.muni_check_rows.specs.Line as spec;
 
+use crate::other::OtherTerm;
 use crate::said::CheckSaid;
 use crate::tally::Tally;
 use arrayvec::ArrayVec;
@@ -25,23 +26,54 @@ use muni_readings::{Field, Reading, Stated};
 /// Appends the line of a row, with its line end.
 ///
 /// `place,right`, `place,differs,FIELD,OURS,THEIRS` and perhaps `,READING`, `place,undecided,FIELD`,
-/// `place,refused,NUMBER,NAME`, `place,missing,REFERENCE`, `place,bad,1` or `place,bad,2,COLUMN`.
+/// `place,refused,NUMBER,NAME`, `place,missing,REFERENCE`, `place,again,PLACE`, `place,nothing`, `place,bad,1` or
+/// `place,bad,2,COLUMN`.
 pub fn add_line(text: &mut Vec<u8>, place: u64, said: &CheckSaid) -> Result<(), NoMemory>
     requires { spec.HasName said.now }
     ensures { OnOk result (text.new.items ≡ text.old.items ++ spec.said_line place said.now) }
 {
     let mut buffer = Buffer::new();
     text.extend_from_slice(buffer.format(place).as_bytes())?;
+    add_said(text, said)?;
+    text.extend_from_slice(b"\n")?;
+    Ok(())
+}
+
+#[tactic(auto, unfolding(crate::specs::Line::said_fields))]
+fn add_said(text: &mut Vec<u8>, said: &CheckSaid) -> Result<(), NoMemory>
+    requires { spec.HasName said.now }
+    ensures { OnOk result (text.new.items ≡ text.old.items ++ spec.said_fields said.now) }
+{
+    if let CheckSaid::OtherTerm(other) = said {
+        return add_other(text, other);
+    }
     let mut part = ArrayVec::new();
     push_said(&mut part, said);
     text.extend_from_slice(&part)?;
-    text.extend_from_slice(b"\n")?;
+    Ok(())
+}
+
+fn add_other(text: &mut Vec<u8>, other: &OtherTerm) -> Result<(), NoMemory>
+    ensures { OnOk result (text.new.items ≡ text.old.items ++ spec.other_fields other.now) }
+{
+    add_field(text, b"differs")?;
+    add_field(text, other.column.name())?;
+    add_field(text, &other.ours)?;
+    add_field(text, &other.theirs)
+}
+
+fn add_field(text: &mut Vec<u8>, field: &[u8]) -> Result<(), NoMemory>
+    ensures { OnOk result (text.new.items ≡ text.old.items ++ behind_commas (field.now ∷ [])) }
+{
+    text.extend_from_slice(b",")?;
+    text.extend_from_slice(field)?;
     Ok(())
 }
 
 #[tactic(auto, unfolding(crate::specs::Line::said_fields))]
 fn push_said(text: &mut ArrayVec<u8, 256>, said: &CheckSaid)
     requires name { spec.HasName said.now }
+    requires short { spec.IsShort said.now }
     requires room { array_vec_len text.old ≤ 0 }
     ensures items { text.new.items ≡ text.old.items ++ spec.said_fields said.now }
 {
@@ -53,6 +85,8 @@ fn push_said(text: &mut ArrayVec<u8, 256>, said: &CheckSaid)
             stated,
             reading,
         } => push_difference(text, *field, figures, stated, *reading),
+        // Its texts may be of any length.
+        CheckSaid::OtherTerm(_) => {}
         CheckSaid::Undecided { field } => {
             push_field(text, b"undecided");
             push_field(text, field_name(*field));
@@ -62,6 +96,11 @@ fn push_said(text: &mut ArrayVec<u8, 256>, said: &CheckSaid)
             push_field(text, b"missing");
             push_field(text, reference.bytes());
         }
+        CheckSaid::Again { first } => {
+            push_field(text, b"again");
+            push_count(text, *first);
+        }
+        CheckSaid::Nothing => push_field(text, b"nothing"),
         CheckSaid::Bad(fault) => push_bad(text, *fault),
     }
 }
@@ -232,7 +271,7 @@ fn push_days(text: &mut ArrayVec<u8, 256>, days: i32)
     push_field(text, buffer.format(days).as_bytes());
 }
 
-/// The line of the total, with its line end: `TOTAL,ROWS,RIGHT,DIFFER,MISSING`.
+/// The line of the total, with its line end: `TOTAL,ROWS,RIGHT,DIFFER,MISSING,AGAIN,NOTHING`.
 #[tactic(auto, unfolding(crate::specs::Line::total_line))]
 pub fn total_line(tally: &Tally) -> ArrayVec<u8, 256>
     ensures { result.items ≡ spec.total_line tally.now }
@@ -242,8 +281,18 @@ pub fn total_line(tally: &Tally) -> ArrayVec<u8, 256>
     push_count(&mut text, tally.rows);
     push_count(&mut text, tally.right);
     push_count(&mut text, tally.differ);
-    let mut buffer = Buffer::new();
-    push_field(&mut text, buffer.format(tally.missing).as_bytes());
+    push_wide(&mut text, tally.missing);
+    push_wide(&mut text, u128::from(tally.again));
+    push_wide(&mut text, u128::from(tally.nothing));
     text.push(b'\n');
     text
+}
+
+fn push_wide(text: &mut ArrayVec<u8, 256>, count: u128)
+    requires { array_vec_len text.old ≤ 150 }
+    ensures items { text.new.items ≡ text.old.items ++ behind_commas (decimal count ∷ []) }
+    ensures len { array_vec_len text.new ≤ array_vec_len text.old + 40 }
+{
+    let mut buffer = Buffer::new();
+    push_field(text, buffer.format(count).as_bytes());
 }

@@ -4,13 +4,14 @@ ghost use Rattle.std.specs.Prelude.{◌≡◌};
 ghost use Rattle.muni_check_rows.specs.Line.{HasName};
 ghost use Rattle.muni_check_rows.specs.Said as spec;
 
+use crate::other::OtherTerm;
 use muni_import::RowFault;
 use muni_msg::{Figures, Reference, Refusal};
 use muni_readings::{Checked, Field, Reading, Stated};
 use muni_terms::Boundary;
 
 /// What is said of a row.
-#[derive(Debug, Drop)]
+#[derive(Drop)]
 pub enum CheckSaid {
     /// Each stated figure is that of the rule.
     Right,
@@ -21,6 +22,8 @@ pub enum CheckSaid {
         stated: Stated,
         reading: Option<Reading>,
     },
+    /// This is the first stated term of a trade or of its issue that is not the kept one.
+    OtherTerm(OtherTerm),
     /// The rule leaves this figure undecided.
     Undecided {
         field: Field,
@@ -33,6 +36,12 @@ pub enum CheckSaid {
     Missing {
         reference: Reference,
     },
+    /// The reference stands in an earlier row, whose place this is.
+    Again {
+        first: u64,
+    },
+    /// It states no figure, and a row of a trade nothing of the trade either.
+    Nothing,
     /// It does not read.
     Bad(RowFault),
 }

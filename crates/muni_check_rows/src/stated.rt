@@ -37,6 +37,19 @@ pub(crate) fn read_stated(fields: &Fields<'_>) -> Result<Stated, RowFault>
     })
 }
 
+/// Whether a row states a figure.
+pub fn has_figure(stated: &Stated) -> bool
+    ensures { result ≡ spec.has_figure stated.now }
+{
+    stated.price.is_some()
+        || stated.yld.is_some()
+        || stated.redemption.is_some()
+        || stated.days.is_some()
+        || stated.principal.is_some()
+        || stated.accrued.is_some()
+        || stated.total.is_some()
+}
+
 fn read_price(fields: &Fields<'_>) -> Result<Option<Price3>, RowFault>
     ensures { result ≡ spec.figure_in fields.now.columns.now.items (fields_of fields.now.record.now) Column.Price spec.price_in }
 {

@@ -1,19 +1,22 @@
 //! How many rows there are, and what is said of them.
 
-ghost use Rattle.std.specs.Prelude.{◌≡◌, ◌<◌, ◌≤◌, ◌+◌, ◌^◌, OnErr, OnOk, IsOkUnless};
+ghost use Rattle.std.specs.Prelude.{◌≡◌, ◌<◌, ◌≤◌, ◌+◌, ◌^◌, IfOk, OnErr, IsOkUnless};
 ghost use Rattle.muni_check_rows.specs.Tallies as spec;
 
 use crate::said::CheckSaid;
 use muni_desk_io::Fault;
 
-/// How many rows there are, how many are right and how many differ, and how many trades are missing: those that rows
-/// name, and those for which no row came.
+/// How many rows there are, how many are right and how many differ, in a figure or in a term; how many trades are
+/// missing: those that rows name, and those for which no row came; and of how many rows the reference came before, or
+/// nothing is stated.
 #[derive(Clone, Copy, Debug, PartialEq, Eq)]
 pub struct Tally {
     pub rows: u64,
     pub right: u64,
     pub differ: u64,
     pub missing: u128,
+    pub again: u64,
+    pub nothing: u64,
 }
 
 impl Tally {
@@ -27,25 +30,36 @@ impl Tally {
             right: 0,
             differ: 0,
             missing: 0,
+            again: 0,
+            nothing: 0,
         }
     }
 
-    /// Counts one row more. One whose place would not be below 2^64 is too many.
-    pub fn add(&mut self, said: &CheckSaid) -> Result<(), Fault>
-        requires { spec.IsSmall self.old }
-        ensures added { OnOk result (self.new ≡ spec.with_said self.old said.now) }
-        ensures small { OnOk result (spec.IsSmall self.new) }
-        ensures full { OnErr result (2 ^ 64 ≤ self.old.rows + 1) }
+    /// The place of the next row. One that would not be below 2^64 is too many.
+    pub fn next_place(&self) -> Result<u64, Fault>
+        ensures place { IfOk result (λ place. place ≡ self.now.rows + 1) }
+        ensures full { OnErr result (2 ^ 64 ≤ self.now.rows + 1) }
         ensures only { IsOkUnless result Fault.TooLarge }
     {
-        self.rows = self.rows.checked_add(1).ok_or(Fault::TooLarge)?;
+        self.rows.checked_add(1).ok_or(Fault::TooLarge)
+    }
+
+    /// Counts one row more.
+    pub fn add(&mut self, said: &CheckSaid)
+        requires small { spec.IsSmall self.old }
+        requires room { self.old.rows + 1 < 2 ^ 64 }
+        ensures added { self.new ≡ spec.with_said self.old said.now }
+        ensures small { spec.IsSmall self.new }
+    {
+        self.rows += 1;
         match said {
             CheckSaid::Right => self.right += 1,
-            CheckSaid::Differs { .. } => self.differ += 1,
+            CheckSaid::Differs { .. } | CheckSaid::OtherTerm(_) => self.differ += 1,
             CheckSaid::Missing { .. } => self.missing += 1,
+            CheckSaid::Again { .. } => self.again += 1,
+            CheckSaid::Nothing => self.nothing += 1,
             CheckSaid::Undecided { .. } | CheckSaid::Refused { .. } | CheckSaid::Bad(_) => {}
         }
-        Ok(())
     }
 
     /// With so many missing trades more.

@@ -4,6 +4,7 @@ ghost use Rattle.std.specs.Prelude.{◌≡◌, codes};
 ghost use Rattle.csv.specs.Records.{fields_of};
 ghost use Rattle.muni_import.specs.Row as import;
 ghost use Rattle.muni_msg.specs.Fields.{day_in};
+ghost use Rattle.muni_check_rows.specs.Columns.{states_any};
 ghost use Rattle.muni_check_rows.specs.Terms as spec;
 
 use crate::row::Fields;
@@ -14,22 +15,41 @@ use muni_import::RowFault;
 use muni_msg::{read_basis_field, read_calls, read_coupon, read_kind};
 use muni_terms::{IssueRow, Kind};
 
+// The terms after the kind.
+const TERMS: [Column; 6] = [
+    Column::Dated,
+    Column::First,
+    Column::Maturity,
+    Column::Coupon,
+    Column::Calls,
+    Column::DayCount,
+];
+
 /// Whether a row states the terms of its issue: it states a kind.
 pub(crate) fn has_terms(fields: &Fields<'_>) -> bool
     ensures { result ≡ spec.has_terms fields.now.columns.now.items (fields_of fields.now.record.now) }
 {
-    !fields.text(Column::Kind).is_empty()
+    fields.states(Column::Kind)
 }
 
-/// The terms that a row states, if it states any, of an issue with this CUSIP.
+/// The terms that a row states, if it states any, of an issue with this CUSIP. One that states a term states a kind.
 pub(crate) fn read_terms(fields: &Fields<'_>, cusip: [u8; 9]) -> Result<Option<IssueRow>, RowFault>
     ensures { result ≡ spec.terms_in fields.now.columns.now.items (fields_of fields.now.record.now) cusip }
 {
     if has_terms(fields) {
-        Ok(Some(read_issue(fields, cusip)?))
-    } else {
-        Ok(None)
+        return Ok(Some(read_issue(fields, cusip)?));
     }
+    if states_term(fields) {
+        return Err(fields.fault(Column::Kind));
+    }
+    Ok(None)
+}
+
+// Whether a row states one of the terms after the kind.
+fn states_term(fields: &Fields<'_>) -> bool
+    ensures { result ≡ states_any fields.now.columns.now.items (fields_of fields.now.record.now) spec.term_columns }
+{
+    TERMS.iter().any(|column| fields.states(*column))
 }
 
 #[tactic(auto, unfolding(crate::specs::Terms::issue_in))]

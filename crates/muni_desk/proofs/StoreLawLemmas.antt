@@ -1,10 +1,11 @@
 -- What the words after the names of the commands over a store and `help` are read as, against the rule of the command line.
 use Rattle.std.proofs.Common.{◌≡◌, ℕ, ◌≤◌, inl, inr, Bool, true, false, List, [], ◌∷◌, Option, Some, None, length, refl, sym, ap, ◌∙◌, subst, arith}
-use Rattle.std.specs.Prelude.{All, codes, if◌then◌else◌, nat_le, option_map}
+use Rattle.std.specs.Prelude.{All, codes, if◌then◌else◌, nat_le, not, ◌&&◌, option_map}
 use Rattle.std.specs.Bool.{Decides}
 use Rattle.std.specs.Char.{is_ascii_graphic, is_ascii_alphanumeric}
 use Rattle.std.specs.List.{list_all}
 use Rattle.std.specs.Result.{result_ok}
+use Rattle.std.specs.Str.{bytes_eq}
 use Rattle.std.proofs.lemmas.Bool.Decides.{Decides-by_and, nat_tests}
 use Rattle.std.proofs.lemmas.Option.{none-some, same_Some}
 use Rattle.arrayvec.specs.ArrayVec.{ArrayVec}
@@ -34,21 +35,26 @@ byte-decides b = (λ test. (grind (arith, nat_tests), grind (arith, nat_tests)),
 bytes-decide : (text : List ℕ) → Decides (list_all is_ascii_graphic text) (All (λ b. (33 ≤ b) × (b ≤ 126)) text)
 bytes-decide text = Decides-by_and is_ascii_graphic (λ b. (33 ≤ b) × (b ≤ 126)) (list_all is_ascii_graphic) byte-decides refl (λ _ _. refl) text
 
+not-true : (test : Bool) → not test ≡ true → test ≡ false
+not-true true is = absurd (cc is)
+not-true false is = refl
+
 pub read-store : (words : List (List ℕ)) (store : ArrayVec ℕ) → store_of words ≡ Some store → SaysStore words store
 read-store words store is =
     let found = bind-some store_reading (value_of (codes "--store=") words) store is in
     let parts = if-some (is_store_name found.0) (Some (record { items = found.0 })) store found.2 in
-    let tests = both (nat_le (length found.0) 200) (list_all is_ascii_graphic found.0) parts.0 in
+    let tests = both (nat_le (length found.0) 200) (list_all is_ascii_graphic found.0 && not (bytes_eq found.0 (codes "journal:"))) parts.0 in
+    let more = both (list_all is_ascii_graphic found.0) (not (bytes_eq found.0 (codes "journal:"))) tests.1 in
     let few : nat_le (length found.0) 200 ≡ true = tests.0 in
     subst (SaysStore words) (same_Some (record { items = found.0 }) store parts.1)
-    (record { stands = found-says (codes "--store=") found.0 words found.1; few = grind (arith, nat_tests); bytes = (bytes-decide found.0).0 tests.1 })
+    (record { stands = found-says (codes "--store=") found.0 words found.1; few = grind (arith, nat_tests); bytes = (bytes-decide found.0).0 more.0; named = not-true (bytes_eq found.0 (codes "journal:")) more.1 })
 
 pub store-read : (words : List (List ℕ)) (store : ArrayVec ℕ) → IsSingle words (codes "--store=") → SaysStore words store → store_of words ≡ Some store
 store-read words store single said =
     let most = said.few in
     let few : nat_le (length store.items) 200 ≡ true = grind (arith, nat_tests) in
     let bytes : list_all is_ascii_graphic store.items ≡ true = (bytes-decide store.items).1 said.bytes in
-    let test : is_store_name store.items ≡ true = rw (few, bytes) refl in
+    let test : is_store_name store.items ≡ true = rw (few, bytes, said.named) refl in
     some-bind store_reading (value_of (codes "--store=") words) store.items store (says-found (codes "--store=") store.items words single said.stands)
     (when-true (is_store_name store.items) (Some (record { items = store.items })) store test refl)
 

@@ -1,5 +1,5 @@
 -- What words ask the desk for.
-use Rattle.std.specs.Prelude.{Bool, false, if◌then◌else◌, List, ℕ, [], ◌∷◌, codes, Option, Some, None, option_and_then}
+use Rattle.std.specs.Prelude.{◌||◌, Bool, false, if◌then◌else◌, List, ℕ, [], ◌∷◌, codes, Option, Some, None, option_and_then}
 use Rattle.std.specs.Str.{bytes_eq}
 use Rattle.muni_desk.specs.DrillOptions.{drill_of}
 use Rattle.muni_desk.specs.QuoteOne.{quote_one_of}
@@ -52,3 +52,14 @@ quote_one_asked words = option_and_then (λ line. quote_one_in line.command) (co
 abbrev pub is_check : List (List ℕ) → Bool
 is_check [] = false
 is_check (name ∷ words) = bytes_eq name (codes "check-store")
+
+-- the words ask for a command that only reads what a store keeps
+abbrev pub is_reader : List ℕ → Bool
+is_reader name =
+    bytes_eq name (codes "confirm") || bytes_eq name (codes "positions") || bytes_eq name (codes "list")
+    || bytes_eq name (codes "export") || bytes_eq name (codes "mark") || bytes_eq name (codes "figures")
+    || bytes_eq name (codes "check") || bytes_eq name (codes "check-store")
+
+abbrev pub only_reads : List (List ℕ) → Bool
+only_reads [] = false
+only_reads (name ∷ words) = is_reader name

@@ -1,8 +1,9 @@
 -- The options of the commands over a store.
-use Rattle.std.specs.Prelude.{ℕ, Bool, true, false, ◌&&◌, nat_le, if◌then◌else◌, List, length, [], ◌∷◌, codes, Option, Some, None, option_map}
+use Rattle.std.specs.Prelude.{ℕ, Bool, true, false, ◌&&◌, not, nat_le, if◌then◌else◌, List, length, [], ◌∷◌, codes, Option, Some, None, option_map}
 use Rattle.std.specs.Char.{is_ascii_graphic, is_ascii_alphanumeric}
 use Rattle.std.specs.List.{list_all}
 use Rattle.std.specs.Result.{result_ok}
+use Rattle.std.specs.Str.{bytes_eq}
 use Rattle.arrayvec.specs.ArrayVec.{ArrayVec}
 use Rattle.muni_dec.specs.Digits.{number_reading}
 use Rattle.muni_msg.specs.NameReading.{name_reading}
@@ -56,9 +57,11 @@ header_word = codes "--header"
 abbrev pub figures_words : List (List ℕ)
 figures_words = header_word ∷ risk_word ∷ []
 
--- a text names a store: at most 200 bytes, which print and are no blank
+-- a text names a store: at most 200 bytes, which print and are no blank, and not the word before the name of a journal
+-- alone
 abbrev pub is_store_name : List ℕ → Bool
-is_store_name text = nat_le (length text) 200 && list_all is_ascii_graphic text
+is_store_name text =
+    nat_le (length text) 200 && (list_all is_ascii_graphic text && not (bytes_eq text (codes "journal:")))
 
 abbrev pub store_reading : List ℕ → Option (ArrayVec ℕ)
 store_reading text = if is_store_name text then Some (record { items = text }) else None

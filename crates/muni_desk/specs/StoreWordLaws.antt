@@ -1,6 +1,7 @@
 -- What the words after the names of the commands over a store say, in the rule's own words.
 use Rattle.std.specs.Prelude.{◌≡◌, ◌≤◌, ℕ, true, false, List, [], ◌∷◌, length, All, codes, Option, Some, None, Ok}
 use Rattle.std.specs.Char.{is_ascii_alphanumeric}
+use Rattle.std.specs.Str.{bytes_eq}
 use Rattle.arrayvec.specs.ArrayVec.{ArrayVec}
 use Rattle.muni_dec.specs.Digits.{number_reading}
 use Rattle.muni_msg.specs.NameReading.{name_reading}
@@ -12,11 +13,13 @@ use Rattle.muni_figures.specs.declared.command.FiguresOptions.{FiguresOptions}
 use Rattle.muni_desk.specs.StoreOptions.{import_options, load_options, confirm_options, serve_options, desk_options, figures_options, store_options}
 use Rattle.muni_desk.specs.OptionLaws.{IsKnown, IsKnownBeside, AreOnceAtMost, Has, IsSingle, Says, Reads, Lacks, ReadsOr}
 
--- the name of a store: at most 200 bytes, each above a blank and at most 126
+-- the name of a store: at most 200 bytes, each above a blank and at most 126, and not the word before the name of a
+-- journal alone
 pub record SaysStore (words : List (List ℕ)) (store : ArrayVec ℕ) : Type 0 where
   pub stands : Says words (codes "--store=") store.items
   pub few : length store.items ≤ 200
   pub bytes : All (λ b. (33 ≤ b) × (b ≤ 126)) store.items
+  pub named : bytes_eq store.items (codes "journal:") ≡ false
 
 -- the desk that an option names, if it is there
 abbrev pub SaysMaybeDesk : List (List ℕ) → (option : List ℕ) → Option (List ℕ) → Type 0

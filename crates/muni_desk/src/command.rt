@@ -144,3 +144,26 @@ pub fn is_check(words: &[String]) -> bool
         None => false,
     }
 }
+
+/// Whether words ask for a command that only reads what a store keeps, whatever its options are.
+pub fn only_reads(words: &[String]) -> bool
+    ensures { result ≡ spec.only_reads (map string_bytes words.now) }
+{
+    match words.first() {
+        Some(name) => is_reader(name.as_str()),
+        None => false,
+    }
+}
+
+fn is_reader(name: &str) -> bool
+    ensures { result ≡ spec.is_reader name.now }
+{
+    name == "confirm"
+        || name == "positions"
+        || name == "list"
+        || name == "export"
+        || name == "mark"
+        || name == "figures"
+        || name == "check"
+        || name == "check-store"
+}

@@ -16,7 +16,7 @@ mod status;
 mod store_options;
 mod words;
 
-pub use command::{CommandLine, DeskCommand, is_check, read};
+pub use command::{CommandLine, DeskCommand, is_check, only_reads, read};
 pub use drill::{DrillCount, DrillRequest};
 pub use next_interest_date::NextInterestDate;
 pub use one_period::QuoteOneRequest;

@@ -353,7 +353,7 @@ fn is_graphic(text: &[u8]) -> bool
 fn store_name(text: &[u8]) -> Option<ArrayVec<u8, 200>>
     ensures { result ≡ spec.store_reading text.now }
 {
-    if text.len() > 200 || !is_graphic(text) {
+    if text.len() > 200 || !is_graphic(text) || text == b"journal:".as_slice() {
         return None;
     }
     let mut store = ArrayVec::new();

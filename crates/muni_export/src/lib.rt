@@ -6,4 +6,6 @@ mod texts;
 mod words;
 mod writer;
 
+pub use texts::print_value;
+pub use words::{days_word, kind_word, side_word};
 pub use writer::RowWriter;

@@ -96,7 +96,8 @@ impl TermTexts {
     }
 }
 
-fn print_value(given: Given, text: &mut ArrayVec<u8, 32>)
+/// Replaces the text by what a trade is done at: a price with six decimals, a yield or a rate with four.
+pub fn print_value(given: Given, text: &mut ArrayVec<u8, 32>)
     ensures { text.new.items ≡ value_text given }
 {
     match given {

@@ -9,7 +9,8 @@ use muni_days::Basis;
 use muni_msg::{Act, Given, Side};
 use muni_terms::{Kind, Label};
 
-pub(crate) fn kind_word(kind: &Kind) -> &[u8]
+/// How an issue pays interest.
+pub fn kind_word(kind: &Kind) -> &[u8]
     ensures { result.now ≡ spec.kind_word kind.now }
 {
     match kind {
@@ -20,7 +21,8 @@ pub(crate) fn kind_word(kind: &Kind) -> &[u8]
     }
 }
 
-pub(crate) fn days_word(basis: &Basis) -> &[u8]
+/// How its days are counted.
+pub fn days_word(basis: &Basis) -> &[u8]
     ensures { result.now ≡ spec.days_word basis.now }
 {
     match basis {
@@ -29,7 +31,8 @@ pub(crate) fn days_word(basis: &Basis) -> &[u8]
     }
 }
 
-pub(crate) fn side_word(side: &Side) -> &[u8]
+/// The side of a trade.
+pub fn side_word(side: &Side) -> &[u8]
     ensures { result.now ≡ spec.side_word side.now }
 {
     match side {

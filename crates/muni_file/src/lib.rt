@@ -15,13 +15,25 @@ pub fn open(rt: &HostRuntime, path: &str) -> io::Result<File> {
     open_as(rt, OpenOptions::new().read(true).write(true), path)
 }
 
-/// Opens the file at a path, and makes one if there is none, with the rights that the system gives new files.
-pub fn open_or_make(rt: &HostRuntime, path: &str) -> io::Result<File> {
-    open_as(
-        rt,
-        OpenOptions::new().read(true).write(true).create(true),
-        path,
-    )
+/// What becomes of a file that is not there.
+#[derive(Clone, Copy, Debug, PartialEq, Eq)]
+pub enum Missing {
+    /// It is made.
+    Made,
+    /// It is an error.
+    Refused,
+}
+
+/// Opens the file at a path. One that is made has the rights that the system gives new files.
+pub fn open_or(rt: &HostRuntime, path: &str, missing: Missing) -> io::Result<File> {
+    match missing {
+        Missing::Made => open_as(
+            rt,
+            OpenOptions::new().read(true).write(true).create(true),
+            path,
+        ),
+        Missing::Refused => open(rt, path),
+    }
 }
 
 /// Makes a file with these rights, less those that the system withholds. What is at the path already is an

@@ -5,6 +5,7 @@ ghost use Rattle.std.specs.Option.{option_map};
 
 use crate::file_disk::{AHEAD, FileDisk};
 use muni_edge::Faults;
+use muni_file::Missing;
 use muni_journal_disk::{DiskFault, Shelf};
 use std::fs::{self, File};
 use std::io::{self, ErrorKind};
@@ -14,10 +15,11 @@ use std::os::unix::fs::FileExt;
 ///
 /// A file is locked while its disk is out, and one that another process has is refused at once. So is one
 /// that is not empty and begins with another byte than 0 or 1, which no journal does, and one that was
-/// renamed or replaced before it was locked. A file that is not there is made.
+/// renamed or replaced before it was locked. A file that is not there is made or refused.
 #[derive(Drop)]
 pub struct FileShelf<'a> {
     rt: &'a HostRuntime,
+    missing: Missing,
     out: Option<Vec<u8>>,
     faults: Faults,
 }
@@ -49,12 +51,13 @@ fn look_at(rt: &HostRuntime, path: &str, file: &File) -> io::Result<()> {
 
 impl<'a> FileShelf<'a> {
     /// A shelf with no disk out.
-    pub fn new(rt: &'a HostRuntime) -> FileShelf<'a>
+    pub fn new(rt: &'a HostRuntime, missing: Missing) -> FileShelf<'a>
         ensures none_out { result.out ≡ None }
         ensures uncounted { result.faults ≡ 0 }
     {
         FileShelf {
             rt,
+            missing,
             out: None,
             faults: Faults::none(),
         }
@@ -65,7 +68,7 @@ impl<'a> FileShelf<'a> {
             return Err(io::Error::from(ErrorKind::InvalidInput));
         };
         let path = format!(in self.rt.alloc(); "{name}.journal")?;
-        let file = muni_file::open_or_make(self.rt, &path)?;
+        let file = muni_file::open_or(self.rt, &path, self.missing)?;
         if file.try_lock().is_err() {
             return Err(io::Error::from(ErrorKind::WouldBlock));
         }

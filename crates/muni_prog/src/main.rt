@@ -3,10 +3,11 @@
 #![tactic(auto)]
 
 ghost use Rattle.std.specs.Prelude.{◌≡◌, true, false, map, string_bytes};
-ghost use Rattle.muni_desk.specs.Command.{is_check};
+ghost use Rattle.muni_desk.specs.Command.{is_check, only_reads};
 
-use muni_desk::{Status, desk, is_check};
+use muni_desk::{Status, desk, is_check, only_reads};
 use muni_edge::NoGate;
+use muni_file::Missing;
 use muni_host::{Input, LoopbackDoor, NoWords, Output, words};
 use muni_journal::JournalCabinet;
 use muni_journal_file::FileShelf;
@@ -22,9 +23,10 @@ fn main(rt: HostRuntime) -> ExitCode {
         Ok(words) => {
             let mut input = Input::new(rt.reader());
             let mut output = Output::new(io::writer(&rt));
-            let journals = JournalCabinet::new(rt.alloc(), FileShelf::new(&rt));
-            let trust = trust_of(&words);
-            let mut cabinet = Either::new(SqlCabinet::new(&rt, trust), journals);
+            let missing = missing_of(&words);
+            let journals = JournalCabinet::new(rt.alloc(), FileShelf::new(&rt, missing));
+            let stores = SqlCabinet::new(&rt, trust_of(&words), missing);
+            let mut cabinet = Either::new(stores, journals);
             let mut door = LoopbackDoor::new(&rt);
             desk(
                 &rt,
@@ -52,6 +54,18 @@ fn trust_of(words: &[String]) -> Trust
         Trust::Nothing
     } else {
         Trust::Seal
+    }
+}
+
+/// What becomes of a store that is not there. A command that only reads makes none.
+fn missing_of(words: &[String]) -> Missing
+    ensures reader { only_reads (map string_bytes words.now) ≡ true → result ≡ Missing.Refused }
+    ensures other { only_reads (map string_bytes words.now) ≡ false → result ≡ Missing.Made }
+{
+    if only_reads(words) {
+        Missing::Refused
+    } else {
+        Missing::Made
     }
 }
 

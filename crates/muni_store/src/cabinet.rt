@@ -6,17 +6,19 @@ use crate::faults::counted;
 use crate::file_keeper::FileKeeper;
 use crate::store_file::{StoreFile, Trust};
 use muni_edge::Faults;
+use muni_file::Missing;
 use muni_keep::{Cabinet, KeepFault};
 use sqlite::{File, FileStore};
 
 /// A cabinet whose stores are files, by their paths. It does not expose what they hold.
 ///
-/// The tables are made if a file has none. A file that another process has open is refused at once, and so
+/// The tables are made if a file has none. A file that is not there is made or refused. A file that another process has open is refused at once, and so
 /// is one that is no store, which stays as it was.
 #[derive(Drop)]
 pub struct SqlCabinet<'a> {
     rt: &'a HostRuntime,
     trust: Trust,
+    missing: Missing,
     lent: Option<Vec<u8>>,
     faults: Faults,
 }
@@ -24,13 +26,14 @@ pub struct SqlCabinet<'a> {
 impl<'a> SqlCabinet<'a> {
     /// A cabinet of the files of this machine, none of which is open. A file whose seal is not trusted is
     /// audited at each fetch.
-    pub fn new(rt: &'a HostRuntime, trust: Trust) -> SqlCabinet<'a>
+    pub fn new(rt: &'a HostRuntime, trust: Trust, missing: Missing) -> SqlCabinet<'a>
         ensures none_out { result.lent ≡ None }
         ensures faults { result.faults ≡ 0 }
     {
         SqlCabinet {
             rt,
             trust,
+            missing,
             lent: None,
             faults: Faults::none(),
         }
@@ -49,7 +52,7 @@ impl<'a> Cabinet for SqlCabinet<'a> {
     fn fetch(&mut self, name: &[u8]) -> Result<FileKeeper<FileStore<File>, StoreFile>, KeepFault> {
         let lent = name.to_vec(self.rt.alloc())?;
         let path = name.to_vec(self.rt.alloc())?;
-        let mut file = StoreFile::new(self.rt.clone()?, path, self.trust);
+        let mut file = StoreFile::new(self.rt.clone()?, path, self.trust, self.missing);
         let keeper = counted(&mut self.faults, file.open())?;
         self.lent = Some(lent);
         Ok(FileKeeper::new(file, keeper))

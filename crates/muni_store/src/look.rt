@@ -8,6 +8,7 @@ ghost use Rattle.muni_store.specs.Kinds as spec;
 use crate::fault::StoreFault;
 use crate::marks::Seen;
 use crate::new_log::{EMPTY_LOG, NewLog};
+use muni_file::Missing;
 use sqlite::types::ValueRef;
 use sqlite_disk::{Disk, Files, Memory};
 use sqlite_pager::{Options, Pager};
@@ -17,7 +18,7 @@ use sqlite_wal::{Error as LogError, probe_first_page, probe_page_size};
 use std::alloc::Global;
 use std::fs::{self, File};
 use std::io::{self, ErrorKind, Read, Seek, SeekFrom};
-use std::os::unix::fs::FileExt;
+use std::os::unix::fs::{FileExt, MetadataExt};
 use std::path::PathBuf;
 
 /// What the file of a store is.
@@ -48,18 +49,25 @@ pub(crate) struct Place {
 }
 
 impl Place {
-    /// Opens the file at a path, and makes it if it is missing. What is no file is refused, and so is a name
-    /// by which sqlite would open another database.
-    pub(crate) fn open(rt: &HostRuntime, path: &str) -> Result<Place, StoreFault> {
+    /// Opens the file at a path, and makes it if it is missing and may be made. What is no file is refused, and so
+    /// is a name by which sqlite would open another database, and a file whose log is on another device.
+    pub(crate) fn open(
+        rt: &HostRuntime,
+        path: &str,
+        missing: Missing,
+    ) -> Result<Place, StoreFault> {
         if path == ":memory:" || path.starts_with("file:") {
             return Err(StoreFault::Failed);
         }
-        let file = open_or_make(rt, path)?;
+        let file = open_or(rt, path, missing)?;
         if !file.metadata()?.is_file() {
             return Err(StoreFault::Failed);
         }
         let path = fs::canonicalize(rt, path)?;
         let log = format!(in rt.alloc(); "{}-wal", path.as_str())?;
+        if !is_log_of(rt, &log, &file)? {
+            return Err(StoreFault::Failed);
+        }
         Ok(Place { file, path, log })
     }
 
@@ -120,11 +128,20 @@ impl Place {
     }
 }
 
+// A log on another device than its file goes with that: the file of a store was mounted without its folder.
+fn is_log_of(rt: &HostRuntime, log: &str, file: &File) -> io::Result<bool> {
+    match fs::metadata(rt, log) {
+        Ok(about) => Ok(about.dev() == file.metadata()?.dev()),
+        Err(error) if error.kind() == ErrorKind::NotFound => Ok(true),
+        Err(error) => Err(error),
+    }
+}
+
 // A link that leads nowhere is refused.
-fn open_or_make(rt: &HostRuntime, path: &str) -> Result<File, StoreFault> {
+fn open_or(rt: &HostRuntime, path: &str, missing: Missing) -> Result<File, StoreFault> {
     match fs::metadata(rt, path) {
         Ok(about) if about.is_file() => Ok(muni_file::open(rt, path)?),
-        Err(error) if error.kind() == ErrorKind::NotFound => {
+        Err(error) if error.kind() == ErrorKind::NotFound && missing == Missing::Made => {
             match muni_file::make(rt, path, 0o644) {
                 // Another program has made it meanwhile.
                 Err(error) if error.kind() == ErrorKind::AlreadyExists => {

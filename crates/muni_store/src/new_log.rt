@@ -28,7 +28,8 @@ pub(crate) struct NewLog {
 
 impl NewLog {
     /// Makes a log, with the rights of the file beside which it is. There is none if another program has
-    /// made one meanwhile, or if none can be made.
+    /// made one meanwhile, or if none can be made. One that would be on another device than the file is
+    /// taken away again, and refused.
     pub(crate) fn make(
         rt: &HostRuntime,
         path: &str,
@@ -36,6 +37,10 @@ impl NewLog {
     ) -> Result<Option<NewLog>, StoreFault> {
         let path = String::from_str(rt.alloc(), path)?;
         match muni_file::make(rt, &path, 0o600) {
+            Ok(file) if file.metadata()?.dev() != beside.metadata()?.dev() => {
+                muni_file::remove(rt, &path, &file)?;
+                Err(StoreFault::Failed)
+            }
             Ok(file) => {
                 give_rights(beside, &file)?;
                 Ok(Some(NewLog { file, path }))

@@ -12,6 +12,7 @@ use crate::opening::known_keeper;
 use crate::schema::{check_tables, text};
 use crate::seal::Seal;
 use crate::store_keeper::StoreKeeper;
+use muni_file::Missing;
 use muni_store_trees::TreeKeeper;
 use sqlite::{Connection, File, FileStore, Files, Options, Unknown};
 use std::hash::{BuildHasher, RandomState};
@@ -31,6 +32,7 @@ pub struct StoreFile {
     rt: HostRuntime,
     path: Vec<u8>,
     trust: Trust,
+    missing: Missing,
     // The file that the last open has found, and its log, if that open has made it.
     place: Option<Place>,
     new_log: Option<NewLog>,
@@ -39,7 +41,7 @@ pub struct StoreFile {
 }
 
 impl StoreFile {
-    pub(crate) fn new(rt: HostRuntime, path: Vec<u8>, trust: Trust) -> StoreFile
+    pub(crate) fn new(rt: HostRuntime, path: Vec<u8>, trust: Trust, missing: Missing) -> StoreFile
         ensures path { result.path ≡ path }
         ensures trust { result.trust ≡ trust }
     {
@@ -47,6 +49,7 @@ impl StoreFile {
             rt,
             path,
             trust,
+            missing,
             place: None,
             new_log: None,
             is_sealed: false,
@@ -76,7 +79,7 @@ impl StoreFile {
         match self.trust {
             Trust::Seal => self.open_sealed(),
             Trust::Nothing => {
-                let place = Place::open(&self.rt, text(&self.path)?)?;
+                let place = Place::open(&self.rt, text(&self.path)?, self.missing)?;
                 Seal::remove(&self.rt, place.path());
                 Ok(None)
             }
@@ -88,7 +91,7 @@ impl StoreFile {
         ensures path { self.new.path ≡ self.old.path }
         ensures faults { IfOk result (λ found. IfSome found (λ keeper. keeper.faults ≡ 0)) }
     {
-        let place = Place::open(&self.rt, text(&self.path)?)?;
+        let place = Place::open(&self.rt, text(&self.path)?, self.missing)?;
         let Some(seal) = Seal::read(&self.rt, place.path())? else {
             return Ok(None);
         };
@@ -140,7 +143,7 @@ impl StoreFile {
         ensures path { self.new.path ≡ self.old.path }
     {
         let options = self.options()?;
-        let place = Place::open(&self.rt, text(&self.path)?)?;
+        let place = Place::open(&self.rt, text(&self.path)?, self.missing)?;
         self.new_log = match place.look(&self.rt)? {
             Found::Unlogged => place.make_log(&self.rt)?,
             Found::Logged | Found::Unmade => None,

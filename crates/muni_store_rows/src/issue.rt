@@ -60,11 +60,17 @@ impl IssueColumns {
 }
 
 /// The columns of an issue.
-#[tactic(auto, unfolding(crate::specs::Issue::columns_of))]
 pub fn issue_columns(issue: &Issue) -> IssueColumns
     ensures { result ≡ spec.columns_of issue.now }
 {
-    let row = issue.row();
+    row_columns(issue.row())
+}
+
+/// The columns of terms that may not have passed.
+#[tactic(auto, unfolding(crate::specs::Issue::columns_of))]
+pub fn row_columns(row: &IssueRow) -> IssueColumns
+    ensures { result ≡ spec.columns_of row.now }
+{
     IssueColumns {
         cusip: row.cusip,
         name: row.copy_name(),

@@ -11,6 +11,7 @@ mod written_version;
 
 pub use issue::{
     IssueColumns, NumberedColumns, issue_1, issue_2, issue_3, issue_columns, numbered_columns,
+    row_columns,
 };
 pub use outside::{version_1, version_2, version_3};
 pub use version::{AskedRow, FigureRow, TradeRow};
