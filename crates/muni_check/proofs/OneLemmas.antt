@@ -12,7 +12,7 @@ use Rattle.muni_check_rows.specs.Tallies.{are_all_right, tally_of}
 use Rattle.muni_check_rows.specs.declared.said.CheckSaid.{CheckSaid}
 use Rattle.muni_check.specs.Answer.{AreTold, IsAnswer, Over, end_of}
 use Rattle.muni_check.specs.One.{AnswersWithLine, IsRowLine}
-use Rattle.muni_check.specs.Named.{again_of, no_places}
+use Rattle.muni_check.specs.Named.{Places, again_of, no_places}
 use Rattle.muni_check.specs.Unseen.{unseen_in}
 use Rattle.muni_check.specs.declared.command.CheckEnd.{CheckEnd}
 
@@ -20,6 +20,19 @@ use Rattle.muni_check.specs.declared.command.CheckEnd.{CheckEnd}
 none-before : (name : Option (List ℕ)) → again_of no_places name ≡ None
 none-before None = refl
 none-before (Some reference) = refl
+
+again-none : (came : Places) (name : Option (List ℕ)) → ((reference : List ℕ) → came reference ≡ None) → again_of came name ≡ None
+again-none came None nothing = refl
+again-none came (Some reference) nothing = nothing reference
+
+-- the line of the first row
+pub row-line : (over : Over) (columns : List Column) (fields : List (List ℕ)) (came : Places) (said : CheckSaid) (line : List ℕ) → ((reference : List ℕ) → came reference ≡ None)
+    → IsToldOf over.judging over.desk over.told columns (again_of came (named_in columns fields)) fields said → line ≡ said_line 1 said → IsRowLine over columns fields line
+row-line over columns fields came said line nothing told written = record {
+  said = said;
+  told = subst (λ again. IsToldOf over.judging over.desk over.told columns again fields said) (again-none came (named_in columns fields) nothing) told;
+  written = written;
+}
 
 one-told : (over : Over) (columns : List Column) (row : List (List ℕ)) (said : List CheckSaid) → AreTold over columns no_places 1 (row ∷ []) said
     → (one : CheckSaid) × IsToldOf over.judging over.desk over.told columns None row one × (said ≡ one ∷ [])

@@ -1,5 +1,5 @@
 -- The lines of a check.
-use Rattle.std.specs.Prelude.{◌≤◌, ⊤, ⊥, ℕ, ◌+◌, List, [], ◌∷◌, ◌++◌, codes, decimal, Option, Some, None}
+use Rattle.std.specs.Prelude.{◌≤◌, ⊤, ℕ, ◌+◌, List, [], ◌∷◌, ◌++◌, codes, decimal, Option, Some, None}
 use Rattle.std.specs.Fmt.{signed_decimal}
 use Rattle.std.specs.List.{flat_map}
 use Rattle.muni_dec.specs.Values.{money_text, printed_price_text, printed_yield_text}

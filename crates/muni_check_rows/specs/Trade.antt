@@ -18,12 +18,12 @@ use Rattle.muni_columns.specs.declared.column.Column.TheVariants as column
 
 -- what a text states, or what stands for it if it is empty
 abbrev pub stated_or : {T : Type 0} → Option T → (List ℕ → Option T) → List ℕ → Option T
-stated_or else reading text = if length text == 0 then else else reading text
+stated_or other reading text = if length text == 0 then other else reading text
 
 -- what a column states, or what stands for it
 abbrev pub needed_in : {T : Type 0} → List Column → List (List ℕ) → Column → Option T → (List ℕ → Option T) → Result T RowFault
-needed_in columns fields column else reading =
-    ok_or (stated_or else reading (text_in columns fields column)) (fault_in columns column)
+needed_in columns fields column other reading =
+    ok_or (stated_or other reading (text_in columns fields column)) (fault_in columns column)
 
 -- ---- a row by itself
 -- what is given, in the columns of the basis and of the value

@@ -7,11 +7,12 @@ ghost use Rattle.muni_check_rows.specs.Other as spec;
 use crate::trade::TradeTexts;
 use arrayvec::ArrayVec;
 use muni_columns::Column;
+use muni_days::Basis;
 use muni_edge::NoMemory;
 use muni_export::{days_word, kind_word, side_word};
 use muni_msg::Asked;
-use muni_store_rows::row_columns;
-use muni_terms::IssueRow;
+use muni_store_rows::{IssueColumns, row_columns};
+use muni_terms::{IssueRow, Kind};
 use std::alloc::Global;
 use std::marker::Model;
 
@@ -79,53 +80,81 @@ pub fn other_in_issue(
     ensures { IfOk result (λ other. other ≡ spec.other_in_issue kept.now stated.now) }
 {
     match stated {
-        Some(stated) => first_in_issue(alloc, kept, stated),
+        Some(stated) => first_other(alloc, &IssueTexts::of(kept), &IssueTexts::of(stated)),
         None => Ok(None),
     }
 }
 
-#[tactic(auto, unfolding(muni_export::specs::Rows::issue_terms_fields, muni_store_rows::specs::Issue::columns_of))]
-fn first_in_issue(
+/// The texts of the terms of an issue without its name, as an export writes them.
+#[derive(Drop)]
+struct IssueTexts {
+    columns: IssueColumns,
+    kind: Kind,
+    coupon: ArrayVec<u8, 32>,
+    basis: Basis,
+}
+
+impl Model for IssueTexts {
+    ghost use Rattle.std.specs.Prelude.{ℕ, List, [], ◌∷◌};
+    ghost use Rattle.muni_export.specs.Words.{days_word, kind_word};
+
+    ghost Value = { List (List ℕ) };
+
+    ghost view = { λ texts. kind_word texts.kind ∷ texts.columns.dated ∷ texts.columns.first
+        ∷ texts.columns.maturity ∷ texts.coupon.items ∷ texts.columns.calls ∷ days_word texts.basis ∷ [] };
+}
+
+impl IssueTexts {
+    #[tactic(auto, unfolding(muni_export::specs::Rows::issue_terms_fields, muni_store_rows::specs::Issue::columns_of))]
+    fn of(row: &IssueRow) -> IssueTexts
+        ensures { result ≡ spec.issue_texts row.now }
+    {
+        IssueTexts {
+            columns: row_columns(row),
+            kind: row.kind,
+            coupon: coupon_of(row),
+            basis: row.basis,
+        }
+    }
+}
+
+fn first_other(
     alloc: Global,
-    kept: &IssueRow,
-    stated: &IssueRow,
+    ours: &IssueTexts,
+    theirs: &IssueTexts,
 ) -> Result<Option<OtherTerm>, NoMemory>
-    ensures { IfOk result (λ other. other ≡ spec.first_other spec.issue_columns
-        (spec.issue_texts kept.now) (spec.issue_texts stated.now)) }
+    ensures { IfOk result (λ other. other ≡ spec.first_other spec.issue_columns ours.now theirs.now) }
 {
-    let ours = row_columns(kept);
-    let theirs = row_columns(stated);
-    if kind_word(&kept.kind) != kind_word(&stated.kind) {
+    let (our, their) = (&ours.columns, &theirs.columns);
+    if kind_word(&ours.kind) != kind_word(&theirs.kind) {
         return found(
             alloc,
             Column::Kind,
-            kind_word(&kept.kind),
-            kind_word(&stated.kind),
+            kind_word(&ours.kind),
+            kind_word(&theirs.kind),
         );
     }
-    if ours.dated.as_slice() != theirs.dated.as_slice() {
-        return found(alloc, Column::Dated, &ours.dated, &theirs.dated);
+    if our.dated.as_slice() != their.dated.as_slice() {
+        return found(alloc, Column::Dated, &our.dated, &their.dated);
     }
-    if ours.first.as_slice() != theirs.first.as_slice() {
-        return found(alloc, Column::First, &ours.first, &theirs.first);
+    if our.first.as_slice() != their.first.as_slice() {
+        return found(alloc, Column::First, &our.first, &their.first);
     }
-    if ours.maturity.as_slice() != theirs.maturity.as_slice() {
-        return found(alloc, Column::Maturity, &ours.maturity, &theirs.maturity);
+    if our.maturity.as_slice() != their.maturity.as_slice() {
+        return found(alloc, Column::Maturity, &our.maturity, &their.maturity);
     }
-    let our_coupon = coupon_of(kept);
-    let their_coupon = coupon_of(stated);
-    if our_coupon.as_slice() != their_coupon.as_slice() {
-        return found(alloc, Column::Coupon, &our_coupon, &their_coupon);
+    if ours.coupon.as_slice() != theirs.coupon.as_slice() {
+        return found(alloc, Column::Coupon, &ours.coupon, &theirs.coupon);
     }
-    if ours.calls() != theirs.calls() {
-        return found(alloc, Column::Calls, ours.calls(), theirs.calls());
+    if our.calls() != their.calls() {
+        return found(alloc, Column::Calls, our.calls(), their.calls());
     }
-    if days_word(&kept.basis) != days_word(&stated.basis) {
+    if days_word(&ours.basis) != days_word(&theirs.basis) {
         return found(
             alloc,
             Column::DayCount,
-            days_word(&kept.basis),
-            days_word(&stated.basis),
+            days_word(&ours.basis),
+            days_word(&theirs.basis),
         );
     }
     Ok(None)

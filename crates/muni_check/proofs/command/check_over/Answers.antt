@@ -2,7 +2,7 @@ use Rattle.std.proofs.Common.{◌∙◌, Err, ap, refl, arith}
 use Rattle.std.proofs.lemmas.Result.{err_from_is_err_and}
 use Rattle.muni_check.specs.Judging.{over}
 use Rattle.muni_check.proofs.AnswerLemmas.{block-last}
-use Rattle.muni_check.proofs.CheckLemmas.{block-next, block-stopped, block-unwritten, names-refused}
+use Rattle.muni_check.proofs.CheckLemmas.{block-next, block-stopped, block-unwritten, names-refused, check-stopped}
 use Rattle.muni_check.proofs.OverLemmas.{next-failed, next-failed-took, next-taken, nothing-done}
 use Rattle.muni_check.proofs.ToldLemmas.{if-always}
 use Rattle.muni_check.proofs.command.check_over.Goals as goal
@@ -14,7 +14,7 @@ pieces-init g c =
       at_ = nothing-done (over (g.E.Encloser.ends c.args.calculator.now.encloser.now) c.args.desk.now (g.K.Keeper.tables c.args.keeper.now)) (g.I.Source.left c.args.input.now) c.new-blocks.result.held c.new-so_far.result (g.O.Sink.bytes c.args.output.now)
           c.new-blocks.ensures.held so_far.columns (record { tally = so_far.tally; named = so_far.named });
       ended = c.new-blocks.ensures.ended;
-      small = rw so_far.tally (record { right = omega arith; differ = omega arith; missing = omega arith });
+      small = rw so_far.tally (record { right = omega arith; differ = omega arith; missing = omega arith; again = omega arith; nothing = omega arith });
       sound = if-always (g.K.Keeper.tables c.args.keeper.now) _ c.new-judge.ensures.sound;
       calculator = c.new-judge.ensures.calculator;
       desk = c.new-judge.ensures.desk;
@@ -120,6 +120,10 @@ returns-then-blocks-clause-written g c =
     let written = rw c.deref-in-Lines.ensures.value at c.in_ok-write-in-Lines.ensures.written in
     let ends = rw (c.in_ok-lines.ensures.unchanged, was.tables) at c.finish.ensures.written in
     block-last by (left c.args.input.now) (left c.next.new.input) c.next.new.self.ended c.in_ok-block.block.items c.next.new.self.held c.pieces.so_far c.do_block.new.so_far (bytes c.args.output.now) (bytes c.pieces.output) (bytes c.write.new.output) (bytes c.finish.new.output) c.in-Lines.lines c.finish.result c.if-blocks.true taken does written ends
+
+pub returns-clause-written : goal.returns-clause-written
+returns-clause-written g c =
+    check-stopped (over (g.E.Encloser.ends c.args.calculator.now.encloser.now) c.args.desk.now (g.K.Keeper.tables c.args.keeper.now)) (g.I.Source.left c.args.input.now) (g.I.Source.left c.pieces.input) (g.I.Source.left c.pieces.input) c.pieces.blocks.held c.pieces.so_far (g.O.Sink.bytes c.args.output.now) (g.O.Sink.bytes c.pieces.output) c.pieces.invariant.at_
 
 pub pieces-preserved : goal.pieces-preserved
 pieces-preserved g c =

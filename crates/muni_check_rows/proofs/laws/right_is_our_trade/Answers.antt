@@ -1,3 +1,4 @@
+use Rattle.std.proofs.Common.{refl}
 use Rattle.muni_check_rows.proofs.LawLemmas.{right-ours}
 use Rattle.muni_check_rows.proofs.laws.right_is_our_trade.Goals as goal
 
