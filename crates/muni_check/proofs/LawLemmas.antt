@@ -1,5 +1,5 @@
 -- What holds of every row and of every answer.
-use Rattle.std.proofs.Common.{◌≡◌, ℕ, zero, suc, List, [], ◌∷◌, length, map, Bool, true, false, refl, ap, arith}
+use Rattle.std.proofs.Common.{◌≡◌, ℕ, zero, suc, List, [], ◌∷◌, map, Bool, true, false, refl, ap, arith}
 use Rattle.std.specs.Prelude.{Contains, not, ◌&&◌}
 use Rattle.std.specs.List.{filter}
 use Rattle.muni_rule.proofs.RedemptionLemmas.{contains-filter}

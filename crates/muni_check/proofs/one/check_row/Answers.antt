@@ -1,5 +1,4 @@
 use Rattle.csv.specs.Records.{fields_of}
-use Rattle.muni_check_rows.specs.Rows.{named_in}
 use Rattle.muni_check.specs.Named.{place_in}
 use Rattle.muni_check.proofs.OneLemmas.{row-line}
 use Rattle.muni_check.proofs.ToldLemmas.{if-always}
