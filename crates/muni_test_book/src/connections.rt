@@ -39,7 +39,7 @@ fn answer<R: Threads + Sync, L: Link, K: Keeper>(
     alloc: Global,
     link: &mut L,
     keeper: &mut K,
-) -> Served {
+) -> Result<Served, Fail> {
     let calculator = Calculator {
         rt,
         workers: Workers::ONE,
@@ -50,7 +50,7 @@ fn answer<R: Threads + Sync, L: Link, K: Keeper>(
         calculator: &calculator,
         limit: DeskLimit::USUAL,
     };
-    answer_one(&book, alloc, link, keeper)
+    Ok(answer_one(&book, alloc, link, keeper))
 }
 
 /// How a connection ends whose bytes come in pieces of a size, and what is written to it, if one of its takes fails.
@@ -64,7 +64,7 @@ fn answered<R: Threads + Sync, K: Keeper>(
 ) -> Result<(Served, Vec<u8>), Fail> {
     let link = MemLink::new(alloc, request, 1024, &[take], &[])?;
     let mut pieces = Pieces::new(link, size);
-    let served = answer(rt, alloc, &mut pieces, keeper);
+    let served = answer(rt, alloc, &mut pieces, keeper)?;
     Ok((served, pieces.written().to_vec(alloc)?))
 }
 
@@ -237,7 +237,7 @@ fn answer_first<R: Threads + Sync>(
     client: &TcpStream,
 ) -> Result<Served, Fail> {
     let mut link = door.accept()?.ok_or("a connection")?;
-    let served = answer(rt, alloc, &mut link, keeper);
+    let served = answer(rt, alloc, &mut link, keeper)?;
     client.shutdown(Shutdown::Write)?;
     door.hand_back(link);
     Ok(served)
