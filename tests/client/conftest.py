@@ -38,7 +38,8 @@ def desk(served: Server) -> muni.Client:
     for issue in (ELM_GROVE, MARLOW, ZERO, DISCOUNT, NOTE):
         assert client.add_issue(issue) == issue.cusip
     for place, reference in enumerate(("H0001", "H0002")):
-        held = muni.Trade("HELDOUT", reference, RIVERTON.cusip, muni.Side.BUY, 5_000, date(2024, 4, 1), muni.Basis.YIELD, 4)
+        held = muni.Trade("HELDOUT", reference, RIVERTON.cusip, muni.Side.BUY, 5_000, date(2024, 4, 1),
+                          muni.Basis.YIELD, 4)
         assert client.enter(held).number == 1
         again = client.cancel("HELDOUT", reference, 2) if place else client.correct(replace(held, par=10_000), 2)
         assert again.number == 2

@@ -44,7 +44,8 @@ def trade(reference: str = "R0001", cusip: str = "990010AC4", settle: str = "202
 
 
 # A row of each name, with days as the desk reads them.
-ROWS = (issue("2024-01-01,2024-07-01,2034-07-01") + issue("2024-01-01,,2034-07-01").replace("issue,990010AC4", "amend,990010AC4,2")
+ROWS = (issue("2024-01-01,2024-07-01,2034-07-01")
+        + issue("2024-01-01,,2034-07-01").replace("issue,990010AC4", "amend,990010AC4,2")
         + trade() + trade().replace("trade", "correct").replace("R0001", "R0001,2") + "cancel,RETAIL,R0001,3\n")
 
 

@@ -35,8 +35,8 @@ def trade(reference: str) -> str:
 
 
 def trades(count: int, first: int = 0) -> str:
-    """The rows of the issue, whose coupon was mended, and of so many trades. Another desk has a trade by the wrong coupon
-    that is corrected and one that is canceled."""
+    """The rows of the issue, whose coupon was mended, and of so many trades. Another desk has a trade by the wrong
+    coupon that is corrected and one that is canceled."""
     return WRONG_ISSUE + HELD + MENDED + "".join(trade(f"T{each:05d}") for each in range(first, first + count))
 
 

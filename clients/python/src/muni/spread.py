@@ -58,7 +58,8 @@ def figures(client: Cluster, rows: Path, store: Path, folder: Path, result: Path
     `folder` and `rows` are on a file system that all workers see by the same name. The folder keeps the answers: if a
     run fails, the same call goes on with the parts that have none. For another file, other issues or other figures take
     a new folder. `size` is the bytes of a part, about. A part is tried `tries` times, and the last PartFault is raised.
-    `patience` is the seconds after which the program on a part is ended. No server may have the store open at the begin.
+    `patience` is the seconds after which the program on a part is ended. No server may have the store open at the
+    begin.
     """
     shared = Folder(os.path.abspath(os.fspath(folder)))
     plan = shared.begin(rows, store, size, program, risk)
