@@ -61,10 +61,10 @@ def test_rows_with_the_terms_of_their_issues_need_no_store(muni: Program, tmp_pa
 
 def amended(source: random.Random) -> list[Row]:
     """The rows of a book, some of whose issues are amended between its trades."""
-    first = book(source, 30, 200)
+    first = book(source, 30, 80)
     added = [row for row in first if row[0] == "issue"]
     others = [["amend", row[1], "2", *row[2:7], "7.25", *row[8:]] for row in added[::3] if row[7]]
-    later = [trade(source, added, f"Z{place}", source.choice([0, 0, 1]), place % 9 == 0) for place in range(200)]
+    later = [trade(source, added, f"Z{place}", source.choice([0, 0, 1]), place % 9 == 0) for place in range(80)]
     return [*first, *others, *(row for rows in later for row in rows)]
 
 
