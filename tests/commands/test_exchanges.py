@@ -2,9 +2,13 @@
 either kind, and clients that send on, or stay, after their answer."""
 from __future__ import annotations
 
+import contextlib
 import http.client
 import signal
+import socket
+import threading
 import time
+from collections.abc import Iterator
 from typing import NamedTuple
 
 import pytest
@@ -128,12 +132,43 @@ def test_a_client_that_stays_has_the_end_of_its_answer_and_keeps_the_next_one_wa
         assert server.ended() == 0
 
 
+@contextlib.contextmanager
+def dripping(client: socket.socket) -> Iterator[None]:
+    """A client sends a byte each 20 ms, until its connection is closed or this ends."""
+    over = threading.Event()
+
+    def drip() -> None:
+        with contextlib.suppress(OSError):
+            while not over.wait(0.02):
+                client.sendall(b"a")
+
+    thread = threading.Thread(target=drip)
+    thread.start()
+    try:
+        yield
+    finally:
+        over.set()
+        thread.join()
+
+
+@pytest.mark.xdist_group("alone")
+def test_a_client_that_sends_byte_by_byte_after_its_answer_keeps_the_next_one_waiting_for_two_seconds(muni, tmp_path):
+    with Server(muni, str(tmp_path / "S"), 2) as server, server.connect() as client:
+        client.sendall(LIST)
+        assert received(client)[:12] == b"HTTP/1.1 200"
+        begin = time.monotonic()
+        with dripping(client):
+            assert server.ask(LIST)[:12] == b"HTTP/1.1 200"
+        assert time.monotonic() - begin < 4, "the next client waits"
+        assert server.ended() == 0
+
+
 def test_a_client_that_sends_on_loses_nothing_by_a_signal_that_interrupts_the_server(muni, tmp_path):
     with Server(muni, str(tmp_path / "S"), 1) as server, server.connect() as client:
         client.sendall(b"POST /trades HTTP/1.1\r\nContent-Length: %d\r\n\r\n" % LENGTH)
         assert client.recv(12) == b"HTTP/1.1 413"
         for order in 3 * (signal.SIGSTOP, signal.SIGCONT):
-            # A read of the server lasts 50 ms, and is to be interrupted within it.
+            # Reads of the server wait one after another, and one is to be interrupted.
             time.sleep(0.05)
             server.process.send_signal(order)
         for _ in range(3):
