@@ -1,17 +1,22 @@
--- A body asks for the same whatever other members it has.
-use Rattle.std.proofs.Common.{◌≡◌, ℕ, List, [], ◌∷◌, codes, map, option_map, Some, refl, sym, ap, arith, ◌∙◌}
-use Rattle.std.specs.List.{All}
+-- A body asks for the same whatever other members it has, and a check has none.
+use Rattle.std.proofs.Common.{◌≡◌, ◌≢◌, ◌&&◌, ℕ, List, [], ◌∷◌, Bool, true, false, Ordering, Less, Equal, Greater, bytes_eq, nat_cmp, codes, find, map, option_map, Option, Some, None, refl, sym, subst, ap, arith, ◌∙◌}
+use Rattle.std.specs.Cmp.Lexicographic.{slice_cmp}
+use Rattle.std.specs.List.{All, list_all}
+use Rattle.std.specs.Ordering.{match_ordering}
 use Rattle.std.proofs.lemmas.List.Elements.{All-tail}
-use Rattle.serde_json.specs.Data.{Data}
-use Rattle.serde_json.specs.Find.{get}
+use Rattle.std.proofs.lemmas.Map.Lookups.{exact_bytes}
+use Rattle.std.proofs.lemmas.Slice.Eq.{bytes_eq-Decides}
+use Rattle.serde_json.specs.Data.{Data, null, boolean, number, string, array, object, Members, no_members, member}
+use Rattle.serde_json.specs.Find.{get, get_member}
 use Rattle.muni_msg.specs.Fields.{◌>>=◌}
 use Rattle.muni_msg.specs.declared.asked.Side.TheVariants.{Buy}
 use Rattle.muni_wire_body.specs.Body.{data_of, request_of, request_in, command_in, key_in, asked_in, shown_in, fee_in, terms_in, calendar_in, basis_in, issue_with, issue_in}
-use Rattle.muni_wire_body.specs.OtherMembers.{issue_names, AreReadAlike, member_names}
-use Rattle.muni_wire_body.specs.Stated.{members_in, row_in, texts_in}
-use Rattle.muni_columns.specs.Columns.{all_columns, name_of}
+use Rattle.muni_wire_body.specs.OtherMembers.{issue_names, member_names}
+use Rattle.muni_wire_body.specs.Stated.{is_known, names_in, row_in}
+use Rattle.muni_columns.specs.Columns.{all_columns, column_named, name_of}
 use Rattle.muni_columns.specs.declared.column.Column.{Column}
 use Rattle.muni_wire_body.specs.declared.look.Request.TheVariants.{Book, Check}
+use Rattle.muni_wire_body.proofs.BodyLemmas.{request-of-book}
 use Rattle.muni_wire_body.specs.declared.form.Form.{Form}
 use Rattle.muni_wire_body.specs.declared.form.Form.TheVariants as form
 
@@ -80,37 +85,59 @@ same-command form.Quote a b same =
     ) refl
 same-command form.Check a b same = refl
 
--- ---- a row
+pub other-members-are-ignored : (posted : Form) (one other : List ℕ) (a b : Data) → posted ≢ form.Check → data_of one ≡ Some a → data_of other ≡ Some b
+    → All (λ name. get name a ≡ get name b) (member_names posted) → request_of posted one ≡ request_of posted other
+other-members-are-ignored posted one other a b no_check is_one is_other same =
+    ap (λ value. value >>= request_in posted) is_one ∙ request-of-book posted a no_check ∙ ap (option_map (λ command. Book command)) (same-command posted a b same)
+    ∙ sym (request-of-book posted b no_check) ∙ sym (ap (λ value. value >>= request_in posted) is_other)
 
-same-texts : (columns : List Column) (a b : Data) → All (λ name. get name a ≡ get name b) (map name_of columns) → texts_in columns a ≡ texts_in columns b
-unfolding texts_in
-same-texts [] a b same = refl
-same-texts (column ∷ columns) a b same =
-    let here : get (name_of column) a ≡ get (name_of column) b = same 0 [] (omega arith) in
-    let others : texts_in columns a ≡ texts_in columns b = same-texts columns a b (All-tail (λ name. get name a ≡ get name b) (name_of column) (map name_of columns) same) in
-    rw (here, others) refl
+-- ---- a check
 
-same-members : (a b : Data) → All (λ name. get name a ≡ get name b) (member_names form.Check) → members_in a ≡ members_in b
-unfolding members_in
-same-members a b same =
-    let desk : get (codes "desk") a ≡ get (codes "desk") b = same 0 [] (omega arith) in
-    let texts : texts_in all_columns a ≡ texts_in all_columns b = same-texts all_columns a b (All-tail (λ name. get name a ≡ get name b) (codes "desk") (map name_of all_columns) same) in
-    rw (desk, texts) refl
+differ : (a b : List ℕ) → a ≢ b → bytes_eq b a ≡ false
+differ a b other = grind (arith, bytes_eq-Decides b a, λ (e : b ≡ a). other (sym e))
 
-same-row : (a b : Data) → AreReadAlike form.Check a b → row_in a ≡ row_in b
+no-column : (columns : List Column) (name : List ℕ) → All (λ known. name ≢ known) (map name_of columns) → find (λ column. bytes_eq (name_of column) name) columns ≡ None
+no-column [] name others = refl
+no-column (column ∷ columns) name others =
+    let here : bytes_eq (name_of column) name ≡ false = differ name (name_of column) (others 0 [] (omega arith)) in
+    rw here (no-column columns name (All-tail (λ known. name ≢ known) (name_of column) (map name_of columns) others))
+
+unknown : (name : List ℕ) → All (λ known. name ≢ known) (member_names form.Check) → is_known name ≡ false
+unknown name others =
+    let desk : bytes_eq name (codes "desk") ≡ false = differ (codes "desk") name (λ e. others 0 [] (omega arith) (sym e)) in
+    let column : column_named name ≡ None = no-column all_columns name (All-tail (λ known. name ≢ known) (codes "desk") (map name_of all_columns) others) in
+    rw (desk, column) refl
+
+-- a name under which there is a member is one of the names
+and-false : (b : Bool) → (b && false) ≡ false
+and-false true = refl
+and-false false = refl
+
+found-by : (o : Ordering) (name first : List ℕ) (there : Data) (rest : Option Data) (found : Data) (others : Bool) → slice_cmp nat_cmp name first ≡ o → is_known name ≡ false
+    → (rest ≡ Some found → others ≡ false) → match_ordering o rest (Some there) rest ≡ Some found → (is_known first && others) ≡ false
+found-by Less name first there rest found others is none later e = rw (later e) (and-false (is_known first))
+found-by Equal name first there rest found others is none later e =
+    let same : name ≡ first = exact_bytes name first is in
+    let test : is_known first ≡ false = subst (λ text. is_known text ≡ false) same none in
+    rw test refl
+found-by Greater name first there rest found others is none later e = rw (later e) (and-false (is_known first))
+
+not-known : (members : Members) (name : List ℕ) (found : Data) → get_member name members ≡ Some found → is_known name ≡ false → list_all is_known (names_in members) ≡ false
+not-known no_members name found e none = cc e
+not-known (member first there others) name found e none =
+    found-by (slice_cmp nat_cmp name first) name first there (get_member name others) found (list_all is_known (names_in others)) refl none
+    (λ later. not-known others name found later none) e
+
+no-row : (value found : Data) (name : List ℕ) → get name value ≡ Some found → is_known name ≡ false → row_in value ≡ None
 unfolding row_in
-same-row a b (both, same) = rw (both, same-members a b same) refl
+no-row null found name e none = cc
+no-row (boolean b) found name e none = cc
+no-row (number n) found name e none = cc
+no-row (string s) found name e none = cc
+no-row (array ds) found name e none = cc
+no-row (object members) found name e none = rw (not-known members name found e none) refl
 
-same-request : (posted : Form) (a b : Data) → AreReadAlike posted a b → request_in posted a ≡ request_in posted b
-same-request form.Issue a b same = ap (option_map (λ command. Book command)) (same-command form.Issue a b same)
-same-request form.Amendment a b same = ap (option_map (λ command. Book command)) (same-command form.Amendment a b same)
-same-request form.Trade a b same = ap (option_map (λ command. Book command)) (same-command form.Trade a b same)
-same-request form.Correction a b same = ap (option_map (λ command. Book command)) (same-command form.Correction a b same)
-same-request form.Cancellation a b same = ap (option_map (λ command. Book command)) (same-command form.Cancellation a b same)
-same-request form.Quote a b same = ap (option_map (λ command. Book command)) (same-command form.Quote a b same)
-same-request form.Check a b same = ap (option_map (λ row. Check row)) (same-row a b same)
-
-pub other-members-are-ignored : (posted : Form) (one other : List ℕ) (a b : Data) → data_of one ≡ Some a → data_of other ≡ Some b
-    → AreReadAlike posted a b → request_of posted one ≡ request_of posted other
-other-members-are-ignored posted one other a b is_one is_other same =
-    ap (λ value. value >>= request_in posted) is_one ∙ same-request posted a b same ∙ sym (ap (λ value. value >>= request_in posted) is_other)
+pub checks-have-no-others : (body name : List ℕ) (value found : Data) → data_of body ≡ Some value → get name value ≡ Some found
+    → All (λ known. name ≢ known) (member_names form.Check) → request_of form.Check body ≡ None
+checks-have-no-others body name value found is there others =
+    ap (λ value. value >>= request_in form.Check) is ∙ ap (option_map (λ row. Check row)) (no-row value found name there (unknown name others))

@@ -1,5 +1,5 @@
 -- Columns with their texts that are read one after another.
-use Rattle.std.proofs.Common.{◌≡◌, ◌≤◌, ◌<◌, ◌+◌, ℕ, List, [], ◌∷◌, ◌++◌, length, drop, get_or, map, codes, Option, Some, None, option_map, true, nat_lt, IsUtf8, arith, refl, sym, ap, ◌∙◌}
+use Rattle.std.proofs.Common.{String, Global, string_bytes, ◌≡◌, ◌≤◌, ◌<◌, ◌+◌, ℕ, List, [], ◌∷◌, ◌++◌, length, drop, get_or, map, codes, Option, Some, None, option_map, true, nat_lt, IsUtf8, arith, refl, sym, ap, ◌∙◌}
 use Rattle.std.specs.List.{list_all}
 use Rattle.std.proofs.lemmas.Bool.Decides.{nat_tests}
 use Rattle.std.proofs.lemmas.List.Sums.{AllPass-from_list_all}
@@ -8,11 +8,14 @@ use Rattle.std.proofs.lemmas.Str.Ascii.{IsAscii-from_all}
 use Rattle.std.proofs.lemmas.List.{at_drop_more, at_drop_all, append-nil, append_assoc, length-append}
 use Rattle.serde_json.specs.Data.{Data}
 use Rattle.serde_json.specs.Find.{get}
+use Rattle.serde_json.specs.View.{members_view}
+use Rattle.serde_json.specs.declared.value.Value.{Value}
+use Rattle.std.specs.Map.{keys_of}
 use Rattle.muni_msg.specs.Fields.{◌>>=◌}
 use Rattle.muni_columns.specs.Columns.{all_columns, name_of}
 use Rattle.muni_columns.specs.declared.column.Column.{Column}
 use Rattle.muni_columns.specs.declared.column.Column.TheVariants as column
-use Rattle.muni_wire_body.specs.Stated.{before, desk_at, members_in, row_of, text_at, texts_in}
+use Rattle.muni_wire_body.specs.Stated.{before, desk_at, members_in, names_in, row_of, text_at, texts_in}
 
 abbrev pub Texts : Type 0
 Texts = List (Column × List ℕ)
@@ -140,3 +143,10 @@ is-ascii column.DayCount = refl
 
 pub name-text : (column : Column) → IsUtf8 (name_of column)
 name-text column = ascii (name_of column) (is-ascii column)
+
+-- ---- members
+
+-- the names of members are the keys of their map
+pub names-of-keys : (members : List (String Global × Value)) → names_in (members_view members) ≡ map string_bytes (keys_of members)
+names-of-keys [] = refl
+names-of-keys (first ∷ others) = ap (λ names. string_bytes first.0 ∷ names) (names-of-keys others)

@@ -1,12 +1,14 @@
 -- The row of another firm's figures that a body states.
-use Rattle.std.specs.Prelude.{ℕ, Bool, List, [], ◌∷◌, codes, if◌then◌else◌, is_some, map, option_map, Option, Some, None}
+use Rattle.std.specs.Prelude.{ℕ, Bool, false, ◌||◌, List, [], ◌∷◌, codes, if◌then◌else◌, is_some, map, option_map, Option, Some, None}
+use Rattle.std.specs.List.{list_all}
 use Rattle.std.specs.Result.{result_ok}
-use Rattle.serde_json.specs.Data.{Data}
+use Rattle.std.specs.Str.{bytes_eq}
+use Rattle.serde_json.specs.Data.{Data, Members, no_members, member}
 use Rattle.serde_json.specs.Find.{get, as_object, as_str}
 use Rattle.muni_msg.specs.Fields.{◌>>=◌}
 use Rattle.muni_msg.specs.Names.{is_desk_letter}
 use Rattle.muni_msg.specs.NameReading.{name_reading}
-use Rattle.muni_columns.specs.Columns.{all_columns, name_of}
+use Rattle.muni_columns.specs.Columns.{all_columns, column_named, name_of}
 use Rattle.muni_columns.specs.declared.column.Column.{Column}
 
 -- the desk whose trades its reference names, if one is given, its columns, and the text of each
@@ -53,9 +55,20 @@ members_in value = do
   texts ← texts_in all_columns value
   Some (row_of desk texts)
 
--- the row that an object states
-abbrev pub is_object : Data → Bool
-is_object value = is_some (as_object value)
+-- the names of members
+abbrev pub names_in : Members → List (List ℕ)
+names_in no_members = []
+names_in (member name value others) = name ∷ names_in others
 
+-- a member that a row may have: its desk, or a column
+abbrev pub is_known : List ℕ → Bool
+is_known name = bytes_eq name (codes "desk") || is_some (column_named name)
+
+-- an object, each of whose members is one of these
+abbrev pub has_known : Option Members → Bool
+has_known None = false
+has_known (Some members) = list_all is_known (names_in members)
+
+-- the row that a value states: that of an object with no other members
 unfoldable pub row_in : Data → Option RowTexts
-row_in value = if is_object value then members_in value else None
+row_in value = if has_known (as_object value) then members_in value else None

@@ -1,7 +1,7 @@
 //! What holds of the definitions that the contract of the reader of bodies cites.
 
 ghost use Rattle.muni_wire_body.specs.LeftOut.{MayBeLeftOut};
-ghost use Rattle.muni_wire_body.specs.OtherMembers.{OtherMembersAreIgnored};
+ghost use Rattle.muni_wire_body.specs.OtherMembers.{ChecksHaveNoOthers, OtherMembersAreIgnored};
 
 /// A body that is no check is one of 30/360 without a day count basis, and has the commission 0 without
 /// one.
@@ -9,8 +9,12 @@ pub fn days_and_fee_may_be_left_out()
     ensures { MayBeLeftOut }
 {}
 
-/// A body asks for the same whatever members it has besides those that its form reads. The body of a check has to be
-/// an object all the same.
+/// A body that is no check asks for the same whatever members it has besides those that its form reads.
 pub fn other_members_are_ignored()
     ensures { OtherMembersAreIgnored }
+{}
+
+/// A check with any other member than its desk and the columns is refused.
+pub fn checks_have_no_other_members()
+    ensures { ChecksHaveNoOthers }
 {}

@@ -2,7 +2,7 @@
 
 ghost use Rattle.std.specs.Prelude.{◌≡◌, None, Some, Err, IfErr, IfOk, codes, option_map};
 ghost use Rattle.csv.specs.Records.{fields_of};
-ghost use Rattle.serde_json.specs.Find.{get};
+ghost use Rattle.serde_json.specs.Find.{as_object, get};
 ghost use Rattle.serde_json.specs.View.{view};
 ghost use Rattle.muni_columns.specs.Columns as columns;
 ghost use Rattle.muni_wire_body.specs.Faults.{IsOfBody};
@@ -65,10 +65,31 @@ pub(crate) fn read_row(alloc: Global, value: &Value) -> Result<StatedRow, WireFa
         → (kind ≡ Bad.BadRequest) × (spec.row_in (view value.now) ≡ None) }
     ensures others { IfErr result (λ fault. IsOfBody fault) }
 {
-    if !value.is_object() {
+    if !has_known(value) {
         return Err(WireFault::Bad(Bad::BadRequest));
     }
     read_members(alloc, value)
+}
+
+// Whether a value is an object with no other members than those that a row may have.
+fn has_known(value: &Value) -> bool
+    ensures { result ≡ spec.has_known (as_object (view value.now)) }
+{
+    let Some(members) = value.as_object() else {
+        return false;
+    };
+    for name in members.keys() {
+        if !is_known(name.as_bytes()) {
+            return false;
+        }
+    }
+    true
+}
+
+fn is_known(name: &[u8]) -> bool
+    ensures { result ≡ spec.is_known name.now }
+{
+    name == b"desk".as_slice() || Column::named(name).is_some()
 }
 
 // The row of the members that a value has.
