@@ -209,7 +209,8 @@ def posted(path: str, body: bytes) -> Command | CheckOfRow:
 
 
 def row_of(members: Members) -> CheckOfRow:
-    if not {"desk", *checked.COLUMNS}.issuperset(members.body):
+    """A row of its desk and of columns, and of nothing else."""
+    if not members.body.keys() <= {"desk", *checked.COLUMNS}:
         raise Unreadable
     columns = [column for column in checked.COLUMNS if column in members]
     desk = numerals.desk(members["desk"]) if "desk" in members else ""

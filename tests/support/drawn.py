@@ -308,6 +308,9 @@ def odd_members(draw: Draw) -> bytes:
     if draw(st.booleans()):
         del members[draw(st.sampled_from(sorted(members)))]
     path = draw(any_of("/issues", "/trades", "/corrections", "/cancels", "/quotes", "/checks"))
+    if path == "/checks" and draw(st.booleans()):
+        # A check has none of these, so that the others are looked at.
+        members = {name: value for name, value in members.items() if name not in ("each", "name", "number")}
     return post(path, members)
 
 
