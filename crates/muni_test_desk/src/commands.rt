@@ -3,6 +3,7 @@ mod faults;
 mod gates;
 mod journals;
 mod kept;
+mod looks;
 mod quotes;
 mod runs;
 mod watch;
