@@ -63,7 +63,7 @@ def spread(text):
 def rights():
     own = read("LICENSE-MIT")
     sections = [part.partition("\n\n") for part in re.split(r"\n-{20,}\n\n", read("NOTICE"))][1:]
-    holders, under = [], {"Expat": [], "Apache-2.0": []}
+    holders, under, bsd = [], {"Expat": [], "Apache-2.0": [], "BSD-3-Clause": []}, ""
     for head, _, text in sections:
         names = head.replace("\n", " ").split(", ")
         if words(text) == words(own):
@@ -71,17 +71,22 @@ def rights():
             holders += re.findall(r"^Copyright \(c\) (.*)$", text, re.M)
         elif "Apache License" in text.partition("\n")[0]:
             under["Apache-2.0"] += names
+        elif text.startswith("BSD 3-Clause License"):
+            under["BSD-3-Clause"] += names
+            holders += re.findall(r"^Copyright \(c\) (.*)$", text, re.M)
+            bsd = text.partition("All rights reserved.\n\n")[2]
         elif re.match(r"These libraries|The program uses", head):
             continue
         else:
-            raise ValueError("NOTICE has a licence for %s that is neither Expat nor Apache-2.0" % head)
+            raise ValueError("NOTICE has a licence for %s that is none of these" % head)
     both = sorted(set(under["Expat"]) & set(under["Apache-2.0"]))
     one = sorted(set(under["Expat"]) - set(both))
     if set(under["Apache-2.0"]) - set(both):
         raise ValueError("NOTICE has libraries under Apache-2.0 alone: say so here")
     told = ("The program is built of its own sources and of libraries of the Rattle kit, most of which are ports of"
-            " libraries for Rust. Under Expat or Apache-2.0: %s. Under Expat: %s. NOTICE, beside this file, has their"
-            " licences one by one." % (", ".join(both), ", ".join(one)))
+            " libraries for Rust. Under Expat or Apache-2.0: %s. Under Expat: %s. A part under BSD-3-Clause: %s."
+            " NOTICE, beside this file, has their licences one by one."
+            % (", ".join(both), ", ".join(one), ", ".join(under["BSD-3-Clause"])))
     return """\
 Format: https://www.debian.org/doc/packaging-manuals/copyright-format/1.0/
 Upstream-Name: muni
@@ -94,14 +99,16 @@ License: Expat or Apache-2.0
 
 Files: dist/muni
 Copyright: 2026 the Nayuchek authors
-%sLicense: Expat or Apache-2.0, and Expat
+%sLicense: Expat or Apache-2.0, and Expat, and BSD-3-Clause
 Comment:
 %s
 License: Expat
 %s
+License: BSD-3-Clause
+%s
 License: Apache-2.0
 %s""" % (MAINTAINER, "".join("           %s\n" % each for each in sorted(set(holders))),
-         spread(textwrap.fill(told, 78)), spread(own.partition("authors\n\n")[2]), APACHE)
+         spread(textwrap.fill(told, 78)), spread(own.partition("authors\n\n")[2]), spread(bsd), APACHE)
 
 
 def files():

@@ -16,7 +16,7 @@ use muni_keep::{KeepFault, Keeper};
 use muni_msg::Reply;
 use muni_multi::Encloser;
 use muni_wire::{
-    HttpStatus, read_request, write_bad, write_reply, write_success, write_unavailable,
+    HttpStatus, Routes, read_request, write_bad, write_reply, write_success, write_unavailable,
 };
 use muni_wire_body::{Request, WireFault};
 use std::alloc::Global;
@@ -30,6 +30,7 @@ use std::thread::Threads;
 /// tables stay as they are.
 pub fn answer_one<R: Threads + Sync, L: Link, K: Keeper, E: Encloser + Sync, G: Gate + Sync>(
     book: &Book<'_, R, E, G>,
+    routes: &Routes,
     alloc: Global,
     link: &mut L,
     keeper: &mut K,
@@ -44,7 +45,7 @@ pub fn answer_one<R: Threads + Sync, L: Link, K: Keeper, E: Encloser + Sync, G: 
     ensures ready { TakesRequest L.Source link.old link.new }
     ensures leaves { LeavesCounted K.Keeper L.Source L.Sink result keeper.old keeper.new link.old link.new }
 {
-    let request = match read_request(alloc, link) {
+    let request = match read_request(routes, alloc, link) {
         Ok(request) => request,
         Err(WireFault::Bad(bad)) => return came_of(write_bad(link, bad)),
         Err(WireFault::Gone) => return Served::Gone,

@@ -15,14 +15,15 @@ use muni_book::Book;
 use muni_edge::{Door, Failed, Gate};
 use muni_keep::{Cabinet, Keeper};
 use muni_multi::Encloser;
+use muni_wire::Routes;
 use std::alloc::Global;
 use std::thread::Threads;
 
 /// Serves up to `connections` connections that come in by a door, one after the other, over the
 /// tables of a store.
 ///
-/// The store is fetched first, and given back at the end; then the door is bound to the port. What a
-/// connection does or suffers ends that connection alone.
+/// The routes are made once, for all of them. The store is fetched then, and given back at the end, and the door is
+/// bound to the port after that. What a connection does or suffers ends that connection alone.
 pub fn serve<R: Threads + Sync, C: Cabinet, D: Door, E: Encloser + Sync, G: Gate + Sync>(
     book: &Book<'_, R, E, G>,
     alloc: Global,
@@ -40,8 +41,11 @@ pub fn serve<R: Threads + Sync, C: Cabinet, D: Door, E: Encloser + Sync, G: Gate
     ensures tells { (other : List ℕ) → is_some (C.told cabinet.new other) ≡ is_some (C.told cabinet.old other) }
     ensures door_later { D.faults door.old ≤ D.faults door.new }
 {
+    let Ok(routes) = Routes::new(alloc) else {
+        return Err(ServeFault::NoMemory);
+    };
     let mut keeper = cabinet.fetch(store)?;
-    let end = serve_links(book, alloc, port, connections, &mut keeper, door);
+    let end = serve_links(book, &routes, alloc, port, connections, &mut keeper, door);
     cabinet.give_back(keeper);
     end
 }
@@ -49,6 +53,7 @@ pub fn serve<R: Threads + Sync, C: Cabinet, D: Door, E: Encloser + Sync, G: Gate
 // Serves connections over the tables of a keeper.
 fn serve_links<R: Threads + Sync, K: Keeper, D: Door, E: Encloser + Sync, G: Gate + Sync>(
     book: &Book<'_, R, E, G>,
+    routes: &Routes,
     alloc: Global,
     port: u16,
     connections: u32,
@@ -69,7 +74,7 @@ fn serve_links<R: Threads + Sync, K: Keeper, D: Door, E: Encloser + Sync, G: Gat
     }
     let mut end = Ok(());
     for _count in 0..connections {
-        match serve_next(book, alloc, keeper, door) {
+        match serve_next(book, routes, alloc, keeper, door) {
             Ok(Some(served)) => end = after(end, served),
             Ok(None) => return end,
             Err(Failed) => return Err(ServeFault::Door),
@@ -81,6 +86,7 @@ fn serve_links<R: Threads + Sync, K: Keeper, D: Door, E: Encloser + Sync, G: Gat
 // Serves the first connection that waits, if one does, and hands it back.
 fn serve_next<R: Threads + Sync, K: Keeper, D: Door, E: Encloser + Sync, G: Gate + Sync>(
     book: &Book<'_, R, E, G>,
+    routes: &Routes,
     alloc: Global,
     keeper: &mut K,
     door: &mut D,
@@ -97,7 +103,7 @@ fn serve_next<R: Threads + Sync, K: Keeper, D: Door, E: Encloser + Sync, G: Gate
     match door.accept() {
         Ok(Some(link)) => {
             let mut link = link;
-            let served = answer_one(book, alloc, &mut link, keeper);
+            let served = answer_one(book, routes, alloc, &mut link, keeper);
             door.hand_back(link);
             Ok(Some(served))
         }

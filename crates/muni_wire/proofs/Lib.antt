@@ -9,9 +9,11 @@ pub mod UniqueLemmas
 pub mod SomeReadingLemmas
 pub mod StatusLemmas
 pub mod ListLemmas
-mod LookPathLemmas
+pub mod LookPathLemmas
 pub mod AnswerLemmas
 pub mod PathLemmas
 pub mod FoundPathLemmas
+pub mod RouteLemmas
+pub mod TableLemmas
 pub mod LengthLemmas
 pub mod CodeLemmas

@@ -121,7 +121,7 @@ latest-path p l e =
       is-behind (codes "/latest/") p first.0 first.1 ∙ ap (λ l. codes "/latest/" ++ l) (path.name-read is_desk_letter 16 first.0 second.0 second.1),
     )
 
-one-path : (p : List ℕ) (l : Look) → look_of p ≡ Some l → IsPathOf l p
+pub one-path : (p : List ℕ) (l : Look) → look_of p ≡ Some l → IsPathOf l p
 unfolding look_of
 one-path p l e = by (either (issue_at p) (option_or (version_at p) (option_or (positions_at p) (latest_at p))) l e)
   where

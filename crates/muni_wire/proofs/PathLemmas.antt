@@ -102,7 +102,7 @@ pub both-there : {A B : Type 0} (o : Option A) (f : A → Option B) (b : B) → 
 both-there None f b e = cc e
 both-there (Some a) f b e = (a, refl, e)
 
-trade-path : (path : List ℕ) (key : Key) → trade_at path ≡ Some (target.Get (Book (Confirm key))) → IsKey key × (path ≡ codes "/trades/" ++ (key.desk ++ 47 ∷ key.reference))
+pub trade-path : (path : List ℕ) (key : Key) → trade_at path ≡ Some (target.Get (Book (Confirm key))) → IsKey key × (path ≡ codes "/trades/" ++ (key.desk ++ 47 ∷ key.reference))
 trade-path path key e =
     let first = both-there (behind (codes "/trades/") path) (λ text. key_of text >>= λ k. Some (target.Get (Book (Confirm k)))) (target.Get (Book (Confirm key))) e in
     let second = both-there (key_of first.0) (λ k. Some (target.Get (Book (Confirm k)))) (target.Get (Book (Confirm key))) first.2 in
@@ -110,7 +110,7 @@ trade-path path key e =
     let is = is-key first.0 key (second.1 ∙ ap Some same) in
     (is.0, is-behind (codes "/trades/") path first.0 first.1 ∙ ap (λ l. codes "/trades/" ++ l) is.1)
 
-list-path : (path desk : List ℕ) → list_at path ≡ Some (target.Get (Book (ListTrades desk None))) → IsName is_desk_letter 16 desk × (path ≡ codes "/lists/" ++ desk)
+pub list-path : (path desk : List ℕ) → list_at path ≡ Some (target.Get (Book (ListTrades desk None))) → IsName is_desk_letter 16 desk × (path ≡ codes "/lists/" ++ desk)
 list-path path desk e =
     let first = both-there (behind (codes "/lists/") path) (λ text. result_ok (name_reading is_desk_letter 16 text) >>= λ d. Some (target.Get (Book (ListTrades d None)))) (target.Get (Book (ListTrades desk None))) e in
     let second = both-there (result_ok (name_reading is_desk_letter 16 first.0)) (λ d. Some (target.Get (Book (ListTrades d None)))) (target.Get (Book (ListTrades desk None))) first.2 in
@@ -118,7 +118,7 @@ list-path path desk e =
     let read = second.1 ∙ ap Some same in
     (is-name is_desk_letter 16 first.0 desk read, is-behind (codes "/lists/") path first.0 first.1 ∙ ap (λ l. codes "/lists/" ++ l) (name-read is_desk_letter 16 first.0 desk read))
 
-list-after-path : (path desk after : List ℕ) → list_after_at path ≡ Some (target.Get (Book (ListTrades desk (Some after))))
+pub list-after-path : (path desk after : List ℕ) → list_after_at path ≡ Some (target.Get (Book (ListTrades desk (Some after))))
     → IsName is_desk_letter 16 desk × IsName is_ascii_alphanumeric 20 after × (path ≡ codes "/lists/" ++ (desk ++ 47 ∷ after))
 list-after-path path desk after e =
     let first = both-there (behind (codes "/lists/") path) (λ text. key_of text >>= λ k. Some (target.Get (Book (ListTrades k.desk (Some k.reference))))) (target.Get (Book (ListTrades desk (Some after)))) e in
@@ -235,7 +235,7 @@ found-by true here form rest path is others e =
     same ∙ ap posted_under form
 found-by false here form rest path is others e = others e
 
-form-found : (path : List ℕ) (form : Form) (forms : List Form) → find (λ form. bytes_eq path (posted_under form)) forms ≡ Some form → path ≡ posted_under form
+pub form-found : (path : List ℕ) (form : Form) (forms : List Form) → find (λ form. bytes_eq path (posted_under form)) forms ≡ Some form → path ≡ posted_under form
 form-found path form [] e = cc e
 form-found path form (here ∷ others) e =
     found-by (bytes_eq path (posted_under here)) here form (find (λ form. bytes_eq path (posted_under form)) others) path refl (form-found path form others) e

@@ -1,4 +1,5 @@
 pub mod Routes
+pub mod Table
 pub mod BodyLength
 pub mod Head
 pub mod Awaited

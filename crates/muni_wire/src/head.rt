@@ -1,13 +1,14 @@
 //! The head of a request, in the bytes that have come.
 
-ghost use Rattle.std.specs.Prelude.{◌≡◌, ◌≤◌, ◌<◌, ℕ, List, true, false, length, take, map, ◌++◌};
+ghost use Rattle.std.specs.Prelude.{◌≡◌, ◌≤◌, ◌<◌, ℕ, List, true, false, length, take, map, ◌++◌, IsUtf8};
 ghost use Rattle.httparse.specs.Spans.{IsRequestWithin, header_bytes, span_bytes};
 ghost use Rattle.muni_wire.specs.Head.{EndsInHead, head_limit};
 ghost use Rattle.muni_wire.specs.Awaited as spec;
 ghost use Rattle.muni_wire.specs.Taken.{IsSeenIn, IsWithinLimit};
 
 use crate::length::body_length;
-use crate::routes::{Target, find_target, path_of};
+use crate::router::Routes;
+use crate::routes::{Target, path_of};
 use httparse::spans::{EMPTY_HEADER_SPAN, HeaderSpan, RequestSpans, parse_request};
 use httparse::{Error, Status};
 use muni_wire_body::{Bad, Form, Request};
@@ -47,7 +48,7 @@ impl Head {
 }
 
 /// Looks at what has come. The answer stays right whatever comes after it.
-pub(crate) fn look(bytes: &[u8]) -> Head
+pub(crate) fn look(routes: &Routes, bytes: &[u8]) -> Head
     requires limit { length bytes.now ≤ head_limit }
 
     ensures seen { IsSeenIn bytes.now result }
@@ -57,7 +58,7 @@ pub(crate) fn look(bytes: &[u8]) -> Head
     match parse_request(bytes, &mut headers) {
         Ok(Status::Complete(head)) => Head::Whole {
             end: head.len,
-            plan: plan_for(bytes, &head, &headers),
+            plan: plan_for(routes, bytes, &head, &headers),
         },
         Ok(Status::Partial) => {
             if bytes.len() < 16_384 {
@@ -71,8 +72,9 @@ pub(crate) fn look(bytes: &[u8]) -> Head
     }
 }
 
-fn plan_for(bytes: &[u8], head: &RequestSpans, headers: &[HeaderSpan]) -> Awaited
+fn plan_for(routes: &Routes, bytes: &[u8], head: &RequestSpans, headers: &[HeaderSpan]) -> Awaited
     requires head { IsRequestWithin bytes.now headers.now head.now }
+    requires text { IsUtf8 (span_bytes bytes.now head.now.path) }
 
     ensures plan { result
         ≡ spec.plan_by (span_bytes bytes.now head.now.method) (span_bytes bytes.now head.now.path)
@@ -80,7 +82,7 @@ fn plan_for(bytes: &[u8], head: &RequestSpans, headers: &[HeaderSpan]) -> Awaite
     ensures limit { IsWithinLimit result }
 {
     let method = head.method.of(bytes);
-    match find_target(path_of(head.path.of(bytes))) {
+    match routes.find(path_of(head.path.of(bytes))) {
         None => Awaited::Refuse(Bad::NotFound),
         Some(Target::Get(request)) => {
             if method == b"GET".as_slice() {

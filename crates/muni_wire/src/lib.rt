@@ -7,10 +7,12 @@ pub mod laws;
 mod length;
 mod list;
 mod request;
+mod router;
 mod routes;
 mod status;
 mod taking;
 
 pub use answer::{success, write_bad, write_reply, write_success, write_unavailable};
 pub use request::read_request;
+pub use router::Routes;
 pub use status::HttpStatus;

@@ -10,6 +10,7 @@ ghost use Rattle.muni_wire.specs.Reading.{Allows};
 ghost use Rattle.muni_wire.specs.Taken.{IsAnswerTo};
 
 use crate::head::{Awaited, Head};
+use crate::router::Routes;
 use crate::taking::{fill, read_head};
 use muni_edge::Link;
 use muni_wire_body::{Bad, Form, Request, WireFault, read_body};
@@ -21,14 +22,18 @@ use std::alloc::Global;
 ///
 /// If memory runs out nothing is said of the bytes.
 #[tactic(auto, using(crate::proofs::UniqueLemmas::told_answer))]
-pub fn read_request<L: Link>(alloc: Global, link: &mut L) -> Result<Request, WireFault>
+pub fn read_request<L: Link>(
+    routes: &Routes,
+    alloc: Global,
+    link: &mut L,
+) -> Result<Request, WireFault>
     ensures allowed { IfSome (L.left link.old) (λ bytes. Allows bytes result) }
     ensures only { IfSome (L.left link.old) (λ bytes. IsTheAnswer bytes result) }
     ensures no_further { ReadsNoFurther (L.left link.old) (L.left link.new) }
     ensures ready { TakesOnlyWhile L.Source AwaitsMore link.old link.new }
     ensures takes { TakesAndTells L.Source L.Sink result link.old link.new }
 {
-    let (head, mut bytes) = read_head(alloc, link)?;
+    let (head, mut bytes) = read_head(routes, alloc, link)?;
     match head {
         Head::More => Err(WireFault::Gone),
         Head::Never => Err(WireFault::Bad(Bad::BadRequest)),

@@ -2,7 +2,9 @@
 
 ghost use Rattle.std.specs.Prelude.{◌≡◌, option_map};
 ghost use Rattle.muni_wire.specs.Routes as spec;
+ghost use Rattle.muni_wire.specs.Table as table;
 
+use crate::router::Route;
 use muni_dec::text::find;
 use muni_msg::{Command, DeskName, Key, Reference, read_cusip, read_version_number};
 use muni_wire_body::{Form, Look, Request};
@@ -24,104 +26,44 @@ pub(crate) fn path_of(target: &[u8]) -> &[u8]
     }
 }
 
-/// What is asked under a path.
-#[tactic(auto, unfolding(crate::specs::Routes::target_of))]
-pub(crate) fn find_target(path: &[u8]) -> Option<Target>
-    ensures { result ≡ spec.target_of path.now }
+/// What is asked along a route by the rest of a path.
+pub(crate) fn asked_by(route: Route, rest: &[u8]) -> Option<Target>
+    ensures { result ≡ table.asked_by route rest.now }
 {
-    of_book(path).or_else(|| look(path))
-}
-
-#[tactic(auto, unfolding(crate::specs::Routes::of_book_at))]
-fn of_book(path: &[u8]) -> Option<Target>
-    ensures { result ≡ spec.of_book_at path.now }
-{
-    post(path)
-        .or_else(|| trade(path))
-        .or_else(|| list(path))
-        .or_else(|| list_after(path))
-}
-
-fn look(path: &[u8]) -> Option<Target>
-    ensures { result ≡ spec.look_at path.now }
-{
-    Some(Target::Get(Request::Look(find_look(path)?)))
-}
-
-#[tactic(auto, unfolding(crate::specs::Routes::look_of))]
-fn find_look(path: &[u8]) -> Option<Look>
-    ensures { result ≡ spec.look_of path.now }
-{
-    issue(path)
-        .or_else(|| version(path))
-        .or_else(|| positions(path))
-        .or_else(|| latest(path))
-}
-
-fn post(path: &[u8]) -> Option<Target>
-    ensures { result ≡ spec.post_at path.now }
-{
-    Some(Target::Post(find_form(path)?))
-}
-
-// The form of the bodies that are posted to a path.
-fn find_form(path: &[u8]) -> Option<Form>
-    ensures { result ≡ spec.form_of path.now }
-{
-    if path == b"/issues".as_slice() {
-        Some(Form::Issue)
-    } else if path == b"/amendments".as_slice() {
-        Some(Form::Amendment)
-    } else if path == b"/trades".as_slice() {
-        Some(Form::Trade)
-    } else if path == b"/corrections".as_slice() {
-        Some(Form::Correction)
-    } else if path == b"/cancels".as_slice() {
-        Some(Form::Cancellation)
-    } else if path == b"/quotes".as_slice() {
-        Some(Form::Quote)
-    } else if path == b"/checks".as_slice() {
-        Some(Form::Check)
-    } else {
-        None
+    match route {
+        Route::Post(form) => Some(Target::Post(form)),
+        Route::Issue => look(issue(rest)),
+        Route::Trade => trade(rest).or_else(|| look(version(rest))),
+        Route::List => list(rest).or_else(|| list_after(rest)),
+        Route::Positions => look(positions(rest)),
+        Route::Latest => look(latest(rest)),
     }
 }
 
-fn trade(path: &[u8]) -> Option<Target>
-    ensures { result ≡ spec.trade_at path.now }
+fn look(found: Option<Look>) -> Option<Target>
+    ensures { result ≡ table.looked found }
 {
-    let key = read_key(path.strip_prefix(b"/trades/")?)?;
-    Some(Target::Get(Request::Book(Command::Confirm { key })))
+    Some(Target::Get(Request::Look(found?)))
 }
 
-fn list(path: &[u8]) -> Option<Target>
-    ensures { result ≡ spec.list_at path.now }
+fn issue(rest: &[u8]) -> Option<Look>
+    ensures { result ≡ table.issue_by rest.now }
 {
-    let desk = DeskName::read(path.strip_prefix(b"/lists/")?).ok()?;
-    Some(Target::Get(Request::Book(Command::List { desk, after: None })))
-}
-
-fn list_after(path: &[u8]) -> Option<Target>
-    ensures { result ≡ spec.list_after_at path.now }
-{
-    let Key { desk, reference } = read_key(path.strip_prefix(b"/lists/")?)?;
-    Some(Target::Get(Request::Book(Command::List {
-        desk,
-        after: Some(reference),
-    })))
-}
-
-fn issue(path: &[u8]) -> Option<Look>
-    ensures { result ≡ spec.issue_at path.now }
-{
-    let cusip = read_cusip(path.strip_prefix(b"/issues/")?)?;
+    let cusip = read_cusip(rest)?;
     Some(Look::Issue { cusip })
 }
 
-fn version(path: &[u8]) -> Option<Look>
-    ensures { result ≡ spec.version_at path.now }
+fn trade(rest: &[u8]) -> Option<Target>
+    ensures { result ≡ table.confirmed_by rest.now }
 {
-    let (desk, rest) = parts(path.strip_prefix(b"/trades/")?)?;
+    let key = read_key(rest)?;
+    Some(Target::Get(Request::Book(Command::Confirm { key })))
+}
+
+fn version(rest: &[u8]) -> Option<Look>
+    ensures { result ≡ table.version_by rest.now }
+{
+    let (desk, rest) = parts(rest)?;
     let (reference, number) = parts(rest)?;
     let desk = DeskName::read(desk).ok()?;
     let reference = Reference::read(reference).ok()?;
@@ -132,17 +74,34 @@ fn version(path: &[u8]) -> Option<Look>
     })
 }
 
-fn positions(path: &[u8]) -> Option<Look>
-    ensures { result ≡ spec.positions_at path.now }
+fn list(rest: &[u8]) -> Option<Target>
+    ensures { result ≡ table.list_by rest.now }
 {
-    let desk = DeskName::read(path.strip_prefix(b"/positions/")?).ok()?;
+    let desk = DeskName::read(rest).ok()?;
+    Some(Target::Get(Request::Book(Command::List { desk, after: None })))
+}
+
+fn list_after(rest: &[u8]) -> Option<Target>
+    ensures { result ≡ table.list_after_by rest.now }
+{
+    let Key { desk, reference } = read_key(rest)?;
+    Some(Target::Get(Request::Book(Command::List {
+        desk,
+        after: Some(reference),
+    })))
+}
+
+fn positions(rest: &[u8]) -> Option<Look>
+    ensures { result ≡ table.positions_by rest.now }
+{
+    let desk = DeskName::read(rest).ok()?;
     Some(Look::Positions { desk })
 }
 
-fn latest(path: &[u8]) -> Option<Look>
-    ensures { result ≡ spec.latest_at path.now }
+fn latest(rest: &[u8]) -> Option<Look>
+    ensures { result ≡ table.latest_by rest.now }
 {
-    let desk = DeskName::read(path.strip_prefix(b"/latest/")?).ok()?;
+    let desk = DeskName::read(rest).ok()?;
     Some(Look::Latest { desk })
 }
 

@@ -11,12 +11,17 @@ ghost use Rattle.muni_wire.specs.Taken as spec;
 ghost use Rattle.muni_wire.specs.Taken.{AreBefore, IsHeadOf, IsSeenIn};
 
 use crate::head::{Head, look};
+use crate::router::Routes;
 use muni_edge::{Failed, Link};
 use muni_wire_body::WireFault;
 use std::alloc::Global;
 
 /// Reads the head of a request, and returns it with all that was taken.
-pub(crate) fn read_head<L: Link>(alloc: Global, link: &mut L) -> Result<(Head, Vec<u8>), WireFault>
+pub(crate) fn read_head<L: Link>(
+    routes: &Routes,
+    alloc: Global,
+    link: &mut L,
+) -> Result<(Head, Vec<u8>), WireFault>
     ensures limit { IfOk result (λ read. vec_len read.1 ≤ head_limit) }
     ensures head { IfOk result (λ read. IsHeadOf read.0 read.1.items (L.left link.new)) }
     ensures taken { IfOk result
@@ -29,7 +34,7 @@ pub(crate) fn read_head<L: Link>(alloc: Global, link: &mut L) -> Result<(Head, V
     // Each take but the last brings a byte, so that no more of them than these are made.
     for _turn in 0..16_385usize {
         let count = take_more(link, &mut bytes, 16_384)?;
-        let head = look_behind_lines(&bytes, count, &mut has_begun);
+        let head = look_behind_lines(routes, &bytes, count, &mut has_begun);
         if head.is_settled(count) {
             return Ok((head, bytes));
         }
@@ -39,7 +44,7 @@ pub(crate) fn read_head<L: Link>(alloc: Global, link: &mut L) -> Result<(Head, V
 
 // Looks at what has come, if a line has ended in the last `count` bytes. A head ends with a line, and
 // empty lines may come before it. So a head that comes byte by byte is not looked at byte by byte.
-fn look_behind_lines(bytes: &[u8], count: usize, has_begun: &mut bool) -> Head
+fn look_behind_lines(routes: &Routes, bytes: &[u8], count: usize, has_begun: &mut bool) -> Head
     requires limit { length bytes.now ≤ head_limit }
     requires count { count ≤ length bytes.now }
     requires before { AreBefore (take (length bytes.now - count) bytes.now) has_begun.old }
@@ -53,7 +58,7 @@ fn look_behind_lines(bytes: &[u8], count: usize, has_begun: &mut bool) -> Head
     if is_within_line(bytes, count, *has_begun) {
         return Head::More;
     }
-    look(bytes)
+    look(routes, bytes)
 }
 
 // Whether some bytes came, but no end of a line of a head that has begun, and more may come.

@@ -1,9 +1,23 @@
-use Rattle.std.proofs.Common.{Err, ap, refl, rules, ◌∙◌}
+use Rattle.std.proofs.Common.{Err, inl, ap, refl, rules, arith, ◌∙◌}
 use Rattle.std.proofs.lemmas.Result.{err_from_is_err_and}
 use Rattle.muni_desk_serve.specs.Rules.{serving_rules}
 use Rattle.muni_desk_serve.specs.Serves.{traffic}
-use Rattle.muni_desk_serve.proofs.StoreLemmas.{unfetched, unfetched-counted, run-over}
+use Rattle.muni_desk_serve.specs.declared.fault.ServeFault.TheVariants as fault
+use Rattle.muni_desk_serve.proofs.StoreLemmas.{none-over, unfetched, unfetched-counted, run-over}
 use Rattle.muni_desk_serve.proofs.connections.serve.Goals as goal
+
+pub returns-in_default-clause-served : goal.returns-in_default-clause-served
+returns-in_default-clause-served g c =
+    let told = g.C.Cabinet.told c.args.cabinet.now c.args.store.now in
+    let faults = g.C.Cabinet.faults c.args.cabinet.now in
+    record {
+      run = none-over (serving_rules c.args.book.now.limit (g.E.Encloser.ends c.args.book.now.calculator.now.encloser.now)) (traffic g.D.L.Source.left g.D.L.Sink.bytes g.D.L.Source.faults g.D.L.Sink.faults)
+          c.args.port c.args.connections (g.D.Door.state c.args.door.now) told told faults faults (Err fault.NoMemory) refl (omega arith) (λ door. inl refl);
+      bound = search rules;
+      unopened = λ _. refl;
+      store_fault = search rules;
+      door_fault = search rules;
+    }
 
 pub returns-in_err-keeper-clause-served : goal.returns-in_err-keeper-clause-served
 returns-in_err-keeper-clause-served g c =

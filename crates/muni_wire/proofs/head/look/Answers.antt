@@ -1,4 +1,4 @@
-use Rattle.std.proofs.Common.{rules, arith, ◌≡◌, ◌≤◌, ◌++◌, length, take, inl, subst, sym}
+use Rattle.std.proofs.Common.{rules, arith, ◌≡◌, ◌≤◌, ◌++◌, length, take, IsUtf8, inl, subst, sym}
 use Rattle.std.proofs.Math.Seq.{take-append_seam}
 use Rattle.std.proofs.lemmas.List.{length-append}
 use Rattle.muni_wire.specs.Head.{head_limit, field_limit, IsUnfinished}
@@ -27,3 +27,9 @@ returns-in-Err c = record {
   seen = λ rest. never-later c.args.bytes.now rest c.requires.limit (search rules);
   more = λ e. cc e;
 }
+
+pub plan_for-requires-clause-text : goal.plan_for-requires-clause-text
+plan_for-requires-clause-text c =
+    let said = rw c.in-Ok-Complete.field-0-is at c.in-Ok-Complete.ensures in
+    let at = said.complete.1 in
+    subst IsUtf8 (sym at.path) at.reads.0.target_text

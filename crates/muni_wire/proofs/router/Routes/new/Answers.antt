@@ -1,0 +1,22 @@
+use Rattle.std.proofs.Common.{refl}
+use Rattle.muni_wire.specs.Table.{table}
+use Rattle.muni_wire.proofs.router.Routes.new.Goals as goal
+
+pub invariant_of-result : goal.invariant_of-result
+unfolding table
+invariant_of-result c =
+    rw (
+      c.in_ok-add-12.ensures,
+      c.in_ok-add-11.ensures,
+      c.in_ok-add-10.ensures,
+      c.in_ok-add-9.ensures,
+      c.in_ok-add-8.ensures,
+      c.in_ok-add-7.ensures,
+      c.in_ok-add-6.ensures,
+      c.in_ok-add-5.ensures,
+      c.in_ok-add-4.ensures,
+      c.in_ok-add-3.ensures,
+      c.in_ok-add-2.ensures,
+      c.in_ok-add.ensures,
+      c.new-router.ensures,
+    ) refl
