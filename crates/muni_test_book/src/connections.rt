@@ -11,6 +11,7 @@ use muni_msg::DeskLimit;
 use muni_multi::Horner;
 use muni_test_cases::{Pieces, bytes_of};
 use muni_test_samples::key;
+use muni_wire::Routes;
 use std::alloc::Global;
 use std::io::{Read, Write};
 use std::net::{Shutdown, TcpStream};
@@ -50,7 +51,8 @@ fn answer<R: Threads + Sync, L: Link, K: Keeper>(
         calculator: &calculator,
         limit: DeskLimit::USUAL,
     };
-    Ok(answer_one(&book, alloc, link, keeper))
+    let routes = Routes::new(alloc)?;
+    Ok(answer_one(&book, &routes, alloc, link, keeper))
 }
 
 /// How a connection ends whose bytes come in pieces of a size, and what is written to it, if one of its takes fails.
