@@ -1,4 +1,5 @@
-use Rattle.std.proofs.Common.{rules, ◌≡◌, refl}
+use Rattle.std.proofs.Common.{rules, ◌≡◌, ap, refl, arith}
+use Rattle.std.specs.Prelude.{is_some}
 use Rattle.muni_desk_serve.specs.Rules.{serving_rules}
 use Rattle.muni_desk_serve.specs.Serves.{traffic}
 use Rattle.muni_wire.specs.Answer.{answer_to_reply, answer_to_bad, success, unavailable as unavailable_bytes}
@@ -121,3 +122,12 @@ returns-in-Err-Bad-clause-served g c =
     (bad (serving_rules c.args.book.now.limit (g.E.Encloser.ends c.args.book.now.calculator.now.encloser.now)) (g.K.Keeper.tables c.args.keeper.now) (g.K.Keeper.faults c.args.keeper.now)
     (told c.args.link.now) (told c.read_request.new.link) (told c.write_bad.new.link)
     c.in-Err-Bad.bad (came_of c.write_bad.result) read.allowed (wrote g.L.Source g.L.Sink (status_of_bad c.in-Err-Bad.bad) (answer_to_bad c.in-Err-Bad.bad) c.write_bad.result c.read_request.new.link c.write_bad.new.link (rw c.in-Err-Bad.field-0-is at c.write_bad.ensures)) read.takes.only.keeps_bytes read.takes.only.keeps_puts)
+
+pub returns-in-Ok-check-clause-leaves : goal.returns-in-Ok-check-clause-leaves
+returns-in-Ok-check-clause-leaves g c =
+    let read = rw (c.in-Ok.is, c.in-Check.is) at c.read_request.ensures in
+    let did = c.in-Ok-check.ensures in
+    rw c.came_of-in-Ok-check.ensures
+    (leaves-answered g.K.Keeper g.L.Source g.L.Sink Success c.deref.result.now c.write_success.result c.args.keeper.now c.check.new.keeper
+    c.args.link.now c.read_request.new.link c.write_success.new.link (Check c.in-Check.row) refl (λ is. absurd (omega (arith, is)))
+    (record { tells = ap is_some did.reads.unchanged; later = did.reads.later; lent_as = did.reads.lent_as }) read.allowed read.takes c.write_success.ensures)
