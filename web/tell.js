@@ -6,7 +6,8 @@ import { FAULTS, REFUSALS } from "./refusals.js";
 export { FAULTS, REFUSALS };
 
 export const STATUSES = {
-  400: ["the body does not have its form", "compare its members with the table of requests, and each value with its form"],
+  400: ["the body does not have its form",
+    "compare its members with the table of requests, and each value with its form; a check has no others"],
   401: ["the name or the password was not taken", "load this page again and log in"],
   403: ["this user may not do that, or not for this desk",
     "check the desk; whoever runs the service says who may do what"],

@@ -203,6 +203,7 @@ def test_a_folder_is_for_one_file_and_its_issues(folder: Folder, book: Book, fil
     assert folder.begin(file, book.store.name, SIZE, PROGRAM.path) == plan
     with pytest.raises(PartFault, match="plan is of another"):
         folder.begin(file, book.store.name, SIZE + 1, PROGRAM.path)
+    assert PROGRAM.run("import", f"--store={tmp_path / 'empty'}").status == 0
     with pytest.raises(PartFault, match="issues.csv is of another"):
         folder.begin(file, tmp_path / "empty", SIZE, PROGRAM.path)
     os.utime(file, ns=(0, 0))

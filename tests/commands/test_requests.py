@@ -147,4 +147,4 @@ def test_a_request_that_is_cut_off_after_each_of_its_bytes_has_no_answer(server)
 
 
 def test_no_line_of_the_tables_is_left_out():
-    assert (len(REQUESTS), len(REPLIES)) == (292, 17)
+    assert (len(REQUESTS), len(REPLIES)) == (294, 17)

@@ -82,7 +82,7 @@ STREAMS = [
     (("import", "--store=S"), "2>&-", 0, REPORT.decode().rstrip("\n"), ""),
     (("positions", "--store=none/S", "--desk=A"), "<&-", 6, "",
      "muni: status 6: the store failed: the folder none is not there"),
-    (("figures", "--store=S"), "<&-", 4, "", "muni: status 4: the input could not be read"),
+    (("load", "--store=S"), "<&-", 4, "", "muni: status 4: the input could not be read"),
     (("--version",), "<&-", 0, "muni *\na kit", ""),
     (("--version",), ">&-", 5, "", FULL_OR_CLOSED),
     (("--version",), ">/dev/full", 5, "", FULL_OR_CLOSED),

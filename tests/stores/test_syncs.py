@@ -43,8 +43,10 @@ def of_journal(journal):
 
 
 def test_the_syncs_of_a_journal(of_journal):
-    """The first read looks what kind of file it is. A folder is synced as long as the file is empty, the file before
-    anything in it is believed, and twice within each put."""
+    """What only reads makes no file. The first read looks what kind of file it is. A folder is synced as long as the
+    file is empty, the file before anything in it is believed, and twice within each put."""
+    assert of_journal(*CONFIRM) == ""
+    assert of_journal("import") == "RFSR"
     assert of_journal(*CONFIRM) == "RFSRL"
     assert of_journal("import", rows=ROWS) == "RFSRPSPSLPSPSLPSPSL"
     assert of_journal("import", rows=ROWS) == "RSRLLL"

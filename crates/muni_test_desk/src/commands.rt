@@ -1,4 +1,3 @@
-mod clap_words;
 mod faults;
 mod gates;
 mod journals;

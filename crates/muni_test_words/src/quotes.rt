@@ -1,6 +1,5 @@
 //! The words of quotes, in which `clap` finds the options and values that the desk reads.
 
-use super::words_of;
 use arrayvec::ArrayVec;
 use clap::{Arg, ArgAction, ArgMatches, Command};
 use muni_days::{Basis, Day};
@@ -24,6 +23,14 @@ const OPTIONS: [&str; 12] = [
     "days", "workers", "rate", "price", "yield", "par", "settle", "coupon", "maturity", "first",
     "dated", "kind",
 ];
+
+fn words_of(alloc: Global, line: &str) -> Result<Vec<String>, Fail> {
+    let mut words = Vec::new(alloc);
+    for word in line.split(' ') {
+        words.push(String::from_str(alloc, word)?)?;
+    }
+    Ok(words)
+}
 
 fn value<'a>(found: &ArgMatches<'a>, name: &str) -> Option<&'a [u8]> {
     match found.get_str(name) {
@@ -108,7 +115,7 @@ fn asked(found: &ArgMatches<'_>) -> Option<Asked> {
 }
 
 // The options of a quote as `clap` is told them: a call may come more than once, and two have no value.
-fn options(alloc: Global) -> Option<Command<'static>> {
+fn options<'a>(alloc: Global) -> Option<Command<'a>> {
     let mut command = Command::new(alloc, "quote");
     for name in OPTIONS {
         let option = Arg::new(alloc, name).long(name);
@@ -150,7 +157,7 @@ fn asked_by_desk(words: &[String]) -> Option<(QuoteRequest, Shown)> {
 
 // Whether both read the same of a line.
 fn is_read_alike(alloc: Global, line: &str) -> Result<bool, Fail> {
-    let words = words_of(alloc, &[line])?;
+    let words = words_of(alloc, line)?;
     let (request, shown) = asked_by_clap(alloc, &words).ok_or("a quote by clap")?;
     let (wanted, also) = asked_by_desk(&words).ok_or("a quote")?;
     Ok(request.row == wanted.row && request.asked == wanted.asked && shown == also)
