@@ -2,6 +2,7 @@
 from __future__ import annotations
 
 import contextlib
+import fcntl
 import hashlib
 import itertools
 import pathlib
@@ -24,6 +25,8 @@ MARK = b"\xef\xbb\xbf"
 # How many bytes the program reads for a block, at least, and how many it takes at a time.
 BLOCK = 57_344
 PIECE = 8_192
+# The least that a pipe holds.
+PAGE = 4_096
 # The most bytes of a line that may be a row.
 LONGEST = 4_096
 
@@ -138,19 +141,18 @@ def repeated(book: Book, text: bytes, times: int, *words: str, patience: int = P
 
 
 def run_over(process: subprocess.Popen[bytes], texts: Iterable[bytes], patience: int = PATIENCE) -> Run:
-    """How a process ends that is sent these texts, one after the other as one input."""
-    found = [0]
-    watcher = threading.Thread(target=watch, args=(process, found))
+    """How a process ends that is sent these texts, one after the other as one input. The pipe holds a page of what it
+    writes: it lives, and has had its most memory, when that is looked at before a later page is taken."""
+    fcntl.fcntl(process.stdout, fcntl.F_SETPIPE_SZ, PAGE)
     sender = threading.Thread(target=send_all, args=(process, texts))
-    for each in (watcher, sender):
-        each.start()
-    digest = hashlib.sha256()
-    while piece := process.stdout.read(1 << 20):
+    sender.start()
+    digest, memory = hashlib.sha256(), memory_of(process)
+    while piece := process.stdout.read1(PAGE):
         digest.update(piece)
+        memory = max(memory, memory_of(process))
     status = process.wait(patience)
     sender.join()
-    watcher.join()
-    return Run(status, digest.hexdigest(), found[0])
+    return Run(status, digest.hexdigest(), memory)
 
 
 def send_all(process: subprocess.Popen[bytes], texts: Iterable[bytes]) -> None:
@@ -159,15 +161,11 @@ def send_all(process: subprocess.Popen[bytes], texts: Iterable[bytes]) -> None:
             pipe.write(text)
 
 
-def watch(process: subprocess.Popen[bytes], found: list[int]) -> None:
-    """Keeps the most memory that a process has had, until it ends."""
-    status = pathlib.Path(f"/proc/{process.pid}/status")
-    while process.returncode is None:
-        with contextlib.suppress(OSError):
-            peak = re.search(r"VmHWM:\s+(\d+) kB", status.read_text(encoding="ascii"))
-            found[0] = max(found[0], int(peak[1]) if peak else 0)
-        with contextlib.suppress(subprocess.TimeoutExpired):
-            process.wait(0.01)
+def memory_of(process: subprocess.Popen[bytes]) -> int:
+    """The most memory that a process has had, or 0 of one that has ended."""
+    status = pathlib.Path(f"/proc/{process.pid}/status").read_text(encoding="ascii")
+    peak = re.search(r"VmHWM:\s+(\d+) kB", status)
+    return int(peak[1]) if peak else 0
 
 
 def digest_of(valued: Valued, rows: list[bytes], times: int) -> str:
