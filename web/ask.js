@@ -10,6 +10,12 @@ const LATER = [429, 502, 503, 504];
 export const TRIES = PAUSES.length + 1;
 // Of many requests so many are under way at once.
 const AT_ONCE = 4;
+// Of very many one may be sent each so many ms, so that the desk has time for others. Those that were not sent in the
+// last second may follow at once: browsers wake a page that is not seen but once a second.
+const PACE = 16;
+const LATEST = 1000;
+// When the last one was due.
+let turn = 0;
 
 const pause = time => new Promise(done => setTimeout(done, time));
 
@@ -42,6 +48,13 @@ export async function ask(path, body, waiting = () => {}) {
     waiting({ status: isCut ? 0 : came.status, next: sent + 1 });
     await pause(PAUSES[sent - 1]);
   }
+}
+
+// Waits for the turn of one of very many.
+export async function pace() {
+  const now = performance.now();
+  turn = Math.max(turn + PACE, now - LATEST);
+  if (turn > now) await pause(turn - now);
 }
 
 // Does something with each of many, a few at a time, as long as it is wanted. Gives what came of each, in their order.

@@ -1,5 +1,5 @@
 // The check of a file of figures that another firm printed: each row is sent to the desk, which says if it is right.
-import { ask, eachOf } from "./ask.js";
+import { ask, eachOf, pace } from "./ask.js";
 import { $ } from "./dom.js";
 import { dress, read } from "./fields.js";
 import { clearFound, showFound, startFound } from "./found.js";
@@ -11,10 +11,6 @@ import { needsDay, ORDER } from "./verdicts.js";
 
 const form = $("checks");
 const told = $("checks-told");
-// A row may be sent each so many ms, so that the desk has time for others. Those that were not sent in the last second
-// may follow at once: browsers wake a page that is not seen but once a second.
-const PACE = 16;
-const LATEST = 1000;
 const SEVERAL = { differs: "differ" };
 const UNREAD = { fault: ["it could not be read", "What to do: choose it again."] };
 
@@ -23,8 +19,6 @@ let deskAtHand = () => "";
 let file = null;
 // What is under way.
 let current = null;
-// When the last row was due.
-let turn = 0;
 let takes = 0;
 
 const plural = (number, word) => `${number} ${word}${number === 1 ? "" : "s"}`;
@@ -48,9 +42,7 @@ function showWay(words) {
 }
 
 async function sent(body) {
-  const now = performance.now();
-  turn = Math.max(turn + PACE, now - LATEST);
-  if (turn > now) await new Promise(done => setTimeout(done, turn - now));
+  await pace();
   return ask("/checks", body, waitingIn(told));
 }
 

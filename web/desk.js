@@ -1,13 +1,14 @@
 // The page of the desk: which desk is open, and the ways between the panels.
 import { ask } from "./ask.js";
+import { clearAmended, findAmended, startAmended } from "./amended.js";
 import { startChecks } from "./checks.js";
 import { $, element } from "./dom.js";
 import { dress, read } from "./fields.js";
 import { goToIssue, startIssue } from "./issue.js";
 import { clearPositions, refreshPositions, startPositions } from "./positions.js";
-import { clearSheet, startSheet } from "./sheet.js";
+import { clearSheet, openTrade, startSheet, takeShown } from "./sheet.js";
 import { chooseTab, goToTab, startTabs } from "./tabs.js";
-import { propose, quoteIssue, startTicket, takeTrade } from "./ticket.js";
+import { propose, quoteIssue, startTicket, takeForLast, takeTrade } from "./ticket.js";
 import { clearTrades, focusTrades, readFirstPage, showTrade, startTrades } from "./trades.js";
 
 const house = $("house");
@@ -34,6 +35,7 @@ function openDesk(name) {
   clearSheet();
   clearTrades();
   clearPositions();
+  clearAmended();
   readFirstPage();
   refreshPositions();
   propose(name);
@@ -97,10 +99,17 @@ function startPanels() {
 startPanels();
 startSheet(takeTrade);
 startTicket({ desk: deskAtHand, atHand: () => desk, showTrade: showAct, addIssue: goToIssue });
-startIssue(quoteIssue);
+startIssue(quoteIssue, cusip => {
+  goToTab("amended");
+  findAmended(cusip);
+});
 startTrades(() => desk);
 startPositions(() => desk);
 startChecks(() => desk);
+startAmended(deskAtHand, async (name, reference) => {
+  const answer = await openTrade(name, reference, $("sheet-told"));
+  if (answer.kind === "done") takeShown(takeForLast);
+});
 startTabs(refreshPositions);
 dress(house);
 house.addEventListener("submit", event => {

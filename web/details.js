@@ -13,7 +13,7 @@ function lineOf(confirmation) {
   return {
     reference, number: String(number), state: confirmation.isCanceled ? "CANCELED" : "LIVE", par, price, yields,
     side: confirmation.side === "sell" ? "sold" : "bought",
-    cusip: lines.get("CUSIP"), settle: lines.get("SETTLEMENT"), total: lines.get("TOTAL"),
+    cusip: lines.get("CUSIP"), settle: lines.get("SETTLEMENT"), total: lines.get("TOTAL"), confirmation,
   };
 }
 

@@ -19,11 +19,30 @@ function isDay(text) {
   return !Number.isNaN(day.getTime()) && day.toISOString().startsWith(text);
 }
 
+// The check digit of a CUSIP, if its first eight places have their form.
+export function checkDigit(cusip) {
+  if (!/^[0-9A-Z]{8}/.test(cusip)) return "";
+  const sum = [...cusip.slice(0, 8)].reduce((total, sign, place) => {
+    const value = parseInt(sign, 36) * (place % 2 ? 2 : 1);
+    return total + Math.floor(value / 10) + value % 10;
+  }, 0);
+  return String((10 - sum % 10) % 10);
+}
+
+// What is said of a CUSIP whose check digit is another, or "".
+export function digitWords(cusip) {
+  const digit = checkDigit(cusip);
+  if (digit === "" || cusip[8] === digit) return "";
+  return `After ${cusip.slice(0, 8)} the check digit is ${digit}, and not ${cusip[8]}: look for a slip in all nine.`;
+}
+
 const letters = (form, words) => ({ words, takes: text => form.test(text) });
 
 export const FORMS = {
   desk: letters(/^[A-Z0-9]{1,16}$/, "1 to 16 digits and capital letters"),
   reference: letters(/^[A-Za-z0-9]{1,20}$/, "1 to 20 digits and letters, in which capitals and small letters differ"),
+  find: { words: "a reference of 1 to 20 digits and letters, or a day as 2024-04-03",
+    takes: text => /^[A-Za-z0-9]{1,20}$/.test(text) || isDay(text) },
   cusip: letters(/^[0-9A-Z]{9}$/, "nine digits and capital letters"),
   name: letters(/^[ -~]{1,60}$/, "1 to 60 characters, without accents"),
   number: letters(/^[0-9]{1,9}$/, "the number after the version that you have seen, 1 to 9 digits"),

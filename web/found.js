@@ -1,11 +1,15 @@
 // What was found of the rows of a file: a table, those first that are not right, and CSV for a spreadsheet.
 import { writeCsv } from "./csv.js";
 import { $, element } from "./dom.js";
+import { grouped } from "./texts.js";
 import { say } from "./tell.js";
 import { ORDER, wordsOf } from "./verdicts.js";
 
 const list = $("checks-list");
 const right = $("checks-right");
+const more = $("checks-more");
+// So many rows that are not right are shown. The CSV has all.
+const MOST = 500;
 const HEAD = ["row", "reference", "verdict", "figure", "ours", "theirs", "reading", "what it is", "what to say"];
 let csv = "";
 let csvName = "";
@@ -33,8 +37,11 @@ export function showFound(file, found) {
   const wrong = found.filter(({ verdict }) => verdict !== "right");
   const others = found.filter(({ verdict }) => verdict === "right");
   const sorted = ORDER.flatMap(verdict => wrong.filter(each => each.verdict === verdict));
-  list.tBodies[0].replaceChildren(...sorted.map(lineOf));
+  list.tBodies[0].replaceChildren(...sorted.slice(0, MOST).map(lineOf));
   list.hidden = !wrong.length;
+  more.hidden = wrong.length <= MOST;
+  const rest = grouped(String(Math.max(0, wrong.length - MOST)));
+  more.textContent = `These are the first ${MOST}. ${rest} more are not right: Copy and Download have all.`;
   const words = others.length === 1 ? "1 row is right" : `${others.length} rows are right`;
   right.querySelector("summary").textContent = words;
   right.querySelector("p").textContent = others.map(nameOf).join(", ");
@@ -46,7 +53,7 @@ export function showFound(file, found) {
 
 export function clearFound() {
   list.tBodies[0].replaceChildren();
-  for (const each of [list, right, $("checks-acts")]) each.hidden = true;
+  for (const each of [list, more, right, $("checks-acts")]) each.hidden = true;
 }
 
 async function copy() {

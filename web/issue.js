@@ -2,7 +2,7 @@
 import { changesOfTerms } from "./amendments.js";
 import { ask } from "./ask.js";
 import { $, element } from "./dom.js";
-import { dress, dressField, FORMS, mark, read, unmark } from "./fields.js";
+import { digitWords, dress, dressField, FORMS, mark, read, unmark } from "./fields.js";
 import { sure } from "./sure.js";
 import { readTerms } from "./texts.js";
 import { FAULTS, hush, hushGood, refuseNew, say, tellSent, waitingIn } from "./tell.js";
@@ -17,6 +17,7 @@ const CERTAIN = "!";
 const NAMES = ["cusip", "name", "kind", "dated", "first", "maturity", "coupon", "days"];
 let isBusy = false;
 let quoteIssue = null;
+let findTrades = null;
 // All terms that were read, in the order of their numbers.
 let kept = [];
 
@@ -85,6 +86,13 @@ function pasteCalls(event) {
   growCalls();
 }
 
+// What is said of a price with a mark, which is chosen beside it.
+function markWords({ value, dataset }) {
+  const [, price, kept] = value.match(/^(.*\d)\s*([+!])$/) ?? [];
+  if (dataset.form !== "price" || !kept) return "";
+  return `Type ${price} alone, and choose "${KINDS.find(([, sign]) => sign === kept)[0]}" beside it.`;
+}
+
 function readCalls() {
   const calls = [];
   let first = null;
@@ -96,7 +104,7 @@ function readCalls() {
       field.value = field.value.trim();
       const rule = FORMS[field.dataset.form];
       if (rule.takes(field.value)) continue;
-      mark(field, `Not of its form: ${rule.words}.`);
+      mark(field, markWords(field) || `Not of its form: ${rule.words}.`);
       first ??= field;
     }
     const kind = kindOf(row);
@@ -128,7 +136,8 @@ const words = {
 function markFault(answer) {
   const [number, day] = answer.rest.split(" ");
   const [, name] = FAULTS[number] ?? [];
-  const words = `Test ${number} fails: see below.`;
+  const digit = number === "1" && digitWords(form.elements.cusip.value);
+  const words = digit || `Test ${number} fails: see below.`;
   if (name && name !== "calls") mark(form.elements[name], words);
   if (name !== "calls") return;
   if (number === "12") {
@@ -147,8 +156,8 @@ function typedTerms() {
   return terms && calls && { terms, calls };
 }
 
-// Sends what is typed. Says what came, and what of it if it is kept.
-async function send(path, { terms, calls }, more, what) {
+// Sends what is typed. Says what came, and what of it if it is kept, with what may be done then.
+async function send(path, { terms, calls }, more, what, ...ways) {
   const body = { ...terms, ...more };
   if (calls.length) body.calls = calls.map(({ date, price, mark: kind }) => ({ date, price: price + kind }));
   hush(told);
@@ -159,7 +168,8 @@ async function send(path, { terms, calls }, more, what) {
     return;
   }
   offer([]);
-  say(told, "good", [answer.text.trim(), ...tellSent(answer), what], ["Quote it", () => quoteIssue(terms.cusip)]);
+  const toQuote = ["Quote it", () => quoteIssue(terms.cusip)];
+  say(told, "good", [answer.text.trim(), ...tellSent(answer), what], toQuote, ...ways);
 }
 
 async function add() {
@@ -198,7 +208,8 @@ async function amend() {
   const title = `Amend ${cusip}? What was traded stays as it is: it was figured by the terms of before.`;
   if (await sure(title, rows, "Amend issue", { head: ["", "Now", "Then"] })) {
     await send("/amendments", typed, { number: String(found.length + 1) },
-      "Quotes and new trades go by these terms. A trade of before is figured by them once it is corrected.");
+      "Quotes and new trades go by these terms. A trade of before is figured by them once it is corrected.",
+      ["Trades that it touches", () => findTrades(cusip)]);
   }
 }
 
@@ -269,8 +280,10 @@ export function goToIssue(cusip) {
   form.elements.cusip.focus();
 }
 
-export function startIssue(quote) {
+// What quotes an issue, and what finds the trades that an amendment touches.
+export function startIssue(quote, find) {
   quoteIssue = quote;
+  findTrades = find;
   dress(form);
   growCalls();
   kindChanged();

@@ -11,10 +11,19 @@ export const COLUMNS = ["reference", "cusip", "side", "par", "settle", "basis", 
 export const MOST = 10_000;
 
 const twice = names => [...new Set(names.filter((name, place) => names.indexOf(name) < place))];
+// What parts the fields of a file that has no commas, or "".
+const partsOf = ([name, ...more]) => !more.length && [[";", "semicolons"], ["\t", "tabs"]]
+  .find(([sign]) => name.split(sign).some(each => COLUMNS.includes(each.trim())) && name.includes(sign))?.[1];
 const named = names => names.map(name => name === "" ? "one without a name" : name).join(", ");
 
 // What is wrong with a file whatever its rows say, or null.
 function faultOf(names, rows) {
+  const parts = partsOf(names);
+  if (parts) {
+    return [`Its fields are parted by ${parts}, and a check takes commas`,
+      "What to do: save it as CSV that is parted by commas, with a point in decimals. A spreadsheet has this among " +
+      "the options of its export, or in its language."];
+  }
   const unknown = names.filter(name => !COLUMNS.includes(name));
   if (unknown.length) {
     return [`Columns that are unknown: ${named(unknown)}`, `Known are ${COLUMNS.join(", ")}, in any order.`,

@@ -1,5 +1,5 @@
 // What is shown of a trade before it is entered, corrected or canceled.
-import { givenOf, isNone, printedOf, termsOf } from "./given.js";
+import { givenOf, isNone, printedOf } from "./given.js";
 import { grouped, scaled, split } from "./texts.js";
 
 const WORDS = { price: "a price", yield: "a yield", rate: "a discount rate" };
@@ -10,7 +10,39 @@ const plain = par => grouped(String(BigInt(par)));
 // What a commission is: per 100 if that is known, else the dollars that the confirmation has.
 const feeWords = fee => isNone(fee) ? "none" : `${fee} per 100`;
 
-const termsWords = number => number ? `number ${number}` : "the last ones";
+const COMPARED = { PRICE: "Price per 100", YIELD: "Yield", RATE: "Discount rate", REDEMPTION: "Redemption",
+  "ACCRUED DAYS": "Days accrued", PRINCIPAL: "Principal", ACCRUED: "Accrued interest", TOTAL: "Total" };
+const PERCENT = ["YIELD", "RATE"];
+const MONEY = ["PRINCIPAL", "ACCRUED", "TOTAL"];
+
+function figureWords(name, lines) {
+  const [value] = lines.get(name).split(" ");
+  if (PERCENT.includes(name)) return `${value} %`;
+  return MONEY.includes(name) ? grouped(value) : value;
+}
+
+// The figures that differ, each with what it is in one and in the other.
+export function changesOfFigures(one, other) {
+  return Object.entries(COMPARED).filter(([name]) => one.has(name) && other.has(name))
+    .map(([name, label]) => [label, figureWords(name, one), figureWords(name, other)])
+    .filter(([, now, then]) => now !== then);
+}
+
+const cents = units => `${units / 100n}.${String(units % 100n).padStart(2, "0")}`;
+
+// The commission in cents: a half cent goes up.
+const commission = ({ par, fee }) => (BigInt(par) * scaled(fee, 3) + 500n) / 1000n;
+
+// The figures that a confirmation has to have, by a quote without the commission and one of the net price, or null if
+// that is refused.
+export function bookedOf(typed, lines, net) {
+  if (isNone(typed.fee)) return lines;
+  if (!net) return null;
+  const cost = commission(typed);
+  const total = scaled(lines.get("TOTAL"), 2) + (typed.side === "buy" ? cost : -cost);
+  return new Map([...lines, ["YIELD", net.get("YIELD")], ["REDEMPTION", net.get("REDEMPTION")],
+    ["TOTAL", cents(total)]]);
+}
 
 export function rowsOfTrade(confirmation) {
   const { lines } = confirmation;
@@ -37,11 +69,11 @@ export function rowsOfEntry(typed, lines) {
     ["Given", wordsOf(typed.basis, typed.value)],
     ["Price per 100", split(lines.get("PRICE"))[0]],
     ["Yield", split(lines.get("YIELD"))[0] + " %"],
-    ["Redemption", `${day} at ${price}, ${label.join(" ").toLowerCase()}`],
+    ["Redemption", price ? `${day} at ${price}, ${label.join(" ").toLowerCase()}` : day],
     ["Total", grouped(lines.get("TOTAL"))],
   ];
   if (!isNone(typed.fee)) rows.push(["Commission", feeWords(typed.fee)]);
-  return typed.issue ? [...rows, ["Terms of the issue", termsWords(typed.issue)]] : rows;
+  return typed.issue ? [...rows, ["Terms of the issue", `number ${typed.issue}`]] : rows;
 }
 
 // Whether a commission per 100 makes these dollars, to the cent.
@@ -67,15 +99,17 @@ function changeOfGiven(last, given, typed) {
   return isSame ? [] : [["Given", wordsOf(given.basis, given.value), then]];
 }
 
-// A version is figured by the last terms if it names none, whatever the version before was figured by.
-function changeOfTerms(last, typed) {
-  const now = termsOf(last);
-  if (now === (typed.issue ?? "")) return [];
-  return [["Terms of the issue", now ? termsWords(now) : "not told", termsWords(typed.issue)]];
+// A version is figured by the last terms if it names none, whatever the version before was figured by. Numbers of two
+// issues are not compared.
+function changeOfTerms(last, typed, { numbers }, number) {
+  const isOther = last.lines.get("CUSIP") !== typed.cusip && !typed.issue;
+  if (!number || isOther || numbers.map(String).includes(number)) return [];
+  return [["Terms of the issue", numbers.length ? `number ${numbers.join(" or ")}` : "not known", `number ${number}`]];
 }
 
-// What a correction changes of the last version: each with what it is now and then.
-export function changesOf(last, typed) {
+// What a correction changes of the last version: each with what it is now and then. The version stands by some terms,
+// and the correction goes by what is quoted.
+export function changesOf(last, typed, stands, quoted) {
   const given = givenOf(last);
   const rows = [
     ["Side", sideOf(last.side), sideOf(typed.side)],
@@ -83,6 +117,8 @@ export function changesOf(last, typed) {
     ["CUSIP", last.lines.get("CUSIP"), typed.cusip],
     ["Settlement", last.lines.get("SETTLEMENT"), typed.settle],
   ].filter(([, now, then]) => now !== then);
-  rows.push(...changeOfGiven(last, given, typed), ...changeOfFee(last, given, typed), ...changeOfTerms(last, typed));
+  rows.push(...changeOfGiven(last, given, typed), ...changeOfFee(last, given, typed));
+  rows.push(...changeOfTerms(last, typed, stands, quoted.number),
+    ...changesOfFigures(last.lines, quoted.booked ?? quoted.lines));
   return rows;
 }

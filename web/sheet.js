@@ -1,7 +1,7 @@
 // The confirmation as a sheet.
 import { ask } from "./ask.js";
 import { $, element } from "./dom.js";
-import { termsOf } from "./given.js";
+import { standing, termsWords } from "./terms.js";
 import { grouped, readConfirmation, split } from "./texts.js";
 import { hush, refuse, say, waitingIn } from "./tell.js";
 import { offerVersions, startVersions } from "./versions.js";
@@ -9,6 +9,9 @@ import { offerVersions, startVersions } from "./versions.js";
 // The version that is shown, and the last one that is known of its trade.
 let shown = null;
 let last = null;
+// By which terms each that was read stands, and the figures of one that are not those that were shown before.
+const stands = new WeakMap();
+const unlike = new WeakMap();
 
 function row(label, value, remark) {
   const line = element("tr");
@@ -26,7 +29,7 @@ function part(title, rows) {
 
 const redeemed = value => {
   const [day, price, ...label] = value.split(" ");
-  return [day, `at ${price}, ${label.join(" ").toLowerCase()}`];
+  return [day, price && `at ${price}, ${label.join(" ").toLowerCase()}`];
 };
 
 function figure(lines, name, label, suffix = "") {
@@ -67,6 +70,17 @@ function remarks(confirmation) {
   return words;
 }
 
+// Writes by which terms a version stands as soon as it is known.
+async function tellTerms(confirmation) {
+  const paper = $("sheet-paper");
+  paper.setAttribute("aria-busy", "true");
+  if (!stands.has(confirmation)) stands.set(confirmation, standing(confirmation, confirmation === last));
+  const words = termsWords(await stands.get(confirmation));
+  if (shown !== confirmation) return;
+  $("sheet-terms").textContent = words;
+  paper.removeAttribute("aria-busy");
+}
+
 function draw(confirmation) {
   shown = confirmation;
   const { lines, number } = confirmation;
@@ -74,11 +88,16 @@ function draw(confirmation) {
   const basis = lines.has("BASIS") ? row("Days counted by", lines.get("BASIS").toLowerCase()) : null;
   const figures = figureRows(lines);
   const old = element("p", `Version ${number} of ${last.number}: not the present state.`, "old");
+  const others = (unlike.get(confirmation) ?? []).map(([label, now, then]) =>
+    element("p", `${label}: ${now} was shown before it was sent, and ${then} is confirmed.`, "old"));
+  const terms = row("Terms", "being looked up");
+  terms.lastChild.id = "sheet-terms";
   figures.at(-1).className = "total";
   paper.className = confirmation.isCanceled ? "canceled" : "";
   paper.replaceChildren(
     element("h3", confirmation.title),
     ...(number < last.number ? [old] : []),
+    ...others,
     part("Trade", [
       row("Desk", confirmation.desk),
       row("Reference", confirmation.reference),
@@ -92,16 +111,18 @@ function draw(confirmation) {
       row("Dated date", lines.get("DATED")),
       row("Maturity", lines.get("MATURITY")),
       basis,
-      termsOf(confirmation) && row("Terms", `number ${termsOf(confirmation)}`),
+      terms,
     ]),
     part("Figures", figures),
     ...remarks(confirmation).map(words => element("p", words, "note")),
   );
+  tellTerms(confirmation);
 }
 
-// Shows the last version of a trade.
-export function showSheet(text) {
+// Shows the last version of a trade. `others` are its figures that are not those that were shown before it was sent.
+export function showSheet(text, others = []) {
   last = readConfirmation(text);
+  unlike.set(last, others);
   draw(last);
   offerVersions(last);
   $("sheet-paper").hidden = false;
@@ -115,6 +136,7 @@ export function clearSheet() {
   shown = null;
   last = null;
   $("sheet-paper").replaceChildren();
+  $("sheet-paper").removeAttribute("aria-busy");
   $("sheet-paper").hidden = true;
   $("sheet-acts").hidden = true;
   $("sheet").classList.remove("has");
@@ -133,10 +155,12 @@ export async function openTrade(desk, reference, box) {
   return answer;
 }
 
+export const takeShown = take => take(shown, last);
+
 export function startSheet(take) {
   startVersions(draw);
   $("sheet-print").addEventListener("click", () => window.print());
-  $("sheet-take").addEventListener("click", () => take(shown, last));
+  $("sheet-take").addEventListener("click", () => takeShown(take));
   $("sheet-again").addEventListener("click", async () => {
     const before = last;
     const answer = await openTrade(last.desk, last.reference, $("sheet-told"));

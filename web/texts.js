@@ -49,7 +49,7 @@ export function readPositions(text) {
 const plain = (text, places) => unscaled(scaled(text, places), places);
 
 // All terms of an issue in the order of their numbers, from 1 on: each by the names of the fields, and its calls.
-// Decimals have no zeros at the end, as they are typed.
+// Decimals have no zeros at the end, as they are typed. `columns` are the terms as a check takes them.
 export function readTerms(rows) {
   return readCsv(rows).map(([row, cusip, ...fields]) => {
     const [name, kind, dated, first, maturity, coupon, calls, days] = row === "amend" ? fields.slice(1) : fields;
@@ -57,6 +57,7 @@ export function readTerms(rows) {
       terms: { cusip, name, kind, dated, first, maturity, days, coupon: Number(coupon) ? plain(coupon, 7) : "" },
       calls: [...calls.matchAll(/(\S+):([\d.]+)([+!]?)/g)]
         .map(([, date, price, mark]) => ({ date, price: plain(price, 6), mark })),
+      columns: { kind, dated, first, maturity, coupon, calls, day_count: days },
     };
   });
 }
@@ -85,7 +86,7 @@ export function readVerdict(text) {
       return { verdict, column, ours, theirs, reading };
     }
     case "undecided": return { verdict, column: rest[0] };
-    case "refused": return { verdict, number: rest[0] };
+    case "refused": return { verdict, number: rest[0], name: rest[1] };
     case "bad": return { verdict, kind: rest[0], number: rest[1] };
     default: return { verdict };
   }

@@ -2,13 +2,14 @@
 import { ask } from "./ask.js";
 import { startCurve } from "./curve.js";
 import { $ } from "./dom.js";
-import { dress, read, unmark } from "./fields.js";
-import { givenOf, missingWords, remember, termsOf } from "./given.js";
-import { changesOf, rowsOfEntry, rowsOfTrade } from "./questions.js";
-import { curve, isQuoted, quote, stale } from "./quote.js";
+import { digitWords, dress, mark, read, unmark } from "./fields.js";
+import { givenOf, missingWords, remember, termsTyped } from "./given.js";
+import { changesOf, changesOfFigures, rowsOfEntry, rowsOfTrade } from "./questions.js";
+import { curve, quote, shownQuote, stale } from "./quote.js";
 import { nextReference, today } from "./references.js";
 import { openTrade, showSheet } from "./sheet.js";
 import { sure } from "./sure.js";
+import { isEarlier, keptTerms, standing } from "./terms.js";
 import { readConfirmation } from "./texts.js";
 import { hush, refuse, say, tellSent, waitingIn } from "./tell.js";
 
@@ -25,7 +26,12 @@ let proposed = "";
 
 // What may be done at once about a refusal.
 function buttons(answer) {
-  if (answer.number === 1) return [["Go to new issue", () => opened.addIssue(form.elements.cusip.value)]];
+  if (answer.number === 1) {
+    const { cusip } = form.elements;
+    const words = digitWords(cusip.value);
+    if (words) mark(cusip, words);
+    return [["Go to new issue", () => opened.addIssue(cusip.value)]];
+  }
   if ([11, 12, 13].includes(answer.number) || (answer.number === 3 && answer.rest !== "issue")) {
     const reference = form.elements.reference.value.trim();
     const show = ["Show last version", () => openTrade(opened.desk(), reference, $("sheet-told"))];
@@ -35,8 +41,9 @@ function buttons(answer) {
 }
 
 // What is said of an accepted request. It is answered as the first time when it is sent again, so the answer may
-// be of an old version; `before` and `last` are what the desk kept before and after it.
-function sayKept(answer, made, before, last) {
+// be of an old version; `before` and `last` are what the desk kept before and after it. `others` are the figures that
+// are not those that were shown.
+function sayKept(answer, made, before, last, others) {
   const name = `${made.title} of ${made.reference}`;
   if (last.number > made.number) {
     say(told, "note", [`${name} was kept before`,
@@ -44,6 +51,10 @@ function sayKept(answer, made, before, last) {
   } else if (before.number >= made.number) {
     say(told, "note", [`Nothing was added: ${name} was kept before`,
       "It has equal contents. Another trade takes another reference, and a correction the next version."]);
+  } else if (others.length) {
+    say(told, "bad", [`${name} is kept with other figures than were shown`,
+      ...others.map(([label, now, then]) => `${label}: ${now} was shown, and ${then} is confirmed.`),
+      "What to do: compare the sheet with what was agreed. If it is wrong, correct the trade or cancel it."]);
   } else {
     const more = made.number === 1 ? [["Next reference", newReference]] : [];
     say(told, "good", [`${name} is kept`, ...tellSent(answer)], ...more);
@@ -70,26 +81,30 @@ async function look(body, isNew) {
   return null;
 }
 
-// Sends an act on a trade, of which `before` was kept, and shows what is kept then.
-async function act(path, body, before) {
+// Sends an act on a trade, of which `before` was kept, and shows what is kept then. What was agreed to has the number
+// of terms that is sent, and the figures that were shown.
+async function act(path, body, before, agreed) {
   const waiting = waitingIn(told);
-  const answer = await ask(path, body, waiting);
+  const terms = agreed?.number ? { issue: agreed.number } : {};
+  const answer = await ask(path, { ...body, ...terms }, waiting);
   if (answer.kind !== "done") {
     refuse(told, answer, ...buttons(answer));
     return;
   }
   const made = readConfirmation(answer.text);
-  if (path !== "/cancels") remember(made, body);
+  if (agreed) remember(made, body, agreed.number);
+  const others = agreed?.booked && made.number > before.number ? changesOfFigures(agreed.booked, made.lines) : [];
   const after = await ask(pathOf(body), null, waiting);
   if (body.desk === opened.atHand()) opened.showTrade(body.reference);
   if (after.kind !== "done") {
-    showSheet(answer.text);
+    showSheet(answer.text, others);
     say(told, "bad", [`${made.title} of ${made.reference} is kept`,
       "The last version could not be read, so what the sheet shows may be older. Read it again."]);
     return;
   }
-  const last = showSheet(after.text);
-  sayKept(answer, made, before, last);
+  const isLater = readConfirmation(after.text).number > made.number;
+  const last = showSheet(after.text, isLater ? [] : others);
+  sayKept(answer, made, before, last, others);
   nextNumber(last);
 }
 
@@ -102,27 +117,51 @@ function typedOf(names, optional) {
 
 const notDone = what => say(told, "note", [`Nothing was ${what}`, "What was typed is as it was."]);
 
-// The desk's quote goes by the last terms.
-const termsNotes = ({ issue }) => issue
-  ? [`A quote goes by the last terms of the issue. The trade goes by number ${issue}, and its figures may be others.`]
-  : [];
+// The number of terms by which a trade goes: the one that was typed, or that of the last ones. It is "" at a desk that
+// does not tell it. Gives null if no answer came, which is told.
+async function numberOf({ cusip, issue }) {
+  if (issue) return issue;
+  const { terms, answer } = await keptTerms(cusip, waitingIn(told));
+  if (terms) return String(terms.length);
+  if (answer.kind === "status" && [403, 404].includes(answer.status)) return "";
+  refuse(told, answer, ...buttons(answer));
+  return null;
+}
+
+// What is agreed to: the quote that is shown, if there is one and no amendment has come since, or one that is made and
+// asked about. `asks` has that quote and the one before it, and gives whether it is wanted.
+async function agree(body, quoted, asks) {
+  for (let agreed = quoted; ;) {
+    if (agreed) {
+      const number = await numberOf(body);
+      if (number === null) return null;
+      if (number === agreed.number) return agreed;
+    }
+    const before = agreed;
+    agreed = await quote(buttons);
+    if (!agreed || !await asks(agreed, before)) return null;
+  }
+}
+
+// Asks whether a trade is to be entered by a quote. If one was shown before, the terms were amended since.
+async function asksEntry(body, quoted, before) {
+  const rows = before ? changesOfFigures(before.lines, quoted.lines) : rowsOfEntry(body, quoted.lines);
+  const same = before && !rows.length ? ["Its figures are those that were shown."] : [];
+  const title = before ? `Enter ${body.reference}? The terms of ${body.cusip} were amended after the quote.`
+    : "Enter this trade? It was not quoted as it stands.";
+  const isSure = await sure(title, rows, "Enter trade",
+    { head: before && rows.length ? ["", "Shown", "Now"] : [], notes: [...same, ...quoted.notes] });
+  if (!isSure) notDone("entered");
+  return isSure;
+}
 
 async function enter() {
   const body = typedOf([...TRADED, "issue"], ["fee", "issue"]);
   if (!body) return;
-  if (!isQuoted() || body.issue) {
-    const quoted = await quote(buttons);
-    if (!quoted) return;
-    const title = "Enter this trade? It was not quoted as it stands.";
-    const notes = [...quoted.notes, ...termsNotes(body)];
-    const isSure = await sure(title, rowsOfEntry(body, quoted.lines), "Enter trade", { notes });
-    if (!isSure) {
-      notDone("entered");
-      return;
-    }
-  }
-  const before = await look(body, true);
-  if (before) await act("/trades", body, before);
+  const agreed = await agree(body, shownQuote(), (...quotes) => asksEntry(body, ...quotes));
+  const before = agreed && await look(body, true);
+  // What is kept before is sent as it was, by whatever terms that was.
+  if (before) await act("/trades", body, before, before === NONE ? agreed : { ...agreed, number: "" });
 }
 
 // The number that was typed, or that of the version after the last one.
@@ -133,15 +172,29 @@ function numbered(body, last) {
   return { ...body, number };
 }
 
+// Asks whether the last version is to be corrected by a quote. What it stands by may have been amended since.
+async function asksCorrection(last, body, quoted) {
+  const stands = await standing(last, true);
+  const rows = changesOf(last, body, stands, quoted);
+  const title = `Correct ${last.title} of ${body.reference}?` + (rows.length ? "" : " Nothing of it changes.");
+  const isSame = body.cusip === last.lines.get("CUSIP") && !body.issue;
+  const amended = isSame && isEarlier(stands)
+    ? [`The issue was amended since. Now has what is kept by the terms number ${stands.numbers.join(" or ")}, and ` +
+      `Then what comes by number ${quoted.number}.`] : [];
+  const more = { head: ["", "Now", "Then"], notes: [...amended, ...quoted.notes] };
+  const isSure = await sure(title, rows, "Correct trade", more);
+  if (!isSure) notDone("corrected");
+  return isSure;
+}
+
 async function correct() {
   const typed = typedOf([...TRADED, "number", "issue"], ["fee", "number", "issue"]);
   const last = typed && await look(typed);
   if (!last) return;
   const body = numbered(typed, last);
-  const rows = changesOf(last, body);
-  const title = `Correct ${last.title} of ${body.reference}?` + (rows.length ? "" : " Nothing of it changes.");
-  if (await sure(title, rows, "Correct trade", { head: ["", "Now", "Then"] })) await act("/corrections", body, last);
-  else notDone("corrected");
+  const agreed = await agree(body, null, quoted => asksCorrection(last, body, quoted));
+  const isNew = Number(body.number) > last.number;
+  if (agreed) await act("/corrections", body, last, isNew ? agreed : { ...agreed, number: "" });
 }
 
 async function cancel() {
@@ -198,6 +251,12 @@ function fill(values) {
   stale();
 }
 
+// Takes the trade of the sheet into the ticket to be figured by the last terms.
+export function takeForLast(version, last) {
+  takeTrade(version, last);
+  form.elements.issue.value = "";
+}
+
 // Takes a version into the ticket, but no figure that it may have rounded. What is sent comes after the last version.
 export function takeTrade(version, last) {
   const { lines } = version;
@@ -210,7 +269,7 @@ export function takeTrade(version, last) {
     settle: lines.get("SETTLEMENT"),
     side: version.side,
     ...given,
-    issue: termsOf(version),
+    issue: termsTyped(version),
   });
   const words = given.value === "" ? missingWords(given.basis, lines) : ["All is as it was given, in full."];
   if (last.isCanceled) {
@@ -253,7 +312,7 @@ function changed({ target: { name } }) {
   // The number belongs to the trade whose last version was seen, and that of terms to their issue.
   if (name === "reference") form.elements.number.value = "";
   if (name === "cusip") form.elements.issue.value = "";
-  if (!["reference", "number", "issue"].includes(name)) stale();
+  if (!["reference", "number"].includes(name)) stale();
 }
 
 // `opened` has the desk at hand, which is asked for if none is open or not; what shows a trade in the list; and what

@@ -8,15 +8,20 @@ from dataclasses import replace
 
 import pytest
 
+from muni import Basis, Side, Trade
 from support.browser import Browser
-from support.issues import DISCOUNT, ELM_GROVE, MARLOW, NOTE, RIVERTON, ZERO
-from support.page import Page
+from support.issues import DISCOUNT, ELM_GROVE, MARLOW, NOTE, RIVERTON, WRONG, ZERO
+from support.page import APRIL, Page
 from support.program import needs
 from support.relay import Relay
 from support.site import NAME, Site, deployed
 
 # Its name is the longest that an issue has.
 LONG_NAME = replace(MARLOW, name="COUNTY OF MARLOW AND TOWNS, TAX ANTICIPATION NOTES OF 2025 A")
+# Trades of the desk, which come after all others: one by terms that were amended since, one that is corrected, and one
+# that is canceled.
+AMENDED = Trade("RETAIL", "zAmended", RIVERTON.cusip, Side.BUY, 5_000, APRIL, Basis.YIELD, 4, issue=1)
+CORRECTED, CANCELED = (replace(AMENDED, reference=name, issue=None) for name in ("zCorrected", "zCanceled"))
 
 
 @pytest.fixture(scope="module")
@@ -45,12 +50,23 @@ def window(request: pytest.FixtureRequest, site: Site) -> Iterator[Callable[[], 
 
 
 @pytest.fixture(scope="module")
-def first(window: Callable[[], Page]) -> Page:
-    """The page in the window of the module, over a desk that has issues."""
+def bare(window: Callable[[], Page]) -> Page:
+    """The page in the window of the module, over a desk that has issues, of which one was amended, and no trade."""
     page = window()
-    for issue in (ELM_GROVE, RIVERTON, ZERO, DISCOUNT, NOTE, LONG_NAME):
+    for issue in (ELM_GROVE, WRONG, ZERO, DISCOUNT, NOTE, LONG_NAME):
         page.desk.add_issue(issue)
+    page.desk.amend(RIVERTON, 2)
     return page
+
+
+@pytest.fixture(scope="module")
+def first(bare: Page) -> Page:
+    """The same over a desk that has trades, too."""
+    for trade in (AMENDED, CORRECTED, CANCELED):
+        bare.desk.enter(trade)
+    bare.desk.correct(replace(CORRECTED, par=6_000), 2)
+    bare.desk.cancel("RETAIL", CANCELED.reference, 2)
+    return bare
 
 
 @pytest.fixture

@@ -1,4 +1,4 @@
-"""Amendments on the page: terms that are kept are read, changed and kept under the next number, and trades name them."""
+"""Amendments on the page: terms that are kept are read, changed and kept under the next number. Trades name them."""
 from __future__ import annotations
 
 import json
@@ -15,7 +15,7 @@ from support.relay import plain
 
 pytestmark = pytest.mark.xdist_group("page_amendments")
 
-# One is amended here, one has three terms, one is named by trades, and one is amended though the page is told otherwise.
+# One is amended here, one has three terms, one is named by trades, and of one the page is told another answer.
 AMENDED, SEVERAL, NAMED, FAKED = (replace(ELM_GROVE, cusip=cusip)
                                   for cusip in ("990000044", "990000051", "990000069", "990000085"))
 SHORTER = replace(NAMED, calls=())
@@ -52,8 +52,8 @@ def test_terms_are_read_changed_and_kept_under_the_next_number(page):
     page.click("#issue-amend")
     elm = "2034-08-01 at {}, on or after this day"
     assert page.asked() == [
-        ["", "Now", "Then"], ["Name", AMENDED.name, "ELM GROVE SCHOOLS 4.25S 2039"], ["Coupon, percent", "4.125", "4.25"],
-        ["Call 2", elm.format(101), elm.format("101.5")]]
+        ["", "Now", "Then"], ["Name", AMENDED.name, "ELM GROVE SCHOOLS 4.25S 2039"],
+        ["Coupon, percent", "4.125", "4.25"], ["Call 2", elm.format(101), elm.format("101.5")]]
     page.shot("amendment")
     page.click("#sure-yes")
     assert page.shows("issue-told", f"AMENDED {AMENDED.cusip} 2")
@@ -150,36 +150,38 @@ PRICED = TICKET | {"cusip": NAMED.cusip, "value": "120", "par": "5000"}
 def test_a_trade_names_terms_and_the_sheet_has_their_number(page):
     page.fill("ticket", **PRICED, reference="N0002", issue="1")
     page.click("#ticket-enter")
-    assert page.asked()[-1] == ["Terms of the issue", "number 1"]
-    assert "The trade goes by number 1, and its figures may be others." in page.text("sure")
+    rows = dict(page.asked())
+    figures = page.kept("N0001").figures
+    assert (rows["Terms of the issue"], rows["Yield"]) == ("number 1", f"{figures.yield_} %"), "by these terms"
+    assert (rows["Total"], rows["Redemption"]) == (f"{figures.total:,}", f"{figures.redemption.day}")
     page.click("#sure-yes")
     assert page.shows("ticket-told", "CONFIRMATION 1 of N0002 is kept")
     assert json.loads(page.relay.sent("POST /trades")[-1])["issue"] == "1"
-    assert page.sheet()["Terms"] == "number 1"
-    assert page.kept("N0002").figures.yield_ == page.kept("N0001").figures.yield_
+    assert page.sheet()["Terms"] == "number 1 of 2, amended since"
+    assert page.kept("N0002").figures.yield_ == figures.yield_
     page.click("#sheet-take")
     assert page.ticket("issue") == ("1",)
 
 
-def test_a_trade_that_names_none_goes_by_the_last_terms_and_its_sheet_has_no_number(page):
+def test_a_trade_that_names_none_goes_by_the_last_terms_and_sends_their_number(page):
     page.fill("ticket", **PRICED, reference="N0003")
     page.press("ticket-enter", sure="#sure-yes")
-    assert "issue" not in json.loads(page.relay.sent("POST /trades")[-1])
+    assert json.loads(page.relay.sent("POST /trades")[-1])["issue"] == "2"
     assert page.kept("N0003").figures.yield_ > page.kept("N0001").figures.yield_
-    assert "Terms" not in page.sheet()
+    assert page.sheet()["Terms"] == "number 2, the last"
 
 
 def test_a_correction_names_terms(page):
     page.enter("N0004", basis=Basis.PRICE, value=120, cusip=NAMED.cusip)
     page.fill("ticket", **PRICED, reference="N0004", issue="1")
     page.click("#ticket-correct")
-    assert page.asked()[-1] == ["Terms of the issue", "not told", "number 1"]
+    assert ["Terms of the issue", "number 2", "number 1"] in page.asked()
     page.click("#sure-yes")
     assert page.shows("ticket-told", "CORRECTED CONFIRMATION 2 of N0004 is kept")
     assert page.kept("N0004").figures.yield_ == page.kept("N0001").figures.yield_
     page.fill("ticket", issue="")
     page.click("#ticket-correct")
-    assert page.asked()[-1] == ["Terms of the issue", "number 1", "the last ones"]
+    assert ["Terms of the issue", "number 1", "number 2"] in page.asked()
     page.click("#sure-yes")
     assert page.shows("ticket-told", "CORRECTED CONFIRMATION 3 of N0004 is kept")
     assert page.kept("N0004").figures.yield_ > page.kept("N0001").figures.yield_

@@ -106,9 +106,10 @@ def test_rows_come_by_what_is_said_of_them(page):
                                  *[[*row, "5000"] for row in wanted.values()]), "RETAIL")
     assert ("8 rows checked: 1 differs, 1 undecided, 1 refused, 1 missing, 1 bad, 1 again, 1 nothing, 1 right."
             in said)
-    assert [line[0] for line in lines(page)[:7]] == ["KEPT3 row 7", "row 6", "row 5", "KEPT9 row 3", "KEPT2 row 2",
-                                                     "KEPT1 row 4", "row 8"]
-    assert [line[4] for line in lines(page)[:7]] == [
+    found = [line for line in lines(page) if "row " in line[0]]
+    assert [line[0] for line in found] == ["KEPT3 row 7", "row 6", "row 5", "KEPT9 row 3", "KEPT2 row 2", "KEPT1 row 4",
+                                           "row 8"]
+    assert [line[4] for line in found] == [
         "no formula that is known", "undecided: the exact one lies at the boundary of two printed ones",
         "no figures: no issue of this CUSIP is kept", "no live trade is kept under this reference",
         "price does not read: 1.0005", "its reference came before, in row 1", "nothing is stated that could be right"]
@@ -138,6 +139,17 @@ def test_what_is_not_that_of_the_kept_trade_is_told(page):
         ["Coupon", "4.1250000", "4.2500000", terms_of,
          "For coupon we have 4.1250000 and you have 4.2500000; compare the terms."],
         ["Calls", calls, "", terms_of, f"For calls we have {calls} and you have none; compare the terms."]]
+
+
+def test_a_trade_is_checked_by_the_terms_by_which_it_stands(page):
+    """One stands by terms that were amended since, and the other, which was corrected, by the last ones."""
+    earlier, last = (page.kept(reference).figures.price for reference in ("zAmended", "zCorrected"))
+    said = dropped(page, text_of(["reference", "price"], ["zAmended", f"{earlier}"], ["zCorrected", f"{earlier}"],
+                                 ["zCanceled", f"{last}"]), "RETAIL")
+    assert earlier != last and "3 rows checked: 1 differs, 1 missing, 1 right." in said
+    assert right(page) == "zAmended"
+    assert [line[:4] for line in lines(page) if "row " in line[0]] == [
+        ["zCorrected row 2", "Price", f"{last}", f"{earlier}"], ["zCanceled row 3", "", "", ""]]
 
 
 def test_a_file_of_a_desk_needs_no_more_than_references(page):
@@ -294,3 +306,20 @@ def test_it_can_be_read(page):
     page.click("#checks-right summary")
     assert page.faults("checks") == []
     assert page.faults_when_narrow("checks") == []
+
+
+MANY = """
+const { showFound } = await import("/page/found.js");
+document.getElementById("tab-check").click();
+const found = Array.from({ length: arguments[0] }, (_, place) =>
+    ({ row: { place: 0, reference: `MANY${place}`, texts: {} }, verdict: "missing" }));
+showFound({ name: "many.csv" }, found);
+const more = document.getElementById("checks-more");
+return [document.querySelectorAll("#checks-list tbody tr").length, more.checkVisibility() ? more.textContent : ""];
+"""
+
+
+@pytest.mark.parametrize(("count", "words"), [
+    (10_000, "These are the first 500. 9,500 more are not right: Copy and Download have all."), (500, "")])
+def test_of_very_many_rows_the_first_500_are_shown(page, count, words):
+    assert page.browser.js_later(MANY, count) == [500, words]

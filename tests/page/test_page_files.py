@@ -51,6 +51,8 @@ FAULTS = {
     "a column that is unknown": ("reference,Price\nA,1\n", "Columns that are unknown: Price"),
     "a column without a name": ("reference,,price\nA,1,1\n", "Columns that are unknown: one without a name"),
     "a column that is there twice": ("price,fee,price\n1,1,1\n", "Columns that are named twice: price"),
+    "semicolons": ("reference;price\nA;104,25\n", "Its fields are parted by semicolons, and a check takes commas"),
+    "tabs": ("cusip\tprice\nA\t1\n", "Its fields are parted by tabs, and a check takes commas"),
     "no row": ("cusip,price\n", "No row follows the first line"),
     "nothing": ("", "The file is empty"),
     "more rows than the page takes": ("price\n" + "1\n" * 10_001, "It has 10001 rows, and the page takes 10000"),

@@ -204,3 +204,25 @@ def test_a_note_has_no_first_coupon_and_no_calls_and_what_was_typed_for_them_sta
     assert "ADDED 990000051" in page.press("#issue .first", "issue-told", "#sure-yes")
     sent = json.loads(page.relay.sent("POST /issues")[-1])
     assert tuple(sent.get(name) for name in ("days", "first", "calls")) == ("actual/365", None, None)
+
+
+@pytest.mark.parametrize(("price", "words"), [
+    ("100+", 'Type 100 alone, and choose "on or after this day" beside it.'),
+    ("102.5 !", 'Type 102.5 alone, and choose "called (certain)" beside it.')])
+def test_a_mark_that_is_typed_after_a_price_says_where_it_is_chosen(page, price, words):
+    page.fill("issue", **OAK_HILL)
+    page.browser.write("#issue-call-1-date", "2033-08-01")
+    page.browser.write("#issue-call-1-price", price)
+    page.click("#issue .first")
+    assert page.text("issue-call-1-price-wrong") == words
+    assert page.focus() == "issue-call-1-price"
+
+
+def test_a_wrong_check_digit_says_which_it_is(page):
+    """That of 990034AA is 8, and that of 990000077 is 7."""
+    page.fill("issue", **OAK_HILL | {"cusip": "990000078"})
+    assert "REFUSED 4 BadTerms 1" in page.press("#issue .first", "issue-told", "#sure-yes")
+    assert "After 99000007 the check digit is 7, and not 8" in page.text("issue-cusip-wrong")
+    page.fill("ticket", **TICKET | {"cusip": "990034AA3"})
+    assert "REFUSED 1 UnknownIssue" in page.press("ticket-quote")
+    assert "After 990034AA the check digit is 8, and not 3" in page.text("ticket-cusip-wrong")

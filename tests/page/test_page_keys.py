@@ -73,7 +73,7 @@ class Hand:
         """Opens a trade by the list."""
         self.page.until(LISTED, reference)
         self.go("l")
-        self.press(*[Keys.DOWN] * self.page.listed().index(reference), Keys.ENTER)
+        self.press(Keys.HOME, *[Keys.DOWN] * self.page.listed().index(reference), Keys.ENTER)
         self.page.until("return document.querySelector('#trades-list [aria-current]')")
         self.page.shows("sheet-paper", reference)
 

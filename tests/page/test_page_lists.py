@@ -13,8 +13,8 @@ from support.relay import plain
 pytestmark = pytest.mark.xdist_group("page_lists")
 
 COUNT = 60
-# Whether each trade of the list has its total.
-COMPLETE = "return [...document.querySelectorAll('#trades-list tbody tr')].every(row => row.cells[9].textContent)"
+# Whether each trade of the list has all that is told of it, of which its terms come last.
+COMPLETE = "return [...document.querySelectorAll('#trades-list tbody tr')].every(row => row.cells[10].textContent)"
 
 
 @pytest.fixture(scope="module")
@@ -37,7 +37,7 @@ def row_of(line: muni.Listed, confirmation: muni.Confirmation) -> list[str]:
     """The row of a trade: what the desk lists of it, and what its confirmation has."""
     return [line.reference, f"{line.number}", "live" if line.is_live else "canceled",
             "sold" if confirmation.side is Side.SELL else "bought", confirmation.cusip, f"{line.par:,}",
-            f"{line.price}", f"{line.yield_}", f"{confirmation.settle}", f"{confirmation.figures.total:,}"]
+            f"{line.price}", f"{line.yield_}", f"{confirmation.settle}", f"{confirmation.figures.total:,}", "1"]
 
 
 def references(page: Page) -> list[str]:
@@ -57,17 +57,17 @@ def test_the_second_page_says_that_none_follow_and_leads_back(page):
     assert page.lists("X0050") == references(page)[50:]
     assert (page.is_off("trades-next"), page.is_off("trades-back")) == (True, False)
     place = page.text("trades-place")
-    assert f"Page 2: {COUNT - 50} trades" in place and "No more follow." in place
+    assert f"Page 2: {len(references(page)) - 50} trades" in place and "No more follow." in place
     page.shot("second-page")
     page.click("#trades-back")
     assert page.lists("X0000") == references(page)[:50]
 
 
 def test_a_full_page_after_which_none_follows_says_so(page):
-    # The last 50 of them.
-    page.browser.write("#find-reference", f"X{COUNT - 51:04}")
+    before, *rest = references(page)[-51:]
+    page.browser.write("#find-reference", before)
     page.click("#trades-from")
-    assert page.lists(f"X{COUNT - 50:04}") == references(page)[-50:]
+    assert page.lists(rest[0]) == rest
     assert "50 trades" in page.text("trades-place") and page.is_off("trades-next")
 
 
@@ -93,7 +93,8 @@ def test_the_first_page_is_one_press_away(page):
 
 def test_the_last_page_is_one_press_away_and_leads_back(page):
     page.click("#trades-last")
-    assert page.lists(f"X{COUNT - 50:04}") == references(page)[-50:]
+    rest = references(page)[-50:]
+    assert page.lists(rest[0]) == rest
     assert "Last page: 50 trades" in page.text("trades-place") and "No more follow." in page.text("trades-place")
     assert (page.is_off("trades-next"), page.is_off("trades-last")) == (True, True)
     page.click("#trades-back")

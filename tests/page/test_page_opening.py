@@ -11,12 +11,20 @@ from support.program import ROOT
 pytestmark = pytest.mark.xdist_group("page_opening")
 
 
+@pytest.fixture(scope="module")
+def first(bare):
+    """The page over a desk without trades."""
+    return bare
+
+
 def test_it_tells_who_has_logged_in(page):
     assert page.text("house-user") == "logged in as rita"
 
 
 def test_a_desk_without_trades_says_so(page):
     assert "Desk RETAIL has no trades. If it should have some, check its name." in page.shows("trades-place", "Desk")
+    page.click("#tab-positions")
+    assert page.shows("positions-place", "Desk RETAIL has no live trades.")
 
 
 def test_each_field_has_its_label(page):

@@ -23,18 +23,14 @@ def rows(page) -> list[list[str]]:
             for each in page.desk.positions("RETAIL")]
 
 
-def test_a_desk_without_trades_has_none(page):
-    page.click("#tab-positions")
-    assert page.shows("positions-place", "Desk RETAIL has no live trades.")
-    assert shown(page) == [False, True]
-
-
 def test_they_are_those_of_the_desk_and_of_each_act(page):
+    assert shown(page) == [True, False]
     page.enter("P0001", Side.SELL, par=1_250_000)
     page.enter("P0002", par=40_000, cusip="123456AA3")
     page.enter("P0003", par=30_000)
     page.click("#tab-positions")
     page.shows("positions-place", "2 securities")
+    assert shown(page) == [False, True]
     assert page.rows("#positions-list tbody tr") == rows(page)
     page.fill("ticket", **TICKET | {"reference": "P0004", "cusip": "990081AB7", "settle": "2024-04-01"})
     page.press("ticket-enter", sure="#sure-yes")
@@ -67,9 +63,10 @@ def test_the_tabs_are_walked_by_keys(page):
     page.browser.press(Keys.ARROW_LEFT)
     assert (page.focus(), shown(page)) == ("tab-trades", [True, False])
     assert page.texts("[role=tab][aria-selected=true]") == ["Trades"]
-    page.browser.press(Keys.ARROW_LEFT)
-    assert (page.focus(), shown(page)) == ("tab-check", [False, False])
-    page.browser.press(Keys.ARROW_RIGHT, Keys.ARROW_RIGHT, Keys.TAB)
+    for name in ("tab-amended", "tab-check"):
+        page.browser.press(Keys.ARROW_LEFT)
+        assert (page.focus(), shown(page)) == (name, [False, False])
+    page.browser.press(*[Keys.ARROW_RIGHT] * 3, Keys.TAB)
     assert page.focus() == "positions-again"
     page.browser.press("l", holding=Keys.ALT)
     assert shown(page) == [True, False]

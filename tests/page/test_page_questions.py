@@ -1,12 +1,14 @@
 """What the page shows of a trade before it is entered, corrected or canceled."""
 from __future__ import annotations
 
+from datetime import date
 from decimal import Decimal
 
 import pytest
 
+import muni
 from muni import Basis, Side
-from support.page import TICKET, missing
+from support.page import APRIL, TICKET, missing
 
 pytestmark = pytest.mark.xdist_group("page_questions")
 
@@ -18,6 +20,16 @@ def no(page) -> None:
     page.click("#sure button[value=no]")
     page.asks(False)
     page.settle()
+
+
+def changes(was: muni.Figures, now: muni.Figures) -> list[list[str]]:
+    """The rows that a question has to show of figures that differ."""
+    rows = [["Price per 100", f"{was.price}", f"{now.price}"], ["Yield", f"{was.yield_} %", f"{now.yield_} %"],
+            ["Redemption", f"{was.redemption.day}", f"{now.redemption.day}"],
+            ["Days accrued", f"{was.accrued_days}", f"{now.accrued_days}"],
+            ["Principal", f"{was.principal:,}", f"{now.principal:,}"],
+            ["Accrued interest", f"{was.accrued:,}", f"{now.accrued:,}"], ["Total", f"{was.total:,}", f"{now.total:,}"]]
+    return [row for row in rows if row[1] != row[2]]
 
 
 def yes(page) -> str:
@@ -78,7 +90,9 @@ def test_a_correction_shows_what_changes_of_a_trade_of_this_window(page):
     page.click("#ticket-correct")
     assert page.asked() == [
         ["", "Now", "Then"], ["Side", "sold", "bought"], ["Par", "25,000", "30,000"],
-        ["Given", "a price of 104.2505", "a price of 104.2506"], ["Commission", "0.375 per 100", "none"]]
+        ["Given", "a price of 104.2505", "a price of 104.2506"], ["Commission", "0.375 per 100", "none"],
+        *changes(page.kept("ASKED5").figures,
+                 page.desk.quote("990034AA8", 30_000, APRIL, Basis.PRICE, Decimal("104.2506")))]
     page.shot("asked-correction")
     assert "CORRECTED CONFIRMATION 2 of ASKED5 is kept" in yes(page)
     page.click("#ticket-correct")
@@ -96,11 +110,15 @@ def test_a_correction_of_a_trade_of_another_window_says_what_was_printed(page):
     page.click("#ticket-correct")
     assert page.asked() == [
         ["", "Now", "Then"], ["CUSIP", "990034AA8", "123456AA3"], ["Settlement", "2024-04-03", "2024-04-04"],
-        ["Given", "a price of 104.250, as printed", "a yield of 4"], ["Commission", "50.00 dollars", "0.375 per 100"]]
+        ["Given", "a price of 104.250, as printed", "a yield of 4"], ["Commission", "50.00 dollars", "0.375 per 100"],
+        *changes(page.kept("ASKED6").figures,
+                 page.desk.quote("123456AA3", 40_000, date(2024, 4, 4), Basis.YIELD, 4))]
+    assert "A commission goes with a price alone" in page.text("sure-lines")
     no(page)
     page.fill("ticket", fee="0.125")
     page.click("#ticket-correct")
-    assert [row[0] for row in page.asked()] == ["", "CUSIP", "Settlement", "Given"], "this makes the same dollars"
+    assert [row[0] for row in page.asked()][:5] == ["", "CUSIP", "Settlement", "Given", "Price per 100"], \
+        "this makes the same dollars"
     no(page)
 
 
@@ -121,6 +139,7 @@ def test_a_question_can_be_read(page):
     page.enter("ASKED8", Side.SELL, par=1_000_000_000, basis=Basis.PRICE, value=Decimal("100.1255"), cusip="990081AB7")
     page.fill("ticket", **SALE | {"reference": "ASKED8"})
     for button in ("ticket-correct", "ticket-cancel", "ticket-enter"):
+        page.fill("ticket", par="30000")
         page.click(f"#{button}")
         page.asks()
         assert page.faults(button) == []
