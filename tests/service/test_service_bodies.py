@@ -5,7 +5,11 @@ import json
 
 import pytest
 
+from support.rules import UNLIMITED
 from support.trading import TERMS, add_issue, is_kept, trade
+
+# Large bodies and those in chunks come faster than an address may send them.
+EDITS = (UNLIMITED,)
 
 OWN, OTHER, REST = '"desk":"ALPHA",', '"desk":"RETAIL",', json.dumps(TERMS)[1:]
 PAD = '"pad":"%s",' % ("x" * 60_000)

@@ -5,7 +5,11 @@ import json
 
 import pytest
 
+from support.rules import UNLIMITED
 from support.trading import TERMS, add_issue, trade
+
+# Large bodies and those in chunks come faster than an address may send them.
+EDITS = (UNLIMITED,)
 
 ROW = json.dumps(TERMS | {"price": "104.250", "yield": "3.663"})[1:]
 PAD = '"pad":"%s",' % ("x" * 60_000)

@@ -2,13 +2,15 @@
 from __future__ import annotations
 
 import json
+import signal
+import time
 
 import pytest
 
 from support.links import joined, said, status
-from support.several import SOON, STORES, ask_store, away
+from support.several import SOON, STORES, ask_store, away, health, quoted, standing
 from support.site import NAME, Site
-from support.trading import ISSUE, beside
+from support.trading import ISSUE, beside, tell, trade, until
 
 # Its desks take long to start.
 pytestmark = pytest.mark.xdist_group("issues of stores")
@@ -77,16 +79,68 @@ def test_an_amendment_is_kept_everywhere_and_others_under_its_number_are_refused
     assert [row.split(",")[0] for row in text.splitlines()] == ["issue", "amend"]
 
 
-def test_sent_again_an_amendment_is_completed_that_a_store_did_not_get(site):
+def test_an_amendment_that_a_store_did_not_get_is_finished_when_it_is_back(site):
     cusip = "990000051"
     assert add(site, cusip) == added(cusip)
     with away(site, "quotes1"):
         assert amend(site, cusip, "5", 2) == AGAIN
-    assert len(all_terms(site, cusip)) == 2
-    assert amend(site, cusip, "6", 3) == (409, "REFUSED 12 WrongNumber 2\n")
+        assert amend(site, cusip, "6", 3) == AGAIN
+        assert len(all_terms(site, cusip)) == 2
+    assert until(lambda: len(all_terms(site, cusip)) == 1)
+    assert kept(site, cusip) == ["4.1250000"] * 4
     assert amend(site, cusip, "5", 2) == amended(cusip, 2)
-    assert amend(site, cusip, "6", 3) == amended(cusip, 3)
-    assert len(all_terms(site, cusip)) == 1
+
+
+def test_what_the_first_store_accepted_is_finished_though_the_program_is_killed(site):
+    cusip = "990000069"
+    assert add(site, cusip) == added(cusip)
+    with away(site, "second", "quotes1"):
+        assert amend(site, cusip, "5", 2) == AGAIN
+        tell(site, signal.SIGKILL, "muni-issues")
+    assert until(lambda: len(all_terms(site, cusip)) == 1)
+    assert all_terms(site, cusip).pop().count("\n") == 2
+
+
+def test_quotes_go_by_the_terms_of_the_first_store_while_another_lacks_them(site):
+    cusip = "990000077"
+    assert add(site, cusip) == added(cusip)
+    before = quoted(site, cusip)
+    with standing(site, "quotes1"):
+        assert amend(site, cusip, "6", 2)[0] == 504
+        told = {quoted(site, cusip) for _ in range(8)}
+        assert len(told) == 1 and before not in told
+        assert ask_store(site, "quotes2", "POST", "/quotes", "{}").status == 400
+        assert health(site, "issues") in (503, 504)
+    assert until(lambda: len(all_terms(site, cusip)) == 1)
+    assert {quoted(site, cusip) for _ in range(8)} == told
+    assert until(lambda: health(site, "issues") == 200)
+
+
+def test_a_store_that_lacks_terms_figures_nothing_by_those_of_before(site):
+    cusip = "990000085"
+    assert add(site, cusip) == added(cusip)
+    with standing(site, "second"):
+        assert amend(site, cusip, "6", 2)[0] == 504
+        assert site.ask("POST", "/trades", trade("D1", "BETA", cusip=cusip))[::2] == AGAIN
+        assert site.ask("POST", "/trades", trade("D1", "ALPHA", cusip=cusip)).status == 200
+        # Also if the queue starts anew.
+        tell(site, signal.SIGTERM, "muni-queue")
+        assert until(lambda: site.ask("GET", "/lists/ALPHA").status == 200)
+        assert until(lambda: ask_store(site, "second", "POST", "/trades", trade("D1", "BETA", cusip=cusip)).status == 503)
+    assert until(lambda: site.ask("POST", "/trades", trade("D1", "BETA", cusip=cusip)).status == 200)
+    first, second = [site.ask("GET", f"/trades/{desk}/D1").text for desk in ("ALPHA", "BETA")]
+    assert first.replace("ALPHA", "BETA") == second
+
+
+def test_the_health_compares_terms(site):
+    cusip = "990000093"
+    assert add(site, cusip) == added(cusip)
+    assert until(lambda: health(site, "issues") == 200)
+    body = json.dumps(json.loads(issue(cusip)) | {"number": "2", "coupon": "6"})
+    assert ask_store(site, "desk", "POST", "/amendments", body).status == 200
+    assert health(site, "issues") == 503
+    assert until(lambda: len(all_terms(site, cusip)) == 1)
+    assert until(lambda: health(site, "issues") == 200)
 
 
 def test_of_two_that_come_at_once_one_is_kept_everywhere(site):
@@ -99,14 +153,14 @@ def test_of_two_that_come_at_once_one_is_kept_everywhere(site):
 
 
 @pytest.mark.parametrize(("store", "cusip"), zip(OTHERS, ("123456AA3", "990000010", "990000036")))
-def test_sent_again_an_issue_is_completed_that_a_store_did_not_get(site, store, cusip):
+def test_an_issue_that_a_store_did_not_get_is_finished_when_it_is_back(site, store, cusip):
     with away(site, store):
         assert add(site, cusip) == AGAIN
         assert add(site, cusip, COUPONS[1]) == CONFLICT
-    assert kept(site, cusip)[STORES.index(store)] == UNKNOWN
-    assert add(site, cusip, COUPONS[1]) == CONFLICT
+        quotes = {ask_store(site, "quotes", "GET", f"/issues/{cusip}").status for _ in range(4)}
+        assert quotes == {200}, "all others are asked"
+    assert until(lambda: kept(site, cusip) == ["4.1250000"] * 4)
     assert add(site, cusip) == added(cusip)
-    assert kept(site, cusip) == ["4.1250000"] * 4
 
 
 def test_without_the_first_store_no_other_one_gets_an_issue(site):
@@ -115,14 +169,6 @@ def test_without_the_first_store_no_other_one_gets_an_issue(site):
         assert add(site, cusip) == AGAIN
         assert {ask_store(site, store, "GET", f"/issues/{cusip}").text for store in OTHERS} == {UNKNOWN}
     assert add(site, cusip) == added(cusip)
-
-
-def test_a_store_that_got_other_terms_past_the_program_is_told_of(site):
-    cusip = "990086AA8"
-    assert ask_store(site, "second", "POST", "/issues", issue(cusip, COUPONS[1])).status == 200
-    assert add(site, cusip) == CONFLICT
-    told = f"issues: POST /issues: second answers 409, {CONFLICT[1].strip()}, and the first store has it"
-    assert told in (site.folder / "log/muni-issues").read_text().splitlines()
 
 
 @pytest.mark.parametrize("body", ["", "{}", issue("990084AA4")])
@@ -141,3 +187,13 @@ def test_a_request_without_a_length_is_answered_as_by_one_store(site):
 
 def test_nothing_else_is_asked_of_all_stores(site):
     assert ask_store(site, "issues", "POST", "/trades", "{}")[::2] == (404, "404 Not Found\n")
+
+
+def test_a_store_that_got_other_terms_past_the_program_is_told_of(site):
+    cusip = "990086AA8"
+    assert ask_store(site, "second", "POST", "/issues", issue(cusip, COUPONS[1])).status == 200
+    assert add(site, cusip) == CONFLICT
+    told = f"issues: POST /issues: second answers 409, {CONFLICT[1].strip()}, and the first store has {cusip}"
+    time.sleep(1)
+    assert (site.folder / "log/muni-issues").read_text().splitlines().count(told) == 1
+    assert health(site, "issues") == 503

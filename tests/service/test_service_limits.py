@@ -3,13 +3,14 @@ from __future__ import annotations
 
 import collections
 import re
+import socket
 import time
 
 import pytest
 
 from support.links import asking, joined, said, status
 from support.site import Site
-from support.trading import until
+from support.trading import trade, until
 
 # It counts what comes within a second.
 pytestmark = pytest.mark.xdist_group("alone")
@@ -29,13 +30,22 @@ class Guesses:
         for link in links:
             link.sendall(guess)
         # A guess is answered after a second. Before that all have come, of which nginx's log has those refused.
-        log = site.folder / "log/error.log"
-        until(lambda: log.read_text().count("limiting connections") == MORE, seconds=0.8)
+        log = site.folder / "log/desk.log"
+        until(lambda: log.read_text().count('"status":"429"') == MORE, seconds=0.8)
         begin = time.monotonic()
         other.sendall(asking(site, "/lists/ALPHA"))
         self.other = status(said(other))
         self.seconds = time.monotonic() - begin
         self.told = [said(link) for link in links]
+
+
+def asked_at_once(site: Site, count: int) -> list[socket.socket]:
+    """Connections that ask for a path that is none, which ends each of them."""
+    links = [joined(site) for _ in range(count)]
+    asked = asking(site, "/nothing")
+    for link in links:
+        link.sendall(asked)
+    return links
 
 
 @pytest.fixture(scope="module")
@@ -76,4 +86,18 @@ def test_more_requests_in_a_second_than_an_address_may_ask_end_the_connection(si
     statuses = re.findall(r"HTTP/1\.1 (\d+)", came)
     assert set(statuses) == {"200", "429"}
     assert BURST <= statuses.count("200") < 2_000
-    assert "limiting requests" in (site.folder / "log/error.log").read_text()
+    assert "limiting" not in (site.folder / "log/error.log").read_text(), "the other log has each of them"
+
+
+def test_of_large_bodies_an_address_may_send_few(site):
+    time.sleep(2)
+    bodies = [trade(f"B{place}").ljust(60_000) for place in range(12)]
+    answers = [site.ask("POST", "/trades", body, user="otto").status for body in bodies]
+    assert answers.count(429) >= 5 and answers.count(403) >= 5
+    assert site.ask("POST", "/trades", bodies[0].strip(), user="otto").status == 403
+
+
+def test_paths_that_are_none_are_counted(site):
+    time.sleep(2)
+    told = collections.Counter(status(said(link)) for link in asked_at_once(site, 300))
+    assert set(told) <= {0, 404, 429} and told[404] < 300

@@ -3,11 +3,13 @@ from __future__ import annotations
 
 import json
 import socket
+from base64 import b64encode
 
 import pytest
 
+from support.links import asking, joined, said, status
 from support.site import NAME, stranger
-from support.trading import trade, until
+from support.trading import add_issue, trade, until
 
 # The user, the status and who answered, in the order of the requests.
 WANTED = [("alice", "403", "queue"), ("alice", "401", "nginx"), ("alice", "403", "queue"), ("alice", "404", "desk"),
@@ -50,3 +52,34 @@ def test_a_line_tells_the_user_the_status_and_who_answered(lines, place):
 def test_a_line_has_the_request_and_the_body(lines):
     line = json.loads(lines[2])
     assert (line["request"], line.get("body")) == ("POST /trades HTTP/1.1", trade("L1", "RETAIL"))
+
+
+def test_of_what_is_refused_the_log_has_the_beginning(site, lines):
+    add_issue(site)
+    log = site.folder / "log/desk.log"
+    before = log.stat().st_size
+    assert site.ask("POST", "/trades", b"\x01" * 8_000, user="otto").status == 403
+    assert site.ask("POST", "/trades", trade("L9", "RETAIL").ljust(7_000)).status == 403
+    assert site.ask("GET", "/" + "A" * 3_900, user=None).status == 404
+    assert site.ask("GET", "/lists/ALPHA", user=None, **site.log_in("\x01" * 2_500, "x")).status == 400
+    whole = trade("L9").ljust(7_000)
+    assert site.ask("POST", "/trades", whole).status == 200
+    until(lambda: len(log.read_text().splitlines()) == len(lines) + 6)
+    added = [json.loads(line) for line in log.read_text().splitlines()[len(lines) + 1:]]
+    assert [line.get("body", "") for line in added] == ["", trade("L9", "RETAIL").ljust(200), "", "", whole]
+    assert (len(added[2]["request"]), len(added[3]["user"])) == (400, 100)
+    assert log.stat().st_size - before < 10_000 + len(lines)
+
+
+@pytest.mark.parametrize("name", ["eve\n2026/01/01 00:00:00 [alert] 1#1: forged", "eve\r", "\x7f"])
+def test_nobody_begins_a_line_of_the_error_log(site, name):
+    log = site.folder / "log/error.log"
+    before = log.read_text()
+    link = joined(site)
+    field = "Basic " + b64encode(f"{name}:x".encode()).decode()
+    link.sendall(f"GET /lists/ALPHA HTTP/1.1\r\nHost: {NAME}\r\nAuthorization: {field}\r\n\r\n".encode())
+    assert status(said(link)) == 400
+    link = joined(site)
+    link.sendall(asking(site, "/page/%0A2026%2F01%2F01 forged".replace(" ", "%20")))
+    assert status(said(link)) == 400
+    assert log.read_text() == before

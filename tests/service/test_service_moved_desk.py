@@ -1,4 +1,4 @@
-"""A desk that is moved from one store to another, as deploy/README.md says."""
+"""A desk that is moved from one store to another, as docs/SEVERAL.md says."""
 from __future__ import annotations
 
 import pathlib

@@ -2,10 +2,12 @@
 from __future__ import annotations
 
 import json
+import re
 import subprocess
 
 import pytest
 
+from support.program import ROOT
 from support.several import SOON, STORES, ask_store, away, health, lead, references, store_of
 from support.site import Site
 from support.trading import TERMS, add_issue, trade
@@ -104,3 +106,14 @@ def test_a_backup_of_all_stores_has_each_in_a_folder_of_its_own(site, muni, tmp_
 def test_the_terms_of_an_issue_are_read(site):
     answers = {ask_store(site, store, "GET", f"/issues/{TERMS['cusip']}").text for store in STORES}
     assert answers == {site.ask("GET", f"/issues/{TERMS['cusip']}").text}
+
+
+def test_stores_that_stand_twice_in_the_file_are_told_by_a_reload(site):
+    unit = (ROOT / "deploy/muni-queue.service").read_text()
+    check = re.findall(r"^ExecReload=(.*)$", unit, re.M)[0].split()
+    file = site.folder / "etc/queue.cfg"
+    twice = file.with_name("twice.cfg")
+    twice.write_text(file.read_text() + "".join(file.read_text().partition("\nbackend second\n")[1:]))
+    told = [subprocess.run([*check[:-1], each], capture_output=True, text=True) for each in (file, twice)]
+    assert check[-1] == "/etc/muni/queue.cfg" and [each.returncode for each in told] == [0, 1]
+    assert "backend 'second' has the same name as backend 'second'" in told[1].stderr

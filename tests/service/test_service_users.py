@@ -252,3 +252,13 @@ def test_a_user_is_removed_and_others_have_what_they_had(hand, una):
     assert [line for name in FILES for line in hand.lines_of(name, una)] == []
     assert hand.user("remove", una) == (1, f"user: there is no user {una}")
     assert hand.lists("alice", "ALPHA", "BETA", "RETAIL") == [200, 200, 403]
+
+
+def test_all_users_are_listed_with_what_they_may_do(hand):
+    status, told = hand.user("list")
+    assert status == 0
+    lines = told.splitlines()
+    assert "alice: desks ALPHA BETA" in lines and "rita: desks RETAIL, may add issues" in lines
+    names = [line.partition(":")[0] for line in lines]
+    assert "otto: desks none" in lines and names == sorted(names)
+    assert hand.user("list", "alice")[0] == 2
