@@ -43,14 +43,14 @@ use Rattle.muni_msg.specs.declared.each.EachRedemption.{EachRedemption}
 use Rattle.muni_msg.specs.declared.figures.Figures.{Figures}
 use Rattle.muni_msg.specs.declared.refusal.Refusal.{Refusal}
 use Rattle.muni_msg.specs.declared.refusal.Refusal.TheVariants as refusal
-use Rattle.muni_book.specs.AnswerLaws.{HaveOutcomesAt}
-use Rattle.muni_book.specs.Answers.{PriceAndYield, found_at_yield, found_at_price, found_at_rate, IsFoundAtRate}
+use Rattle.muni_answer.specs.AnswerLaws.{HaveOutcomesAt}
+use Rattle.muni_answer.specs.Answers.{PriceAndYield, found_at_yield, found_at_price, found_at_rate, IsFoundAtRate}
 use Rattle.muni_book.specs.Each.{figure_of_answer, IsAnswerAlone, IsRightAlone, IsFigureAlone, IsShownAlone, AnsweredEachAreRight, thousandths_in, HasFigure, HasThousandths, disclosed_figure, disclosed, IsLeastOfEach, DisclosedIsLeastOfEach, EachAreOne}
-use Rattle.muni_book.specs.GivenFor.{IsNote, IsOnBasis, IsInRange, MayBeGiven}
-use Rattle.muni_book.specs.RightFigures.{AreRightAt, AreRightFigures}
-use Rattle.muni_book.specs.Trade.{net_price}
-use Rattle.muni_book.proofs.OneFigureLemmas.{case-of, right-outcomes}
-use Rattle.muni_book.proofs.RightLemmas.{answered-right}
+use Rattle.muni_answer.specs.GivenFor.{IsNote, IsOnBasis, IsInRange, MayBeGiven}
+use Rattle.muni_answer.specs.RightFigures.{AreRightAt, AreRightFigures}
+use Rattle.muni_answer.specs.Trade.{net_price}
+use Rattle.muni_answer.proofs.OneFigureLemmas.{case-of, right-outcomes}
+use Rattle.muni_answer.proofs.RightLemmas.{answered-right}
 
 -- ---- a figure of a kind, by its thousandths
 abbrev pub figure_as : FigureKind → ℤ → EachFigure

@@ -7,10 +7,10 @@ use Rattle.muni_msg.specs.declared.version.Version.{Version}
 use Rattle.muni_keep.specs.History.{History}
 use Rattle.muni_keep.specs.Tables.{no_tables, trade_at}
 use Rattle.muni_keep.specs.Trades.{by_bytes, own}
-use Rattle.muni_book.proofs.RightLemmas.{answered-right}
-use Rattle.muni_book.proofs.UniqueLemmas.{answers-unique}
+use Rattle.muni_answer.proofs.RightLemmas.{answered-right}
+use Rattle.muni_answer.proofs.UniqueLemmas.{answers-unique}
 use Rattle.muni_book.specs.Rules.{book_rules}
-use Rattle.muni_book.specs.RightFigures.{AreRightFigures}
+use Rattle.muni_answer.specs.RightFigures.{AreRightFigures}
 use Rattle.muni_book.specs.SoundTables.{AreSoundTables}
 use Rattle.muni_book_step.proofs.OutcomeLemmas.{step-reason}
 use Rattle.muni_book.specs.RunLaws.{TablesAreSound, ConfirmedFiguresAreRight, AcceptedCommandsActOnce, WhatIsKeptIsAnsweredAgain, NothingKeptIsLost, EachDeskIsIsolated, RepliesAreUnique, EachEntryHasItsReason, EachRefusalHasItsCause, ConfirmationsAreOfLastVersions, ListsArePages, QuotesAreRightAnswers, WhatWasConfirmedStays}

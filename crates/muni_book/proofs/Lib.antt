@@ -1,10 +1,4 @@
-pub mod ShownLemmas
-pub mod CandidateLemmas
-pub mod FoundLemmas
 pub mod TermsLemmas
-pub mod UniqueLemmas
-pub mod RightLemmas
-pub mod OneFigureLemmas
 pub mod EachLemmas
 pub mod RiskLemmas
 pub mod DetailLemmas

@@ -52,18 +52,18 @@ use Rattle.muni_msg.specs.declared.each.EachFigure.{EachFigure}
 use Rattle.muni_msg.specs.declared.each.EachFigure.TheVariants.{Yield as AsYield}
 use Rattle.muni_msg.specs.declared.figures.Figures.{Figures}
 use Rattle.muni_msg.specs.declared.refusal.Refusal.{Refusal}
-use Rattle.muni_book.specs.AnswerLaws.{HaveOutcomesAt}
-use Rattle.muni_book.specs.Answers.{PriceAndYield, found_at_yield, IsFoundAtRate, IsRightAnswer}
-use Rattle.muni_book.specs.FilledFor.{IsFilledFor, refusal_of}
-use Rattle.muni_book.specs.declared.answers.Early.{Early}
-use Rattle.muni_book.specs.GivenFor.{IsDiscounted, IsNote, MayBeGiven}
-use Rattle.muni_book.specs.RightFigures.{AreRightAt, AreRightFigures}
+use Rattle.muni_answer.specs.AnswerLaws.{HaveOutcomesAt}
+use Rattle.muni_answer.specs.Answers.{PriceAndYield, found_at_yield, IsFoundAtRate, IsRightAnswer}
+use Rattle.muni_answer.specs.FilledFor.{IsFilledFor, refusal_of}
+use Rattle.muni_answer.specs.declared.answers.Early.{Early}
+use Rattle.muni_answer.specs.GivenFor.{IsDiscounted, IsNote, MayBeGiven}
+use Rattle.muni_answer.specs.RightFigures.{AreRightAt, AreRightFigures}
 use Rattle.muni_book.specs.Risk.{is_on, shown_yield, disclosed_redemption}
-use Rattle.muni_book.specs.Trade.{net_price}
+use Rattle.muni_answer.specs.Trade.{net_price}
 use Rattle.muni_book.proofs.EachLemmas.{IsFoundLow, IsDisclosed, figure_as, at_yield-found, at_price-found, rate-note, disclosed-of}
-use Rattle.muni_book.proofs.OneFigureLemmas.{case-of, right-outcomes}
-use Rattle.muni_book.proofs.RightLemmas.{answered-right}
-use Rattle.muni_book.proofs.UniqueLemmas.{answers-unique}
+use Rattle.muni_answer.proofs.OneFigureLemmas.{case-of, right-outcomes}
+use Rattle.muni_answer.proofs.RightLemmas.{answered-right}
+use Rattle.muni_answer.proofs.UniqueLemmas.{answers-unique}
 
 -- ---- the candidate of a day
 same-place : (a b : ℕ) → a ≡ b → (a == b) ≡ true

@@ -19,9 +19,9 @@ use Rattle.muni_msg.specs.declared.each.EachFigure.{EachFigure}
 use Rattle.muni_msg.specs.declared.each.EachFigure.TheVariants.{Price, Yield, Undecided, Below, Above, NoTime}
 use Rattle.muni_msg.specs.declared.each.EachRedemption.{EachRedemption}
 use Rattle.muni_msg.specs.declared.figures.Figures.{Figures}
-use Rattle.muni_book.specs.Answers.{IsRightAnswer}
-use Rattle.muni_book.specs.RightFigures.{AreRightFigures}
-use Rattle.muni_book.specs.Trade.{net_price}
+use Rattle.muni_answer.specs.Answers.{IsRightAnswer}
+use Rattle.muni_answer.specs.RightFigures.{AreRightFigures}
+use Rattle.muni_answer.specs.Trade.{net_price}
 
 -- an answer over one candidate as its figure, or why it has none
 abbrev pub figure_of_answer : LowAnswer → EachFigure

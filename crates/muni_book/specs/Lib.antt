@@ -1,10 +1,4 @@
-pub mod Trade
-pub mod Answers
-pub mod AnswerLaws
-pub mod GivenFor
-pub mod FilledFor
 pub mod Fault
-pub mod RightFigures
 pub mod Each
 pub mod Risk
 pub mod Details

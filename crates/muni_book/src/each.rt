@@ -4,14 +4,13 @@ ghost use Rattle.std.specs.Prelude.{◌≡◌, ◌≤◌, ◌∷◌, [], Ok, Err
 ghost use Rattle.std.specs.List.{AllZip};
 ghost use Rattle.muni_sched.specs.GivenFigure.{at_yield, at_price};
 ghost use Rattle.muni_sched.specs.LowAnswers.{low_price, low_yield};
-ghost use Rattle.muni_book.specs.Answers.{IsRightAnswer};
+ghost use Rattle.muni_answer.specs.Answers.{IsRightAnswer};
 ghost use Rattle.muni_book.specs.Each.{figure_of_answer, AreEach, IsAnswerAlone, IsFigureAlone, IsShownAlone};
-ghost use Rattle.muni_book.specs.GivenFor.{MayBeGiven};
-ghost use Rattle.muni_book.specs.Trade as trades;
+ghost use Rattle.muni_answer.specs.GivenFor.{MayBeGiven};
+ghost use Rattle.muni_answer.specs.Trade as trades;
 
-use crate::answers::fill_for;
-use crate::trade::net_price;
 use arrayvec::ArrayVec;
+use muni_answer::{fill_for, net_price};
 use muni_dec::{Price, Yield};
 use muni_edge::Gate;
 use muni_msg::{Asked, EachFigure, EachRedemption, Figures, Given};

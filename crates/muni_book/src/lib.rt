@@ -1,7 +1,6 @@
-//! The book of the desk: the figures of a trade, and what each command is answered and keeps.
+//! The book of the desk: what each command is answered and keeps, and what is shown beside figures.
 #![tactic(auto)]
 
-mod answers;
 mod book;
 mod each;
 mod fault;
@@ -10,12 +9,11 @@ mod outside;
 mod risks;
 mod shown;
 mod steps;
-mod trade;
 
-pub use answers::figures;
 pub use book::Book;
 pub use each::each_redemption;
 pub use fault::BookFault;
+pub use muni_answer::figures;
 pub use muni_sched::{Calculator, Workers};
 pub use outside::apply;
 pub use risks::risk;

@@ -6,11 +6,11 @@ ghost use Rattle.muni_rule.specs.Payments.{PaymentSeries};
 ghost use Rattle.muni_rule.specs.WorthEnds.{WorthEnds};
 ghost use Rattle.muni_sched.specs.Candidates.{AreCandidates, IsCandidate};
 ghost use Rattle.muni_sched.specs.Range.{IsGivenFor};
-ghost use Rattle.muni_book.specs.Answers.{IsRightAnswer};
-ghost use Rattle.muni_book.specs.GivenFor.{IsNote};
+ghost use Rattle.muni_answer.specs.Answers.{IsRightAnswer};
+ghost use Rattle.muni_answer.specs.GivenFor.{IsNote};
 ghost use Rattle.muni_book.specs.Risk.{shown_yield, is_on, current_yield_of, AreOfShape, IsRiskOf};
 
-use crate::answers::fill_for;
+use muni_answer::fill_for;
 use muni_days::Day;
 use muni_dec::{Price3, Yield, Yield3};
 use muni_msg::{Asked, Figures};

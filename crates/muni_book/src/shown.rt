@@ -1,7 +1,7 @@
 //! What a quote shows after its figures.
 
 ghost use Rattle.std.specs.Prelude.{Ok};
-ghost use Rattle.muni_book.specs.Answers.{IsRightAnswer};
+ghost use Rattle.muni_answer.specs.Answers.{IsRightAnswer};
 ghost use Rattle.muni_book.specs.Details.{AreDetails};
 
 use crate::each::each_redemption;

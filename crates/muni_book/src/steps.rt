@@ -7,10 +7,11 @@ ghost use Rattle.muni_keep.specs.Tables.{issue_history, trade_at};
 ghost use Rattle.muni_book_step.specs.Runs.{StepsTo, IsRefusal};
 ghost use Rattle.muni_book_step.specs.Step.{CanKeep};
 ghost use Rattle.muni_book_step.specs.CarriedOut.{IsCarriedOut, KeepsIssue, KeepsAmendment, KeepsVersion};
-ghost use Rattle.muni_book.specs.Answers.{IsRightAnswer};
+ghost use Rattle.muni_answer.specs.Answers.{IsRightAnswer};
 ghost use Rattle.muni_book.specs.Rules.{book_rules};
 
-use crate::{Book, BookFault, figures};
+use crate::{Book, BookFault};
+use muni_answer::figures;
 use muni_book_step::{Plan, plan_of};
 use muni_edge::Gate;
 use muni_keep::{KeepFault, Keeper};

@@ -8,8 +8,8 @@ use Rattle.muni_msg.specs.Refusal.{number_of}
 use Rattle.muni_msg.specs.declared.asked.Asked.{Asked}
 use Rattle.muni_msg.specs.declared.figures.Figures.{Figures}
 use Rattle.muni_msg.specs.declared.refusal.Refusal.{Refusal}
-use Rattle.muni_book.specs.Answers.{IsRightAnswer}
-use Rattle.muni_book.proofs.UniqueLemmas.{answers-unique}
+use Rattle.muni_answer.specs.Answers.{IsRightAnswer}
+use Rattle.muni_answer.proofs.UniqueLemmas.{answers-unique}
 use Rattle.muni_figures.specs.Laws.{columns_of}
 use Rattle.muni_figures.specs.Line.{figure_fields, risk_fields, said_fields, said_line}
 use Rattle.muni_figures.specs.Rows.{Row}

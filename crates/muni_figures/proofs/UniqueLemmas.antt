@@ -8,8 +8,8 @@ use Rattle.muni_msg.specs.Refusal.{number_of}
 use Rattle.muni_msg.specs.declared.asked.Asked.{Asked}
 use Rattle.muni_msg.specs.declared.figures.Figures.{Figures}
 use Rattle.muni_msg.specs.declared.refusal.Refusal.{Refusal}
-use Rattle.muni_book.specs.Answers.{IsRightAnswer}
-use Rattle.muni_book.proofs.UniqueLemmas.{answers-unique}
+use Rattle.muni_answer.specs.Answers.{IsRightAnswer}
+use Rattle.muni_answer.proofs.UniqueLemmas.{answers-unique}
 use Rattle.muni_figures.specs.Done.{IsFiguresText}
 use Rattle.muni_figures.specs.Line.{priced_count, priced_sum, said_lines, total_line}
 use Rattle.muni_figures.specs.Rows.{Row}

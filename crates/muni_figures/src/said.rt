@@ -5,11 +5,12 @@ ghost use Rattle.std.specs.BTreeMap as tree;
 ghost use Rattle.muni_rule.specs.Payments.{PaymentSeries};
 ghost use Rattle.muni_rule.specs.WorthEnds.{WorthEnds};
 ghost use Rattle.muni_sched.specs.Candidates.{AreCandidates, IsCandidate};
-ghost use Rattle.muni_book.specs.Answers.{IsRightAnswer};
+ghost use Rattle.muni_answer.specs.Answers.{IsRightAnswer};
 ghost use Rattle.muni_keep.specs.Trades.{by_bytes};
 ghost use Rattle.muni_figures.specs.Said as spec;
 
-use muni_book::{Calculator, figures, risk};
+use muni_answer::figures;
+use muni_book::{Calculator, risk};
 use muni_edge::Gate;
 use muni_import::RowFault;
 use muni_msg::{Asked, Figures, Refusal};

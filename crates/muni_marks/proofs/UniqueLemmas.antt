@@ -5,8 +5,8 @@ use Rattle.muni_rule.specs.Payments.{PaymentSeries}
 use Rattle.muni_rule.specs.WorthEnds.{WorthEnds}
 use Rattle.muni_terms.specs.declared.row.IssueRow.{IssueRow}
 use Rattle.muni_msg.specs.declared.asked.Asked.{Asked}
-use Rattle.muni_book.specs.Answers.{IsRightAnswer}
-use Rattle.muni_book.proofs.UniqueLemmas.{answers-unique}
+use Rattle.muni_answer.specs.Answers.{IsRightAnswer}
+use Rattle.muni_answer.proofs.UniqueLemmas.{answers-unique}
 use Rattle.muni_import.specs.declared.row.RowFault.{RowFault}
 use Rattle.muni_marks.specs.Marks.{IsMark, IsMarkBy, said_of}
 use Rattle.muni_marks.specs.declared.pricing.MarkSaid.{MarkSaid}

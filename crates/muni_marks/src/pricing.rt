@@ -5,11 +5,12 @@ ghost use Rattle.std.specs.List.{AllZip};
 ghost use Rattle.std.specs.BTreeMap as tree;
 ghost use denote.Param.Send.{IsSync};
 ghost use Rattle.rayon.specs.Lists.{chunks_of};
-ghost use Rattle.muni_book.specs.Answers.{IsRightAnswer};
+ghost use Rattle.muni_answer.specs.Answers.{IsRightAnswer};
 ghost use Rattle.muni_keep.specs.Trades.{by_bytes};
 ghost use Rattle.muni_marks.specs.Marks as spec;
 
-use muni_book::{Calculator, Workers, figures};
+use muni_answer::figures;
+use muni_book::{Calculator, Workers};
 use muni_days::Day;
 use muni_dec::{Cents, Price3};
 use muni_edge::{NoGate, NoMemory};

@@ -1,7 +1,8 @@
 -- Lists that model lists, item by item.
-use Rattle.std.proofs.Common.{◌≡◌, ℕ, ◌+◌, ◌<◌, List, [], ◌∷◌, ◌++◌, All, length, map, take, get_or, suc, refl, ap, sym, subst, ◌∙◌, arith}
+use Rattle.std.proofs.Common.{◌≡◌, ◌≢◌, ℕ, ◌+◌, ◌<◌, ◌≤◌, List, [], ◌∷◌, ◌++◌, All, length, map, take, get_or, set, suc, refl, ap, sym, subst, ◌∙◌, arith, ⊎_elim}
 use Rattle.std.specs.List.{AllZip}
-use Rattle.std.proofs.lemmas.List.{take_more}
+use Rattle.std.proofs.lemmas.Bool.{cases_lt}
+use Rattle.std.proofs.lemmas.List.{take_more, get_or-set_same, get_or-set_other, get_or_default, length-set}
 use Rattle.std.proofs.lemmas.Slice.Zip.{AllZip-long}
 use Rattle.std.proofs.lemmas.List.Elements.{All-head, All-tail}
 use Rattle.muni_sched.specs.AnswerLaws.{HasOne}
@@ -66,3 +67,30 @@ zip-each R [] [] count each = tt
 zip-each R [] (y ∷ ys) count each = absurd (omega (arith, count))
 zip-each R (x ∷ xs) [] count each = absurd (omega (arith, count))
 zip-each R (x ∷ xs) (y ∷ ys) count each = (each 0 x (omega arith), zip-each R xs ys (omega (arith, count)) (λ k d inside. each (suc k) d (omega (arith, inside))))
+
+-- a list whose items before a place were changed one after another
+pub record IsChangedTo {X : Type 0} (R : X → X → Type 0) (before now : List X) (place : ℕ) : Type 0 where
+  pub long : length now ≡ length before
+  pub changed : (k : ℕ) (d : X) → k < place → R (get_or before k d) (get_or now k d)
+  pub rest : (k : ℕ) (d : X) → place ≤ k → get_or now k d ≡ get_or before k d
+
+pub changed-next : {X : Type 0} (R : X → X → Type 0) (before now : List X) (place : ℕ) (d next : X) → place < length before → IsChangedTo R before now place → R (get_or now place d) next → IsChangedTo R before (set now place next) (place + 1)
+changed-next {X} R before now place d next within so_far own =
+    let long = so_far.long in
+    let inside : place < length now = omega (arith, long, within) in
+    record {
+      long = length-set now place next ∙ long;
+      changed = λ k e less. ⊎_elim
+          (λ (earlier : k < place). let other : k ≢ place = λ same. absurd (omega (arith, same, earlier)) in
+          subst (R (get_or before k e)) (sym (get_or-set_other now place k next e other)) (so_far.changed k e earlier))
+          (λ (order : place ≤ k). let here : place ≡ k = omega arith in
+          subst (λ (n : ℕ). R (get_or before n e) (get_or (set now place next) n e)) here
+          (subst (R (get_or before place e)) (sym (get_or-set_same now place next e inside))
+          (subst (λ (one : X). R one next) (so_far.rest place d (omega arith) ∙ get_or_default before place d e within) own)))
+          (cases_lt k place);
+      rest = λ k e order. let other : k ≢ place = λ same. absurd (omega (arith, same, order)) in
+          get_or-set_other now place k next e other ∙ so_far.rest k e (omega (arith, order));
+    }
+
+pub changed-all : {X : Type 0} (R : X → X → Type 0) (before now : List X) (place : ℕ) → length before ≤ place → IsChangedTo R before now place → AllZip R before now
+changed-all R before now place end all = zip-each R before now all.long (λ k d inside. all.changed k d (omega (arith, end, inside)))

@@ -2,6 +2,8 @@
 use Rattle.std.specs.Prelude.{◌≡◌, ℕ, zero, suc, ◌+◌, ◌<◌, ◌≤◌, List, [], ◌∷◌, Bool, false, not, ◌&&◌, ◌==◌, ◌⊎◌, if◌then◌else◌, nat_le, nat_lt, min, map, take, length, All, slice_set, Option, Some, None, unwrap_or, IfSome, ℤ, pos, ◌+ℤ◌, int_le}
 use Rattle.std.specs.Int.{int_min}
 use Rattle.std.specs.List.{filter, AllZip}
+use denote.Ref.{MutBor}
+use denote.Param.Members.{Shared}
 use Rattle.muni_rule.specs.Payments.{PaymentSeries}
 use Rattle.muni_rule.specs.declared.verdict.Verdict.{Verdict}
 use Rattle.muni_yield.specs.Bracket.{YieldBracket, IsBracket, is_settled, halved}
@@ -12,6 +14,7 @@ use Rattle.muni_sched.specs.declared.candidate.Candidate.{Candidate}
 use Rattle.muni_sched.specs.FigureKind.{Yield}
 use Rattle.muni_sched.specs.declared.outcome.CandidateOutcome.{CandidateOutcome}
 use Rattle.muni_sched.specs.declared.outcome.CandidateOutcome.TheVariants.{Print, Unsure, Below, Above, NoTime}
+use Rattle.muni_sched.specs.declared.round.Round.{Round}
 use Rattle.muni_sched.specs.declared.search.OpenSearch.{OpenSearch}
 use Rattle.muni_sched.specs.declared.search.Search.{Search}
 use Rattle.muni_sched.specs.Figures.{IsOf}
@@ -34,6 +37,13 @@ pub record IsHalved (verdicts : PaymentSeries → ℕ → ℕ → Verdict) (befo
   pub candidate : after.candidate ≡ before.candidate
   pub bracket : after.guided.bracket ≡ halved verdicts before.guided.bracket
   pub guided : IsGuided verdicts after.guided
+
+-- What asks may be called in any round with open searches, and halves each of them, in whatever order.
+pub record HalvesEach {F : Type 0} (calls : Shared F (Round × (MutBor (List OpenSearch) × Unit {0})) (Unit {0} × (MutBor (List OpenSearch) × Unit {0}))) (ask : F) (verdicts : PaymentSeries → ℕ → ℕ → Verdict) : Type 0 where
+  pub may : (round : Round) (searches : MutBor (List OpenSearch)) → All (IsOpen verdicts) searches.now
+      → calls.pre ask (round, (searches, tt))
+  pub halves : (round : Round) (before after : MutBor (List OpenSearch)) → All (IsOpen verdicts) before.now
+      → calls.post ask (round, (before, tt)) (tt, (after, tt)) → AllZip (IsHalved verdicts) before.now after.now
 
 -- one look at a search: its known verdicts stay right, and nothing else changes
 pub record IsLookedAt (verdicts : PaymentSeries → ℕ → ℕ → Verdict) (before after : OpenSearch) : Type 0 where

@@ -11,7 +11,7 @@ ghost use Rattle.muni_sched.specs.Range.{IsGivenFor, side_of_first};
 ghost use Rattle.muni_sched.specs.SearchedOut.{CountsRounds};
 
 use crate::search::{OpenSearch, Search};
-use crate::yields::{lowest_of_search, search_yields};
+use crate::yields::{lowest_of_search, search_in_threads};
 use crate::{
     Calculator, Candidate, Figure, LowAnswer, LowestPrice, LowestYield, NoPrice, NoYield, Workers,
     out_of_range, price_to_worst, put_candidates,
@@ -98,7 +98,7 @@ pub fn lowest_yield<R: Threads + Sync, E: Encloser + Sync, G: Gate + Sync, L: Le
         encloser,
         gate,
     };
-    let rounds = search_yields(&calculator, &mut search, &mut slots, list, price);
+    let rounds = search_in_threads(&calculator, &mut search, &mut slots, list, price);
     for _round in 0..rounds {
         steps.tick();
     }

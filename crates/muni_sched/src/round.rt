@@ -3,7 +3,7 @@
 ghost use Rattle.std.specs.Prelude.{◌<◌, ◌≤◌, All};
 ghost use Rattle.std.specs.List.{AllZip};
 ghost use Rattle.muni_yield.specs.Places.{place_verdict};
-ghost use Rattle.muni_sched.specs.Search.{IsPending, IsOpen, IsHalved};
+ghost use Rattle.muni_sched.specs.Search.{IsPending, IsOpen, IsHalved, HalvesEach};
 
 use crate::Calculator;
 use crate::aim::Aim;
@@ -17,10 +17,10 @@ use std::thread::Threads;
 /// What all searches of a round have in common. They ask two questions at most, so two discounts
 /// serve them. A search that asks another one computes its own.
 #[derive(Clone, Copy)]
-pub(crate) struct Round<'a> {
+pub(crate) struct Round {
     pub(crate) number: u32,
     pub(crate) aim: Aim,
-    pub(crate) discounts: &'a Discounts,
+    pub(crate) discounts: Discounts,
 }
 
 /// Adds the discounts of what the searches ask.
@@ -32,11 +32,11 @@ pub(crate) fn add_discounts(discounts: &mut Discounts, searches: &[OpenSearch], 
     }
 }
 
-/// Halves each search.
-pub(crate) fn ask_each<R: Threads + Sync, E: Encloser + Sync, G: Gate + Sync>(
+/// Halves each search, over as many threads as workers.
+pub(crate) fn ask_in_threads<R: Threads + Sync, E: Encloser + Sync, G: Gate + Sync>(
     calculator: &Calculator<'_, R, E, G>,
     searches: &mut [OpenSearch],
-    round: &Round<'_>,
+    round: &Round,
 )
     requires { All (IsOpen (place_verdict (E.ends calculator.now.encloser.now))) searches.old }
     ensures { AllZip (IsHalved (place_verdict (E.ends calculator.now.encloser.now)))
@@ -56,12 +56,46 @@ pub(crate) fn ask_each<R: Threads + Sync, E: Encloser + Sync, G: Gate + Sync>(
     );
 }
 
-fn ask_one<E: Encloser, G: Gate>(search: &mut OpenSearch, round: &Round<'_>, encloser: &E, gate: &G)
+/// Halves each search, one after another.
+pub(crate) fn ask_in_turn<R, E: Encloser, G: Gate>(
+    calculator: &Calculator<'_, R, E, G>,
+    searches: &mut [OpenSearch],
+    round: &Round,
+)
+    requires { All (IsOpen (place_verdict (E.ends calculator.now.encloser.now))) searches.old }
+    ensures { AllZip (IsHalved (place_verdict (E.ends calculator.now.encloser.now)))
+        searches.old searches.new }
+{
+    for place in 0..searches.len() {
+        ask_one(
+            &mut searches[place],
+            round,
+            calculator.encloser,
+            calculator.gate,
+        );
+    }
+}
+
+fn ask_one<E: Encloser, G: Gate>(search: &mut OpenSearch, round: &Round, encloser: &E, gate: &G)
     requires { IsOpen (place_verdict (E.ends encloser.now)) search.old }
     ensures { IsHalved (place_verdict (E.ends encloser.now)) search.old search.new }
 {
     gate.start(round.number, search.candidate);
     search
         .guided
-        .halve(encloser, round.aim.question(), round.discounts);
+        .halve(encloser, round.aim.question(), &round.discounts);
+}
+
+/// Halves each search by what asks.
+pub(crate) fn ask_each<E: Encloser, H: Fn(Round, &mut [OpenSearch])>(
+    ask: &H,
+    round: Round,
+    searches: &mut [OpenSearch],
+    encloser: &E,
+)
+    requires halves { HalvesEach H.Fn ask.now (place_verdict (E.ends encloser.now)) }
+    requires open { All (IsOpen (place_verdict (E.ends encloser.now))) searches.old }
+    ensures { AllZip (IsHalved (place_verdict (E.ends encloser.now))) searches.old searches.new }
+{
+    ask(round, searches);
 }

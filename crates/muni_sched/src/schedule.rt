@@ -10,7 +10,7 @@ ghost use Rattle.muni_sched.specs.ScheduleView.{schedule_view};
 ghost use Rattle.muni_sched.specs.SearchedOut.{CountsRounds};
 
 use crate::search::{OpenSearch, Search};
-use crate::yields::{lowest_of_search, search_yields};
+use crate::yields::{lowest_of_search, search_in_threads, search_in_turn};
 use crate::{Calculator, Candidate, LowestYield, NoYield, put_candidates};
 use muni_days::Day;
 use muni_dec::Price;
@@ -105,7 +105,33 @@ impl Schedule {
         ensures same { self.new.candidates ≡ self.old.candidates }
     {
         let list = &self.slots[..self.count];
-        self.rounds = search_yields(
+        self.rounds = search_in_threads(
+            calculator,
+            &mut self.search,
+            &mut self.searches,
+            list,
+            price,
+        );
+        lowest_of_search(&self.search, list, price, calculator.encloser)
+    }
+
+    /// The same without threads, so that nothing has to be what threads may share.
+    pub fn yield_to_worst_alone<R, E: Encloser, G: Gate>(
+        &mut self,
+        calculator: &Calculator<'_, R, E, G>,
+        price: Price,
+    ) -> Result<LowestYield, NoYield>
+        requires candidates { All IsCandidate self.old.candidates }
+        requires price { 0 < price }
+        ensures lowest { IsLowestAnswer (E.ends calculator.now.encloser.now) (at_price price)
+            self.old.candidates (low_yield result) }
+        ensures rounds { CountsRounds (E.ends calculator.now.encloser.now) price
+            self.old.candidates 0 self.new.rounds }
+        ensures few { self.new.rounds ≤ 19 }
+        ensures same { self.new.candidates ≡ self.old.candidates }
+    {
+        let list = &self.slots[..self.count];
+        self.rounds = search_in_turn(
             calculator,
             &mut self.search,
             &mut self.searches,

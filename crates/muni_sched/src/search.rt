@@ -6,7 +6,7 @@ ghost use Rattle.muni_yield.specs.Places.{place_verdict};
 ghost use Rattle.muni_yield.specs.Settled.{settled_as};
 ghost use Rattle.muni_sched.specs.Candidates.{IsCandidate};
 ghost use Rattle.muni_sched.specs.Search as spec;
-ghost use Rattle.muni_sched.specs.Search.{IsSearch, CanRefine, IsStarted, IsRound, AreRounds, MayLook, IsBegun, state, noted, recorded, missed, searches_from};
+ghost use Rattle.muni_sched.specs.Search.{IsSearch, CanRefine, IsStarted, IsRound, HalvesEach, AreRounds, MayLook, IsBegun, state, noted, recorded, missed, searches_from};
 ghost use Rattle.muni_sched.specs.YieldOutcome.{many_yield};
 
 use crate::aim::Aim;
@@ -21,7 +21,6 @@ use muni_edge::Gate;
 use muni_multi::Encloser;
 use muni_yield::laws::searches_are_in_order;
 use muni_yield::{Discounts, GuidedSearch, Place};
-use std::thread::Threads;
 
 /// The search for the yield of one candidate, which is counted from 0 in order of date.
 #[derive(Clone, Copy, Debug, PartialEq, Eq, Default)]
@@ -187,17 +186,19 @@ impl Search {
     }
 
     /// One round or more, if a search is left. Answers the number of the next round.
-    pub(crate) fn advance<R: Threads + Sync, E: Encloser + Sync, G: Gate + Sync>(
+    pub(crate) fn advance<R, E: Encloser, G: Gate, H: Fn(Round, &mut [OpenSearch])>(
         &mut self,
         calculator: &Calculator<'_, R, E, G>,
         slots: &mut [OpenSearch],
         round: u32,
+        ask: &H,
     ) -> u32
         requires few { round ≤ 19 }
         requires some { (self.old.left == 0) ≡ false }
         requires fits { self.old.left ≤ length slots.old }
         requires can { CanRefine (place_verdict (E.ends calculator.now.encloser.now))
             (state self.old slots.old) }
+        requires halves { HalvesEach H.Fn ask.now (place_verdict (E.ends calculator.now.encloser.now)) }
         ensures rounds { AreRounds (place_verdict (E.ends calculator.now.encloser.now)) (result - round)
             (state self.old slots.old) (state self.new slots.new) }
         ensures more { round < result }
@@ -207,7 +208,7 @@ impl Search {
         if self.is_over() {
             return next;
         }
-        self.refine(calculator, slots, next);
+        self.refine(calculator, slots, next, ask);
         next + 1
     }
 
@@ -250,17 +251,18 @@ impl Search {
         next
     }
 
-    // One round: each search is halved once. Then those are dropped whose outcome is known or
-    // cannot be the lowest.
-    fn refine<R: Threads + Sync, E: Encloser + Sync, G: Gate + Sync>(
+    // One round: each search is halved once. Then those are dropped whose outcome is known or cannot be the lowest.
+    fn refine<R, E: Encloser, G: Gate, H: Fn(Round, &mut [OpenSearch])>(
         &mut self,
         calculator: &Calculator<'_, R, E, G>,
         slots: &mut [OpenSearch],
         round: u32,
+        ask: &H,
     )
         requires fits { self.old.left ≤ length slots.old }
         requires can { CanRefine (place_verdict (E.ends calculator.now.encloser.now))
             (state self.old slots.old) }
+        requires halves { HalvesEach H.Fn ask.now (place_verdict (E.ends calculator.now.encloser.now)) }
         ensures round { IsRound (place_verdict (E.ends calculator.now.encloser.now))
             (state self.old slots.old) (state self.new slots.new) }
         ensures fits { self.new.left ≤ length slots.new }
@@ -268,19 +270,21 @@ impl Search {
         if self.left == 1 {
             self.refine_one(calculator, slots, round);
         } else {
-            self.refine_each(calculator, slots, round);
+            self.refine_each(calculator, slots, round, ask);
         }
     }
 
-    fn refine_each<R: Threads + Sync, E: Encloser + Sync, G: Gate + Sync>(
+    fn refine_each<R, E: Encloser, G, H: Fn(Round, &mut [OpenSearch])>(
         &mut self,
         calculator: &Calculator<'_, R, E, G>,
         slots: &mut [OpenSearch],
         round: u32,
+        ask: &H,
     )
         requires fits { self.old.left ≤ length slots.old }
         requires can { CanRefine (place_verdict (E.ends calculator.now.encloser.now))
             (state self.old slots.old) }
+        requires halves { HalvesEach H.Fn ask.now (place_verdict (E.ends calculator.now.encloser.now)) }
         ensures round { IsRound (place_verdict (E.ends calculator.now.encloser.now))
             (state self.old slots.old) (state self.new slots.new) }
         ensures fits { self.new.left ≤ length slots.new }
@@ -291,9 +295,9 @@ impl Search {
         let asking = Round {
             number: round,
             aim: self.aim,
-            discounts: &discounts,
+            discounts,
         };
-        ask_each(calculator, searches, &asking);
+        ask_each(ask, asking, searches, calculator.encloser);
         record_settled(searches, self.known.as_mut_slice());
         self.ceiling = least_ceiling(searches, self.ceiling);
         self.missed = least_missed(searches, self.missed);
@@ -301,7 +305,7 @@ impl Search {
         self.aim = self.aim.next(&slots[..self.left], discounts.has_aim());
     }
 
-    // The same, if one search is left, as in most rounds. No thread is started.
+    // The same, if one search is left, as in most rounds.
     fn refine_one<R, E: Encloser, G: Gate>(
         &mut self,
         calculator: &Calculator<'_, R, E, G>,

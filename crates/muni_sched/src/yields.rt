@@ -1,6 +1,7 @@
 //! The lowest yield over redemption candidates.
 
 ghost use Rattle.std.specs.Prelude.{◌≡◌, ◌<◌, ◌≤◌, ◌+ℤ◌, pos, Some, length, All};
+ghost use Rattle.std.specs.List.{AllZip};
 ghost use Rattle.muni_rule.specs.PrintedYield.{boundary};
 ghost use Rattle.muni_sched.specs.Answer.{dated, IsLowestAnswer};
 ghost use Rattle.muni_sched.specs.Candidates.{IsCandidate};
@@ -10,12 +11,13 @@ ghost use Rattle.muni_sched.specs.GivenFigure.{at_price};
 ghost use Rattle.muni_sched.specs.LowAnswers.{low_yield};
 ghost use Rattle.muni_sched.specs.Lowest as spec;
 ghost use Rattle.muni_sched.specs.Ranks.{decided_by};
-ghost use Rattle.muni_sched.specs.Search.{outcomes_of, state, IsBegun};
+ghost use Rattle.muni_sched.specs.Search.{outcomes_of, state, IsBegun, IsOpen, IsHalved, HalvesEach};
 ghost use Rattle.muni_yield.specs.Places.{place_verdict};
 ghost use Rattle.muni_sched.specs.SearchedOut.{AreSearchedOut, CountsRounds};
 ghost use Rattle.muni_sched.specs.declared.outcome.CandidateOutcome.TheVariants.{Unsure};
 
 use crate::lowest::lowest_of;
+use crate::round::{Round, ask_in_threads, ask_in_turn};
 use crate::search::{OpenSearch, Search};
 use crate::{Calculator, Candidate, CandidateOutcome, LowestYield, NoYield};
 use muni_dec::{Price, Yield};
@@ -23,9 +25,9 @@ use muni_edge::Gate;
 use muni_multi::Encloser;
 use std::thread::Threads;
 
-/// Searches for the yields at a price round by round, until nothing is left to ask. Answers how many
-/// rounds there were. The searches stand in the slots.
-pub(crate) fn search_yields<R: Threads + Sync, E: Encloser + Sync, G: Gate + Sync>(
+/// Searches for the yields at a price round by round, each round over as many threads as workers,
+/// until nothing is left to ask. Answers how many rounds there were. The searches stand in the slots.
+pub(crate) fn search_in_threads<R: Threads + Sync, E: Encloser + Sync, G: Gate + Sync>(
     calculator: &Calculator<'_, R, E, G>,
     search: &mut Search,
     slots: &mut [OpenSearch],
@@ -41,17 +43,70 @@ pub(crate) fn search_yields<R: Threads + Sync, E: Encloser + Sync, G: Gate + Syn
     ensures rounds { CountsRounds (E.ends calculator.now.encloser.now) price list.now 0 result }
     ensures few { result ≤ 19 }
 {
+    let ask = |round: Round, searches: &mut [OpenSearch]|
+        requires { All (IsOpen (place_verdict (E.ends calculator.now.encloser.now))) searches.now }
+        ensures { AllZip (IsHalved (place_verdict (E.ends calculator.entry.now.encloser.now)))
+            searches.entry.now searches.exit.now }
+    { ask_in_threads(calculator, searches, &round) };
+    search_yields(calculator, search, slots, list, price, &ask)
+}
+
+/// The same, each round one search after another.
+pub(crate) fn search_in_turn<R, E: Encloser, G: Gate>(
+    calculator: &Calculator<'_, R, E, G>,
+    search: &mut Search,
+    slots: &mut [OpenSearch],
+    list: &[Candidate],
+    price: Price,
+) -> u32
+    requires room { 100 ≤ length slots.old }
+    requires few { length list.now ≤ 100 }
+    requires candidates { All IsCandidate list.now }
+    requires price { 0 < price }
+    ensures found { AreSearchedOut (E.ends calculator.now.encloser.now) price list.now
+        (outcomes_of search.new.known.items) }
+    ensures rounds { CountsRounds (E.ends calculator.now.encloser.now) price list.now 0 result }
+    ensures few { result ≤ 19 }
+{
+    let ask = |round: Round, searches: &mut [OpenSearch]|
+        requires { All (IsOpen (place_verdict (E.ends calculator.now.encloser.now))) searches.now }
+        ensures { AllZip (IsHalved (place_verdict (E.ends calculator.entry.now.encloser.now)))
+            searches.entry.now searches.exit.now }
+    { ask_in_turn(calculator, searches, &round) };
+    search_yields(calculator, search, slots, list, price, &ask)
+}
+
+// The same, each round by what asks.
+fn search_yields<R, E: Encloser, G: Gate, H: Fn(Round, &mut [OpenSearch])>(
+    calculator: &Calculator<'_, R, E, G>,
+    search: &mut Search,
+    slots: &mut [OpenSearch],
+    list: &[Candidate],
+    price: Price,
+    ask: &H,
+) -> u32
+    requires halves { HalvesEach H.Fn ask.now
+        (place_verdict (E.ends calculator.now.encloser.now)) }
+    requires room { 100 ≤ length slots.old }
+    requires few { length list.now ≤ 100 }
+    requires candidates { All IsCandidate list.now }
+    requires price { 0 < price }
+    ensures found { AreSearchedOut (E.ends calculator.now.encloser.now) price list.now
+        (outcomes_of search.new.known.items) }
+    ensures rounds { CountsRounds (E.ends calculator.now.encloser.now) price list.now 0 result }
+    ensures few { result ≤ 19 }
+{
     begin(calculator, search, slots, list, price);
     let mut rounds = 0;
     while !search.is_over() {
-        rounds = search.advance(calculator, slots, rounds);
+        rounds = search.advance(calculator, slots, rounds, ask);
     }
     rounds
 }
 
 // A look that begins with all candidates costs less than a search for each and a look at those. One or two candidates are
 // not looked at.
-fn begin<R: Threads + Sync, E: Encloser + Sync, G: Gate + Sync>(
+fn begin<R, E: Encloser, G>(
     calculator: &Calculator<'_, R, E, G>,
     search: &mut Search,
     slots: &mut [OpenSearch],

@@ -2,8 +2,8 @@ use Rattle.std.proofs.Common.{◌≡◌, Ok, Err, Result, subst, sym}
 use Rattle.muni_sched.specs.Candidates.{AreCandidates}
 use Rattle.muni_msg.specs.declared.figures.Figures.{Figures}
 use Rattle.muni_msg.specs.declared.refusal.Refusal.{Refusal}
-use Rattle.muni_book.specs.FilledFor.{refusal_of}
-use Rattle.muni_book.proofs.UniqueLemmas.{answers-unique}
+use Rattle.muni_answer.specs.FilledFor.{refusal_of}
+use Rattle.muni_answer.proofs.UniqueLemmas.{answers-unique}
 use Rattle.muni_book.proofs.each.each_redemption.Goals as goal
 
 pub returns-in-Ok : goal.returns-in-Ok

@@ -2,7 +2,7 @@ use Rattle.std.proofs.Common.{◌≡◌, Some, None, sym, ap, subst, ◌∙◌}
 use Rattle.std.specs.Prelude.{IfSome, find, option_map}
 use Rattle.muni_sched.specs.Candidates.{IsCandidate}
 use Rattle.muni_sched.specs.Range.{IsGivenFor}
-use Rattle.muni_book.specs.GivenFor.{IsNote}
+use Rattle.muni_answer.specs.GivenFor.{IsNote}
 use Rattle.muni_book.specs.Risk.{is_on, shown_yield, AreOfShape, IsRiskOf}
 use Rattle.muni_book.proofs.RiskLemmas.{found-all, found-disclosed, none-disclosed, shown-note, discount-kind}
 use Rattle.muni_book.proofs.risks.risk.Goals.{After-as_shown}

@@ -1,5 +1,5 @@
 use Rattle.std.proofs.lemmas.Result.{IfOk-weaker}
-use Rattle.muni_book.specs.Answers.{IsRightAnswer}
+use Rattle.muni_answer.specs.Answers.{IsRightAnswer}
 use Rattle.muni_book_step.proofs.CarriedOutLemmas.{issue-carried, amendment-carried, version-carried, priced-carried}
 use Rattle.muni_book.proofs.steps.carry_out.Goals as goal
 

@@ -1,4 +1,4 @@
-use Rattle.muni_book.specs.Answers.{IsRightAnswer}
+use Rattle.muni_answer.specs.Answers.{IsRightAnswer}
 use Rattle.muni_book_step.proofs.CarriedOutLemmas.{still-ready, refused-unchanged}
 use Rattle.muni_book.proofs.steps.step.Goals as goal
 

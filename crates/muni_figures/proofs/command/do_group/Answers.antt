@@ -1,7 +1,7 @@
 use Rattle.std.proofs.Common.{◌∙◌, Err, ap, length, subst, arith}
 use Rattle.std.specs.BTreeMap as tree
 use Rattle.std.proofs.lemmas.Result.{err_from_is_err_and}
-use Rattle.muni_book.specs.Answers.{IsRightAnswer}
+use Rattle.muni_answer.specs.Answers.{IsRightAnswer}
 use Rattle.muni_keep.specs.Trades.{by_bytes}
 use Rattle.muni_figures.specs.Figured.{DidRows}
 use Rattle.muni_figures.specs.Said.{IsSaid, IsToldOf}

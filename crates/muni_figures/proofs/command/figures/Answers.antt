@@ -1,4 +1,4 @@
-use Rattle.muni_book.specs.Answers.{IsRightAnswer}
+use Rattle.muni_answer.specs.Answers.{IsRightAnswer}
 use Rattle.muni_desk_io.proofs.StoreLemmas.{nothing-changes}
 use Rattle.muni_figures.specs.Line.{header}
 use Rattle.muni_figures.proofs.ToldLemmas.{fetched-wrote}

@@ -1,6 +1,6 @@
 use Rattle.std.proofs.Common.{◌≡◌, ◌+◌, ℕ, List, take}
 use Rattle.std.specs.BTreeMap as tree
-use Rattle.muni_book.specs.Answers.{IsRightAnswer}
+use Rattle.muni_answer.specs.Answers.{IsRightAnswer}
 use Rattle.muni_edge.specs.Sink.{HasWritten}
 use Rattle.muni_keep.specs.Trades.{by_bytes}
 use Rattle.muni_figures.specs.Done.{AreDone, IsSmall, tally_sum}

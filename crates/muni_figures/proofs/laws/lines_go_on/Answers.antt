@@ -1,5 +1,5 @@
 use Rattle.std.proofs.Common.{◌+◌, ◌++◌, length, sym, ap, subst}
-use Rattle.muni_book.specs.Answers.{IsRightAnswer}
+use Rattle.muni_answer.specs.Answers.{IsRightAnswer}
 use Rattle.muni_keep.specs.Tables.{issue_at}
 use Rattle.muni_figures.specs.Done.{AreDone, tally_sum}
 use Rattle.muni_figures.specs.Rows.{rows_in}

@@ -1,7 +1,7 @@
 use Rattle.std.proofs.Common.{◌++◌, ◌∷◌, ◌∙◌, [], sym, length, arith}
 use Rattle.std.specs.BTreeMap as tree
 use Rattle.std.specs.Option.{option_map}
-use Rattle.muni_book.specs.Answers.{IsRightAnswer}
+use Rattle.muni_answer.specs.Answers.{IsRightAnswer}
 use Rattle.muni_keep.specs.Trades.{by_bytes}
 use Rattle.muni_figures.specs.Rows.{row_of}
 use Rattle.muni_figures.specs.Said.{IsSaid}

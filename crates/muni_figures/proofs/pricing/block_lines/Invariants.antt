@@ -1,7 +1,7 @@
 use Rattle.std.proofs.Common.{List}
 use Rattle.std.specs.BTreeMap as tree
 use Rattle.std.specs.Option.{option_map}
-use Rattle.muni_book.specs.Answers.{IsRightAnswer}
+use Rattle.muni_answer.specs.Answers.{IsRightAnswer}
 use Rattle.muni_keep.specs.Trades.{by_bytes}
 use Rattle.muni_figures.specs.Done.{AreDone}
 use Rattle.muni_figures.specs.Rows.{Row}

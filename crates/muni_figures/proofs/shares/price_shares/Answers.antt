@@ -1,7 +1,7 @@
 use Rattle.std.proofs.Common.{subst, get_or}
 use Rattle.std.specs.BTreeMap as tree
 use Rattle.muni_keep.specs.Trades.{by_bytes}
-use Rattle.muni_book.specs.Answers.{IsRightAnswer}
+use Rattle.muni_answer.specs.Answers.{IsRightAnswer}
 use Rattle.muni_figures.specs.Said.{IsSaid}
 use Rattle.muni_figures.specs.Shares.{IsPricedShare}
 use Rattle.muni_figures.proofs.ShareLemmas.{zip-by-place}

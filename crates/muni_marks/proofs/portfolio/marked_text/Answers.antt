@@ -1,7 +1,7 @@
 use Rattle.std.proofs.Common.{◌∙◌, ap, length, arith}
 use Rattle.std.specs.BTreeMap as tree
 use Rattle.std.proofs.lemmas.Slice.Zip.{AllZip-long}
-use Rattle.muni_book.specs.Answers.{IsRightAnswer}
+use Rattle.muni_answer.specs.Answers.{IsRightAnswer}
 use Rattle.muni_keep.specs.Trades.{by_bytes}
 use Rattle.muni_marks.specs.Line.{marks_text}
 use Rattle.muni_marks.specs.Marks.{IsMark}

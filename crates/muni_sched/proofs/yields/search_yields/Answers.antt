@@ -22,7 +22,7 @@ begun : (g : given.Over) (c : After-begin g) → IsFinal (place_verdict (g.E.Enc
 begun g c =
     let verdicts = place_verdict (g.E.Encloser.ends c.args.calculator.now.encloser.now) in
     let ends = g.E.Encloser.ends c.args.calculator.now.encloser.now in
-    let law = g.met.E.Encloser g.world.𝓛 g.world.𝓜 g.world.𝓡 ((λ s x. x), (λ x. x), (λ x. x), λ x. x) in
+    let law = g.met.E.Encloser in
     let first : AreFirstKnown verdicts c.args.price = λ series is many. first-window ends series c.args.price (record {
       is = is;
       many = many;
