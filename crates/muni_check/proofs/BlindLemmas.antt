@@ -6,7 +6,7 @@ use Rattle.muni_msg.specs.declared.version.Version.{Version}
 use Rattle.muni_keep.specs.Tables.{Tables}
 use Rattle.muni_import.specs.declared.row.RowFault.{RowFault}
 use Rattle.muni_readings.specs.declared.stated.Stated.{Stated}
-use Rattle.muni_columns.specs.declared.column.Column.{Column}
+use Rattle.muni_msg.specs.declared.column.Column.{Column}
 use Rattle.muni_check_rows.specs.Other.{OtherTerm, other_in_trade}
 use Rattle.muni_check_rows.specs.Rows.{reference_in, row_in, states_nothing, trade_row_in}
 use Rattle.muni_check_rows.specs.Said.{IsCompared, IsComparedOfTrade, IsJudged, IsOtherOr, IsSaidAfter, IsSaidByName, IsSaidByReference, IsSaidOfRow, IsSaidOfTrade, IsSaidOfTradeRow, IsToldOf, Judging, live_by}

@@ -15,7 +15,7 @@ use Rattle.muni_check.specs.Checked.{AreLinesOf, IsBegunText, IsFirstText, IsLas
 use Rattle.muni_check.specs.Judging.{over}
 use Rattle.muni_check_rows.specs.Rows.{named_in, records_of}
 use Rattle.muni_check.specs.Named.{Places, again_of, came_after, no_places}
-use Rattle.muni_columns.specs.declared.column.Column.{Column}
+use Rattle.muni_msg.specs.declared.column.Column.{Column}
 use Rattle.muni_check.specs.declared.command.CheckEnd.{CheckEnd}
 use Rattle.muni_check_rows.specs.declared.said.CheckSaid.{CheckSaid}
 use Rattle.muni_check.proofs.BlindLemmas.{blind-told}

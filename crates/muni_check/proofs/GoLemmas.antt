@@ -13,7 +13,7 @@ use Rattle.muni_check_rows.specs.Rows.{named_by, named_in}
 use Rattle.muni_check_rows.specs.Said.{IsToldOf}
 use Rattle.muni_check_rows.specs.Tallies.{with_said}
 use Rattle.muni_check.specs.Unseen.{is_named, is_same}
-use Rattle.muni_columns.specs.declared.column.Column.{Column}
+use Rattle.muni_msg.specs.declared.column.Column.{Column}
 use Rattle.muni_check.specs.declared.rows.Progress.{Progress}
 use Rattle.muni_check_rows.specs.declared.said.CheckSaid.{CheckSaid}
 use Rattle.muni_check_rows.specs.declared.tally.Tally.{Tally}

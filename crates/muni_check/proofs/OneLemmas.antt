@@ -3,7 +3,7 @@ use Rattle.std.proofs.Common.{◌≡◌, ◌∙◌, ℕ, List, [], ◌∷◌, �
 use Rattle.std.specs.Prelude.{IfSome}
 use Rattle.std.proofs.lemmas.List.{append-nil}
 use Rattle.muni_keep.specs.Tables.{Tables}
-use Rattle.muni_columns.specs.declared.column.Column.{Column}
+use Rattle.muni_msg.specs.declared.column.Column.{Column}
 use Rattle.muni_check_rows.specs.Columns.{columns_in}
 use Rattle.muni_check_rows.specs.Line.{said_line, said_lines, total_line, unseen_lines}
 use Rattle.muni_check_rows.specs.Rows.{named_by, named_in}

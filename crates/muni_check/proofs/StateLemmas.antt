@@ -19,7 +19,7 @@ use Rattle.muni_check_rows.specs.Line.{said_lines}
 use Rattle.muni_check.specs.Named.{AddsNames, has, no_places, place_in}
 use Rattle.muni_check_rows.specs.Tallies.{is_again, is_different, is_missing, is_nothing, is_right, no_tally, once, tally_of, with_missing, with_said}
 use Rattle.muni_check.specs.Unseen.{is_live, is_named, is_unseen, unseen_at, unseen_in, unseen_of}
-use Rattle.muni_columns.specs.declared.column.Column.{Column}
+use Rattle.muni_msg.specs.declared.column.Column.{Column}
 use Rattle.muni_check.specs.declared.rows.BlockDone.TheVariants.{Lines}
 use Rattle.muni_check.specs.declared.rows.Progress.{Progress}
 use Rattle.muni_check.specs.declared.rows.SoFar.{SoFar}

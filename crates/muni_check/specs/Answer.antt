@@ -10,7 +10,7 @@ use Rattle.muni_check_rows.specs.Said.{IsToldOf, Judging}
 use Rattle.muni_check_rows.specs.Tallies.{are_all_right, tally_of}
 use Rattle.muni_check.specs.Named.{Places, again_of, came_after, no_places}
 use Rattle.muni_check.specs.Unseen.{unseen_in}
-use Rattle.muni_columns.specs.declared.column.Column.{Column}
+use Rattle.muni_msg.specs.declared.column.Column.{Column}
 use Rattle.muni_check.specs.declared.command.CheckEnd.{CheckEnd}
 use Rattle.muni_check.specs.declared.command.CheckEnd.TheVariants.{AllRight, NotAllRight, BadNames}
 use Rattle.muni_check_rows.specs.declared.said.CheckSaid.{CheckSaid}

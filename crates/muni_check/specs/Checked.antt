@@ -9,7 +9,7 @@ use Rattle.muni_check.specs.Answer.{AreChecked, AreUnseen, IsAnswer, Over}
 use Rattle.muni_check_rows.specs.Columns.{columns_in}
 use Rattle.muni_check_rows.specs.Line.{unseen_lines}
 use Rattle.muni_check_rows.specs.Rows.{named_by, records_of}
-use Rattle.muni_columns.specs.declared.column.Column.{Column}
+use Rattle.muni_msg.specs.declared.column.Column.{Column}
 use Rattle.muni_check.specs.declared.command.CheckEnd.{CheckEnd}
 use Rattle.muni_check_rows.specs.declared.said.CheckSaid.{CheckSaid}
 

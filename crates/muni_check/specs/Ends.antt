@@ -12,7 +12,7 @@ use Rattle.muni_check_rows.specs.Line.{names_line, total_line, unseen_lines}
 use Rattle.muni_check.specs.Named.{has}
 use Rattle.muni_check.specs.Pages.{AreAllUnseen}
 use Rattle.muni_check_rows.specs.Tallies.{are_all_right, with_missing}
-use Rattle.muni_columns.specs.declared.column.Column.{Column}
+use Rattle.muni_msg.specs.declared.column.Column.{Column}
 use Rattle.muni_check.specs.declared.command.CheckEnd.{CheckEnd}
 use Rattle.muni_check.specs.declared.command.CheckEnd.TheVariants.{BadNames}
 use Rattle.muni_check.specs.declared.rows.Progress.{Progress}

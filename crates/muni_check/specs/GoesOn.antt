@@ -10,7 +10,7 @@ use Rattle.muni_check_rows.specs.Line.{said_lines}
 use Rattle.muni_check.specs.Named.{AddsNames, came_after_rows, place_in}
 use Rattle.muni_check_rows.specs.Rows.{named_by}
 use Rattle.muni_check_rows.specs.Tallies.{with_said}
-use Rattle.muni_columns.specs.declared.column.Column.{Column}
+use Rattle.muni_msg.specs.declared.column.Column.{Column}
 use Rattle.muni_check.specs.declared.rows.BlockDone.{BlockDone}
 use Rattle.muni_check.specs.declared.rows.BlockDone.TheVariants.{Lines, BadNames}
 use Rattle.muni_check.specs.declared.rows.Progress.{Progress}

@@ -13,7 +13,7 @@ use Rattle.muni_check_rows.specs.Line.{said_lines, total_line, unseen_lines}
 use Rattle.muni_check_rows.specs.Tallies.{tally_of}
 use Rattle.muni_check.specs.One.{AnswersWithLine, IsRowLine}
 use Rattle.muni_check.specs.Unseen.{is_live, is_named, unseen_in}
-use Rattle.muni_columns.specs.declared.column.Column.{Column}
+use Rattle.muni_msg.specs.declared.column.Column.{Column}
 use Rattle.muni_check.specs.declared.command.CheckEnd.{CheckEnd}
 use Rattle.muni_check_rows.specs.declared.said.CheckSaid.{CheckSaid}
 

@@ -3,7 +3,7 @@ use Rattle.std.specs.Prelude.{◌≡◌, ◌||◌, ◌+◌, ⊤, ℕ, Bool, if�
 use Rattle.std.specs.BTreeMap as tree
 use Rattle.std.specs.BTreeMap.{BTreeMap}
 use Rattle.muni_keep.specs.Trades.{by_bytes}
-use Rattle.muni_columns.specs.declared.column.Column.{Column}
+use Rattle.muni_msg.specs.declared.column.Column.{Column}
 use Rattle.muni_check_rows.specs.Rows.{named_in}
 use Rattle.muni_check.specs.Unseen.{is_named, is_same}
 

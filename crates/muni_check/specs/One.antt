@@ -1,6 +1,6 @@
 -- The line of one row by itself.
 use Rattle.std.specs.Prelude.{◌≡◌, ℕ, List, [], ◌∷◌, ◌++◌, None}
-use Rattle.muni_columns.specs.declared.column.Column.{Column}
+use Rattle.muni_msg.specs.declared.column.Column.{Column}
 use Rattle.muni_check_rows.specs.Line.{said_line, total_line, unseen_lines}
 use Rattle.muni_check_rows.specs.Said.{IsToldOf}
 use Rattle.muni_check_rows.specs.declared.said.CheckSaid.{CheckSaid}

@@ -15,7 +15,8 @@ ghost use Rattle.muni_check_rows.specs.Said as spec;
 ghost use Rattle.muni_check_rows.specs.StatedFigures.{has_figure};
 
 use crate::cache::IssueCache;
-use muni_book::{Calculator, figures};
+use muni_answer::figures;
+use muni_book::Calculator;
 use muni_check_rows::{
     CheckRow, CheckSaid, Fields, TradeRow, compared_said, has_figure, other_in_issue,
     other_in_trade, read_row, read_trade_row, refused_said, states_nothing,

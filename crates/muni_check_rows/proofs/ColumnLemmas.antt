@@ -4,8 +4,8 @@ use Rattle.std.specs.Prelude.{unwrap_or}
 use Rattle.csv.specs.Records.{field_at}
 use Rattle.muni_import.specs.declared.row.RowFault.{RowFault}
 use Rattle.muni_check_rows.specs.Columns.{text_at, with_column, with_columns}
-use Rattle.muni_columns.specs.Columns.{column_named}
-use Rattle.muni_columns.specs.declared.column.Column.{Column}
+use Rattle.muni_msg.specs.Columns.{column_named}
+use Rattle.muni_msg.specs.declared.column.Column.{Column}
 
 field-next : (names : List (List ℕ)) (i : ℕ) → i < length names → drop i names ≡ unwrap_or (field_at names i) [] ∷ drop (suc i) names
 unfolding field_at

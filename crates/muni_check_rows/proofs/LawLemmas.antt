@@ -17,7 +17,7 @@ use Rattle.muni_msg.specs.declared.version.Version.{Version}
 use Rattle.muni_keep.specs.Tables.{issue_numbered}
 use Rattle.muni_keep.specs.Tables.{Tables}
 use Rattle.muni_import.specs.declared.row.RowFault.{RowFault}
-use Rattle.muni_columns.specs.declared.column.Column.{Column}
+use Rattle.muni_msg.specs.declared.column.Column.{Column}
 use Rattle.muni_check_rows.specs.Laws.{AreRight, IsFirstOther, IsOurs}
 use Rattle.muni_check_rows.specs.Other.{OtherTerm, other_in_issue, other_in_trade}
 use Rattle.muni_check_rows.specs.Rows.{states_nothing, trade_row_in}

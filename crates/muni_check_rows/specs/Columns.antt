@@ -5,8 +5,8 @@ use Rattle.std.specs.Str.{bytes_eq}
 use Rattle.muni_import.specs.Row.{◌>>=◌, field}
 use Rattle.muni_import.specs.declared.row.RowFault.{RowFault}
 use Rattle.muni_import.specs.declared.row.RowFault.TheVariants.{FieldCount, BadField}
-use Rattle.muni_columns.specs.Columns.{column_named, name_of}
-use Rattle.muni_columns.specs.declared.column.Column.{Column}
+use Rattle.muni_msg.specs.Columns.{column_named, name_of}
+use Rattle.muni_msg.specs.declared.column.Column.{Column}
 
 -- where a column stands among those of an input, counted from 0
 abbrev pub place_of : List Column → Column → Option ℕ

@@ -5,7 +5,7 @@ use Rattle.muni_rule.specs.WorthEnds.{WorthEnds}
 use Rattle.muni_terms.specs.declared.row.IssueRow.{IssueRow}
 use Rattle.muni_msg.specs.declared.asked.Asked.{Asked}
 use Rattle.muni_msg.specs.declared.figures.Figures.{Figures}
-use Rattle.muni_book.specs.Answers.{IsRightAnswer}
+use Rattle.muni_answer.specs.Answers.{IsRightAnswer}
 use Rattle.muni_readings.specs.Checked.{NamesReading, field_of}
 use Rattle.muni_readings.specs.Stated.{first_difference}
 use Rattle.muni_readings.specs.declared.checked.Checked.{Checked}

@@ -7,8 +7,8 @@ use Rattle.muni_msg.specs.declared.asked.Asked.{Asked}
 use Rattle.muni_msg.specs.declared.figures.Figures.{Figures}
 use Rattle.muni_msg.specs.declared.version.Version.{Version}
 use Rattle.muni_keep.specs.Tables.{Tables, issue_numbered}
-use Rattle.muni_book.specs.Answers.{IsRightAnswer}
-use Rattle.muni_columns.specs.declared.column.Column.{Column}
+use Rattle.muni_answer.specs.Answers.{IsRightAnswer}
+use Rattle.muni_msg.specs.declared.column.Column.{Column}
 use Rattle.muni_readings.specs.Stated.{first_difference}
 use Rattle.muni_readings.specs.declared.reading.Reading.{Reading}
 use Rattle.muni_readings.specs.declared.stated.Field.{Field}

@@ -12,8 +12,8 @@ use Rattle.muni_readings.specs.declared.stated.Field.TheVariants as field
 use Rattle.muni_readings.specs.declared.reading.Reading.{Reading}
 use Rattle.muni_readings.specs.declared.reading.Reading.TheVariants as reading
 use Rattle.muni_readings.specs.declared.stated.Stated.{Stated}
-use Rattle.muni_columns.specs.Columns.{name_of}
-use Rattle.muni_columns.specs.declared.column.Column.TheVariants as column
+use Rattle.muni_msg.specs.Columns.{name_of}
+use Rattle.muni_msg.specs.declared.column.Column.TheVariants as column
 use Rattle.muni_check_rows.specs.Other.{OtherTerm}
 use Rattle.muni_check_rows.specs.declared.said.CheckSaid.{CheckSaid}
 use Rattle.muni_check_rows.specs.declared.said.CheckSaid.TheVariants as outcome

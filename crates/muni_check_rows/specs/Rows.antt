@@ -15,8 +15,8 @@ use Rattle.muni_check_rows.specs.Other.{issue_columns, trade_columns}
 use Rattle.muni_check_rows.specs.StatedFigures.{figure_in, has_figure, stated_in}
 use Rattle.muni_check_rows.specs.Terms.{has_terms, terms_in}
 use Rattle.muni_check_rows.specs.Trade.{asked_in, trade_texts_in}
-use Rattle.muni_columns.specs.declared.column.Column.{Column}
-use Rattle.muni_columns.specs.declared.column.Column.TheVariants as column
+use Rattle.muni_msg.specs.declared.column.Column.{Column}
+use Rattle.muni_msg.specs.declared.column.Column.TheVariants as column
 use Rattle.muni_check_rows.specs.declared.row.CheckRow.{CheckRow}
 use Rattle.muni_check_rows.specs.declared.row.TradeRow.{TradeRow}
 

@@ -23,7 +23,7 @@ use Rattle.muni_readings.specs.declared.checked.Checked.TheVariants as checked
 use Rattle.muni_check_rows.specs.Other.{OtherTerm, other_in_issue, other_in_trade}
 use Rattle.muni_check_rows.specs.Rows.{reference_in, row_in, states_nothing, trade_row_in}
 use Rattle.muni_check_rows.specs.StatedFigures.{has_figure}
-use Rattle.muni_columns.specs.declared.column.Column.{Column}
+use Rattle.muni_msg.specs.declared.column.Column.{Column}
 use Rattle.muni_check_rows.specs.declared.row.CheckRow.{CheckRow}
 use Rattle.muni_check_rows.specs.declared.row.TradeRow.{TradeRow}
 use Rattle.muni_check_rows.specs.declared.said.CheckSaid.{CheckSaid}

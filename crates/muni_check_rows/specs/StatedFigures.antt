@@ -7,8 +7,8 @@ use Rattle.muni_import.specs.Row.{◌>>=◌}
 use Rattle.muni_import.specs.declared.row.RowFault.{RowFault}
 use Rattle.muni_readings.specs.declared.stated.Stated.{Stated}
 use Rattle.muni_check_rows.specs.Columns.{fault_in, text_in}
-use Rattle.muni_columns.specs.declared.column.Column.{Column}
-use Rattle.muni_columns.specs.declared.column.Column.TheVariants as column
+use Rattle.muni_msg.specs.declared.column.Column.{Column}
+use Rattle.muni_msg.specs.declared.column.Column.TheVariants as column
 
 -- what a column states, if it is not empty
 abbrev pub figure_by : {T : Type 0} → RowFault → (List ℕ → Option T) → List ℕ → Result (Option T) RowFault

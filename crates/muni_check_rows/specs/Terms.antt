@@ -10,8 +10,8 @@ use Rattle.muni_msg.specs.IssueFields.{coupon_by}
 use Rattle.muni_import.specs.Row.{◌>>=◌, is_kind, not_empty}
 use Rattle.muni_import.specs.declared.row.RowFault.{RowFault}
 use Rattle.muni_check_rows.specs.Columns.{fault_in, states, states_any, text_in}
-use Rattle.muni_columns.specs.declared.column.Column.{Column}
-use Rattle.muni_columns.specs.declared.column.Column.TheVariants as column
+use Rattle.muni_msg.specs.declared.column.Column.{Column}
+use Rattle.muni_msg.specs.declared.column.Column.TheVariants as column
 
 -- what a column of the terms reads as
 abbrev pub term_in : {T : Type 0} → List Column → List (List ℕ) → Column → (List ℕ → Option T) → Result T RowFault

@@ -13,8 +13,8 @@ use Rattle.muni_import.specs.Row.{◌>>=◌, is_basis}
 use Rattle.muni_import.specs.declared.row.RowFault.{RowFault}
 use Rattle.muni_check_rows.specs.Basis.{basis_of, basis_reading, basis_text}
 use Rattle.muni_check_rows.specs.Columns.{fault_in, text_in}
-use Rattle.muni_columns.specs.declared.column.Column.{Column}
-use Rattle.muni_columns.specs.declared.column.Column.TheVariants as column
+use Rattle.muni_msg.specs.declared.column.Column.{Column}
+use Rattle.muni_msg.specs.declared.column.Column.TheVariants as column
 
 -- what a text states, or what stands for it if it is empty
 abbrev pub stated_or : {T : Type 0} → Option T → (List ℕ → Option T) → List ℕ → Option T

@@ -3,12 +3,12 @@
 ghost use Rattle.std.specs.Prelude.{◌≡◌, ◌<◌, IfErr, IfOk, IfSome, OnOk, Ok, Err, Some};
 ghost use Rattle.csv.specs.Records.{fields_of};
 ghost use Rattle.muni_check_rows.specs.Columns as spec;
-ghost use Rattle.muni_columns.specs.Columns.{column_named};
+ghost use Rattle.muni_msg.specs.Columns.{column_named};
 
 use arrayvec::ArrayVec;
 use csv::ByteRecord;
-use muni_columns::Column;
 use muni_import::RowFault;
+use muni_msg::Column;
 
 /// The columns of an input, in their order.
 pub type Columns = ArrayVec<Column, 22>;

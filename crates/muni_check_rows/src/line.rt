@@ -13,14 +13,13 @@ use crate::said::CheckSaid;
 use crate::tally::Tally;
 use arrayvec::ArrayVec;
 use itoa::Buffer;
-use muni_columns::Column;
 use muni_days::Day;
 use muni_dec::text::push;
 use muni_dec::{Cents, Price3, Yield3};
 use muni_edge::NoMemory;
 use muni_import::line::{push_bad, push_day, push_field, push_money, push_price, push_refused};
 use muni_marks::push_count;
-use muni_msg::Figures;
+use muni_msg::{Column, Figures};
 use muni_readings::{Field, Reading, Stated};
 
 /// Appends the line of a row, with its line end.

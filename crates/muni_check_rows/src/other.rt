@@ -6,11 +6,10 @@ ghost use Rattle.muni_check_rows.specs.Other as spec;
 
 use crate::trade::TradeTexts;
 use arrayvec::ArrayVec;
-use muni_columns::Column;
 use muni_days::Basis;
 use muni_edge::NoMemory;
 use muni_export::{days_word, kind_word, side_word};
-use muni_msg::Asked;
+use muni_msg::{Asked, Column};
 use muni_store_rows::{IssueColumns, row_columns};
 use muni_terms::{IssueRow, Kind};
 use std::alloc::Global;

@@ -11,10 +11,9 @@ use crate::stated::{has_figure, read_stated};
 use crate::terms::{has_terms, read_terms};
 use crate::trade::{TradeTexts, read_asked, read_trade_texts};
 use csv::ByteRecord;
-use muni_columns::Column;
 use muni_import::RowFault;
 use muni_import::columns::field;
-use muni_msg::{Asked, Reference};
+use muni_msg::{Asked, Column, Reference};
 use muni_readings::Stated;
 use muni_terms::IssueRow;
 

@@ -6,12 +6,12 @@ ghost use Rattle.muni_check_rows.specs.StatedFigures as spec;
 ghost use Rattle.muni_msg.specs.Fields.{day_in};
 
 use crate::row::Fields;
-use muni_columns::Column;
 use muni_days::Day;
 use muni_dec::digits::read_number;
 use muni_dec::text::find;
 use muni_dec::{Cents, Price3, Yield3};
 use muni_import::RowFault;
+use muni_msg::Column;
 use muni_readings::Stated;
 
 /// The figures that a row states. One whose column is empty or not there is not stated.

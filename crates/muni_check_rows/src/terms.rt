@@ -9,10 +9,9 @@ ghost use Rattle.muni_check_rows.specs.Terms as spec;
 
 use crate::row::Fields;
 use arrayvec::ArrayVec;
-use muni_columns::Column;
 use muni_days::Day;
 use muni_import::RowFault;
-use muni_msg::{read_basis_field, read_calls, read_coupon, read_kind};
+use muni_msg::{Column, read_basis_field, read_calls, read_coupon, read_kind};
 use muni_terms::{IssueRow, Kind};
 
 // The terms after the kind.

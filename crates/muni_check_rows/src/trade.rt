@@ -15,12 +15,11 @@ ghost use Rattle.muni_check_rows.specs.Trade as spec;
 
 use crate::row::Fields;
 use arrayvec::ArrayVec;
-use muni_columns::Column;
 use muni_days::Day;
 use muni_dec::{Fee, Par};
 use muni_export::print_value;
 use muni_import::RowFault;
-use muni_msg::{Asked, Given, Side, read_cusip, read_given, read_side};
+use muni_msg::{Asked, Column, Given, Side, read_cusip, read_given, read_side};
 use std::marker::Model;
 
 // The CUSIP of terms that a row states without one. Nothing hangs on it.

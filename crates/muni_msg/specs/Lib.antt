@@ -8,3 +8,4 @@ pub mod Letters
 pub mod Names
 pub mod NameReading
 pub mod Refusal
+pub mod Columns

@@ -4,6 +4,7 @@
 mod asked;
 mod calls;
 mod codes;
+mod column;
 mod command;
 mod desk_limit;
 mod each;
@@ -18,6 +19,7 @@ mod version;
 pub use asked::{Asked, Given, Side, Terms};
 pub use calls::read_calls;
 pub use codes::{basis_code, basis_of_code, kind_code, label_code, label_of_code};
+pub use column::Column;
 pub use command::{Command, Key, Line, Reply};
 pub use desk_limit::DeskLimit;
 pub use each::{EachFigure, EachRedemption};

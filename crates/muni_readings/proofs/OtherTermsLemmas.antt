@@ -9,7 +9,7 @@ use Rattle.muni_terms.specs.declared.row.TermsFault.{TermsFault}
 use Rattle.muni_msg.specs.declared.asked.Asked.{Asked}
 use Rattle.muni_msg.specs.declared.figures.Figures.{Figures}
 use Rattle.muni_msg.specs.declared.refusal.Refusal.{Refusal}
-use Rattle.muni_book.specs.Answers.{IsRightAnswer}
+use Rattle.muni_answer.specs.Answers.{IsRightAnswer}
 use Rattle.muni_readings.specs.OtherTerms.{Ends, IsAnswered, IsOver, IsByGross, uncalled}
 
 passed-by : (ends : Ends) (row issue : IssueRow) (asked : Asked) (theirs : Option Figures) (fault : Option TermsFault) → ◌≡◌ {A = Result IssueRow TermsFault} (Ok issue) (unless_fault row fault)

@@ -19,7 +19,7 @@ use Rattle.muni_msg.specs.declared.asked.Asked.{Asked}
 use Rattle.muni_msg.specs.declared.asked.Given.{Given}
 use Rattle.muni_msg.specs.declared.asked.Given.TheVariants.{AtYield, AtPrice, AtRate}
 use Rattle.muni_msg.specs.declared.figures.Figures.{Figures}
-use Rattle.muni_book.specs.Trade.{net_price}
+use Rattle.muni_answer.specs.Trade.{net_price}
 use Rattle.muni_readings.specs.Disclosed.{IsFromDisclosed}
 use Rattle.muni_readings.specs.Money.{with_price}
 

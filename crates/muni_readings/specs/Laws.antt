@@ -21,7 +21,7 @@ use Rattle.muni_sched.specs.declared.candidate.Shape.TheVariants.{Many}
 use Rattle.muni_msg.specs.declared.asked.Asked.{Asked}
 use Rattle.muni_msg.specs.declared.asked.Given.TheVariants.{AtPrice}
 use Rattle.muni_msg.specs.declared.figures.Figures.{Figures}
-use Rattle.muni_book.specs.Answers.{IsRightAnswer}
+use Rattle.muni_answer.specs.Answers.{IsRightAnswer}
 use Rattle.muni_readings.specs.Compounded.{IsCompoundedOf}
 use Rattle.muni_readings.specs.February.{ends_february, february_days}
 use Rattle.muni_readings.specs.OtherTerms.{Ends, IsByMaturity, IsByFirstCall, IsByGross}

@@ -6,7 +6,7 @@ use Rattle.muni_dec.specs.Values.{if_money}
 use Rattle.muni_terms.specs.declared.row.IssueRow.{IssueRow}
 use Rattle.muni_msg.specs.declared.asked.Asked.{Asked}
 use Rattle.muni_msg.specs.declared.figures.Figures.{Figures}
-use Rattle.muni_book.specs.Trade.{total}
+use Rattle.muni_answer.specs.Trade.{total}
 
 -- the total of a trade from two amounts, its principal and its accrued interest, if there is such an amount of money
 abbrev pub total_with : Asked → ℕ → ℕ → Option ℕ

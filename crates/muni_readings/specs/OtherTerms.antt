@@ -16,7 +16,7 @@ use Rattle.muni_sched.specs.declared.candidate.Candidate.{Candidate}
 use Rattle.muni_msg.specs.declared.asked.Asked.{Asked}
 use Rattle.muni_msg.specs.declared.figures.Figures.{Figures}
 use Rattle.muni_msg.specs.declared.refusal.Refusal.{Refusal}
-use Rattle.muni_book.specs.Answers.{IsRightAnswer}
+use Rattle.muni_answer.specs.Answers.{IsRightAnswer}
 
 -- the ends that an encloser gives to payments and a yield
 abbrev pub Ends : Type 0

@@ -1,7 +1,7 @@
 //! What is said of stated figures.
 
 ghost use Rattle.std.specs.Prelude.{◌≡◌, ◌↔◌, None, Ok};
-ghost use Rattle.muni_book.specs.Answers.{IsRightAnswer};
+ghost use Rattle.muni_answer.specs.Answers.{IsRightAnswer};
 ghost use Rattle.muni_readings.specs.Checked.{IsFirstReading, NamesReading, field_of};
 ghost use Rattle.muni_readings.specs.Stated as spec;
 

@@ -8,7 +8,7 @@ ghost use Rattle.muni_rule.specs.WorthEnds.{HoldsWorth, IsNarrow, enclosure_ends
 ghost use Rattle.muni_simple.specs.Single.{IsSingle};
 ghost use Rattle.muni_simple.specs.declared.single.Shape1.TheVariants as single;
 ghost use Rattle.muni_yield.specs.Places.{yield_at};
-ghost use Rattle.muni_book.specs.Trade as trades;
+ghost use Rattle.muni_answer.specs.Trade as trades;
 ghost use Rattle.muni_readings.specs.Compounded as spec;
 ghost use Rattle.muni_readings.specs.Compounded.{IsByCompounding, IsCompoundedAt, IsCompoundedPrice, IsCompoundedYield, TellsYield};
 

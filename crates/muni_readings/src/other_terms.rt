@@ -1,13 +1,13 @@
 //! The readings that are the rule over other terms.
 
 ghost use Rattle.std.specs.Prelude.{◌≡◌, Ok};
-ghost use Rattle.muni_book.specs.Answers.{IsRightAnswer};
+ghost use Rattle.muni_answer.specs.Answers.{IsRightAnswer};
 ghost use Rattle.muni_readings.specs.OtherTerms as spec;
 ghost use Rattle.muni_readings.specs.OtherTerms.{IsOver, IsByMaturity, IsByFirstCall, IsByGross};
 
 use crate::Answered;
 use arrayvec::ArrayVec;
-use muni_book::figures;
+use muni_answer::figures;
 use muni_dec::Fee;
 use muni_edge::Gate;
 use muni_msg::{Asked, Figures};

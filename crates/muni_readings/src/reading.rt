@@ -1,7 +1,7 @@
 //! Other formulas than those of the rule.
 
 ghost use Rattle.std.specs.Prelude.{Ok};
-ghost use Rattle.muni_book.specs.Answers.{IsRightAnswer};
+ghost use Rattle.muni_answer.specs.Answers.{IsRightAnswer};
 ghost use Rattle.muni_readings.specs.Readings.{IsBy};
 
 use crate::Answered;

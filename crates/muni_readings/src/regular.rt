@@ -5,7 +5,7 @@ ghost use Rattle.muni_rule.specs.Civil as rule;
 ghost use Rattle.muni_days.specs.Day.{civil};
 ghost use Rattle.muni_terms.specs.Check.{fault_of};
 ghost use Rattle.muni_terms.specs.LastMonth.{IsLastMonth};
-ghost use Rattle.muni_book.specs.Answers.{IsRightAnswer};
+ghost use Rattle.muni_answer.specs.Answers.{IsRightAnswer};
 ghost use Rattle.muni_readings.specs.Regular as spec;
 ghost use Rattle.muni_readings.specs.Regular.{IsByRegular};
 

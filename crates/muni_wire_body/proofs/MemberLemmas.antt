@@ -13,8 +13,8 @@ use Rattle.muni_msg.specs.declared.asked.Side.TheVariants.{Buy}
 use Rattle.muni_wire_body.specs.Body.{data_of, request_of, request_in, command_in, key_in, asked_in, shown_in, fee_in, terms_in, calendar_in, basis_in, issue_with, issue_in}
 use Rattle.muni_wire_body.specs.OtherMembers.{issue_names, member_names}
 use Rattle.muni_wire_body.specs.Stated.{is_known, names_in, row_in}
-use Rattle.muni_columns.specs.Columns.{all_columns, column_named, name_of}
-use Rattle.muni_columns.specs.declared.column.Column.{Column}
+use Rattle.muni_msg.specs.Columns.{all_columns, column_named, name_of}
+use Rattle.muni_msg.specs.declared.column.Column.{Column}
 use Rattle.muni_wire_body.specs.declared.look.Request.TheVariants.{Book, Check}
 use Rattle.muni_wire_body.proofs.BodyLemmas.{request-of-book}
 use Rattle.muni_wire_body.specs.declared.form.Form.{Form}

@@ -12,9 +12,9 @@ use Rattle.serde_json.specs.View.{members_view}
 use Rattle.serde_json.specs.declared.value.Value.{Value}
 use Rattle.std.specs.Map.{keys_of}
 use Rattle.muni_msg.specs.Fields.{◌>>=◌}
-use Rattle.muni_columns.specs.Columns.{all_columns, name_of}
-use Rattle.muni_columns.specs.declared.column.Column.{Column}
-use Rattle.muni_columns.specs.declared.column.Column.TheVariants as column
+use Rattle.muni_msg.specs.Columns.{all_columns, name_of}
+use Rattle.muni_msg.specs.declared.column.Column.{Column}
+use Rattle.muni_msg.specs.declared.column.Column.TheVariants as column
 use Rattle.muni_wire_body.specs.Stated.{before, desk_at, members_in, names_in, row_of, text_at, texts_in}
 
 abbrev pub Texts : Type 0

@@ -2,7 +2,7 @@
 use Rattle.std.specs.Prelude.{◌≡◌, ◌≢◌, ℕ, List, [], ◌∷◌, All, codes, map, Some, None}
 use Rattle.serde_json.specs.Data.{Data}
 use Rattle.serde_json.specs.Find.{get}
-use Rattle.muni_columns.specs.Columns.{all_columns, name_of}
+use Rattle.muni_msg.specs.Columns.{all_columns, name_of}
 use Rattle.muni_wire_body.specs.Body.{data_of, request_of}
 use Rattle.muni_wire_body.specs.declared.form.Form.{Form}
 use Rattle.muni_wire_body.specs.declared.form.Form.TheVariants as form

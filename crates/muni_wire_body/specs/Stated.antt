@@ -8,8 +8,8 @@ use Rattle.serde_json.specs.Find.{get, as_object, as_str}
 use Rattle.muni_msg.specs.Fields.{◌>>=◌}
 use Rattle.muni_msg.specs.Names.{is_desk_letter}
 use Rattle.muni_msg.specs.NameReading.{name_reading}
-use Rattle.muni_columns.specs.Columns.{all_columns, column_named, name_of}
-use Rattle.muni_columns.specs.declared.column.Column.{Column}
+use Rattle.muni_msg.specs.Columns.{all_columns, column_named, name_of}
+use Rattle.muni_msg.specs.declared.column.Column.{Column}
 
 -- the desk whose trades its reference names, if one is given, its columns, and the text of each
 pub record RowTexts : Type 0 where

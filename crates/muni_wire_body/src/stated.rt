@@ -4,15 +4,14 @@ ghost use Rattle.std.specs.Prelude.{◌≡◌, None, Some, Err, IfErr, IfOk, cod
 ghost use Rattle.csv.specs.Records.{fields_of};
 ghost use Rattle.serde_json.specs.Find.{as_object, get};
 ghost use Rattle.serde_json.specs.View.{view};
-ghost use Rattle.muni_columns.specs.Columns as columns;
+ghost use Rattle.muni_msg.specs.Columns as columns;
 ghost use Rattle.muni_wire_body.specs.Faults.{IsOfBody};
 ghost use Rattle.muni_wire_body.specs.Stated as spec;
 
 use crate::{Bad, WireFault};
 use arrayvec::ArrayVec;
 use csv::ByteRecord;
-use muni_columns::Column;
-use muni_msg::DeskName;
+use muni_msg::{Column, DeskName};
 use serde_json::Value;
 use std::alloc::Global;
 use std::marker::Model;

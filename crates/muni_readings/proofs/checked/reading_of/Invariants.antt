@@ -1,5 +1,5 @@
 use Rattle.std.proofs.Common.{◌≡◌, drop, Option, Ok}
-use Rattle.muni_book.specs.Answers.{IsRightAnswer}
+use Rattle.muni_answer.specs.Answers.{IsRightAnswer}
 use Rattle.muni_readings.specs.Checked.{readings, IsFirstOf}
 use Rattle.muni_readings.specs.Readings.{IsBy}
 use Rattle.muni_readings.specs.declared.reading.Reading.{Reading}

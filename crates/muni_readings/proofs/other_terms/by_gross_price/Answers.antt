@@ -1,6 +1,6 @@
 use Rattle.std.proofs.Common.{◌≡◌, true, eqb, Some, Ok, arith, refl, sym, ap, subst, ◌∙◌}
 use Rattle.std.proofs.lemmas.Bool.Decides.{nat_tests}
-use Rattle.muni_book.specs.Answers.{IsRightAnswer}
+use Rattle.muni_answer.specs.Answers.{IsRightAnswer}
 use Rattle.muni_readings.proofs.OtherTermsLemmas.{gross-same}
 use Rattle.muni_readings.proofs.other_terms.by_gross_price.Goals as goal
 

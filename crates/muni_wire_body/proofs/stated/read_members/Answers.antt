@@ -2,7 +2,7 @@ use Rattle.std.proofs.Common.{rules, arith, ◌<◌, ◌≤◌, length}
 use Rattle.csv.specs.Records.{fields_of}
 use Rattle.csv.proofs.ReadFacts.{on-ok}
 use Rattle.serde_json.specs.View.{view}
-use Rattle.muni_columns.specs.Columns.{all_columns}
+use Rattle.muni_msg.specs.Columns.{all_columns}
 use Rattle.muni_wire_body.proofs.StatedLemmas.{one-more, left-out, not-one, no-more, one-longer, whole-row, no-desk, no-text}
 use Rattle.muni_wire_body.proofs.stated.read_members.Goals as goal
 use Rattle.muni_wire_body.proofs.stated.read_members.Goals.{in-Some+else-is_err, in_default}

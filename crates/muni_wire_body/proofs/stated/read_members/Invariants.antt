@@ -1,7 +1,7 @@
 use Rattle.std.proofs.Common.{◌≡◌, ◌≤◌, [], drop, length}
 use Rattle.csv.specs.Records.{fields_of, partial_of}
 use Rattle.serde_json.specs.View.{view}
-use Rattle.muni_columns.specs.Columns.{all_columns}
+use Rattle.muni_msg.specs.Columns.{all_columns}
 use Rattle.muni_wire_body.specs.Stated.{texts_in}
 use Rattle.muni_wire_body.proofs.StatedLemmas.{with_more}
 use Rattle.muni_wire_body.proofs.stated.read_members.Given as goal

@@ -1,7 +1,7 @@
 //! What the columns of a check hold, and their names.
 
 ghost use Rattle.std.specs.Prelude.{◌≡◌};
-ghost use Rattle.muni_columns.specs.Columns as spec;
+ghost use Rattle.muni_msg.specs.Columns as spec;
 
 /// What a column of an input holds.
 #[derive(Clone, Copy, Debug, Default, PartialEq, Eq)]

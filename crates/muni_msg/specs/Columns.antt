@@ -1,8 +1,8 @@
 -- The columns that rows of a check may have, and their names.
 use Rattle.std.specs.Prelude.{ℕ, List, [], ◌∷◌, codes, find, Option}
 use Rattle.std.specs.Str.{bytes_eq}
-use Rattle.muni_columns.specs.declared.column.Column.{Column}
-use Rattle.muni_columns.specs.declared.column.Column.TheVariants as column
+use Rattle.muni_msg.specs.declared.column.Column.{Column}
+use Rattle.muni_msg.specs.declared.column.Column.TheVariants as column
 
 -- the name of a column
 abbrev pub name_of : Column → List ℕ
