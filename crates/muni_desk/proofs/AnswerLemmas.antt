@@ -9,7 +9,7 @@ use Rattle.muni_msg.specs.declared.figures.Figures.{Figures}
 use Rattle.muni_msg.specs.declared.refusal.Refusal.TheVariants.{BadTerms}
 use Rattle.muni_msg.specs.declared.shown.Shown.{Shown}
 use Rattle.muni_confirm.specs.Refusal.{refusal_text}
-use Rattle.muni_book.specs.Answers.{IsRightAnswer}
+use Rattle.muni_answer.specs.Answers.{IsRightAnswer}
 use Rattle.muni_desk.specs.Answers.{IsTextOf, IsQuoteText}
 use Rattle.muni_desk.specs.Request.{IsAnswerOf}
 use Rattle.muni_desk.specs.declared.request.QuoteRequest.{QuoteRequest}

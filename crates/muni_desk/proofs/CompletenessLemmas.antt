@@ -21,9 +21,9 @@ use Rattle.muni_desk_import.specs.Imported.{Imported}
 use Rattle.muni_desk_import.specs.Loaded.{HasTooManyRows, Loaded}
 use Rattle.muni_desk_import.specs.declared.confirmations.Answered.{Answered}
 use Rattle.muni_desk_import.specs.declared.confirmations.Answered.TheVariants as answered
-use Rattle.muni_desk_positions.specs.Imported.{ImportedWith}
-use Rattle.muni_desk_positions.specs.Listed.{Listed}
-use Rattle.muni_desk_positions.specs.Listing.{MayNotSum}
+use Rattle.muni_position.specs.Imported.{ImportedWith}
+use Rattle.muni_position.specs.Listed.{Listed}
+use Rattle.muni_position.specs.Listing.{MayNotSum}
 use Rattle.muni_marks.specs.Marked.{Marked}
 use Rattle.muni_check.specs.Answer.{Over}
 use Rattle.muni_check.specs.Checked.{WroteChecked}

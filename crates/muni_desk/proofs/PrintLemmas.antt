@@ -30,9 +30,9 @@ use Rattle.muni_desk_import.specs.Loaded.{DidCame, DidMost, Loaded}
 use Rattle.muni_desk_import.specs.declared.confirmations.Answered.{Answered}
 use Rattle.muni_desk_import.specs.declared.confirmations.Answered.TheVariants as answered
 use Rattle.muni_desk_import.proofs.ImportLemmas.{report-then}
-use Rattle.muni_desk_positions.specs.Imported.{ImportedWith}
-use Rattle.muni_desk_positions.specs.Importing.{DidAll, DidSome}
-use Rattle.muni_desk_positions.specs.Listing.{positions_text}
+use Rattle.muni_position.specs.Imported.{ImportedWith}
+use Rattle.muni_position.specs.Importing.{DidAll, DidSome}
+use Rattle.muni_position.specs.Listing.{positions_text}
 use Rattle.muni_desk_serve.specs.Connections.{exchange, AreServed, IsRunOver}
 use Rattle.muni_desk_serve.specs.Fault.{Outcome}
 use Rattle.muni_desk_serve.specs.Laws.{AnswersAreRight}

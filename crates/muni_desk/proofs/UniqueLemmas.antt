@@ -20,12 +20,12 @@ use Rattle.muni_confirm.specs.Each.{each_text}
 use Rattle.muni_confirm.specs.Figures.{figure_text}
 use Rattle.muni_confirm.specs.Risk.{risk_lines}
 use Rattle.muni_confirm.specs.Refusal.{refusal_text}
-use Rattle.muni_book.specs.Answers.{IsRightAnswer}
+use Rattle.muni_answer.specs.Answers.{IsRightAnswer}
 use Rattle.muni_book.specs.Details.{IsRiskWanted}
 use Rattle.muni_book.specs.Each.{AreEach, AreWanted}
 use Rattle.muni_book.specs.Risk.{IsRiskOf}
 use Rattle.muni_book.proofs.EachLemmas.{each-unique}
-use Rattle.muni_book.proofs.UniqueLemmas.{answers-unique}
+use Rattle.muni_answer.proofs.UniqueLemmas.{answers-unique}
 use Rattle.muni_desk.specs.AnswerLaws.{DifferByRisk, AreOneText, AreOneAnswer}
 use Rattle.muni_desk.specs.Answers.{price_line, IsQuoteOneText, IsTextOf, IsQuoteText, IsDrillText, IsHelpText, IsAnswer}
 use Rattle.muni_desk.specs.Drill.{IsDrilled, IsBook}

@@ -9,7 +9,7 @@ use Rattle.muni_edge.specs.declared.source.Source as Source
 use Rattle.muni_keep.specs.declared.cabinet.Cabinet as Cabinet
 use Rattle.muni_import.specs.Rows.{rows_of}
 use Rattle.muni_desk_io.specs.Lent.{Lent}
-use Rattle.muni_desk_positions.specs.Listing.{MayNotSum}
+use Rattle.muni_position.specs.Listing.{MayNotSum}
 use Rattle.muni_check_rows.specs.Rows as check
 use Rattle.muni_figures.specs.Rows as figures
 use Rattle.muni_desk_serve.specs.Serves.{Traffic}

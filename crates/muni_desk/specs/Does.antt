@@ -7,7 +7,7 @@ use Rattle.muni_edge.specs.declared.door.Door as Door
 use Rattle.muni_edge.specs.declared.sink.Sink as Sink
 use Rattle.muni_edge.specs.declared.source.Source as Source
 use Rattle.muni_keep.specs.declared.cabinet.Cabinet as Cabinet
-use Rattle.muni_book.specs.Answers.{IsRightAnswer}
+use Rattle.muni_answer.specs.Answers.{IsRightAnswer}
 use Rattle.muni_book.specs.Rules.{book_rules}
 use Rattle.muni_desk_io.specs.Lent.{Lent}
 use Rattle.muni_desk.specs.Answers.{IsAnswer}

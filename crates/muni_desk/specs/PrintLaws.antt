@@ -15,12 +15,12 @@ use Rattle.muni_confirm.specs.Confirmation.{confirmation_text}
 use Rattle.muni_keep.specs.Tables.{Tables, last_at}
 use Rattle.muni_keep.specs.declared.cabinet.Cabinet as Cabinet
 use Rattle.muni_import.specs.Report.{Said}
-use Rattle.muni_book.specs.RightFigures.{AreRightFigures}
+use Rattle.muni_answer.specs.RightFigures.{AreRightFigures}
 use Rattle.muni_book.specs.RightReplies.{IsKeptRight}
 use Rattle.muni_book.specs.SoundTables.{AreSoundTables}
 use Rattle.muni_desk_io.specs.Lent.{Lent}
 use Rattle.muni_desk_import.specs.RightLines.{HasLinesOf}
-use Rattle.muni_desk_positions.specs.Listing.{positions_text}
+use Rattle.muni_position.specs.Listing.{positions_text}
 use Rattle.muni_desk_serve.specs.Connections.{Connection, exchange, AreHandedBack}
 use Rattle.muni_desk_serve.specs.RightAnswers.{IsAnsweredRight}
 use Rattle.muni_desk_serve.specs.Serves.{Traffic}

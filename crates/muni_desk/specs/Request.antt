@@ -9,7 +9,7 @@ use Rattle.muni_msg.specs.declared.asked.Asked.{Asked}
 use Rattle.muni_msg.specs.declared.figures.Figures.{Figures}
 use Rattle.muni_msg.specs.declared.refusal.Refusal.{Refusal}
 use Rattle.muni_msg.specs.declared.refusal.Refusal.TheVariants.{BadTerms}
-use Rattle.muni_book.specs.Answers.{IsRightAnswer}
+use Rattle.muni_answer.specs.Answers.{IsRightAnswer}
 
 -- the answer is right: it is the first fault of the terms, or it is right for the issue
 abbrev pub IsAnswerOf : (ends : PaymentSeries → ℤ → WorthEnds) → IssueRow → Asked

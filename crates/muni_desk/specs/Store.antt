@@ -22,8 +22,8 @@ use Rattle.muni_desk_import.specs.Confirmed.{Confirmed}
 use Rattle.muni_desk_import.specs.Imported.{Imported}
 use Rattle.muni_desk_import.specs.Loaded.{Loaded, LoadReported, TakesSome}
 use Rattle.muni_desk_import.specs.Reported.{Reported}
-use Rattle.muni_desk_positions.specs.Imported.{ImportedWith, DoesNoneOfTooMany}
-use Rattle.muni_desk_positions.specs.Listed.{Listed}
+use Rattle.muni_position.specs.Imported.{ImportedWith, DoesNoneOfTooMany}
+use Rattle.muni_position.specs.Listed.{Listed}
 use Rattle.muni_marks.specs.Marked.{Marked, MarksReported}
 use Rattle.muni_check.specs.Checked.{WroteChecked}
 use Rattle.muni_check.specs.Judging.{over}

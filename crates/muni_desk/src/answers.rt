@@ -2,7 +2,7 @@
 
 ghost use Rattle.std.specs.Prelude.{◌≡◌, ◌++◌, ◌∷◌, [], length, ◌≤◌, Ok};
 ghost use Rattle.muni_confirm.specs.Refusal.{refusal_text};
-ghost use Rattle.muni_book.specs.Answers.{IsRightAnswer};
+ghost use Rattle.muni_answer.specs.Answers.{IsRightAnswer};
 ghost use Rattle.muni_desk.specs.Answers as spec;
 
 use crate::drill::{DrillRequest, summary_of};
@@ -10,7 +10,8 @@ use crate::help::help_text;
 use crate::one_period::last_period_price;
 use crate::{Answer, QuoteOneRequest, QuoteRequest, Status};
 use arrayvec::ArrayVec;
-use muni_book::{Calculator, details, figures};
+use muni_answer::figures;
+use muni_book::{Calculator, details};
 use muni_confirm::{figure_lines, push_details, refusal_line};
 use muni_dec::Price3;
 use muni_dec::text::push;

@@ -15,13 +15,13 @@ use muni_book::{Book, Calculator};
 use muni_check::{check, check_alone};
 use muni_desk_export::write_kept;
 use muni_desk_import::{confirm, import, load};
-use muni_desk_positions::{import_with_positions, positions};
 use muni_desk_serve::serve;
 use muni_edge::{Door, Gate, Sink, Source};
 use muni_figures::figures;
 use muni_keep::Cabinet;
 use muni_marks::mark;
 use muni_multi::Encloser;
+use muni_position::{import_with_positions, positions};
 use std::alloc::Global;
 use std::thread::Threads;
 

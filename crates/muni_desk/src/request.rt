@@ -4,7 +4,8 @@ ghost use Rattle.std.specs.Prelude.{◌≡◌, ◌≤◌, length, IfOk};
 ghost use Rattle.muni_desk.specs.Request.{IsAnswerOf};
 
 use arrayvec::ArrayVec;
-use muni_book::{Calculator, figures};
+use muni_answer::figures;
+use muni_book::Calculator;
 use muni_edge::Gate;
 use muni_msg::{Asked, Figures, Refusal};
 use muni_multi::Encloser;

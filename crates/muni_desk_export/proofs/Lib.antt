@@ -12,3 +12,15 @@ mod TextLemmas
 mod ToldLemmas
 mod VersionLemmas
 mod WalkLemmas
+mod ExportLemmas
+mod AgainIssueLemmas
+mod MapLemmas
+mod AgainPartLemmas
+mod PartTextLemmas
+mod RunLemmas
+mod StepLemmas
+mod TableLemmas
+mod AgainTextLemmas
+mod TradeLemmas
+mod AgainVersionLemmas
+mod WantedLemmas

@@ -8,3 +8,7 @@ pub mod Trades
 pub mod Walk
 pub mod Walked
 pub mod Wanted
+pub mod Export
+pub mod Laws
+pub mod Part
+pub mod AgainWanted

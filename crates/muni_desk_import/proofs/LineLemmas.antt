@@ -12,7 +12,7 @@ use Rattle.muni_msg.specs.declared.figures.Figures.{Figures}
 use Rattle.muni_keep.specs.Tables.{Tables}
 use Rattle.muni_import.specs.Line.{behind_commas}
 use Rattle.muni_import.specs.Report.{Said, price_fields, total_fields, confirmed_fields, row_line}
-use Rattle.muni_book.specs.RightFigures.{AreRightFigures}
+use Rattle.muni_answer.specs.RightFigures.{AreRightFigures}
 use Rattle.muni_book.specs.RightReplies.{IsRightReply}
 use Rattle.muni_book.specs.RunLaws.{ConfirmedFiguresAreRight}
 use Rattle.muni_desk_import.specs.Import.{report}

@@ -17,7 +17,7 @@ use Rattle.muni_book_step.specs.Step.{Entry, IsStepOver}
 use Rattle.muni_import.specs.Report.{Said}
 use Rattle.muni_import.specs.Row.{Row}
 use Rattle.muni_book.specs.Rules.{book_rules}
-use Rattle.muni_book.specs.RightFigures.{AreRightFigures}
+use Rattle.muni_answer.specs.RightFigures.{AreRightFigures}
 use Rattle.muni_book.specs.RightReplies.{IsKeptRight}
 use Rattle.muni_book.specs.SoundTables.{AreSoundTables}
 use Rattle.muni_desk_import.specs.Confirm.{Answer, confirmed}

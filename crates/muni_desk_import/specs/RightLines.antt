@@ -9,7 +9,7 @@ use Rattle.muni_msg.specs.declared.version.Version.{Version}
 use Rattle.muni_keep.specs.Tables.{Tables}
 use Rattle.muni_import.specs.Line.{behind_commas}
 use Rattle.muni_import.specs.Report.{Said, row_line}
-use Rattle.muni_book.specs.RightFigures.{AreRightFigures}
+use Rattle.muni_answer.specs.RightFigures.{AreRightFigures}
 use Rattle.muni_book.specs.RightReplies.{IsKeptRight}
 
 -- The line of a confirmation: after its place the reference and the number of the version, and of its figures the price,

@@ -10,7 +10,7 @@ use Rattle.muni_confirm.specs.declared.details.Details.{Details}
 use Rattle.muni_keep.specs.Tables.{Tables}
 use Rattle.muni_wire.specs.Answer.{reply_text}
 use Rattle.muni_desk_serve.specs.Rules.{serving_rules}
-use Rattle.muni_book.specs.RightFigures.{AreRightFigures}
+use Rattle.muni_answer.specs.RightFigures.{AreRightFigures}
 use Rattle.muni_book.specs.RightReplies.{IsRightReply}
 use Rattle.muni_book.specs.RunLaws.{ConfirmedFiguresAreRight}
 use Rattle.muni_desk_serve.specs.Answer.{AreBeside, reply_answer}

@@ -16,7 +16,7 @@ use Rattle.muni_msg.specs.declared.command.Reply.TheVariants.{Added, Amended, Qu
 use Rattle.muni_msg.specs.declared.figures.Figures.{Figures}
 use Rattle.muni_msg.specs.declared.shown.Shown.{Shown}
 use Rattle.muni_confirm.specs.declared.details.Details.{Details}
-use Rattle.muni_book.specs.Answers.{IsRightAnswer}
+use Rattle.muni_answer.specs.Answers.{IsRightAnswer}
 use Rattle.muni_book.specs.Details.{AreDetails}
 use Rattle.muni_book.proofs.DetailLemmas.{details-right}
 use Rattle.muni_book.proofs.RightReplyLemmas.{step-quoted}

@@ -5,7 +5,7 @@ use Rattle.muni_book.specs.SoundTables.{AreSoundTables}
 use Rattle.muni_edge.specs.Faults.{Rose}
 use Rattle.muni_keep.specs.Tables.{Tables, version_at}
 use Rattle.muni_terms.specs.declared.row.IssueRow.{IssueRow}
-use Rattle.muni_book.specs.RightFigures.{AreRightFigures}
+use Rattle.muni_answer.specs.RightFigures.{AreRightFigures}
 use Rattle.muni_book.specs.RightReplies.{IsKeptRight}
 use Rattle.muni_msg.specs.declared.command.Command.{Command}
 use Rattle.muni_msg.specs.declared.command.Key.{Key}

@@ -12,7 +12,7 @@ use Rattle.muni_wire.specs.HttpStatus.{code, status_of_reply}
 use Rattle.muni_wire.specs.Reading.{Whole}
 use Rattle.muni_wire_body.specs.declared.look.Request.TheVariants.{Book}
 use Rattle.muni_book.specs.Details.{AreRightDetails}
-use Rattle.muni_book.specs.RightFigures.{AreRightFigures}
+use Rattle.muni_answer.specs.RightFigures.{AreRightFigures}
 use Rattle.muni_book.specs.RightReplies.{IsKeptRight, AreTermsOf}
 use Rattle.muni_desk_serve.specs.Connections.{Exchange}
 use Rattle.muni_desk_serve.specs.Follow.{HasAnswer, WasAnswered, HasNoReply}

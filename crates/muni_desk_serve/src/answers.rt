@@ -1,7 +1,7 @@
 //! One connection.
 
 ghost use Rattle.std.specs.Prelude.{◌≡◌};
-ghost use Rattle.muni_book.specs.Answers.{IsRightAnswer};
+ghost use Rattle.muni_answer.specs.Answers.{IsRightAnswer};
 ghost use Rattle.muni_desk_serve.specs.Rules.{serving_rules};
 ghost use Rattle.muni_desk_serve.specs.Answer as spec;
 ghost use Rattle.muni_desk_serve.specs.Serves.{LeavesCounted, TakesRequest, WasServed, traffic};

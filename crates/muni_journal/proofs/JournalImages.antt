@@ -7,7 +7,7 @@ use Rattle.std.proofs.lemmas.Bool.Decides.{nat_tests}
 use Rattle.muni_journal_disk.specs.Bytes.{byte_at, bytes_at, StandsAt, IsSameBefore, IsSameOutside}
 use Rattle.muni_journal_disk.specs.Disk.{ComesFrom, StopsLeave}
 use Rattle.muni_journal_disk.proofs.Pieces.{front, back, first_byte, held_piece}
-use Rattle.muni_journal_slots.specs.Slots.{IsStep, IsUnopened, IsDoubtful, IsPut, IsTakenBack, AllImages}
+use Rattle.muni_journal_disk.specs.Slots.{IsStep, IsUnopened, IsDoubtful, IsPut, IsTakenBack, AllImages}
 use Rattle.muni_keep.specs.Tables.{Tables}
 use Rattle.muni_journal_record.specs.Words.{four, number_of_4}
 use Rattle.muni_journal_record.specs.Body.{PutFits, body_of, put_of}

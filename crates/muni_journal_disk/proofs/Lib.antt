@@ -5,3 +5,4 @@ pub mod Pieces
 pub mod PlaceLemmas
 pub mod Runs
 pub mod Truth
+pub mod SlotImages

@@ -9,3 +9,5 @@ pub mod Moves
 pub mod Places
 pub mod MemDisk
 pub mod Takes
+pub mod Slots
+pub mod Outcome

@@ -7,3 +7,5 @@ pub mod NextLemmas
 pub mod PageLemmas
 pub mod PutLemmas
 pub mod SumLemmas
+mod FewLemmas
+mod ImportingLemmas

@@ -5,3 +5,7 @@ pub mod Laws
 pub mod Line
 pub mod Positions
 pub mod Watching
+pub mod Imported
+pub mod Importing
+pub mod Listed
+pub mod Listing

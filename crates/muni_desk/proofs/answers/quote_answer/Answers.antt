@@ -1,6 +1,6 @@
 use Rattle.std.proofs.Common.{rules, ◌≡◌, subst, sym, ap, Ok, Err}
 use Rattle.muni_terms.specs.Check.{checked}
-use Rattle.muni_book.specs.Answers.{IsRightAnswer}
+use Rattle.muni_answer.specs.Answers.{IsRightAnswer}
 use Rattle.muni_desk.specs.Answers.{IsTextOf}
 use Rattle.muni_desk.proofs.AnswerLemmas.{quote-shown, fault-shown}
 use Rattle.muni_desk.proofs.answers.quote_answer.Goals as goal

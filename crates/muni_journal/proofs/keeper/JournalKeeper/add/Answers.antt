@@ -1,7 +1,7 @@
 use Rattle.std.proofs.Common.{◌≡◌, ℕ, ◌+◌, List, Some, None, length, subst, sym, arith}
 use Rattle.muni_keep.specs.Tables.{Tables}
 use Rattle.muni_journal_disk.specs.Disk.{StopsLeave, ComesFrom}
-use Rattle.muni_journal_slots.specs.Slots.{IsStep, IsPut, IsUnopened, IsDoubtful, AllImages}
+use Rattle.muni_journal_disk.specs.Slots.{IsStep, IsPut, IsUnopened, IsDoubtful, AllImages}
 use Rattle.muni_journal_record.specs.declared.put.Put.{Put}
 use Rattle.muni_journal.specs.Journal.{Place, piece_of, journal_of}
 use Rattle.muni_journal.specs.Stops.{StandsFor, IsInDoubt}

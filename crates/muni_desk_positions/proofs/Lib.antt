@@ -1,2 +1,0 @@
-mod FewLemmas
-mod ImportingLemmas

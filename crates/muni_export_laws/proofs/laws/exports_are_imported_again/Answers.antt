@@ -1,8 +1,0 @@
-use Rattle.muni_export_laws.proofs.ExportLemmas.{imported-again, own-limit}
-use Rattle.muni_export_laws.proofs.laws.exports_are_imported_again.Goals as goal
-
-pub returns-clause-again : goal.returns-clause-again
-returns-clause-again c = imported-again
-
-pub returns-clause-enough : goal.returns-clause-enough
-returns-clause-enough c = own-limit

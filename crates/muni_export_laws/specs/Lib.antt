@@ -1,4 +1,0 @@
-pub mod Export
-pub mod Laws
-pub mod Part
-pub mod Wanted

@@ -1,4 +1,0 @@
-//! The law of exports: imported into empty tables, one gives the same tables.
-#![tactic(auto)]
-
-pub mod laws;
