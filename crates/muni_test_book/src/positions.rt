@@ -11,7 +11,7 @@ use muni_dec::{Cents, Par};
 use muni_keep::{KeepFault, Keeper, MemKeeper};
 use muni_msg::{Act, Asked, DeskName, Figures, Key, Reference, Side, Terms, Version, read_cusip};
 use muni_position::{Positioned, follow, over, position_line};
-use muni_test_cases::bytes_of;
+use muni_test_samples::bytes_of;
 use put_cases::CASES;
 use std::alloc::Global;
 use std::test::Fail;

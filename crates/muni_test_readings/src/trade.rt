@@ -1,4 +1,4 @@
-use muni_book::figures;
+use muni_answer::figures;
 use muni_dec::{Fee, Par};
 use muni_edge::NoGate;
 use muni_msg::{Asked, Given, Side};
