@@ -141,12 +141,12 @@ def test_what_is_no_seal_is_written_anew(database, seal):
     assert database.store.seal.read_bytes() == good
 
 
-def test_a_file_that_lists_more_is_checked_and_gets_no_seal(database):
+def test_a_file_with_a_table_of_ones_own_is_checked_and_gets_its_seal(database):
     database.report(ROWS)
     database.store.seal.unlink()
-    database.sql("CREATE INDEX by_settlement ON versions_3 (settle)")
+    database.sql("CREATE TABLE notes (text TEXT)")
     assert checked(database) == sound(1, ALPHA=2)
-    assert not database.store.seal.exists()
+    assert database.store.seal.exists()
     assert database.sql("PRAGMA integrity_check") == [("ok",)]
 
 

@@ -228,13 +228,9 @@ def test_issues_of_which_one_does_not_read_have_no_line(three, change):
     assert three.said("list", "--desk=A").status == 0
 
 
-@pytest.mark.parametrize("index", [False, True], ids=["trees", "statements"])
 @pytest.mark.parametrize("change", LOST, ids=range(len(LOST)))
-def test_a_row_that_no_command_finds_is_no_sound_store(database, change, index):
-    """A store that lists an index of its own is read by statements."""
+def test_a_row_that_no_command_finds_is_no_sound_store(database, change):
     database.report(ROWS.decode() + NOTE)
-    if index:
-        database.sql("CREATE INDEX by_settlement ON versions_3 (settle)")
     assert checked(database) == sound(2, ALPHA=2)
     database.sql(change)
     assert database.sql("PRAGMA integrity_check") == [("ok",)]

@@ -109,20 +109,12 @@ def test_a_store_that_is_read_from_another_database(database, tmp_path):
 @pytest.mark.parametrize(("statement", "undone"), [
     (WINDOW, "DROP VIEW ranks"),
     ("CREATE TABLE versions (a)", "DROP TABLE versions"),
-    ("CREATE TRIGGER t AFTER INSERT ON versions_3 BEGIN SELECT 1; END", "DROP TRIGGER t"),
-], ids=["window", "table", "trigger"])
+], ids=["window", "table"])
 def test_what_must_not_be_added(database, statement, undone):
     database.report(trades(3))
     database.sql(statement)
     assert database.said("positions", "--desk=ALPHA").status == 6
     database.sql(undone)
-    assert database.held() == 3
-
-
-@pytest.mark.parametrize("statement", ["CREATE INDEX by_cusip ON versions_3 (cusip)", "VACUUM", "ANALYZE"])
-def test_what_may_be_added(database, statement):
-    database.report(trades(3))
-    database.sql(statement)
     assert database.held() == 3
 
 

@@ -1,9 +1,10 @@
-"""Syncs and writes that fail in an import, or at which it is killed: the lines are those of the rows before."""
+"""Syncs and writes that fail in an import, or at which it is killed: the lines are those of the rows before. Reads that
+fail under a command that only reads."""
 import errno
 
 import pytest
 
-from support.books import Book
+from support.books import Book, trades
 from support.faults import KILLED, Fault
 from support.program import Said
 from support.stores import REPORT, ROWS
@@ -76,3 +77,29 @@ def test_a_trade_has_the_versions_that_were_told_or_one_more(book, faults, pytes
         assert told <= versions(book) <= told + 1, at
         assert book.report(LIFE) == TOLD_OF_LIFE, at
         assert versions(book) == 3, at
+
+
+LOOKS = {
+    "positions": (("--desk=ALPHA",), ""), "list": (("--desk=ALPHA",), ""), "export": ((), ""),
+    "confirm": (("--desk=ALPHA", "--all"), ""), "figures": ((), "123456AA3,25000,2024-04-01,yield,4\n"),
+    "check": (("--desk=ALPHA",), "reference,total\nT00001,25493.75\nT00399,25493.75\n"),
+}
+# The log is read twice, and before it is known by its seal the file three times and the first page of each of its four
+# trees. If one of these fails, the file is audited. The reads of a seal are not counted.
+HARMLESS = 9
+
+
+@pytest.mark.parametrize("command", LOOKS)
+def test_a_read_that_fails_once_ends_a_command_that_only_reads(database, faults, command):
+    """Nothing is read a second time, but for a file that is audited since its seal could not be looked at."""
+    database.report(trades(400))
+    words, rows = LOOKS[command]
+    right = Book(faults.counting(database.muni), database.store).said(command, *words, rows=rows)
+    count = faults.counts()["pread"].in_all
+    said = [Book(faults.at(database.muni, Fault("pread", at)), database.store).said(command, *words, rows=rows)
+            for at in range(1, count + 1)]
+    failed = [each for each in said if each != right]
+    assert count - len(failed) == HARMLESS < count
+    for each in failed:
+        assert each.status == 6
+        assert right.output.startswith(each.output) and (each.output.endswith(b"\n") or not each.output)

@@ -33,7 +33,7 @@ ISSUES = "".join(issue(cusip, given) for cusip, (given, _) in CALLS.items())
 
 
 def body_of(cusip: str) -> bytes:
-    """The body of an issue by docs/FORMATS.md."""
+    """The body of an issue by docs/STORES.md."""
     name, *_ = TERMS.split(",")
     terms = Terms(cusip, name, ("2020-01-01", "2020-07-01", "2034-01-01"), 50_000_000, CALLS[cusip][1])
     return terms.body(1)

@@ -12,7 +12,7 @@ EMPTY_LOG = 41
 FIGURES = "25000|2024-04-01|0|40000|100725|4000|2025-01-01|100000000|0|90|2518125|31250|2549375|0|0|1"
 OTHER_FIGURES = "10000|2024-04-01|1|100725000|100725|4001|2025-01-01|100000000|0|90|1007250|12500|1019750|0|0|1"
 
-# The issue by docs/FORMATS.md: its gate, its length, and its body.
+# The issue by docs/STORES.md: its gate, its length, and its body.
 SLOT = (b"\x01\x00\x00\x00\x34\x01123456AA3\x16RIVERTON WATER 5S 2025\x00\x00\x07\xe4\x01\x01\x07\xe4\x07\x01"
         b"\x07\xe9\x01\x01\x02\xfa\xf0\x80\x00")
 

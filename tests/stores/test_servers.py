@@ -1,10 +1,10 @@
-"""Stores under servers: one that ends by itself, one that is killed, and one whose syncs fail."""
+"""Stores under servers: one that ends by itself, one that is killed, and one whose syncs or reads fail."""
 import pathlib
 
 import pytest
 
-from support.answers import added, asked, entered, found
-from support.books import Book, trade
+from support.answers import TRADE, added, asked, entered, found
+from support.books import Book, trade, trades
 from support.faults import Fault
 from support.server import Server
 from support.stores import ROWS
@@ -117,3 +117,27 @@ def test_a_list_that_finds_a_database_shut_opens_it_anew(server, broken):
     assert asked(server, "/lists/ALPHA").status == 503
     answer = asked(server, "/lists/ALPHA")
     assert (answer.status, answer.body.splitlines()[0]) == (200, b"T0001 1 LIVE 25000 100.725 4.000")
+
+
+CHECK = {"desk": "ALPHA", "reference": "T00001", "total": "25493.75"}
+CORRECTION = {**TRADE, "reference": "T00001", "number": "2", "par": "30000"}
+REQUESTS = {
+    "issue": ("/issues/123456AA3", None), "version": ("/trades/ALPHA/T00001/1", None),
+    "positions": ("/positions/ALPHA", None), "latest": ("/latest/ALPHA", None), "list": ("/lists/ALPHA", None),
+    "check": ("/checks", CHECK), "correction": ("/corrections", CORRECTION),
+    "cancel": ("/cancels", {"desk": "ALPHA", "reference": "T00001", "number": "2"}),
+}
+
+
+@pytest.mark.parametrize("request_of", REQUESTS)
+def test_a_request_whose_read_fails_is_unavailable_and_then_answered(database, broken, faults, request_of):
+    """The server goes on. Each request is the first that reads the pages of its rows."""
+    database.report(trades(400))
+    path, body = REQUESTS[request_of]
+    with Server(faults.during(database.muni, "pread,", broken), database.store.name, 4) as server:
+        assert asked(server, "/unknown").status == 404
+        broken.touch()
+        assert asked(server, path, body).status == 503
+        broken.unlink()
+        assert [asked(server, path, body).status for _ in range(2)] == [200, 200]
+        assert server.ended() == 0

@@ -10,11 +10,19 @@ import pytest
 from support.answers import entered
 from support.books import Book, trade, trades
 from support.faults import Fault
+from support.program import Said
 from support.seals import sealed
 from support.server import Server
 from support.stores import REPORT, ROWS, Store
 
-INDEX = "CREATE INDEX by_settlement ON versions_3 (settle)"
+BESIDE = ("CREATE TABLE notes (text);\nCREATE INDEX by_text ON notes (text)",
+          "CREATE TABLE words (word TEXT PRIMARY KEY) WITHOUT ROWID",
+          "CREATE TABLE counts (id INTEGER PRIMARY KEY AUTOINCREMENT)",
+          "CREATE VIEW live AS SELECT * FROM versions_3 WHERE act <> 2", "ANALYZE", "VACUUM")
+BARRED = (("CREATE INDEX by_settlement ON versions_3 (settle)", "DROP INDEX by_settlement"),
+          ("CREATE UNIQUE INDEX names ON ISSUES_3 (name, number)", "DROP INDEX names"),
+          ("CREATE TRIGGER seen AFTER INSERT ON Versions_3 BEGIN SELECT 1; END", "DROP TRIGGER seen"),
+          ("ALTER TABLE versions_3 ADD COLUMN note TEXT", "ALTER TABLE versions_3 DROP COLUMN note"))
 ISSUE = "issue,990034AA8,TOWN OF SAMPLE,zero,2020-01-01,,2035-01-01,,\n"
 AMENDMENT = ("amend,123456AA3,{number},RIVERTON WATER 5S 2025,periodic,2020-01-01,2020-07-01,2025-01-01,{coupon},\n")
 CHANGES = (trade("T0003") + "correct,ALPHA,T0001,2,123456AA3,buy,30000,2024-04-01,yield,4\n"
@@ -66,21 +74,41 @@ def test_a_row_that_sqlite_puts_is_found_and_followed(database):
     assert database.confirmed("T0002").status == 0 and database.has("T0003")
 
 
-@pytest.mark.parametrize("statement", (INDEX, "CREATE TABLE notes (text)"))
-def test_a_store_that_lists_something_more_is_kept_by_statements(database, statement):
+@pytest.mark.parametrize("statements", BESIDE)
+def test_what_stands_beside_the_tables_is_left_and_costs_no_audit(database, statements):
     database.report(ROWS)
-    database.sql(statement)
+    database.sql(statements)
+    listed = database.sql("SELECT * FROM sqlite_schema ORDER BY name")
+    database.report(ROWS.decode() + trades(400))
     assert b"refused" not in database.report(CHANGES)
     assert database.sql("PRAGMA integrity_check") == [("ok",)]
+    assert database.sql("SELECT * FROM sqlite_schema ORDER BY name") == listed
     assert database.report(ROWS) == REPORT
-    assert len(database.sql("SELECT * FROM versions_3 ORDER BY settle")) == 6
+    spoiled(database)
+    sealed(database.store)
+    # The last page has the changes of T0001.
+    assert database.has("T00001")
 
 
-@pytest.mark.parametrize("statement", ("SELECT 1", INDEX), ids=("trees", "statements"))
-def test_terms_are_found_by_their_numbers(database, statement):
-    """A trade is confirmed by the terms by which it was figured, a new one goes by the last ones or by those it names."""
+@pytest.mark.parametrize(("statement", "undone"), BARRED, ids=("index", "unique", "trigger", "column"))
+def test_what_must_not_be_on_the_tables_is_refused_until_it_is_dropped(database, statement, undone):
+    """By every command, and no byte of the file changes. Nothing is lost."""
     database.report(ROWS)
     database.sql(statement)
+    kept = database.store.path.read_bytes()
+    for words in (("confirm", "--desk=ALPHA", "--ref=T0001"), ("import",), ("check-store",)):
+        assert database.said(*words, rows=trade("T0003") if words[0] == "import" else b"") == Said(6, b"")
+    assert database.store.path.read_bytes() == kept
+    assert not database.store.path.with_name("store-wal").exists()
+    database.sql(undone)
+    assert database.report(ROWS) == REPORT
+    assert b"refused" not in database.report(CHANGES)
+    assert database.sql("PRAGMA integrity_check") == [("ok",)]
+
+
+def test_terms_are_found_by_their_numbers(database):
+    """A trade is confirmed by the terms by which it was figured, a new one goes by the last ones or by those it names."""
+    database.report(ROWS)
     was = database.confirmed("T0001")
     for number, coupon in (2, "4.5"), (3, "4.25"):
         row = AMENDMENT.format(number=number, coupon=coupon)
@@ -98,13 +126,6 @@ def test_terms_are_found_by_their_numbers(database, statement):
         ["issue", "123456AA3", "RIVERTON WATER 5S 2025"], ["amend", "123456AA3", "2"], ["amend", "123456AA3", "3"],
         ["issue", "990034AA8", "TOWN OF SAMPLE"]]
     assert database.said("check-store").text.endswith("\nSOUND\n")
-
-
-def test_a_view_is_no_reason_for_statements(database):
-    database.report(ROWS)
-    database.sql("CREATE VIEW live AS SELECT * FROM versions_3 WHERE act <> 2")
-    database.report(trade("T0003"))
-    assert len(database.sql("SELECT * FROM live")) == 3
 
 
 def test_a_store_that_fits_its_seal_is_not_audited(large):

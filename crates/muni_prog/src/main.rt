@@ -7,10 +7,9 @@ ghost use Rattle.muni_desk.specs.Command.{is_check, only_reads};
 
 use muni_desk::{Status, desk, is_check, only_reads};
 use muni_edge::NoGate;
-use muni_file::Missing;
-use muni_host::{Input, LoopbackDoor, NoWords, Output, words};
+use muni_host::file::Missing;
+use muni_host::{FileShelf, Input, LoopbackDoor, NoWords, Output, words};
 use muni_journal::JournalCabinet;
-use muni_journal_file::FileShelf;
 use muni_keep::Either;
 use muni_multi::Doubling;
 use muni_store::{SqlCabinet, Trust};

@@ -1,5 +1,2 @@
-mod BoundLemmas
 mod OpenLemmas
-mod PageLemmas
-pub mod RefusedLemmas
 mod SealLemmas

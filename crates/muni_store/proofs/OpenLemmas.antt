@@ -1,7 +1,7 @@
 -- What a call does over a file that stays open.
 use Rattle.std.proofs.Common.{◌≡◌, Option, None, Some, IfSome, sym}
 use Rattle.muni_store.specs.Open.{WhileOpen, in_hand, ran_on}
-use Rattle.muni_store.specs.declared.file_keeper.FileState.{FileState}
+use Rattle.muni_store.specs.declared.keeper.FileState.{FileState}
 
 done : {Keeper : Type 0} (kept : Option Keeper) (Done : Keeper → Type 0) (after : Keeper) → IfSome kept (λ keeper. keeper ≡ after) → Done after → IfSome kept Done
 done None Done after same did = tt

@@ -1,7 +1,8 @@
 -- Why a call is refused.
-use Rattle.std.specs.Prelude.{Result, Ok, Err}
+use Rattle.std.specs.Prelude.{List, Option, Some, None, Result, Ok, Err}
+use Rattle.sqlite.specs.declared.types.Value.{Value}
 use Rattle.sqlite.specs.declared.error.Error.{Error}
-use Rattle.sqlite.specs.declared.error.Error.TheVariants.{SqliteFailure}
+use Rattle.sqlite.specs.declared.error.Error.TheVariants.{SqliteFailure, QueryReturnedNoRows}
 use Rattle.sqlite.specs.declared.error.ErrorCode.TheVariants as code
 use Rattle.muni_keep.specs.declared.fault.KeepFault.{KeepFault}
 use Rattle.muni_keep.specs.declared.fault.KeepFault.TheVariants as keep
@@ -23,3 +24,8 @@ fault_kept Shut = keep.Failed
 abbrev pub kept : {T : Type 0} → Result T StoreFault → Result T KeepFault
 kept (Ok value) = Ok value
 kept (Err fault) = Err (fault_kept fault)
+
+-- what a query answers whose first row is this one, or that finds none
+abbrev pub answer_of : Option (List Value) → Result (List Value) Error
+answer_of None = Err QueryReturnedNoRows
+answer_of (Some row) = Ok row

@@ -1,12 +1,6 @@
-pub mod Calls
 pub mod Catalog
-pub mod Keepers
 pub mod Kinds
 pub mod Open
-pub mod Page
-pub mod Ran
-pub mod Rows
-pub mod Statements
 pub mod Faults
 pub mod Seal
 pub mod SealText

@@ -2,9 +2,9 @@
 use Rattle.std.specs.Prelude.{Option, Some, None, Result, IfSome, IsSome, OnOk}
 use Rattle.muni_keep.specs.declared.fault.KeepFault.{KeepFault}
 use Rattle.muni_store_trees.specs.Calls.{CountsFailure}
-use Rattle.muni_store.specs.declared.file_keeper.FileKeeper.{FileKeeper}
-use Rattle.muni_store.specs.declared.file_keeper.FileState.{FileState}
-use Rattle.muni_store.specs.declared.file_keeper.FileState.TheVariants.{Open, Anew, Shut}
+use Rattle.muni_store.specs.declared.keeper.SqlKeeper.{SqlKeeper}
+use Rattle.muni_store.specs.declared.keeper.FileState.{FileState}
+use Rattle.muni_store.specs.declared.keeper.FileState.TheVariants.{Open, Anew, Shut}
 
 -- the keeper of the file, if it is open
 abbrev pub in_hand : {Keeper : Type 0} → FileState Keeper → Option Keeper
@@ -28,6 +28,6 @@ pub record IsOpen {Keeper : Type 0} (old new : FileState Keeper) : Type 0 where
   pub after : IsSome (ran_on new)
 
 -- An answer comes of a file that was open, and a failure is counted.
-pub record Ends {S F T : Type 0} (result : Result T KeepFault) (old new : FileKeeper S F) : Type 0 where
+pub record Ends {S F T : Type 0} (result : Result T KeepFault) (old new : SqlKeeper S F) : Type 0 where
   pub answered : OnOk result (IsOpen old.state new.state)
   pub counted : CountsFailure result old.faults new.faults

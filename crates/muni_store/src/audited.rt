@@ -1,16 +1,13 @@
 //! A database that was audited: its keeper, and its files once it is closed.
 
 ghost use Rattle.std.specs.Prelude.{◌≡◌, false, IfOk, OnOk};
-ghost use Rattle.muni_store.specs.Keepers.{IsIdle, faults_of};
 
 use crate::catalog::places_of;
 use crate::fault::StoreFault;
-use crate::keeper::SqlKeeper;
 use crate::moving::move_old_tables;
-use crate::schema::{counts_some, lists_own_alone, make_tables};
+use crate::schema::{counts_some, make_tables};
 use crate::store_file::Trust;
-use crate::store_keeper::StoreKeeper;
-use muni_store_trees::{Places, TreeKeeper};
+use muni_store_trees::TreeKeeper;
 use sqlite::{Alter, Connection, FileStore, Files};
 use sqlite_disk::Disk;
 use std::alloc::Global;
@@ -25,58 +22,41 @@ const COUNTS_OF_LOST: [&str; 4] = [
      WHERE least <> 1",
 ];
 
-/// A keeper over a database that was audited. Its tables are made if they are missing, and it goes by trees
-/// if it lists nothing else. If nothing is trusted a database with lost rows is refused.
-pub(crate) fn keeper_over<S: Alter + Drop>(
+/// Moves what the tables of earlier versions of the program have, makes those that are missing, and says whether
+/// it has done either. If nothing is trusted a database with lost rows is refused.
+pub(crate) fn prepare_tables<S: Alter>(
     alloc: Global,
-    mut database: Connection<S>,
-    trust: Trust,
-) -> Result<StoreKeeper<S>, StoreFault>
-    ensures faults { IfOk result (λ keeper. faults_of keeper ≡ 0) }
-    ensures idle { IfOk result IsIdle }
-{
-    let prepared = prepare_tables(&mut database, trust)?;
-    let is_changed = prepared.is_changed;
-    if !prepared.is_own_alone {
-        return Ok(StoreKeeper::Sql(SqlKeeper::new(alloc, database, is_changed)));
-    }
-    let store = database.into_store();
-    match places_in(&store, alloc)? {
-        Some(places) => Ok(StoreKeeper::Trees(TreeKeeper::new(alloc, store, places, is_changed))),
-        None => Err(StoreFault::Failed),
-    }
-}
-
-/// A database that has the tables of a store.
-#[derive(Clone, Copy)]
-struct Prepared {
-    /// Whether a table was made, or those of earlier versions of the program were moved.
-    is_changed: bool,
-    /// Whether it lists nothing but these tables, their indexes and views.
-    is_own_alone: bool,
-}
-
-// Moves what the tables of earlier versions of the program have, and makes those that are missing. If nothing is
-// trusted lost rows are refused.
-fn prepare_tables<S: Alter>(
     database: &mut Connection<S>,
     trust: Trust,
-) -> Result<Prepared, StoreFault>
+) -> Result<bool, StoreFault>
     ensures idle { OnOk result (database.new.in_transaction ≡ false) }
 {
-    let moved = move_old_tables(database)?;
+    let moved = move_old_tables(alloc, database)?;
     let made = make_tables(database)?;
     if trust == Trust::Nothing && has_lost_rows(database)? {
         return Err(StoreFault::Failed);
     }
-    let is_own_alone = lists_own_alone(database)?;
     if !database.is_autocommit() {
         return Err(StoreFault::Failed);
     }
-    Ok(Prepared {
-        is_changed: moved || made,
-        is_own_alone,
-    })
+    Ok(moved || made)
+}
+
+/// A keeper over a database that was audited and has its tables, and that was changed already or was not.
+pub(crate) fn keeper_over<S: Alter + Drop>(
+    alloc: Global,
+    database: Connection<S>,
+    is_changed: bool,
+) -> Result<TreeKeeper<S>, StoreFault>
+    requires idle { database.in_transaction ≡ false }
+    ensures faults { IfOk result (λ keeper. keeper.faults ≡ 0) }
+{
+    let store = database.into_store();
+    let listed = store.objects(alloc)?;
+    match places_of(listed.as_slice()) {
+        Some(places) => Ok(TreeKeeper::new(alloc, store, places, is_changed)),
+        None => Err(StoreFault::Failed),
+    }
 }
 
 fn has_lost_rows<S: Alter>(database: &mut Connection<S>) -> Result<bool, StoreFault> {
@@ -86,11 +66,6 @@ fn has_lost_rows<S: Alter>(database: &mut Connection<S>) -> Result<bool, StoreFa
         }
     }
     Ok(false)
-}
-
-/// Which trees the tables of an open store are, if it lists nothing but these, their indexes and views.
-fn places_in<S: Alter>(store: &S, alloc: Global) -> Result<Option<Places>, StoreFault> {
-    Ok(places_of(store.objects(alloc)?.as_slice()))
 }
 
 /// The files of a database whose log is written into its file and synced.

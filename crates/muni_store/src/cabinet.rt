@@ -3,10 +3,10 @@
 ghost use Rattle.std.specs.Prelude.{◌≡◌, None, option_map};
 
 use crate::faults::counted;
-use crate::file_keeper::FileKeeper;
+use crate::keeper::SqlKeeper;
 use crate::store_file::{StoreFile, Trust};
 use muni_edge::Faults;
-use muni_file::Missing;
+use muni_host::file::Missing;
 use muni_keep::{Cabinet, KeepFault};
 use sqlite::{File, FileStore};
 
@@ -41,7 +41,7 @@ impl<'a> SqlCabinet<'a> {
 }
 
 impl<'a> Cabinet for SqlCabinet<'a> {
-    type K = FileKeeper<FileStore<File>, StoreFile>;
+    type K = SqlKeeper<FileStore<File>, StoreFile>;
 
     ghost told = { λ _ _. None };
 
@@ -49,16 +49,16 @@ impl<'a> Cabinet for SqlCabinet<'a> {
 
     ghost out = { λ cabinet. option_map (λ name. (name.items, 0)) cabinet.lent };
 
-    fn fetch(&mut self, name: &[u8]) -> Result<FileKeeper<FileStore<File>, StoreFile>, KeepFault> {
+    fn fetch(&mut self, name: &[u8]) -> Result<SqlKeeper<FileStore<File>, StoreFile>, KeepFault> {
         let lent = name.to_vec(self.rt.alloc())?;
         let path = name.to_vec(self.rt.alloc())?;
         let mut file = StoreFile::new(self.rt.clone()?, path, self.trust, self.missing);
         let keeper = counted(&mut self.faults, file.open())?;
         self.lent = Some(lent);
-        Ok(FileKeeper::new(file, keeper))
+        Ok(SqlKeeper::new(file, keeper))
     }
 
-    fn give_back(&mut self, keeper: FileKeeper<FileStore<File>, StoreFile>) {
+    fn give_back(&mut self, keeper: SqlKeeper<FileStore<File>, StoreFile>) {
         let (file, keeper, faults) = keeper.into_parts();
         self.faults.add(&faults);
         if let Some(keeper) = keeper {

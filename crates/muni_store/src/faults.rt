@@ -20,8 +20,3 @@ pub(crate) fn counted<T>(faults: &mut Faults, answer: Result<T, StoreFault>) -> 
         Err(StoreFault::Failed | StoreFault::Shut) => Err(faults.fail().into()),
     }
 }
-
-/// Whether a call found the database shut.
-pub(crate) fn is_shut<T>(answer: &Result<T, StoreFault>) -> bool {
-    matches!(answer, Err(StoreFault::Shut))
-}

@@ -1,83 +1,133 @@
-//! A keeper over a database.
+//! A keeper over the file of a store.
 
-ghost use Rattle.std.specs.Prelude.{◌≡◌, [], None, Ok, Some, IfOk, is_ok};
-ghost use Rattle.sqlite.specs.Held.{state};
-ghost use Rattle.muni_store_rows.specs.Issue as issues;
-ghost use Rattle.muni_store_rows.specs.Version as versions;
-ghost use Rattle.muni_store.specs.Calls.{CountsTrades, Looks};
+ghost use Rattle.std.specs.Prelude.{◌≡◌, None, Ok, Some, IfOk, IfSome, OnOk, OnErr, is_ok};
+ghost use Rattle.muni_store_trees.specs.Calls.{Adds, CountsFailure, CountsTrades, Finds};
 ghost use Rattle.muni_store_trees.specs.Counts.{after_put};
-ghost use Rattle.muni_store_trees.specs.Calls.{CountsFailure};
-ghost use Rattle.muni_store.specs.Keepers.{PutsCounted};
-ghost use Rattle.muni_store.specs.Page.{IsPage, Pages};
-ghost use Rattle.muni_store.specs.Rows as rows;
-ghost use Rattle.muni_store.specs.Statements as spec;
+ghost use Rattle.muni_store_trees.specs.Found as found;
+ghost use Rattle.muni_store_trees.specs.Puts as puts;
+ghost use Rattle.muni_store.specs.Open.{Ends, WhileOpen, in_hand, ran_on};
 
-use crate::faults::{counted, is_shut};
-use crate::page::read_page;
-use crate::statements::{
-    count_trades, find_before_latest, find_desk_past, find_issue, find_issue_numbered,
-    find_issue_past, find_last, find_last_issue, find_version, insert_issue, insert_version,
-};
+use crate::fault::StoreFault;
+use crate::faults::counted;
 use arrayvec::ArrayVec;
 use muni_edge::Faults;
 use muni_keep::{KeepFault, Keeper};
 use muni_msg::{DeskName, Key, Line, Reference, Version};
-use muni_store_trees::TradeCounts;
+use muni_store_trees::TreeKeeper;
 use muni_terms::Issue;
-use sqlite::{Alter, Connection};
-use std::alloc::Global;
+use sqlite_trees::store::Store;
+use std::mem;
 
-/// A keeper over a database, whose file no other process can open meanwhile. It does not expose what
-/// it keeps.
-///
-/// What a put answered `Ok` is on the disk. Every refusal of `sqlite` is a fault, except that memory
-/// ran out, and so is a row that is not that of a checked value.
+/// What opens the file of a store after a sync has failed.
+pub trait OpensAnew<S: Store + Drop> {
+    /// A keeper over the file.
+    fn open_anew(&mut self) -> Result<TreeKeeper<S>, StoreFault>;
+}
+
+/// A file, and its keeper if it is open.
 #[derive(Drop)]
-pub struct SqlKeeper<S: Alter + Drop> {
-    database: Connection<S>,
-    is_changed: bool,
-    is_shut: bool,
-    trades: TradeCounts,
+pub(crate) enum FileState<K> {
+    Open(K),
+    /// Opened anew. No call has run on it.
+    Anew(K),
+    Shut,
+}
+
+/// A keeper over the file of a store, by the trees of its tables. It does not expose what it keeps.
+///
+/// A sync that fails shuts the database. The call that finds it shut fails too, and opens the file anew. If
+/// that cannot be, each call that follows fails and tries it again, until the file is open.
+#[derive(Drop)]
+pub struct SqlKeeper<S: Store + Drop, F: OpensAnew<S> + Drop> {
+    file: F,
+    state: FileState<TreeKeeper<S>>,
     faults: Faults,
 }
 
-impl<S: Alter + Drop> SqlKeeper<S> {
-    /// A keeper over a database, which was changed already or was not.
-    pub(crate) fn new(alloc: Global, database: Connection<S>, is_changed: bool) -> SqlKeeper<S>
-        ensures database { result.database ≡ database }
+impl<S: Store + Drop, F: OpensAnew<S> + Drop> SqlKeeper<S, F> {
+    /// A keeper over the file, which is open.
+    pub(crate) fn new(file: F, keeper: TreeKeeper<S>) -> SqlKeeper<S, F>
+        ensures open { result.state ≡ FileState.Open keeper }
         ensures faults { result.faults ≡ 0 }
-        ensures counts { result.trades ≡ [] }
     {
         SqlKeeper {
-            database,
-            is_changed,
-            is_shut: false,
-            trades: TradeCounts::new(alloc),
+            file,
+            state: FileState::Open(keeper),
             faults: Faults::none(),
         }
     }
 
-    /// Whether the last call found that an earlier failure of the disk has shut the database.
-    pub(crate) fn is_shut(&self) -> bool
-        ensures { result ≡ self.now.is_shut }
-    {
-        self.is_shut
-    }
-
-    /// The database, and whether it was changed.
-    pub(crate) fn into_parts(self) -> (Connection<S>, bool)
-        ensures { result ≡ (self.database, self.is_changed) }
+    /// The file, its keeper if it is open, and the count of faults.
+    pub(crate) fn into_parts(self) -> (F, Option<TreeKeeper<S>>, Faults)
+        ensures { result ≡ (self.file, in_hand self.state, self.faults) }
     {
         let SqlKeeper {
-            database,
-            is_changed,
-            ..
+            file,
+            state,
+            faults,
         } = self;
-        (database, is_changed)
+        match state {
+            FileState::Open(keeper) | FileState::Anew(keeper) => (file, Some(keeper), faults),
+            FileState::Shut => (file, None, faults),
+        }
+    }
+
+    // The keeper of the open file. If the file is shut it is opened anew, and the call fails.
+    fn take(&mut self) -> Result<TreeKeeper<S>, KeepFault>
+        ensures open { IfOk result (λ keeper. in_hand self.old.state ≡ Some keeper) }
+        ensures shut { OnErr result (in_hand self.old.state ≡ None) }
+        ensures counted { CountsFailure result self.old.faults self.new.faults }
+    {
+        match mem::replace(&mut self.state, FileState::Shut) {
+            FileState::Open(keeper) | FileState::Anew(keeper) => Ok(keeper),
+            FileState::Shut => {
+                let opened = self.file.open_anew();
+                self.state = FileState::Anew(counted(&mut self.faults, opened)?);
+                Err(self.faults.fail().into())
+            }
+        }
+    }
+
+    // Puts the keeper back after a call, and gives its answer.
+    fn put_back<T>(
+        &mut self,
+        keeper: TreeKeeper<S>,
+        answer: Result<T, KeepFault>,
+    ) -> Result<T, KeepFault>
+        ensures same { result ≡ answer }
+        ensures open { OnOk result (self.new.state ≡ FileState.Open keeper) }
+        ensures kept { IfSome (ran_on self.new.state) (λ kept. kept ≡ keeper) }
+        ensures counted { CountsFailure result self.old.faults self.new.faults }
+    {
+        match answer {
+            Err(KeepFault::Failed) => {
+                self.state = self.after_failure(keeper);
+                Err(self.faults.fail().into())
+            }
+            other => {
+                self.state = FileState::Open(keeper);
+                other
+            }
+        }
+    }
+
+    // If the call found the database shut, it is let go, since it holds the lock of the file.
+    fn after_failure(&mut self, keeper: TreeKeeper<S>) -> FileState<TreeKeeper<S>>
+        ensures kept { IfSome (ran_on result) (λ kept. kept ≡ keeper) }
+        ensures faults { self.new.faults ≡ self.old.faults }
+    {
+        if !keeper.is_shut() {
+            return FileState::Open(keeper);
+        }
+        drop(keeper);
+        match self.file.open_anew() {
+            Ok(opened) => FileState::Anew(opened),
+            Err(_) => FileState::Shut,
+        }
     }
 }
 
-impl<S: Alter + Drop> Keeper for SqlKeeper<S> {
+impl<S: Store + Drop, F: OpensAnew<S> + Drop> Keeper for SqlKeeper<S, F> {
     ghost tables = { λ _. None };
 
     ghost faults = { λ keeper. keeper.faults };
@@ -85,91 +135,84 @@ impl<S: Alter + Drop> Keeper for SqlKeeper<S> {
     ghost lent_as = { λ _. 0 };
 
     fn issue(&mut self, cusip: &[u8; 9]) -> Result<Option<Issue>, KeepFault>
-        ensures looks { Looks (state S.Store) rows.issue_in spec.select_last_issue (spec.cusip_values cusip.now)
-            result self.old self.new }
-        ensures counted { CountsFailure result self.old.faults self.new.faults }
+        ensures finds { WhileOpen self.old.state self.new.state (Finds S.Store.view S.Store.recovers
+            (λ places trees. found.IsIssue places trees cusip.now) result) }
+        ensures ends { Ends result self.old self.new }
     {
-        let found = find_issue(&mut self.database, cusip);
-        self.is_shut = is_shut(&found);
-        counted(&mut self.faults, found)
+        let mut keeper = self.take()?;
+        let found = keeper.issue(cusip);
+        self.put_back(keeper, found)
     }
 
     fn issue_numbered(&mut self, cusip: &[u8; 9], number: u32) -> Result<Option<Issue>, KeepFault>
-        ensures looks { Looks (state S.Store) rows.issue_in spec.select_issue (spec.numbered_cusip_values
-            cusip.now number) result self.old self.new }
-        ensures counted { CountsFailure result self.old.faults self.new.faults }
+        ensures finds { WhileOpen self.old.state self.new.state (Finds S.Store.view S.Store.recovers
+            (λ places trees. found.IsIssueNumbered places trees cusip.now number) result) }
+        ensures ends { Ends result self.old self.new }
     {
-        let found = find_issue_numbered(&mut self.database, cusip, number);
-        self.is_shut = is_shut(&found);
-        counted(&mut self.faults, found)
+        let mut keeper = self.take()?;
+        let found = keeper.issue_numbered(cusip, number);
+        self.put_back(keeper, found)
     }
 
     fn last_issue(&mut self, cusip: &[u8; 9]) -> Result<Option<(u32, Issue)>, KeepFault>
-        ensures looks { Looks (state S.Store) rows.numbered_in spec.select_last_issue (spec.cusip_values
-            cusip.now) result self.old self.new }
-        ensures counted { CountsFailure result self.old.faults self.new.faults }
+        ensures finds { WhileOpen self.old.state self.new.state (Finds S.Store.view S.Store.recovers
+            (λ places trees. found.IsLastIssue places trees cusip.now) result) }
+        ensures ends { Ends result self.old self.new }
     {
-        let found = find_last_issue(&mut self.database, cusip);
-        self.is_shut = is_shut(&found);
-        counted(&mut self.faults, found)
+        let mut keeper = self.take()?;
+        let found = keeper.last_issue(cusip);
+        self.put_back(keeper, found)
     }
 
     fn put_issue(&mut self, number: u32, issue: &Issue) -> Result<(), KeepFault>
-        ensures puts { PutsCounted (state S.Store) spec.insert_issue (spec.issue_values
-            (issues.numbered_columns number issue.now)) self.old.trades result self.old self.new }
-        ensures counted { CountsFailure result self.old.faults self.new.faults }
+        ensures adds { WhileOpen self.old.state self.new.state (λ was. Adds S.Store.view S.Store.recovers
+            (λ places. puts.AddsIssue places number issue.now) was.trades result was) }
+        ensures ends { Ends result self.old self.new }
     {
-        self.is_changed = true;
-        let put = insert_issue(&mut self.database, number, issue);
-        self.is_shut = is_shut(&put);
-        counted(&mut self.faults, put)
+        let mut keeper = self.take()?;
+        let put = keeper.put_issue(number, issue);
+        self.put_back(keeper, put)
     }
 
     fn version(&mut self, key: &Key, number: u32) -> Result<Option<Version>, KeepFault>
-        ensures looks { Looks (state S.Store) rows.version_in spec.select_version (spec.numbered_key_values
-            key.now number) result self.old self.new }
-        ensures counted { CountsFailure result self.old.faults self.new.faults }
+        ensures finds { WhileOpen self.old.state self.new.state (Finds S.Store.view S.Store.recovers
+            (λ places trees. found.IsVersion places trees key.now number) result) }
+        ensures ends { Ends result self.old self.new }
     {
-        let found = find_version(&mut self.database, key, number);
-        self.is_shut = is_shut(&found);
-        counted(&mut self.faults, found)
+        let mut keeper = self.take()?;
+        let found = keeper.version(key, number);
+        self.put_back(keeper, found)
     }
 
     fn last(&mut self, key: &Key) -> Result<Option<(u32, Version)>, KeepFault>
-        ensures looks { Looks (state S.Store) rows.last_in spec.select_last (spec.key_values key.now) result
-            self.old self.new }
-        ensures counted { CountsFailure result self.old.faults self.new.faults }
+        ensures finds { WhileOpen self.old.state self.new.state (Finds S.Store.view S.Store.recovers
+            (λ places trees. found.IsLast places trees key.now) result) }
+        ensures ends { Ends result self.old self.new }
     {
-        let found = find_last(&mut self.database, key);
-        self.is_shut = is_shut(&found);
-        counted(&mut self.faults, found)
+        let mut keeper = self.take()?;
+        let found = keeper.last(key);
+        self.put_back(keeper, found)
     }
 
     fn put_version(&mut self, key: &Key, number: u32, version: &Version) -> Result<(), KeepFault>
-        ensures puts { PutsCounted (state S.Store) spec.insert_version (spec.version_values
-            (versions.columns_of key.now number version.now))
-            (after_put key.now.desk number (is_ok result) self.old.trades) result self.old self.new }
-        ensures counted { CountsFailure result self.old.faults self.new.faults }
+        ensures adds { WhileOpen self.old.state self.new.state (λ was. Adds S.Store.view S.Store.recovers
+            (λ places. puts.AddsVersion places key.now number version.now)
+            (after_put key.now.desk number (is_ok result) was.trades) result was) }
+        ensures ends { Ends result self.old self.new }
     {
-        self.is_changed = true;
-        let put = insert_version(&mut self.database, key, number, version);
-        self.trades.note_put(&key.desk, number, put.is_ok());
-        self.is_shut = is_shut(&put);
-        counted(&mut self.faults, put)
+        let mut keeper = self.take()?;
+        let put = keeper.put_version(key, number, version);
+        self.put_back(keeper, put)
     }
 
     fn trades(&mut self, desk: &DeskName) -> Result<u32, KeepFault>
-        ensures counts { CountsTrades (state S.Store) desk.now result self.old self.new }
-        ensures counted { CountsFailure result self.old.faults self.new.faults }
+        ensures counts { WhileOpen self.old.state self.new.state (CountsTrades S.Store.view S.Store.recovers
+            desk.now result) }
+        ensures ends { Ends result self.old self.new }
     {
-        if let Some(count) = self.trades.of(desk) {
-            return Ok(count);
-        }
-        let found = count_trades(&mut self.database, desk);
-        self.is_shut = is_shut(&found);
-        let count = counted(&mut self.faults, found)?;
-        self.trades.keep(desk, count);
-        Ok(count)
+        let mut keeper = self.take()?;
+        let count = keeper.trades(desk);
+        self.put_back(keeper, count)
     }
 
     fn page(
@@ -177,42 +220,42 @@ impl<S: Alter + Drop> Keeper for SqlKeeper<S> {
         desk: &DeskName,
         after: &Option<Reference>,
     ) -> Result<ArrayVec<Line, 50>, KeepFault>
-        ensures looks { Pages (λ lines was is. IsPage (state S.Store) desk.now after.now was is lines.items)
-            result self.old self.new }
-        ensures counted { CountsFailure result self.old.faults self.new.faults }
+        ensures finds { WhileOpen self.old.state self.new.state (Finds S.Store.view S.Store.recovers
+            (λ places trees lines. found.IsPage places trees desk.now after.now lines.items) result) }
+        ensures ends { Ends result self.old self.new }
     {
-        let lines = read_page(&mut self.database, desk, after);
-        self.is_shut = is_shut(&lines);
-        counted(&mut self.faults, lines)
+        let mut keeper = self.take()?;
+        let lines = keeper.page(desk, after);
+        self.put_back(keeper, lines)
     }
 
     fn before_latest(&mut self, desk: &DeskName) -> Result<Option<Reference>, KeepFault>
-        ensures looks { Looks (state S.Store) rows.reference_in spec.select_before_latest (spec.desk_values desk.now)
-            result self.old self.new }
-        ensures counted { CountsFailure result self.old.faults self.new.faults }
+        ensures finds { WhileOpen self.old.state self.new.state (Finds S.Store.view S.Store.recovers
+            (λ places trees. found.IsBeforeLatest places trees desk.now) result) }
+        ensures ends { Ends result self.old self.new }
     {
-        let found = find_before_latest(&mut self.database, desk);
-        self.is_shut = is_shut(&found);
-        counted(&mut self.faults, found)
+        let mut keeper = self.take()?;
+        let found = keeper.before_latest(desk);
+        self.put_back(keeper, found)
     }
 
     fn issue_past(&mut self, after: &Option<[u8; 9]>) -> Result<Option<([u8; 9], Issue)>, KeepFault>
-        ensures looks { Looks (state S.Store) rows.issue_entry_in spec.select_issue_past (spec.past_values after.now)
-            result self.old self.new }
-        ensures counted { CountsFailure result self.old.faults self.new.faults }
+        ensures finds { WhileOpen self.old.state self.new.state (Finds S.Store.view S.Store.recovers
+            (λ places trees. found.IsIssuePast places trees after.now) result) }
+        ensures ends { Ends result self.old self.new }
     {
-        let found = find_issue_past(&mut self.database, after);
-        self.is_shut = is_shut(&found);
-        counted(&mut self.faults, found)
+        let mut keeper = self.take()?;
+        let found = keeper.issue_past(after);
+        self.put_back(keeper, found)
     }
 
     fn desk_past(&mut self, after: &Option<DeskName>) -> Result<Option<DeskName>, KeepFault>
-        ensures looks { Looks (state S.Store) rows.desk_in spec.select_desk_past (spec.desk_past_values after.now)
-            result self.old self.new }
-        ensures counted { CountsFailure result self.old.faults self.new.faults }
+        ensures finds { WhileOpen self.old.state self.new.state (Finds S.Store.view S.Store.recovers
+            (λ places trees. found.IsDeskPast places trees after.now) result) }
+        ensures ends { Ends result self.old self.new }
     {
-        let found = find_desk_past(&mut self.database, after);
-        self.is_shut = is_shut(&found);
-        counted(&mut self.faults, found)
+        let mut keeper = self.take()?;
+        let found = keeper.desk_past(after);
+        self.put_back(keeper, found)
     }
 }

@@ -1,15 +1,13 @@
 //! What is at the path of a store, before it is opened. Nothing is written to a file that is there.
 
 ghost use Rattle.std.specs.Prelude.{◌≡◌};
-ghost use Rattle.std.specs.List.{list_any};
-ghost use Rattle.sqlite_value.specs.Value.{owned};
 ghost use Rattle.muni_store.specs.Kinds as spec;
 
+use crate::catalog::{is_store, without_roots};
 use crate::fault::StoreFault;
 use crate::marks::Seen;
 use crate::new_log::{EMPTY_LOG, NewLog};
-use muni_file::Missing;
-use sqlite::types::ValueRef;
+use muni_host::file::Missing;
 use sqlite_disk::{Disk, Files, Memory};
 use sqlite_pager::{Options, Pager};
 use sqlite_store::{OpenError, Unopened};
@@ -77,7 +75,7 @@ impl Place {
     }
 
     /// Looks what the file is. One of another kind is refused, and so is a database that lists something and
-    /// no table of a store.
+    /// no table of a store, or what must not be on one.
     pub(crate) fn look(&self, rt: &HostRuntime) -> Result<Found, StoreFault> {
         let log = read_log(rt, &self.log)?;
         let is_log_begun = log.as_ref().is_some_and(|bytes| !bytes.is_empty());
@@ -109,12 +107,12 @@ impl Place {
 
     /// Whether the path leads to the file that is open.
     pub(crate) fn is_there(&self, rt: &HostRuntime) -> Result<bool, StoreFault> {
-        Ok(muni_file::is_at(rt, self.path(), &self.file)?)
+        Ok(muni_host::file::is_at(rt, self.path(), &self.file)?)
     }
 
     /// What the system says of the file, and of its log if that may hold something.
     pub(crate) fn seen(&self, rt: &HostRuntime) -> Result<Seen, StoreFault> {
-        match muni_file::open(rt, &self.log) {
+        match muni_host::file::open(rt, &self.log) {
             Ok(log) if log.metadata()?.len() > EMPTY_LOG => Seen::of(&self.file, Some(&log)),
             Ok(_) => Seen::of(&self.file, None),
             Err(error) if error.kind() == ErrorKind::NotFound => Seen::of(&self.file, None),
@@ -140,12 +138,12 @@ fn is_log_of(rt: &HostRuntime, log: &str, file: &File) -> io::Result<bool> {
 // A link that leads nowhere is refused.
 fn open_or(rt: &HostRuntime, path: &str, missing: Missing) -> Result<File, StoreFault> {
     match fs::metadata(rt, path) {
-        Ok(about) if about.is_file() => Ok(muni_file::open(rt, path)?),
+        Ok(about) if about.is_file() => Ok(muni_host::file::open(rt, path)?),
         Err(error) if error.kind() == ErrorKind::NotFound && missing == Missing::Made => {
-            match muni_file::make(rt, path, 0o644) {
+            match muni_host::file::make(rt, path, 0o644) {
                 // Another program has made it meanwhile.
                 Err(error) if error.kind() == ErrorKind::AlreadyExists => {
-                    Ok(muni_file::open(rt, path)?)
+                    Ok(muni_host::file::open(rt, path)?)
                 }
                 made => Ok(made?),
             }
@@ -156,7 +154,7 @@ fn open_or(rt: &HostRuntime, path: &str, missing: Missing) -> Result<File, Store
 
 /// What a log holds, if there is one.
 fn read_log(rt: &HostRuntime, path: &str) -> Result<Option<Vec<u8>>, StoreFault> {
-    match muni_file::open(rt, path) {
+    match muni_host::file::open(rt, path) {
         Ok(log) if log.metadata()?.is_file() => Ok(Some(read_all(rt.alloc(), &log)?)),
         Ok(_) => Err(StoreFault::Failed),
         Err(error) if error.kind() == ErrorKind::NotFound => Ok(None),
@@ -197,7 +195,8 @@ fn is_store_file(rt: &HostRuntime, file: &File, log: Option<Vec<u8>>) -> Result<
         Some(bytes) => in_memory(rt.alloc(), &bytes)?,
         None => Memory::new(rt.alloc()),
     };
-    let rows = read_catalog(rt.alloc(), Files { log, db })?;
+    let listed = read_catalog(rt.alloc(), Files { log, db })?;
+    let rows = without_roots(rt.alloc(), listed.as_slice())?;
     Ok(is_store(rows.as_slice()))
 }
 
@@ -241,49 +240,5 @@ fn read_catalog<D: Disk + Drop>(
         Ok(rows) => Ok(rows),
         Err(OpenError::OutOfMemory | OpenError::Io) => Err(StoreFault::NoMemory),
         Err(_) => Err(StoreFault::Failed),
-    }
-}
-
-/// Whether a database that lists these is a store: it lists nothing yet, or a table of a store.
-fn is_store(rows: &[Row]) -> bool
-    ensures { result ≡ spec.is_store rows.now }
-{
-    rows.is_empty() || has_own_table(rows)
-}
-
-fn has_own_table(rows: &[Row]) -> bool
-    ensures { result ≡ list_any spec.is_own_table rows.now }
-{
-    rows.iter().any(|row| is_own_table(row))
-}
-
-fn is_own_table(row: &Row) -> bool
-    ensures { result ≡ spec.is_own_table row.now }
-{
-    is_text(row.get(1), b"table") && is_own_name(row.get(2))
-}
-
-fn is_own_name(name: ValueRef<'_>) -> bool
-    ensures { result ≡ spec.is_own_name (owned name.entry) }
-{
-    is_text(name, b"issues_3") || is_text(name, b"versions_3") || is_old_name(name)
-}
-
-/// The names of the tables of earlier versions of the program.
-fn is_old_name(name: ValueRef<'_>) -> bool
-    ensures { result ≡ spec.is_old_name (owned name.entry) }
-{
-    is_text(name, b"issues_2")
-        || is_text(name, b"versions_2")
-        || is_text(name, b"issues")
-        || is_text(name, b"versions")
-}
-
-pub(crate) fn is_text(value: ValueRef<'_>, text: &[u8]) -> bool
-    ensures { result ≡ spec.is_text (owned value.entry) text.now }
-{
-    match value {
-        ValueRef::Text(bytes) => bytes == text,
-        _ => false,
     }
 }

@@ -4,12 +4,16 @@ use crate::fault::StoreFault;
 use crate::old_tables::{OLD_TABLES, OldTable};
 use crate::schema::{COUNT_OF_TABLES, TABLES, answered, has_table, if_found, is_above_zero};
 use sqlite::{Alter, Connection, Transaction, params};
+use std::alloc::Global;
 
 /// Moves the rows of the old tables, if the file has such, and says whether it has. One transaction makes the
 /// tables of today, moves the rows and takes the old tables away, so the file is one of today or as it was, and
 /// no earlier version of the program finds a table of its own beside what was moved. If a row is not that of a
 /// checked value the file stays as it was.
-pub(crate) fn move_old_tables<S: Alter>(database: &mut Connection<S>) -> Result<bool, StoreFault> {
+pub(crate) fn move_old_tables<S: Alter>(
+    alloc: Global,
+    database: &mut Connection<S>,
+) -> Result<bool, StoreFault> {
     if !check_old_tables(database)? {
         return Ok(false);
     }
@@ -18,7 +22,7 @@ pub(crate) fn move_old_tables<S: Alter>(database: &mut Connection<S>) -> Result<
     }
     let mut moving = database.transaction();
     make_tables(&mut moving)?;
-    move_tables(&mut moving)?;
+    move_tables(alloc, &mut moving)?;
     answered(moving.commit())?;
     Ok(true)
 }
@@ -39,7 +43,7 @@ fn check_rows<S: Alter>(database: &mut Connection<S>, table: OldTable) -> Result
     let mut rows = answered(database.query(table.rows(), params![]))?;
     for _ in 0..u64::MAX {
         match answered(rows.next())? {
-            Some(row) if table.is_checked(row)? => {}
+            Some(row) if table.is_checked(row) => {}
             Some(_) => return Err(StoreFault::Failed),
             None => break,
         }
@@ -57,14 +61,24 @@ fn make_tables<S: Alter>(moving: &mut Transaction<'_, S>) -> Result<(), StoreFau
     Ok(())
 }
 
-fn move_tables<S: Alter>(moving: &mut Transaction<'_, S>) -> Result<(), StoreFault> {
+fn move_tables<S: Alter>(alloc: Global, moving: &mut Transaction<'_, S>) -> Result<(), StoreFault> {
     for table in OLD_TABLES {
         if has_table_yet(moving, table.name())? {
-            write(moving, table.copying())?;
-            write(moving, table.dropping())?;
+            move_table(alloc, moving, table)?;
         }
     }
     Ok(())
+}
+
+fn move_table<S: Alter>(
+    alloc: Global,
+    moving: &mut Transaction<'_, S>,
+    table: OldTable,
+) -> Result<(), StoreFault> {
+    let copying = format!(in alloc; "INSERT INTO {} {}", table.today().name(), table.rows())?;
+    let dropping = format!(in alloc; "DROP TABLE {}", table.name())?;
+    write(moving, &copying)?;
+    write(moving, &dropping)
 }
 
 /// Whether the file has a table of this name, as far as the transaction has come.

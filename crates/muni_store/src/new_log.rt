@@ -36,9 +36,9 @@ impl NewLog {
         beside: &File,
     ) -> Result<Option<NewLog>, StoreFault> {
         let path = String::from_str(rt.alloc(), path)?;
-        match muni_file::make(rt, &path, 0o600) {
+        match muni_host::file::make(rt, &path, 0o600) {
             Ok(file) if file.metadata()?.dev() != beside.metadata()?.dev() => {
-                muni_file::remove(rt, &path, &file)?;
+                muni_host::file::remove(rt, &path, &file)?;
                 Err(StoreFault::Failed)
             }
             Ok(file) => {
@@ -55,7 +55,7 @@ impl NewLog {
         if self.file.metadata()?.len() > EMPTY_LOG {
             return Ok(());
         }
-        muni_file::remove(rt, &self.path, &self.file)
+        muni_host::file::remove(rt, &self.path, &self.file)
     }
 }
 

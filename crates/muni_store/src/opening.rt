@@ -4,22 +4,21 @@
 ghost use Rattle.std.specs.Prelude.{◌≡◌, ◌<◌, [], length, IsTrue, IfOk, OnOk};
 ghost use Rattle.sqlite_store.specs.Unopened.{state_of, files_of, image, AreUsable};
 
-use crate::catalog::{places_of, shapes_of};
+use crate::catalog::{places_of, shapes_of, without_roots};
 use crate::fault::StoreFault;
 use muni_store_trees::{Places, TreeKeeper};
 use sqlite::{FileStore, Files};
 use sqlite_disk::Disk;
 use sqlite_pager::{Options, Pager};
 use sqlite_store::{OpenError, Unopened};
-use sqlite_value::row::Row;
 use sqlite_wal::{PageSize, probe_page_size};
-use std::alloc::{AllocError, Global};
+use std::alloc::Global;
 
 /// How many pages are kept in memory of a file that is not read as a whole.
 const PAGES: usize = 256;
 
-/// A keeper over the files of a store that is known to be sound, if it lists nothing but the tables of a desk,
-/// their indexes and views.
+/// A keeper over the files of a store that is known to be sound, if it lists the tables of a desk and nothing that
+/// must not be on them.
 pub(crate) fn known_keeper<D: Disk + Drop>(
     alloc: Global,
     mut files: Files<D>,
@@ -73,29 +72,20 @@ fn list_tables<D: Disk + Drop>(alloc: Global, it: &mut Unopened<D>) -> Result<Pl
         Ok(listed) => listed,
         Err(error) => return Err(fault_of(error)),
     };
+    let are_indexes = match it.index_roots(listed.as_slice()) {
+        Ok(found) => found,
+        Err(error) => return Err(fault_of(error)),
+    };
     let rows = without_roots(alloc, listed.as_slice())?;
     let Some(places) = places_of(rows.as_slice()) else {
         return Err(StoreFault::Failed);
     };
-    let shapes = shapes_of(alloc, rows.as_slice())?;
+    let shapes = shapes_of(alloc, rows.as_slice(), are_indexes.as_slice())?;
     if it.list_schema(rows.as_slice(), shapes.as_slice())? {
         Ok(places)
     } else {
         Err(StoreFault::Failed)
     }
-}
-
-/// The rows of the list without the pages at which trees begin.
-fn without_roots(alloc: Global, listed: &[Row]) -> Result<Vec<Row>, AllocError> {
-    let mut rows = Vec::new(alloc);
-    for entry in listed {
-        let mut row = Row::new(alloc);
-        for at in [0usize, 1, 2, 3, 5] {
-            row.push(entry.get(at))?;
-        }
-        rows.push(row)?;
-    }
-    Ok(rows)
 }
 
 fn fault_of(error: OpenError) -> StoreFault {

@@ -1,16 +1,11 @@
-//! The tables of a store.
+//! The tables of a store, and the statements that make them.
 
-ghost use Rattle.std.specs.Prelude.{◌≡◌, Ok, Err, IfOk, IfErr, OnOk, OnErr};
+ghost use Rattle.std.specs.Prelude.{◌≡◌, Ok, Err, IfOk, IfErr};
 ghost use Rattle.sqlite.specs.declared.error.Error.{Error as Failure};
-ghost use Rattle.sqlite.specs.Held.{state};
-ghost use Rattle.sqlite.specs.Values.{bound};
-ghost use Rattle.muni_store.specs.Faults.{fault_in};
-ghost use Rattle.muni_store.specs.Ran.{Ran, Found, NotRun, Asked, answer_of};
+ghost use Rattle.muni_store.specs.Faults.{answer_of, fault_in};
 
 use crate::fault::StoreFault;
-use crate::old_tables::OLD_TABLES;
-use crate::rows::number_at;
-use sqlite::types::ValueRef;
+use crate::rows::number;
 use sqlite::{Alter, Connection, Error, Row, params};
 
 /// The statement that makes the table of the terms of issues.
@@ -73,21 +68,6 @@ impl Table {
         }
     }
 
-    /// Finds the rows, by the names of all columns.
-    fn rows(self) -> &'static str {
-        match self {
-            Table::Issues => {
-                "SELECT cusip, number, name, kind, dated, first, maturity, coupon, calls, basis \
-                 FROM issues_3"
-            }
-            Table::Versions => {
-                "SELECT desk, reference, number, act, cusip, side, par, settle, basis, value, price, \
-                 yld, redemption, at_price, label, days, principal, accrued, total, fee, commission, \
-                 issue FROM versions_3"
-            }
-        }
-    }
-
     /// Makes the table.
     pub(crate) fn making(self) -> &'static str {
         match self {
@@ -97,74 +77,12 @@ impl Table {
     }
 }
 
-/// Refuses a database that is no store, before anything is written to it: one that lists something and
-/// no table of a store, or such a table with other columns.
-pub(crate) fn check_tables<S: Alter>(database: &mut Connection<S>) -> Result<(), StoreFault> {
-    let has_own = has_any_table(database)?;
-    let has_old = has_any_old_table(database)?;
-    if has_own || has_old || !lists_any(database)? {
-        return Ok(());
-    }
-    Err(StoreFault::Failed)
-}
-
-fn has_any_table<S: Alter>(database: &mut Connection<S>) -> Result<bool, StoreFault> {
-    let mut has_any = false;
-    for table in TABLES {
-        if has_columns(database, table.name(), table.rows())? {
-            has_any = true;
-        }
-    }
-    Ok(has_any)
-}
-
-fn has_any_old_table<S: Alter>(database: &mut Connection<S>) -> Result<bool, StoreFault> {
-    let mut has_any = false;
-    for table in OLD_TABLES {
-        if has_columns(database, table.name(), table.rows())? {
-            has_any = true;
-        }
-    }
-    Ok(has_any)
-}
-
-/// Whether the file has a table of this name. One with other columns than those of its rows is refused.
-fn has_columns<S: Alter>(
-    database: &mut Connection<S>,
-    name: &str,
-    rows: &str,
-) -> Result<bool, StoreFault> {
-    if !has_table(database, name)? {
-        return Ok(false);
-    }
-    let _ = answered(database.prepare(rows))?;
-    Ok(true)
-}
-
-fn lists_any<S: Alter>(database: &mut Connection<S>) -> Result<bool, StoreFault> {
-    counts_some(database, "SELECT COUNT(*) FROM sqlite_schema")
-}
-
-/// Whether a database lists nothing but the tables of a store, their indexes and views.
-pub(crate) fn lists_own_alone<S: Alter>(database: &mut Connection<S>) -> Result<bool, StoreFault> {
-    let row = first_row(
-        database,
-        "SELECT COUNT(*) FROM sqlite_schema WHERE type <> 'view' \
-         AND NOT (type = 'table' AND name = 'issues_3' AND sql = ?1) \
-         AND NOT (type = 'table' AND name = 'versions_3' AND sql = ?2) \
-         AND NOT (type = 'index' AND name = 'sqlite_autoindex_issues_3_1') \
-         AND NOT (type = 'index' AND name = 'sqlite_autoindex_versions_3_1')",
-        params![ISSUES, VERSIONS],
-    )?;
-    Ok(!is_above_zero(row)?)
-}
-
 /// Makes the tables that the file does not have, and says whether it has made one.
 pub(crate) fn make_tables<S: Alter>(database: &mut Connection<S>) -> Result<bool, StoreFault> {
     let mut has_made = false;
     for table in TABLES {
         if !has_table(database, table.name())? {
-            write(database, table.making(), params![])?;
+            let _ = answered(database.execute(table.making(), params![]))?;
             has_made = true;
         }
     }
@@ -180,8 +98,7 @@ pub(crate) fn has_table<S: Alter>(
     database: &mut Connection<S>,
     name: &str,
 ) -> Result<bool, StoreFault> {
-    let row = first_row(database, COUNT_OF_TABLES, params![name])?;
-    is_above_zero(row)
+    is_above_zero(if_found(database.query_row(COUNT_OF_TABLES, params![name]))?)
 }
 
 /// Whether the count that a query finds is above 0.
@@ -189,53 +106,14 @@ pub(crate) fn counts_some<S: Alter>(
     database: &mut Connection<S>,
     query: &str,
 ) -> Result<bool, StoreFault> {
-    let row = first_row(database, query, params![])?;
-    is_above_zero(row)
+    is_above_zero(if_found(database.query_row(query, params![]))?)
 }
 
 pub(crate) fn is_above_zero(row: Option<Row>) -> Result<bool, StoreFault> {
     match row {
-        Some(row) => Ok(number_at(&row, 0)? > 0),
+        Some(row) => Ok(number(&row)? > 0),
         None => Ok(false),
     }
-}
-
-/// The first row that a query finds, if it finds one.
-pub(crate) fn first_row<S: Alter>(
-    database: &mut Connection<S>,
-    query: &str,
-    params: &[ValueRef<'_>],
-) -> Result<Option<Row>, StoreFault>
-    ensures found { IfOk result (Found (state S.Store database.old) (state S.Store database.new)
-        query.now (bound params.now)) }
-    ensures asked { Asked (state S.Store database.old) (state S.Store database.new) query.now
-        (bound params.now) }
-{
-    if_found(database.query_row(query, params))
-}
-
-/// Carries out a statement that writes.
-pub(crate) fn write<S: Alter>(
-    database: &mut Connection<S>,
-    statement: &str,
-    params: &[ValueRef<'_>],
-) -> Result<(), StoreFault>
-    ensures ran { OnOk result (Ran (state S.Store database.old) (state S.Store database.new)
-        statement.now (bound params.now)) }
-    ensures undone { OnErr result (NotRun (state S.Store) database.old database.new) }
-{
-    are_texts(params)?;
-    let _ = answered(database.execute(statement, params))?;
-    Ok(())
-}
-
-fn are_texts(values: &[ValueRef<'_>]) -> Result<(), StoreFault> {
-    for value in values {
-        if let ValueRef::Text(bytes) = value {
-            text(bytes)?;
-        }
-    }
-    Ok(())
 }
 
 /// The row that a query found, if it found one.
@@ -258,15 +136,5 @@ pub(crate) fn answered<T>(answer: Result<T, Error>) -> Result<T, StoreFault>
     match answer {
         Ok(value) => Ok(value),
         Err(error) => Err(error.into()),
-    }
-}
-
-/// Bytes as a text. The store keeps texts alone.
-pub(crate) fn text(bytes: &[u8]) -> Result<&str, StoreFault>
-    ensures { IfOk result (λ text. text.now ≡ bytes.now) }
-{
-    match std::str::from_utf8(bytes) {
-        Ok(text) => Ok(text),
-        Err(_) => Err(StoreFault::Failed),
     }
 }

@@ -114,7 +114,7 @@ impl SealFile {
         if !named.is_file() || named.len() > MOST as u64 {
             return Ok(None);
         }
-        let file = muni_file::open(rt, path)?;
+        let file = muni_host::file::open(rt, path)?;
         let about = file.metadata()?;
         // Another file may have been given the name meanwhile.
         if !is_same_file(&named, &about) || about.len() > MOST as u64 {
@@ -167,7 +167,7 @@ impl SealFile {
     /// Removes the file. If it cannot be removed it is left empty.
     fn remove(&self, rt: &HostRuntime, path: &str) -> io::Result<()> {
         let emptied = self.file.set_len(0);
-        muni_file::remove(rt, path, &self.file)?;
+        muni_host::file::remove(rt, path, &self.file)?;
         emptied
     }
 }

@@ -1,18 +1,15 @@
 //! The file of a store.
 
 ghost use Rattle.std.specs.Prelude.{◌≡◌, IfOk, IfSome};
-ghost use Rattle.muni_store.specs.Keepers.{IsIdle, faults_of};
 
-use crate::audited::{keeper_over, settled};
+use crate::audited::{keeper_over, prepare_tables, settled};
 use crate::fault::StoreFault;
-use crate::file_keeper::OpensAnew;
+use crate::keeper::OpensAnew;
 use crate::look::{Found, Place};
 use crate::new_log::{HeldLock, NewLog};
 use crate::opening::known_keeper;
-use crate::schema::{check_tables, text};
 use crate::seal::Seal;
-use crate::store_keeper::StoreKeeper;
-use muni_file::Missing;
+use muni_host::file::Missing;
 use muni_store_trees::TreeKeeper;
 use sqlite::{Connection, File, FileStore, Files, Options, Unknown};
 use std::hash::{BuildHasher, RandomState};
@@ -56,16 +53,15 @@ impl StoreFile {
         }
     }
 
-    /// A keeper over the file, in which no transaction is open. A file that is no store is left as it was. One
-    /// that is not as its seal says is audited, and so is one whose seal is not trusted.
-    pub(crate) fn open(&mut self) -> Result<StoreKeeper<FileStore<File>>, StoreFault>
+    /// A keeper over the file. One that is no store is left as it was. One that is not as its seal says is
+    /// audited, and so is one whose seal is not trusted.
+    pub(crate) fn open(&mut self) -> Result<TreeKeeper<FileStore<File>>, StoreFault>
         ensures path { self.new.path ≡ self.old.path }
-        ensures faults { IfOk result (λ keeper. faults_of keeper ≡ 0) }
-        ensures idle { IfOk result IsIdle }
+        ensures faults { IfOk result (λ keeper. keeper.faults ≡ 0) }
     {
         self.is_sealed = false;
         match self.trusted()? {
-            Some(keeper) => Ok(StoreKeeper::Trees(keeper)),
+            Some(keeper) => Ok(keeper),
             None => self.open_audited(),
         }
     }
@@ -79,10 +75,17 @@ impl StoreFile {
         match self.trust {
             Trust::Seal => self.open_sealed(),
             Trust::Nothing => {
-                let place = Place::open(&self.rt, text(&self.path)?, self.missing)?;
+                let place = self.place_at_path()?;
                 Seal::remove(&self.rt, place.path());
                 Ok(None)
             }
+        }
+    }
+
+    fn place_at_path(&self) -> Result<Place, StoreFault> {
+        match std::str::from_utf8(&self.path) {
+            Ok(path) => Place::open(&self.rt, path, self.missing),
+            Err(_) => Err(StoreFault::Failed),
         }
     }
 
@@ -91,7 +94,7 @@ impl StoreFile {
         ensures path { self.new.path ≡ self.old.path }
         ensures faults { IfOk result (λ found. IfSome found (λ keeper. keeper.faults ≡ 0)) }
     {
-        let place = Place::open(&self.rt, text(&self.path)?, self.missing)?;
+        let place = self.place_at_path()?;
         let Some(seal) = Seal::read(&self.rt, place.path())? else {
             return Ok(None);
         };
@@ -124,17 +127,18 @@ impl StoreFile {
     }
 
     // The keeper of a file that was audited.
-    fn open_audited(&mut self) -> Result<StoreKeeper<FileStore<File>>, StoreFault>
+    fn open_audited(&mut self) -> Result<TreeKeeper<FileStore<File>>, StoreFault>
         ensures path { self.new.path ≡ self.old.path }
-        ensures faults { IfOk result (λ keeper. faults_of keeper ≡ 0) }
-        ensures idle { IfOk result IsIdle }
+        ensures faults { IfOk result (λ keeper. keeper.faults ≡ 0) }
     {
         let mut database = self.connect()?;
-        if let Err(fault) = check_tables(&mut database) {
-            self.remove_new_log(HeldLock::Database(&database));
-            return Err(fault);
+        match prepare_tables(self.rt.alloc(), &mut database, self.trust) {
+            Ok(is_changed) => keeper_over(self.rt.alloc(), database, is_changed),
+            Err(fault) => {
+                self.remove_new_log(HeldLock::Database(&database));
+                Err(fault)
+            }
         }
-        keeper_over(self.rt.alloc(), database, self.trust)
     }
 
     // Until the file is locked other programs may change or replace it. So what was seen before is looked at
@@ -143,7 +147,7 @@ impl StoreFile {
         ensures path { self.new.path ≡ self.old.path }
     {
         let options = self.options()?;
-        let place = Place::open(&self.rt, text(&self.path)?, self.missing)?;
+        let place = self.place_at_path()?;
         self.new_log = match place.look(&self.rt)? {
             Found::Unlogged => place.make_log(&self.rt)?,
             Found::Logged | Found::Unmade => None,
@@ -177,31 +181,10 @@ impl StoreFile {
         }
     }
 
-    /// Closes the file. One that was not changed is left as it is.
-    pub(crate) fn close(&self, keeper: StoreKeeper<FileStore<File>>) {
-        match keeper {
-            StoreKeeper::Sql(keeper) => {
-                let (database, is_changed) = keeper.into_parts();
-                self.close_database(database, is_changed);
-            }
-            StoreKeeper::Trees(keeper) => {
-                let (store, is_changed) = keeper.into_parts();
-                self.close_store(store, is_changed);
-            }
-        }
-    }
-
-    // If the log cannot be copied into the file it stays beside it, and nothing is lost.
-    fn close_database(&self, database: Connection<FileStore<File>>, is_changed: bool) {
-        if is_changed {
-            let _ = database.close();
-        } else {
-            self.remove_new_log(HeldLock::Database(&database));
-        }
-    }
-
-    // The same, and the file gets a seal.
-    fn close_store(&self, mut store: FileStore<File>, is_changed: bool) {
+    /// Closes the file, and seals it. One that was not changed is left as it is. If the log cannot be copied into
+    /// the file it stays beside it, and nothing is lost.
+    pub(crate) fn close(&self, keeper: TreeKeeper<FileStore<File>>) {
+        let (mut store, is_changed) = keeper.into_parts();
         if is_changed {
             let _ = store.checkpoint();
         } else {
@@ -229,7 +212,7 @@ impl StoreFile {
 impl OpensAnew<FileStore<File>> for StoreFile {
     // What the log holds is written into the file and synced before, since of a sync that failed the system
     // may count as written what the disk does not have. The file was audited then, and gets a seal.
-    fn open_anew(&mut self) -> Result<StoreKeeper<FileStore<File>>, StoreFault> {
+    fn open_anew(&mut self) -> Result<TreeKeeper<FileStore<File>>, StoreFault> {
         let database = self.connect()?;
         let files = settled(database)?;
         self.seal(&files);

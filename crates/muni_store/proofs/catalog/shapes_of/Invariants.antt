@@ -1,5 +1,5 @@
 use Rattle.std.proofs.Common.{◌≡◌, length}
 use Rattle.muni_store.proofs.catalog.shapes_of.Given as goal
 
-abbrev pub invariant-loop-row : goal.invariant-loop-row
-invariant-loop-row l = length l.shapes.items ≡ l.row-index
+abbrev pub invariant-loop-at : goal.invariant-loop-at
+invariant-loop-at l = length l.shapes.items ≡ l.at
