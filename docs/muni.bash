@@ -53,7 +53,7 @@ _muni() {
         choices="$_muni_commands --help --version"
         # What is installed has no sources to build.
         case ${COMP_WORDS[0]} in
-        */*) choices+=' build dist install package' ;;
+        */*) choices+=' build dist install package test' ;;
         esac
     elif [ "$word" = = ]; then
         # bash takes `--kind=zero` for three words.

@@ -180,7 +180,7 @@ def test_the_units_are_valid(whole):
 
 def test_the_unit_of_a_further_store_has_the_settings_of_the_first():
     first, further = [(ROOT / "deploy" / name).read_text() for name in ("muni.service", "muni@.service")]
-    of_the_store = r"(#.*|Description|JoinsNamespaceOf|Wants|After|Environment(File)?|ExecStart|StateDirectory)="
+    of_the_store = r"(#.*|Description|JoinsNamespaceOf|Wants|After|Environment(File)?|ExecStart|StateDirectory|RuntimeDirectory)="
     settings = [[line for line in text.splitlines() if line and not re.match(of_the_store + "|#", line)]
                 for text in (first, further)]
     assert settings[0] == settings[1] and len(settings[0]) > 30
@@ -274,6 +274,8 @@ def test_the_package_has_each_file_of_a_desk_behind_nginx(packages, name):
     ("postinst", "systemctl --system daemon-reload"), ("postinst", "_dh_action=restart"),
     ("prerm", "deb-systemd-invoke stop 'muni-hop.service' 'muni-issues.service' 'muni-queue.service' 'muni.service'"),
     ("postrm", "systemctl --system daemon-reload"),
+    ("prerm", "deb-systemd-invoke stop 'muni@*.service'"),
+    ("postinst", 'deb-systemd-invoke restart "${link##*/}"'),
 ])
 def test_a_script_of_the_package_handles_the_units(packages, script, act):
     assert act in (packages.control / script).read_text()
@@ -282,7 +284,32 @@ def test_a_script_of_the_package_handles_the_units(packages, script, act):
 @OF_PACKAGES
 @pytest.mark.parametrize("script", ["postinst", "prerm", "postrm"])
 def test_no_script_of_the_package_asks_anything_or_takes_a_store_away(packages, script):
-    assert not re.search(r"rm -|/var/lib|debconf", (packages.control / script).read_text())
+    assert not re.search(r"rm -|/var/lib|db_(input|go)", (packages.control / script).read_text())
+
+
+@OF_PACKAGES
+@pytest.mark.parametrize(("answer", "status"), [("true", 0), ("false", 1)])
+def test_a_new_version_asks_for_a_copy_of_the_stores(packages, tmp_path, answer, status):
+    confmodule = tmp_path / "confmodule"
+    confmodule.write_text(f"db_get() {{ RET={answer}; }}\ndb_fset() {{ echo \"$* now\" >&2; }}\n")
+    script = (packages.control / "preinst").read_text().replace("/usr/share/debconf/confmodule", str(confmodule))
+    told = subprocess.run(["sh", "-c", script, "preinst", "upgrade", "1.10.0"], capture_output=True, text=True)
+    assert told.returncode == status and ("deploy/backup" in told.stderr) == (status == 1)
+    assert ("muni/copied seen false now" in told.stderr) == (status == 1), "it is asked anew"
+    assert "muni/copied" in (packages.control / "config").read_text()
+    assert "Default: true" in (packages.control / "templates").read_text(), "who is not asked has the new version"
+
+
+@OF_PACKAGES
+def test_purged_the_package_forgets_the_further_stores(packages, tmp_path):
+    wants = tmp_path / "multi-user.target.wants"
+    wants.mkdir()
+    for name in ("muni@second.service", "other@second.service"):
+        (wants / name).symlink_to("/lib/systemd/system/muni@.service")
+    script = (packages.control / "postrm").read_text().replace("/etc/systemd/system", str(tmp_path))
+    begin = script.partition("# Automatically added")[0]
+    subprocess.run(["sh", "-c", begin, "postrm", "purge"], check=True)
+    assert [link.name for link in wants.iterdir()] == ["other@second.service"]
 
 
 def test_what_builds_packages_is_named_if_it_is_missing(tmp_path):

@@ -10,7 +10,7 @@ import pytest
 
 from support.books import sql
 from support.launcher import QUOTE, TRACE, Launcher, check
-from support.program import ROOT
+from support.program import ROOT, needs
 from support.stores import REPORT, ROWS
 from support.tables import cases
 
@@ -284,6 +284,23 @@ def test_why_a_store_fails_is_told_from_its_file(tmp_path, name, why):
     check(MUNI.run("import", f"--store={name}", folder=tmp_path), 6, "", f"muni: status 6: the store failed: {why}")
 
 
+@pytest.mark.parametrize(("statement", "drop"), [
+    ("CREATE INDEX by_settlement ON versions_3 (settle)", "DROP INDEX by_settlement"),
+    ('CREATE TRIGGER "a b" AFTER INSERT ON Versions_3 BEGIN SELECT 1; END', 'DROP TRIGGER "a b"'),
+])
+def test_what_a_table_of_the_desk_must_not_have_is_told_with_what_drops_it(tmp_path, statement, drop):
+    needs("sqlite3")
+    words = ("confirm", "--store=S", "--desk=ALPHA", "--ref=T0001")
+    MUNI.run("import", "--store=S", rows=ROWS, folder=tmp_path)
+    sql(tmp_path / "S", statement)
+    kept = (tmp_path / "S").read_bytes()
+    check(MUNI.run(*words, folder=tmp_path), 6, "", "muni: status 6: the store failed: a table of the desk has what must "
+          f"not be on it: sqlite3 S '{drop}' drops it")
+    assert (tmp_path / "S").read_bytes() == kept
+    subprocess.run(["sqlite3", "S", drop], cwd=tmp_path, check=True)
+    assert MUNI.run(*words, folder=tmp_path).status == 0
+
+
 def test_one_fault_of_words_is_told_and_not_two():
     said = MUNI.run("quote", "--kind=periodic")
     first, second = said.error.decode().splitlines()
@@ -384,3 +401,7 @@ def test_a_program_that_is_named_is_not_built_and_is_the_one_that_is_installed(t
 def test_a_name_of_no_program_is_refused(tmp_path):
     said = MUNI.run("x", changes={"MUNI_PROGRAM": str(tmp_path / "nothing")})
     check(said, 1, "", "muni: MUNI_PROGRAM names no program: *")
+
+
+def test_a_word_is_told_without_what_a_terminal_obeys():
+    check(Launcher().run("qu\x1b[31mote\x07"), 2, "", "muni: status 2: *'qu?[31mote?' is no command*")

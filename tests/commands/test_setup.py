@@ -7,7 +7,7 @@ import subprocess
 
 import pytest
 
-from support.program import ROOT
+from support.program import PATIENCE, ROOT
 
 TOOLS = {
     "dpkg-query": '[ -e "$INSTALLED/$4" ] && printf installed',
@@ -67,3 +67,31 @@ def test_another_user_is_told_what_is_missing(machine):
 def test_an_install_that_fails_is_no_success(machine):
     status, said = machine.run(FAILS="1")
     assert (status, said.strip()) == (1, "still missing: gcc sqlite3")
+
+
+TRIED = """import pytest
+
+def test_good(): pass
+def test_bad(): assert False
+def test_left_out(): pytest.skip("no tool")
+def test_broken(missing): pass
+"""
+
+
+@pytest.mark.parametrize(("words", "last", "status"), [
+    ((), "1 passed, 2 failed, 1 skipped", 1), (("-k", "good or left"), "1 passed, 0 failed, 1 skipped", 0),
+    (("-k", "none"), "0 passed, 1 failed, 0 skipped", 1)])
+def test_a_run_ends_with_its_counts(machine, tmp_path, words, last, status):
+    """Where all packages are installed. One worker is enough."""
+    (tmp_path / "test_tried.py").write_text(TRIED)
+    for package in ("gcc", "sqlite3"):
+        (machine.installed / package).touch()
+    said = subprocess.run([ROOT / "tests/run", tmp_path / "test_tried.py", "-n", "0", *words], capture_output=True,
+                          text=True, timeout=PATIENCE, check=False, env=os.environ | machine.surroundings)
+    assert (said.stdout.splitlines()[-1], said.returncode) == (last, status)
+
+
+def test_other_words_of_a_test_are_no_command():
+    said = subprocess.run([ROOT / "muni", "test", "--all"], capture_output=True, text=True, timeout=PATIENCE, check=False)
+    assert (said.stdout, said.returncode) == ("", 2)
+    assert "./muni test [--quick]" in said.stderr

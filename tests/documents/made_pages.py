@@ -1,6 +1,6 @@
 #!/usr/bin/env python3
 """Makes the parts of pages that are made of tables. Of launcher/commands and launcher/options: the commands of
-docs/muni.1, the options of docs/muni.bash, and the tables of options of docs/FORMATS.md. Of docs/refusals.json: the
+docs/muni.1, the options of docs/muni.bash, and the table of options of docs/FORMATS.md. Of docs/refusals.json: the
 table of refusals of docs/FORMATS.md, that of the tests of terms of docs/RULES.md, web/refusals.js, and the words of the
 client in Python.
 
@@ -78,17 +78,33 @@ def completions(commands, options):
         "".join("    %s) echo %s ;;\n" % value for value in values.items()), "    esac\n}\n"])
 
 
+def required(option, options):
+    """Whether a command has to have an option, by its use among the options of the command."""
+    use, _, kinds = option.use.partition(" ")
+    if kinds:
+        return "%s with %s" % ("exactly" if use == "needed" else "only",
+                               " or ".join("`--kind=%s`" % kind for kind in kinds.split()))
+    if use in ("one", "either"):
+        return "exactly one of these" if use == "one" else "at most one of these"
+    return {"needed": "yes", "may": "no", "many": "no, and up to 40 times"}[use]
+
+
 def table(options):
-    """A table of options for docs/FORMATS.md. Options of several commands that are said alike share a row."""
-    of = collections.defaultdict(list)
-    for option in options:
-        of[option.name + ("=" + option.value if option.value else ""), said(option)].append(option.command)
-    if len({option.command for option in options}) == 1:
-        return "| option | value |\n|---|---|\n" + "".join(
-            "| `%s` | %s |\n" % key for key in of)
-    return "| option | of | value |\n|---|---|---|\n" + "".join(
-        "| `%s` | %s | %s |\n" % (word, ", ".join("`%s`" % command for command in names), text)
-        for (word, text), names in of.items())
+    """The table of options for docs/FORMATS.md. An option has a row for the commands that take it alike, and options
+    that are alike share it."""
+    commands, names = collections.defaultdict(list), collections.defaultdict(list)
+    for each in options.values():
+        for option in each:
+            word = "`%s`" % (option.name + ("=" + option.value if option.value else ""))
+            form = option.should if option.value else "none"
+            commands[word, required(option, each), form].append("`%s`" % option.command)
+    for (word, needed, form), of in commands.items():
+        names[", ".join(of), needed, form if "one of" not in needed else ""].append((word, form))
+    lines = ["| option | of | required | form of the value |", "|---|---|---|---|"]
+    for (of, needed, _), alike in names.items():
+        forms = list(dict.fromkeys(form for _, form in alike))
+        lines.append("| %s | %s | %s | %s |" % (", ".join(word for word, _ in alike), of, needed, "; ".join(forms)))
+    return "".join(line + "\n" for line in lines)
 
 
 def todo_of(refusal):
@@ -169,15 +185,8 @@ def pages():
     options = collections.defaultdict(list)
     for option in rows("launcher/options", Option):
         options[option.command].append(option)
-    formats = read("docs/FORMATS.md")
-    for title, names in {"### quote\n": ["quote"], "### drill\n": ["drill"],
-                         "### Commands over a store\n": ["import", "confirm", "serve", "positions", "mark", "export",
-                                                         "list", "load", "check-store", "figures", "check"]}.items():
-        before, found, after = formats.partition(title)
-        head = re.search(r"\| option \|.*\n", after)
-        end = re.search(r"\n\n", after[head.end():])
-        formats = before + found + after[:head.start()] + table(
-            [option for name in names for option in options[name]]) + after[head.end() + end.start() + 1:]
+    formats = with_table(read("docs/FORMATS.md"), "| option | of | required | form of the value |",
+                         table({name: each for name, each in options.items() if name != "quote-one"}))
     texts = json.loads(read("docs/refusals.json"))
     return {
         "docs/RULES.md": with_table(read("docs/RULES.md"), "| test | fault | number |",

@@ -5,7 +5,9 @@ from __future__ import annotations
 import bisect
 import doctest
 import json
+import os
 import pathlib
+import pty
 import re
 import runpy
 import subprocess
@@ -226,6 +228,18 @@ def test_rows_are_shown_as_they_are_byte_for_byte(joined):
     row = b'cancel,\xff\x00\x85\xe2\x80\xa8\x1b[0m\t "\xc3\xa9",T1,2'
     said = joined(b"\xef\xbb\xbf" + row + b"\r\n", b"1,bad,2,2\n")
     assert said.output.splitlines()[1] == b"    " + row
+
+
+def test_a_terminal_is_shown_nothing_that_it_obeys(tmp_path):
+    (tmp_path / "rows").write_bytes(b"trade,\x1b]0;forged\x07,1\n")
+    (tmp_path / "report").write_bytes(b"1,bad,2,2\n")
+    told, terminal = pty.openpty()
+    process = subprocess.Popen([SCRIPT, tmp_path / "rows", tmp_path / "report"], stdout=terminal, stderr=terminal)
+    process.wait(timeout=PATIENCE)
+    os.close(terminal)
+    shown = os.read(told, 4096)
+    os.close(told)
+    assert b"trade,?]0;forged?,1" in shown and b"\x1b" not in shown
 
 
 def test_the_columns_are_those_of_the_formats():

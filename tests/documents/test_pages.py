@@ -16,8 +16,8 @@ from support.pages import Step, pieces, steps, tour
 from support.program import PATIENCE, ROOT
 from support.server import free_port
 
-PAGES = ["README.md", "docs/TUTORIAL.md", "docs/OPERATING.md", "docs/FORMATS.md", "docs/HTTP.md", "docs/COMPARISON.md",
-         "examples/quotes.md", "examples/worked.md", "conformance/calculator/README.md"]
+PAGES = ["README.md", "docs/TUTORIAL.md", "docs/OPERATING.md", "docs/FORMATS.md", "docs/STORES.md", "docs/HTTP.md",
+         "docs/COMPARISON.md", "examples/quotes.md", "examples/worked.md", "conformance/calculator/README.md"]
 # What stands in the folder in which a page is followed.
 LINKS = ("muni", "examples", "docs", "deploy", "conformance")
 # How long servers are given to close, in seconds.

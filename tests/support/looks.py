@@ -42,7 +42,8 @@ for (const node of document.querySelectorAll("body *")) {
 return found;
 """
 
-# Labels and fields that lie over one another, and what sticks out of the window.
+# Labels and fields that lie over one another, fields too narrow to be read, links too low to be hit, and what sticks
+# out of the window.
 MISPLACED = """
 const box = node => node.getBoundingClientRect();
 const name = node => node.id || node.textContent;
@@ -60,6 +61,10 @@ const width = document.documentElement.clientWidth;
 const total = document.documentElement.scrollWidth;
 for (const each of shown) {
     if (box(each).left < 0 || box(each).right > width + 0.5) found.push(`${name(each)} sticks out`);
+}
+for (const each of shown) {
+    if (each.matches("input") && box(each).width < 60) found.push(`${name(each)} is ${box(each).width} wide`);
+    if (each.matches("nav a") && box(each).height < 24) found.push(`${name(each)} is ${box(each).height} high`);
 }
 if (total > width) found.push(`the page is ${total} wide`);
 for (const list of document.querySelectorAll(".wide")) {

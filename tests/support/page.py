@@ -178,9 +178,11 @@ class Page:
         return found + self.misplaced()
 
     def faults_when_narrow(self, state: str) -> list[str]:
-        """The same in a narrow window, but for the contrast."""
-        self.browser.size(400, 800)
-        found = self.misplaced()
+        """The same in a window of two columns and in a narrow one, but for the contrast."""
+        found = []
+        for width in (1024, 400):
+            self.browser.size(width, 800)
+            found += self.misplaced()
         for scheme in ("dark", "light"):
             self.browser.scheme(scheme)
             self.shot(f"{state}-narrow-{scheme}")
@@ -225,14 +227,14 @@ def rows_shown(figures: muni.Figures) -> dict[str, str]:
     return rows
 
 
-def sheet_shown(confirmation: muni.Confirmation) -> dict[str, str]:
-    """The rows that the sheet has to show of a confirmation."""
+def sheet_shown(confirmation: muni.Confirmation, terms: str = "number 1") -> dict[str, str]:
+    """The rows that the sheet has to show of a confirmation, which stands by these terms."""
     rows = rows_shown(confirmation.figures) | {
         "title": f"{confirmation.act.value} {confirmation.number}", "Desk": confirmation.desk,
         "Reference": confirmation.reference, "Settlement": f"{confirmation.settle}", "CUSIP": confirmation.cusip,
         ("Sold" if confirmation.side is Side.SELL else "Bought"): f"{confirmation.par:,}",
         "Name": confirmation.issue, "Coupon": f"{confirmation.coupon} %", "Dated date": f"{confirmation.dated}",
-        "Maturity": f"{confirmation.maturity}"}
+        "Maturity": f"{confirmation.maturity}", "Terms": terms}
     if confirmation.day_count is muni.DayCount.ACTUAL_365:
         rows["Days counted by"] = "actual/365"
     return rows

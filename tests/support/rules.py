@@ -43,6 +43,9 @@ REFUSED = " {\n            return 403;\n        }"
 AMENDING = "proxy_set_header X-Allowed $adds_issues;\n            proxy_pass http://queue/amendments;"
 ISSUE = '{9})$" {\n            proxy_set_header X-Allowed '
 
+DOUBTED = ("http-request deny deny_status 503 if "
+           "{ str(/doubts/),concat(,txn.store,/),concat(,txn.cusip),table_gpt0(doubts) gt 0 }")
+
 RULES: dict[str, Rule] = {
     "password": of(
         "log_in: without a password nothing is answered",
@@ -66,6 +69,9 @@ RULES: dict[str, Rule] = {
         "names: another name gets no handshake",
         (NGINX, "ssl_reject_handshake on;",
          "ssl_certificate /etc/muni/cert.pem; ssl_certificate_key /etc/muni/key.pem;")),
+    "versions of TLS": of(
+        "names: a handshake is of a version of today",
+        (NGINX, "ssl_protocols TLSv1.2 TLSv1.3; ")),
     "Origin": of(
         "foreign_pages: a form of a foreign page enters no trade",
         (NGINX, "if ($foreign_origin)" + REFUSED)),
@@ -257,7 +263,10 @@ RULES: dict[str, Rule] = {
         (NGINX, "escape=json")),
     "user in the log": of(
         "log: a line tells the user the status and who answered",
-        (NGINX, '"user":"$remote_user",')),
+        (NGINX, '"user":"$logged_user",')),
+    "long names in the log": of(
+        "log: of what is refused the log has the beginning",
+        (NGINX, '"user":"$logged_user"', '"user":"$remote_user"')),
     "who answered, in the log": of(
         "log: a line tells the user the status and who answered",
         (NGINX, '"~^queue " queue;')),
@@ -266,7 +275,22 @@ RULES: dict[str, Rule] = {
         (NGINX, '"~^ text/html" queue;')),
     "body in the log": of(
         "log: a line has the request and the body",
-        (NGINX, ',"body":"$request_body"')),
+        (NGINX, ',"body":"$logged_body"')),
+    "body of a refused request in the log": of(
+        "log: of what is refused the log has the beginning",
+        (NGINX, "default $body_beginning;", "default $request_body;")),
+    "long requests in the log": of(
+        "log: of what is refused the log has the beginning",
+        (NGINX, '"request":"$logged_request"', '"request":"$request"')),
+    "large bodies": of(
+        "limits: of large bodies an address may send few",
+        (NGINX, "limit_req zone=large burst=4 nodelay;")),
+    "paths that are none": of(
+        "limits: paths that are none are counted",
+        (NGINX, "try_files /none =404;", "return 404;")),
+    "lines of the error log": of(
+        "log: nobody begins a line of the error log",
+        (NGINX, "if ($has_control) {\n            return 400;\n        }")),
     "store of a desk": of(
         "stores: the trades of a desk are in its store alone",
         (NGINX, "proxy_set_header X-Desk $desk_of_path;")),
@@ -294,16 +318,31 @@ RULES: dict[str, Rule] = {
         (QUEUE, "str(/issues),map(/etc/muni/shards.map,desk)", "str(desk)")),
     "amendments everywhere": of(
         "issues_of_stores: an amendment is kept everywhere and others under its number are refused",
-        (ISSUES, '    ("POST", "/amendments"),\n')),
+        (ISSUES, 'CHANGES = ("/issues", "/amendments")', 'CHANGES = ("/issues",)')),
     "issues everywhere": of(
         "issues_of_stores: the terms that come first are kept everywhere and others are refused",
-        (ISSUES, "for name in self.names[1:]:", "for name in ():")),
+        (ISSUES, "in enumerate(rows):", "in ():")),
     "store that decides": of(
         "issues_of_stores: without the first store no other one gets an issue",
-        (ISSUES, "self.names[0]", "self.names[-1]"), (ISSUES, "self.names[1:]", "self.names[:-1]")),
+        (ISSUES, "self.first, *self.others = names", "*self.others, self.first = names")),
     "store that does not keep an issue": of(
-        "issues_of_stores: sent again an issue is completed that a store did not get",
-        (ISSUES, "return other", "break")),
+        "issues_of_stores: an issue that a store did not get is finished when it is back",
+        (ISSUES, "(stores.doubts.hold_all, stores.watch)", "(stores.doubts.hold_all,)")),
+    "doubts of before a stop": of(
+        "issues_of_stores: what the first store accepted is finished though the program is killed",
+        (ISSUES, "(self.folder / cusip).touch()", "pass")),
+    "quotes while a store lacks terms": of(
+        "issues_of_stores: quotes go by the terms of the first store while another lacks them",
+        (QUEUE, " or { path /quotes /checks } !names_desk is_doubted")),
+    "trades while a store lacks terms": of(
+        "issues_of_stores: a store that lacks terms figures nothing by those of before",
+        (QUEUE, DOUBTED)),
+    "trades before the queue is told": of(
+        "issues_of_stores: a store that lacks terms figures nothing by those of before",
+        (QUEUE, " !{ var(txn.store) -m str desk } !is_told", " { always_false }")),
+    "terms that the health compares": of(
+        "issues_of_stores: the health compares terms",
+        (ISSUES, "self.compare(time.monotonic() + COMPARES)", "pass")),
     "certificate of the machine of nginx": of(
         "hop: who shows no certificate or another is not let in",
         ("hop-in.cfg", "ssl verify required ca-file /etc/muni/door.pem", "ssl verify none")),

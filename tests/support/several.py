@@ -3,6 +3,7 @@ from __future__ import annotations
 
 import contextlib
 import http.client
+import json
 import os
 import pathlib
 import signal
@@ -84,6 +85,22 @@ def away(site: Site, *stores: str) -> Iterator[None]:
         assert until(lambda: health(site, store) == 200)
 
 
+@contextlib.contextmanager
+def standing(site: Site, store: str) -> Iterator[None]:
+    """Makes the server of a store stand still."""
+    tell(site, signal.SIGSTOP, unit_of(store))
+    try:
+        yield
+    finally:
+        tell(site, signal.SIGCONT, unit_of(store))
+
+
+def quoted(site: Site, cusip: str) -> str:
+    """The figures of a quote at a yield, or its refusal."""
+    body = json.dumps({"cusip": cusip, "par": "25000", "settle": "2024-04-03", "basis": "yield", "value": "3"})
+    return site.ask("POST", "/quotes", body, user="otto").text
+
+
 def store_of(site: Site, store: str) -> str:
     """What the server of a store has as --store=."""
     return site.told["store" if store == "desk" else f"{store}_store"]
@@ -100,11 +117,15 @@ def give(folder: pathlib.Path) -> None:
 
 
 def lead(site: Site, *lines: str) -> None:
-    """Makes these the lines of shards.map, and waits until the queue knows no others."""
+    """Makes these the lines of shards.map, and waits until the queue knows no others and was told of the issues.
+
+    Until muni-issues has told it, a new queue lets no trade to a store other than the first.
+    """
     (site.folder / "etc/shards.map").write_text("".join(f"{line}\n" for line in lines))
     before = workers(site)
     tell(site, signal.SIGUSR2, "muni-queue")
     assert until(lambda: workers(site) and not workers(site) & before)
+    assert until(lambda: ask_store(site, "second", "POST", "/trades", "{}").status != 503)
 
 
 def workers(site: Site) -> set[str]:

@@ -1,4 +1,4 @@
-"""The bodies of a journal by docs/FORMATS.md: of its open slots, and of an issue."""
+"""The bodies of a journal by docs/STORES.md: of its open slots, and of an issue."""
 from __future__ import annotations
 
 from collections.abc import Iterator
