@@ -73,7 +73,8 @@ def definitions_of(path):
     name, fields = None, set()
     with open(path, encoding="utf-8") as file:
         for line in file:
-            found = re.match(r"(?:abbrev |unfoldable |opaque )?pub (?:record |data )?(\w+)", line)
+            found = (re.match(r"(?:abbrev |unfoldable |opaque )?pub (?:record |data )?(\w+)", line)
+                     or re.match(r"\s+(?:abbrev pub|pub record|pub data) (\w+)", line))
             if found:
                 if name:
                     yield name, fields
