@@ -50,7 +50,7 @@ __all__ = [
     "read_terms",
 ]
 
-__version__ = "1.10.1"
+__version__ = "1.11.0"
 
 Amount = Union[Decimal, int]
 

@@ -13,11 +13,11 @@ WORDS: dict[int, tuple[str, str]] = {
         "check the desk and the reference, in which capitals and small letters differ",
     ),
     3: (
-        "this number of the terms of the issue, or of the trade, is kept with other contents or by another "
-        "act, or the trade by other terms of its issue; what is sent again as it was is answered as before",
-        "an issue: compare the terms, since those that are kept are never changed. If they are wrong, or have"
-        " changed, amend the issue under the next number. A trade: correct it under the next number, or enter"
-        " it under another reference",
+        "this number of the issue's terms, or of the trade, is kept with other contents, by another act, or "
+        "by other terms of its issue. What is sent again as it was is answered as before",
+        "an issue: compare the terms; those that are kept are never changed. If they are wrong, amend the "
+        "issue under the next number. A trade: correct it under the next number, or enter it under another "
+        "reference",
     ),
     4: (
         "the terms fail a test, so the desk cannot price the issue",
@@ -46,9 +46,9 @@ WORDS: dict[int, tuple[str, str]] = {
         "settle on another day; if interest is paid, a yield may be given",
     ),
     10: (
-        "at a yield, the exact price lies on the boundary that is named or within 10^-9 dollars of it; at a "
-        "price, the exact price at the boundary that is named is the net price given or within 10^-9 dollars "
-        "of it. So it cannot be told which of two printed figures it is",
+        "at a yield, the exact price lies on the boundary that is named or within 10^-9 dollars of it. At a "
+        "price, the net price given lies so near to the exact price at the boundary that is named. So it "
+        "cannot be told which of two printed figures it is",
         "give another yield or price, the last digit suffices",
     ),
     11: (
