@@ -3,7 +3,7 @@ from __future__ import annotations
 
 import pytest
 
-from support.page import Page, missing
+from support.page import Page
 
 pytestmark = pytest.mark.xdist_group("page_days")
 
@@ -82,8 +82,7 @@ def test_a_day_ends_before_the_next_one(page):
 
 def test_without_a_day_it_is_today(page):
     page.click("#trades-day")
-    page.settle()
-    assert missing(["Desk RETAIL has no trades whose references begin with 20"], page.text("trades-place")) == []
+    assert page.shows("trades-place", "Desk RETAIL has no trades whose references begin with 20")
 
 
 def test_what_is_no_day_is_told_at_the_field(page):

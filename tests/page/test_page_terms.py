@@ -67,8 +67,7 @@ def test_a_quote_that_an_amendment_has_overtaken_is_asked_about_with_both_figure
     page.shot("overtaken")
     page.click("#sure button[value=no]")
     page.asks(False)
-    page.settle()
-    assert "Nothing was entered" in page.text("ticket-told")
+    assert page.shows("ticket-told", "Nothing was entered")
     assert (page.figures()["Price per 100"], page.relay.sent("POST /trades")) == (SECOND, [])
     assert "STALE1 is kept" in page.press("ticket-enter"), "these are the figures that are shown"
     assert f"{page.kept('STALE1').figures.price}" == SECOND

@@ -2,6 +2,7 @@
 from __future__ import annotations
 
 import pathlib
+import time
 from datetime import date
 from typing import Any
 
@@ -190,8 +191,15 @@ class Page:
         return found
 
     def misplaced(self) -> list[str]:
-        """What lies over another or sticks out, and figures that do not stand at the right, each in its line."""
-        return self.js(looks.MISPLACED) + [f"{figure} is ragged" for figure in self.js(looks.RAGGED)]
+        """What lies over another or sticks out, and figures that do not stand at the right, each in its line: what
+        still does so when the page has come to rest, which a slow machine may need to be waited for."""
+        for _ in range(20):
+            found = self.js(looks.MISPLACED) + [f"{figure} is ragged" for figure in self.js(looks.RAGGED)]
+            if not found:
+                break
+            self.settle()
+            time.sleep(0.1)
+        return found
 
     def refused(self, form: str, button: str, sure: str | None = None, **values: str) -> tuple[str, bool]:
         """What is told after a form was filled and sent, and whether what was typed stays."""
