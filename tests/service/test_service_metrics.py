@@ -10,7 +10,7 @@ import subprocess
 import pytest
 
 from support.program import ROOT, program_path
-from support.stores import ROWS
+from support.stores import KINDS, ROWS, Store
 
 PAGE = (ROOT / "deploy/README.md").read_text()
 
@@ -39,6 +39,12 @@ class Metrics:
 @pytest.fixture
 def metrics(tmp_path) -> Metrics:
     return Metrics(tmp_path)
+
+
+def date(copy: pathlib.Path, seconds: int) -> None:
+    """Makes the files of a copy as old as if it had been made then."""
+    for file in copy.rglob("*"):
+        os.utime(file, (seconds, seconds))
 
 
 def requests(samples: dict[str, str]) -> dict[str, str]:
@@ -79,8 +85,7 @@ def test_the_newest_copy_is_checked_once(metrics, muni):
         for store in ("muni", "muni-second"):
             (metrics.folder / name / store).mkdir(parents=True)
             muni.run("import", f"--store={metrics.folder}/{name}/{store}/book", rows=rows)
-    os.utime(metrics.folder / "muni-2026-01-01", (1, 1))
-    os.utime(metrics.folder / "muni-2026-01-02", (2_000_000, 2_000_000))
+        date(metrics.folder / name, int(name[-1]) * 1_000_000)
     samples = metrics.run()
     assert samples["muni_copy_time_seconds"] == "2000000"
     assert {samples[f'muni_copy_sound{{store="{store}"}}'] for store in ("muni", "muni-second")} == {"1"}
@@ -91,6 +96,22 @@ def test_the_newest_copy_is_checked_once(metrics, muni):
     assert metrics.run()['muni_copy_sound{store="muni"}'] == "1", "it was checked already"
     (metrics.folder / "muni-2026-01-02").rename(metrics.folder / "muni-2026-01-03")
     assert metrics.run()['muni_copy_sound{store="muni"}'] == "0"
+
+
+@pytest.mark.parametrize("kind", KINDS)
+def test_a_look_at_an_old_copy_makes_it_no_newer_and_a_store_has_one_name_each_day(metrics, muni, kind):
+    for day in (1, 2):
+        copy = metrics.folder / f"muni-2026-01-0{day}"
+        copy.mkdir()
+        store = Store(kind, copy / "book")
+        muni.run("import", store.word, rows=ROWS)
+        date(copy, day * 1_000_000)
+        assert metrics.run()['muni_copy_sound{store="book"}'] == "1"
+        assert metrics.run()["muni_copy_time_seconds"] == f"{day}000000"
+    (metrics.folder / "muni-2026-01-03").mkdir()
+    assert muni.run("check-store", Store(kind, metrics.folder / "muni-2026-01-01/book").word).status == 0
+    metrics.text.unlink()
+    assert metrics.run()["muni_copy_time_seconds"] == "2000000"
 
 
 def test_dashboard_and_page_ask_for_what_there_is(metrics, muni):
