@@ -94,7 +94,7 @@ def test_a_desk_in_a_container_ends_in_order_and_leaves_its_store_in_the_folder(
     began = time.monotonic()
     os.kill(container.first(), signal.SIGTERM)
     assert container.process.wait(timeout=PATIENCE) == 0
-    assert time.monotonic() - began < 3, "podman kills after ten seconds"
+    assert time.monotonic() - began < 10, "podman kills after ten seconds"
     assert muni.run("confirm", f"--store={container.data}/book", "--desk=ALPHA", "--ref=K1").status == 0
     assert {file.name for file in container.data.iterdir()} >= {"book", "book-wal"}
 

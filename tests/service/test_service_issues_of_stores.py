@@ -3,7 +3,6 @@ from __future__ import annotations
 
 import json
 import signal
-import time
 
 import pytest
 
@@ -124,7 +123,9 @@ def test_a_store_that_lacks_terms_figures_nothing_by_those_of_before(site):
         assert site.ask("POST", "/trades", trade("D1", "BETA", cusip=cusip))[::2] == AGAIN
         assert site.ask("POST", "/trades", trade("D1", "ALPHA", cusip=cusip)).status == 200
         # Also if the queue starts anew.
+        before = site.process_of("muni-queue")
         tell(site, signal.SIGTERM, "muni-queue")
+        assert until(lambda: site.process_of("muni-queue") != before)
         assert until(lambda: site.ask("GET", "/lists/ALPHA").status == 200)
         assert until(lambda: ask_store(site, "second", "POST", "/trades", trade("D1", "BETA", cusip=cusip)).status == 503)
     assert until(lambda: site.ask("POST", "/trades", trade("D1", "BETA", cusip=cusip)).status == 200)
@@ -138,7 +139,8 @@ def test_the_health_compares_terms(site):
     assert until(lambda: health(site, "issues") == 200)
     body = json.dumps(json.loads(issue(cusip)) | {"number": "2", "coupon": "6"})
     assert ask_store(site, "desk", "POST", "/amendments", body).status == 200
-    assert health(site, "issues") == 503
+    # A question compares as many issues as it can in two seconds.
+    assert until(lambda: health(site, "issues") == 503)
     assert until(lambda: len(all_terms(site, cusip)) == 1)
     assert until(lambda: health(site, "issues") == 200)
 
@@ -194,6 +196,7 @@ def test_a_store_that_got_other_terms_past_the_program_is_told_of(site):
     assert ask_store(site, "second", "POST", "/issues", issue(cusip, COUPONS[1])).status == 200
     assert add(site, cusip) == CONFLICT
     told = f"issues: POST /issues: second answers 409, {CONFLICT[1].strip()}, and the first store has {cusip}"
-    time.sleep(1)
-    assert (site.folder / "log/muni-issues").read_text().splitlines().count(told) == 1
+    log = site.folder / "log/muni-issues"
+    assert not until(lambda: log.read_text().splitlines().count(told) > 1, seconds=1)
+    assert log.read_text().splitlines().count(told) == 1
     assert health(site, "issues") == 503

@@ -2,22 +2,21 @@
 from __future__ import annotations
 
 import signal
-import time
 
 import pytest
 
 from support.rules import UNLIMITED
 from support.several import ask_store, references
 from support.site import Site
-from support.trading import ISSUE, TERMS, add_issue, beside, clients, tell, until
+from support.trading import ISSUE, TERMS, Entered, add_issue, beside, clients, tell, until
 
 # Its desks take long to start.
 pytestmark = pytest.mark.xdist_group("killed stores")
 
 DESKS = ("ALPHA", "BETA")
 STORES = dict(zip(DESKS, ("desk", "second")))
-# How long clients enter trades, in seconds.
-WHILE = 12
+# How many trades of each desk are answered between two kills.
+COUNT = 30
 
 
 @pytest.fixture(scope="module")
@@ -26,19 +25,30 @@ def site(deploy) -> Site:
     return add_issue(deploy((UNLIMITED,), "--stores=2"))
 
 
+def of(entered: Entered, place: int) -> list[str]:
+    """The trades of a desk that were acknowledged."""
+    return [each for each in entered.accepted() if int(each.partition("x")[2]) % 2 == place]
+
+
+def more(entered: Entered) -> bool:
+    """Waits until each desk has so many more."""
+    before = [len(of(entered, place)) for place in range(2)]
+    return until(lambda: all(len(of(entered, place)) >= before[place] + COUNT for place in range(2)), seconds=120)
+
+
 def test_trades_are_entered_while_a_store_is_killed(site):
     killed = set()
     with clients(site, 8, DESKS) as entered:
         for _ in range(3):
-            time.sleep(WHILE / 4)
+            assert more(entered)
             killed.add(site.process_of("muni@second"))
             tell(site, signal.SIGKILL, "muni@second")
-        time.sleep(WHILE / 4)
+        assert more(entered)
     assert len(killed) == 3
     assert entered.others() == set()
     for place, desk in enumerate(DESKS):
-        of_desk = {each for each in entered.accepted() if int(each.partition("x")[2]) % 2 == place}
-        assert len(of_desk) > 100
+        of_desk = set(of(entered, place))
+        assert len(of_desk) >= 4 * COUNT
         kept = {store: references(site, store, desk) for store in STORES.values()}
         assert kept == {store: of_desk if store == STORES[desk] else set() for store in STORES.values()}
 

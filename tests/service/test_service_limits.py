@@ -9,14 +9,19 @@ import time
 import pytest
 
 from support.links import asking, joined, said, status
+from support.rules import NGINX, Edit
 from support.site import Site
 from support.trading import trade, until
 
 # It counts what comes within a second.
 pytestmark = pytest.mark.xdist_group("alone")
 
+# On a busy machine requests come slowly, so a guess takes longer here, and fewer are let through after the first ones.
+DELAY = 8
+SLOWER = Edit(NGINX, "auth_delay 1s;", f"auth_delay {DELAY}s;")
+EDITS = (SLOWER, Edit(NGINX, "rate=100r/s", "rate=5r/s"), Edit(NGINX, "rate=1r/s", "rate=1r/m"))
 # As nginx.conf has them, and how many more than an address may guess at once.
-AT_ONCE, BURST = 40, 200
+AT_ONCE, BURST, LARGE = 40, 200, 4
 MORE = 20
 
 
@@ -29,9 +34,9 @@ class Guesses:
         guess = asking(site, "/lists/ALPHA", "wrong")
         for link in links:
             link.sendall(guess)
-        # A guess is answered after a second. Before that all have come, of which nginx's log has those refused.
+        # A guess is answered after a while. Before that all have come, of which nginx's log has those refused.
         log = site.folder / "log/desk.log"
-        until(lambda: log.read_text().count('"status":"429"') == MORE, seconds=0.8)
+        until(lambda: log.read_text().count('"status":"429"') == MORE, seconds=DELAY / 2)
         begin = time.monotonic()
         other.sendall(asking(site, "/lists/ALPHA"))
         self.other = status(said(other))
@@ -39,9 +44,9 @@ class Guesses:
         self.told = [said(link) for link in links]
 
 
-def asked_at_once(site: Site, count: int) -> list[socket.socket]:
-    """Connections that ask for a path that is none, which ends each of them."""
-    links = [joined(site) for _ in range(count)]
+def asked_at_once(site: Site, count: int, address: str) -> list[socket.socket]:
+    """Connections of an address that ask for a path that is none, which ends each of them."""
+    links = [joined(site, address) for _ in range(count)]
     asked = asking(site, "/nothing")
     for link in links:
         link.sendall(asked)
@@ -69,13 +74,12 @@ def test_no_connection_stays_without_a_password(guesses):
 
 def test_another_address_is_answered_at_once_meanwhile(guesses):
     assert guesses.other == 200
-    assert guesses.seconds < 0.9
+    assert guesses.seconds < DELAY / 2
 
 
 def test_more_requests_in_a_second_than_an_address_may_ask_end_the_connection(site, guesses):
-    # What the guesses used up is there again after a second.
-    time.sleep(1)
-    link = joined(site)
+    # Another address, of which the guesses have used up nothing.
+    link = joined(site, "127.0.0.3")
     link.sendall(asking(site, "/me") * 2_000)
     came = ""
     try:
@@ -90,14 +94,12 @@ def test_more_requests_in_a_second_than_an_address_may_ask_end_the_connection(si
 
 
 def test_of_large_bodies_an_address_may_send_few(site):
-    time.sleep(2)
     bodies = [trade(f"B{place}").ljust(60_000) for place in range(12)]
     answers = [site.ask("POST", "/trades", body, user="otto").status for body in bodies]
-    assert answers.count(429) >= 5 and answers.count(403) >= 5
+    assert answers[:LARGE + 1] == [403] * (LARGE + 1) and answers.count(429) >= 5
     assert site.ask("POST", "/trades", bodies[0].strip(), user="otto").status == 403
 
 
 def test_paths_that_are_none_are_counted(site):
-    time.sleep(2)
-    told = collections.Counter(status(said(link)) for link in asked_at_once(site, 300))
+    told = collections.Counter(status(said(link)) for link in asked_at_once(site, 300, "127.0.0.4"))
     assert set(told) <= {0, 404, 429} and told[404] < 300

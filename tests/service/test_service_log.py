@@ -8,7 +8,7 @@ from base64 import b64encode
 import pytest
 
 from support.links import asking, joined, said, status
-from support.site import NAME, stranger
+from support.site import NAME, Site, stranger
 from support.trading import add_issue, trade, until
 
 # The user, the status and who answered, in the order of the requests.
@@ -16,27 +16,37 @@ WANTED = [("alice", "403", "queue"), ("alice", "401", "nginx"), ("alice", "403",
           ("alice", "400", "queue"), ("alice", "502", "nginx"), ("", "400", "nginx")]
 
 
+def lines_of(site: Site) -> list[str]:
+    return (site.folder / "log/desk.log").read_text().splitlines()
+
+
+def logged(site: Site, method: str, path: str, body: str | bytes | None = None, **more: str | None) -> int:
+    """The status of a request, once its line is there: it comes after the answer, and another process may be faster."""
+    count = len(lines_of(site))
+    told = site.ask(method, path, body, **more).status
+    assert until(lambda: len(lines_of(site)) > count)
+    return told
+
+
 @pytest.fixture(scope="module")
 def lines(site) -> list[str]:
     """The lines of the log after requests of each kind."""
-    site.ask("GET", '/lists/"RETAIL"?\\x')
-    site.ask("GET", "/lists/ALPHA", user=None, **site.log_in("alice", 'wrong"\\'))
-    site.ask("POST", "/trades", trade("L1", "RETAIL"))
-    site.ask("GET", "/trades/ALPHA/L2")
-    site.ask("GET", "/lists/ALPHA#")
+    logged(site, "GET", '/lists/"RETAIL"?\\x')
+    logged(site, "GET", "/lists/ALPHA", user=None, **site.log_in("alice", 'wrong"\\'))
+    logged(site, "POST", "/trades", trade("L1", "RETAIL"))
+    logged(site, "GET", "/trades/ALPHA/L2")
+    logged(site, "GET", "/lists/ALPHA#")
     # Without the queue.
     door, away = site.folder / "queue/queue.sock", site.folder / "queue/away"
     door.rename(away)
-    site.ask("GET", "/trades/ALPHA/L3")
+    logged(site, "GET", "/trades/ALPHA/L3")
     away.rename(door)
     socket.create_connection(("127.0.0.1", site.port)).close()
     with stranger().wrap_socket(socket.create_connection(("127.0.0.1", site.port)), server_hostname=NAME) as link:
         link.sendall(b'GARBAGE "\\\x01\r\n\r\n')
         link.recv(1000)
-    log = site.folder / "log/desk.log"
-    # A line is written after its answer.
-    until(lambda: len(log.read_text().splitlines()) >= len(WANTED))
-    return log.read_text().splitlines()
+    until(lambda: len(lines_of(site)) >= len(WANTED))
+    return lines_of(site)
 
 
 def test_each_request_has_a_line_of_json(lines):
@@ -56,19 +66,19 @@ def test_a_line_has_the_request_and_the_body(lines):
 
 def test_of_what_is_refused_the_log_has_the_beginning(site, lines):
     add_issue(site)
+    assert until(lambda: len(lines_of(site)) == len(lines) + 1)
     log = site.folder / "log/desk.log"
     before = log.stat().st_size
-    assert site.ask("POST", "/trades", b"\x01" * 8_000, user="otto").status == 403
-    assert site.ask("POST", "/trades", trade("L9", "RETAIL").ljust(7_000)).status == 403
-    assert site.ask("GET", "/" + "A" * 3_900, user=None).status == 404
-    assert site.ask("GET", "/lists/ALPHA", user=None, **site.log_in("\x01" * 2_500, "x")).status == 400
+    assert logged(site, "POST", "/trades", b"\x01" * 8_000, user="otto") == 403
+    assert logged(site, "POST", "/trades", trade("L9", "RETAIL").ljust(7_000)) == 403
+    assert logged(site, "GET", "/" + "A" * 3_900, user=None) == 404
+    assert logged(site, "GET", "/lists/ALPHA", user=None, **site.log_in("\x01" * 2_500, "x")) == 400
     whole = trade("L9").ljust(7_000)
-    assert site.ask("POST", "/trades", whole).status == 200
-    until(lambda: len(log.read_text().splitlines()) == len(lines) + 6)
-    added = [json.loads(line) for line in log.read_text().splitlines()[len(lines) + 1:]]
+    assert logged(site, "POST", "/trades", whole) == 200
+    added = [json.loads(line) for line in lines_of(site)[len(lines) + 1:]]
     assert [line.get("body", "") for line in added] == ["", trade("L9", "RETAIL").ljust(200), "", "", whole]
     assert (len(added[2]["request"]), len(added[3]["user"])) == (400, 100)
-    assert log.stat().st_size - before < 10_000 + len(lines)
+    assert log.stat().st_size - before < 10_000
 
 
 @pytest.mark.parametrize("name", ["eve\n2026/01/01 00:00:00 [alert] 1#1: forged", "eve\r", "\x7f"])

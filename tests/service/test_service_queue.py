@@ -4,11 +4,11 @@ from __future__ import annotations
 import functools
 import signal
 
-from support.rules import UNLIMITED
+from support.rules import QUEUE, UNLIMITED, Edit
 from support.trading import Entered, add_issue, at_desk, beside, clients, enter, tell, until, waiting
 
-# These clients ask more than an address may.
-EDITS = (UNLIMITED,)
+# These clients ask more than an address may. All come in the time that the desk may take, also on a busy machine.
+EDITS = (UNLIMITED, Edit(QUEUE, "timeout server 20s", "timeout server 60s"))
 COUNT = 16
 
 

@@ -20,7 +20,7 @@ from support.site import NAME, Site, stranger
 from support.trading import tell, trade, until
 
 # It waits for what a desk that stands still makes others wait, so it has shorter times.
-EDITS = (Edit(QUEUE, "timeout server 20s", "timeout server 2s"), Edit(QUEUE, "retries 300", "retries 30"))
+EDITS = (Edit(QUEUE, "timeout server 20s", "timeout server 6s"), Edit(QUEUE, "retries 300", "retries 30"))
 
 GET, POST = "GET {} HTTP/1.1\r\n{{log_in}}", "POST {} HTTP/1.1\r\n{{log_in}}"
 SENT = {

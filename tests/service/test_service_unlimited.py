@@ -4,12 +4,12 @@ from __future__ import annotations
 import pytest
 
 from support.rules import UNLIMITED
-from test_service_limits import Guesses, status
+from test_service_limits import SLOWER, Guesses, status
 
 # It counts what comes within a second.
 pytestmark = pytest.mark.xdist_group("alone")
 
-EDITS = (UNLIMITED,)
+EDITS = (SLOWER, UNLIMITED)
 
 
 def test_guesses_of_an_address_that_is_not_limited_are_all_answered(site):
