@@ -13,7 +13,7 @@ from collections.abc import Iterator
 
 import pytest
 
-from support.program import PATIENCE, ROOT, needs, program_path
+from support.program import PATIENCE, ROOT, Program, needs, program_path
 from support.stores import ROWS
 from support.trading import until
 
@@ -68,6 +68,18 @@ class Container:
     def health(self) -> int:
         return self.enter(*words_of("HEALTHCHECK")).returncode
 
+    def fill(self, muni: Program) -> None:
+        """Keeps an issue in the store."""
+        muni.run("import", f"--store={self.data}/book", rows=ROWS.splitlines(True)[0])
+        for file in self.data.iterdir():
+            os.chown(file, DESK, DESK)
+
+    def post(self, reference: str) -> subprocess.CompletedProcess[bytes]:
+        """Enters a trade."""
+        row = json.dumps({"desk": "ALPHA", "reference": reference, "cusip": "123456AA3", "side": "buy", "par": "25000",
+                          "settle": "2024-04-01", "basis": "yield", "value": "4"})
+        return self.enter("/bin/busybox", "wget", "-q", "-O", "-", f"--post-data={row}", "http://127.0.0.1:8735/trades")
+
 
 @pytest.fixture
 def container(tmp_path: pathlib.Path) -> Iterator[Container]:
@@ -83,13 +95,9 @@ def container(tmp_path: pathlib.Path) -> Iterator[Container]:
 
 
 def test_a_desk_in_a_container_ends_in_order_and_leaves_its_store_in_the_folder(container, muni):
-    muni.run("import", f"--store={container.data}/book", rows=ROWS.splitlines(True)[0])
-    for file in container.data.iterdir():
-        os.chown(file, DESK, DESK)
+    container.fill(muni)
     container.start()
-    row = json.dumps({"desk": "ALPHA", "reference": "K1", "cusip": "123456AA3", "side": "buy", "par": "25000",
-                      "settle": "2024-04-01", "basis": "yield", "value": "4"})
-    post = container.enter("/bin/busybox", "wget", "-q", "-O", "-", f"--post-data={row}", "http://127.0.0.1:8735/trades")
+    post = container.post("K1")
     assert post.stdout.startswith(b"CONFIRMATION 1\n"), post.stderr
     began = time.monotonic()
     os.kill(container.first(), signal.SIGTERM)
@@ -97,6 +105,18 @@ def test_a_desk_in_a_container_ends_in_order_and_leaves_its_store_in_the_folder(
     assert time.monotonic() - began < 10, "podman kills after ten seconds"
     assert muni.run("confirm", f"--store={container.data}/book", "--desk=ALPHA", "--ref=K1").status == 0
     assert {file.name for file in container.data.iterdir()} >= {"book", "book-wal"}
+
+
+def test_a_desk_in_a_container_that_is_killed_loses_nothing(container, muni):
+    container.fill(muni)
+    container.start()
+    replies = [container.post(f"K{number}") for number in range(50)]
+    assert all(reply.stdout.startswith(b"CONFIRMATION 1\n") for reply in replies)
+    os.kill(container.first(), signal.SIGKILL)
+    container.process.wait(timeout=PATIENCE)
+    container.start()
+    found = container.enter("/bin/busybox", "wget", "-q", "-O", "-", "http://127.0.0.1:8735/lists/ALPHA")
+    assert {line.split()[0].decode() for line in found.stdout.splitlines()} == {f"K{number}" for number in range(50)}
 
 
 def test_a_desk_in_a_container_that_does_not_answer_has_no_health(container):

@@ -2,11 +2,14 @@
 from __future__ import annotations
 
 import json
+import runpy
 import signal
+import types
 
 import pytest
 
 from support.links import joined, said, status
+from support.program import ROOT
 from support.several import SOON, STORES, ask_store, away, health, quoted, standing
 from support.site import NAME, Site
 from support.trading import ISSUE, beside, tell, trade, until
@@ -143,6 +146,26 @@ def test_the_health_compares_terms(site):
     assert until(lambda: health(site, "issues") == 503)
     assert until(lambda: len(all_terms(site, cusip)) == 1)
     assert until(lambda: health(site, "issues") == 200)
+
+
+def test_the_health_tells_of_a_difference_that_is_finished_already(tmp_path):
+    issues = types.SimpleNamespace(**runpy.run_path(str(ROOT / "deploy/issues")))
+    (tmp_path / "known").write_text("990000101\n")
+
+    class Queue:
+        """A first store that has one more row of terms, until the second one is given it."""
+
+        rows = {"desk": "issue,990000101\namend,990000101,2\n", "second": "issue,990000101\n"}
+
+        def ask(self, store, request):
+            return issues.Answer(200, "OK", "", self.rows[store].encode() if "990000101" in request.path else b"")
+
+        def tell(self, *words):
+            self.rows["second"] = self.rows["desk"]
+
+    stores = issues.Stores(Queue(), tmp_path, ["desk", "second"])
+    stores.doubts.begin = lambda cusip: stores.doubts.end(cusip)
+    assert [stores.health().status for _ in range(2)] == [503, 200]
 
 
 def test_of_two_that_come_at_once_one_is_kept_everywhere(site):
