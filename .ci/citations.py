@@ -33,9 +33,9 @@ FOREIGN = {"muni_", "write_all"}
 class Function:
     """A function with the type or trait that it belongs to, the names of its clauses and its text."""
 
-    def __init__(self, crate, module, owner, name, is_public):
+    def __init__(self, crate, module, owner, name):
         self.path = [part for part in (crate, module, owner, name) if part]
-        self.crate, self.owner, self.name, self.is_public = crate, owner, name, is_public
+        self.crate, self.owner, self.name = crate, owner, name
         self.clauses = set()
         self.facts = set()
         self.body = []
@@ -52,11 +52,10 @@ def functions_of(path, crate):
                 owner = head[1] or head[2]
             elif line.startswith("}"):
                 owner = ""
-            found = re.match(r"\s*(pub )?(?:pub\(\w+\) )?(?:const )?(?:unsafe )?fn (\w+)", line)
-            law = re.match(r"\s+(ghost) (\w+):", line)
-            if found or law:
-                is_public, name = (found or law).groups()
-                function = Function(crate, module, owner if line.startswith(" ") else "", name, bool(is_public))
+            found = (re.match(r"\s*(?:pub )?(?:pub\(\w+\) )?(?:const )?(?:unsafe )?fn (\w+)", line)
+                     or re.match(r"\s+ghost (\w+):", line))
+            if found:
+                function = Function(crate, module, owner if line.startswith(" ") else "", found[1])
                 yield function
             if function:
                 clause = re.match(r"\s*(?:ensures|requires) (?:(\w+) )?\{", line)
@@ -94,7 +93,6 @@ class Sources:
         self.functions = collections.defaultdict(list)
         self.fields = collections.defaultdict(set)
         self.of_crate = collections.defaultdict(set)
-        self.types = collections.defaultdict(set)
         self.names = set(FOREIGN)
         self.files = set()
         self.stands_on = {}
@@ -122,9 +120,7 @@ class Sources:
                 with open(path, encoding="utf-8") as file:
                     text = file.read()
                 names |= set(re.findall(r"\b(?:type|const|mod) (\w+)", text))
-                for name in re.findall(r"\b(?:struct|enum|trait) (\w+)", text):
-                    names.add(name)
-                    self.types[name].add(crate)
+                names |= set(re.findall(r"\b(?:struct|enum|trait) (\w+)", text))
                 # The variants of enums and the fields of structs.
                 names |= set(re.findall(r"^    (?:pub(?:\(\w+\))? )?(\w+)(?:[(,:]| \{)", text, re.M))
             elif path.endswith(".antt"):
@@ -275,27 +271,6 @@ def fault_of_walk(sources, number, names):
     if number != len(names) - 1:
         return "the walk has %d calls, and not %d" % (len(names) - 1, number)
     return None
-
-
-def named_by_crate(sources, text):
-    """The public functions and the types of each crate that a text names, in the order in which it does. A name
-    that several crates have counts only if its crate or its type stands before it, and one that is a clause
-    too only if it has clauses there."""
-    clauses = set().union(*sources.fields.values(), *[function.clauses for function in sources.all_functions()])
-    found = collections.defaultdict(dict)
-    for line in text.splitlines():
-        owners = {owner for cited, _ in pairs(line) for owner in cited}
-        for word in re.findall(SPAN, line):
-            parts = word.split("::")
-            if NAME.fullmatch(word) and (word in owners or word not in clauses):
-                crates = {function.crate for function in sources.functions.get(parts[-1], ())
-                          if function.is_public and holds(function, parts)} or sources.types.get(word, set())
-                crates = {crate for crate in crates if not crate.startswith("muni_test_")}
-                if len(crates) == 1:
-                    # Its crate and its module are left out.
-                    name = "::".join([part for part in parts[:-1] if part[0].isupper()] + parts[-1:])
-                    found[crates.pop()].setdefault(name)
-    return {crate: list(names) for crate, names in found.items()}
 
 
 def check(root, documents):
