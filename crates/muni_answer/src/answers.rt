@@ -55,7 +55,9 @@ pub fn figures<R: Threads + Sync, E: Encloser + Sync, G: Gate + Sync>(
     asked: &Asked,
     schedule: &mut Schedule,
 ) -> Result<Figures, Refusal>
+    // promise 1, 2, 3, 4: the figures of a security are right, or the refusal is the first that applies
     ensures right { IsRightAnswer (E.ends calculator.now.encloser.now) issue.now asked.now result }
+    // promise 1: a total is never below 0, as the commission of a sale is at most its principal
     ensures covered { IfOk result (λ figures. asked.now.side ≡ Side.Sell
         → figures.commission ≤ figures.principal) }
     ensures accrued { IfOk result (λ figures. figures.accrued ≤ 60_000_000_000) }

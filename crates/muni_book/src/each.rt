@@ -27,6 +27,7 @@ pub fn each_redemption<R: Threads + Sync, E: Encloser + Sync, G: Gate + Sync>(
     asked: &Asked,
     figures: &Figures,
 ) -> ArrayVec<EachRedemption, 100>
+    // promise 3: each redemption by itself, in order of date, with its figure or why it has none
     ensures { IsRightAnswer (E.ends calculator.now.encloser.now) issue.now asked.now (Ok figures.now)
         → AreEach (E.ends calculator.now.encloser.now) issue.now asked.now figures.now result.items }
 {

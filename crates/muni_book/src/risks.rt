@@ -24,6 +24,7 @@ use muni_terms::{Issue, IssueRow, Kind};
 /// shown. None for a discounted note. The candidates and the figures are those of what is asked.
 pub fn risk(issue: &Issue, candidates: &[Candidate], figures: &Figures) -> Option<Risk>
     requires { All IsCandidate candidates.now }
+    // promise 1: how the price of a quote moves, by the redemption, yield and price that are shown
     ensures { (ends : PaymentSeries → ℤ → WorthEnds) (asked : Asked)
         → AreCandidates issue.now asked.settle candidates.now
         → IsRightAnswer ends issue.now asked (Ok figures.now)

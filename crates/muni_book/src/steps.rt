@@ -33,10 +33,14 @@ pub fn step<R: Threads + Sync, K: Keeper, E: Encloser + Sync, G: Gate + Sync>(
     command: &Command,
 ) -> Result<Reply, BookFault>
     // If the keeper exposes its tables, a reply and the tables after it are those of one step.
+    // promise 4, 6, 7: a reply and at most one entry are those of one step
     ensures step { IfOk result (λ reply. IfSome (K.tables keeper.old) (λ t.
         StepsTo (book_rules book.now.limit (E.ends book.now.calculator.now.encloser.now)) t command.now reply (K.tables keeper.new))) }
+    // promise 7: a refused command leaves the tables as they were
     ensures refused { IfOk result (λ reply. IsRefusal reply → K.tables keeper.new ≡ K.tables keeper.old) }
+    // promise 7: so does a fault or a lack of memory
     ensures unchanged { OnErr result (K.tables keeper.new ≡ K.tables keeper.old) }
+    // promise 9: a step fails only if the keeper's count rose
     ensures same { SameKeeper K.Keeper BookFault.Failed result keeper.old keeper.new }
 {
     let plan = plan_of(keeper, command, book.limit)?;

@@ -32,6 +32,7 @@ pub fn plan_of<K: Keeper>(
     command: &Command,
     limit: DeskLimit,
 ) -> Result<Plan, KeepFault>
+    // promise 4, 7: what a command does is planned by the issues and the trades of its own desk alone
     ensures plan { Finds K.Keeper keeper.old keeper.new result
         (λ t. spec.plan_of limit t.issues (own_of (desk_of command.now) t) command.now) }
 {

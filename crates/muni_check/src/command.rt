@@ -53,15 +53,18 @@ pub fn check<R: Threads + Sync, I: Source, O: Sink, C: Cabinet, E: Encloser + Sy
     cabinet: &mut C,
 ) -> Result<CheckEnd, Fault>
     requires { C.out cabinet.old ≡ None }
+    // promise 6, 9: each row has its line, then each live trade without a row, then the total, and how it ends
     ensures written { IfSome (I.left input.old) (λ text. WroteChecked
         (over (E.ends calculator.now.encloser.now) desk.now (C.told cabinet.old store.now))
         text result (I.left input.new) (O.bytes output.old) (O.bytes output.new)) }
+    // promise 10: of the input first bytes are read, without a limit
     ensures takes { TakesSome I.Source input.old input.new }
     ensures reads { ReportsReads I.Source result input.old input.new }
     ensures writes { ReportsWrites O.Sink result output.old output.new }
     ensures read_failed { IsErrOf result Fault.Read → Rose (I.faults input.old) (I.faults input.new) }
     ensures write_failed { IsErrOf result Fault.Write → Rose (O.faults output.old) (O.faults output.new) }
     ensures store_failed { IsErrOf result Fault.Store → Rose (C.faults cabinet.old) (C.faults cabinet.new) }
+    // promise 7: no tables change
     ensures leaves { LeavesAll C.Cabinet cabinet.old cabinet.new }
 {
     let mut keeper = cabinet.fetch(store)?;
@@ -77,14 +80,17 @@ pub fn check_alone<R: Threads + Sync, I: Source, O: Sink, E: Encloser + Sync, G:
     input: &mut I,
     output: &mut O,
 ) -> Result<CheckEnd, Fault>
+    // promise 6, 9: the same without a store
     ensures written { IfSome (I.left input.old) (λ text. WroteChecked
         (over (E.ends calculator.now.encloser.now) None (Some no_tables))
         text result (I.left input.new) (O.bytes output.old) (O.bytes output.new)) }
+    // promise 10: of the input first bytes are read, without a limit
     ensures takes { TakesSome I.Source input.old input.new }
     ensures reads { ReportsReads I.Source result input.old input.new }
     ensures writes { ReportsWrites O.Sink result output.old output.new }
     ensures read_failed { IsErrOf result Fault.Read → Rose (I.faults input.old) (I.faults input.new) }
     ensures write_failed { IsErrOf result Fault.Write → Rose (O.faults output.old) (O.faults output.new) }
+    // promise 9: it never ends by a failed store
     ensures not_store { ¬ (IsErrOf result Fault.Store) }
 {
     let mut nothing = MemKeeper::new(alloc, &[])?;

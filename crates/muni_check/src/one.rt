@@ -28,8 +28,10 @@ pub fn check_row<R: Threads + Sync, K: Keeper, E: Encloser + Sync, G: Gate + Syn
     row: &Fields<'_>,
     keeper: &mut K,
 ) -> Result<Vec<u8>, KeepFault>
+    // promise 6: a row by itself has the line that it has as the first row
     ensures line { IfOk result (λ line. IsRowLine (over (E.ends calculator.now.encloser.now) desk.now (K.tables keeper.old))
         row.now.columns.now.items (fields_of row.now.record.now) line.items) }
+    // promise 7: no tables change
     ensures reads { OnlyReads K.Keeper result keeper.old keeper.new }
 {
     let mut judge = Judge::new(calculator, alloc, desk);

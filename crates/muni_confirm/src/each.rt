@@ -17,7 +17,9 @@ use muni_msg::{EachFigure, EachRedemption};
 /// its figure or why it has none.
 pub fn push_each<const ROOM: usize>(text: &mut ArrayVec<u8, ROOM>, each: &[EachRedemption])
     requires { array_vec_len text.old + 101 * length each.now ≤ ROOM }
+    // promise 3: the line of each redemption, byte for byte
     ensures items { text.new.items ≡ text.old.items ++ flat_map each_text each.now }
+    // promise 10: at most 101 bytes each
     ensures len { array_vec_len text.new ≤ array_vec_len text.old + 101 * length each.now }
 {
     for redemption in each {

@@ -134,7 +134,9 @@ fn push_days_line(text: &mut ArrayVec<u8, 512>, days: i32)
 /// and money in dollars with two.
 #[tactic(auto, unfolding(crate::specs::Figures::figure_text))]
 pub fn figure_lines(figures: &Figures, given: &Given, fee: Fee, text: &mut ArrayVec<u8, 512>)
+    // promise 1: the lines of figures, byte for byte
     ensures items { text.new.items ≡ figure_text figures.now given.now fee }
+    // promise 10: at most 374 bytes
     ensures len { array_vec_len text.new ≤ 374 }
 {
     figures_fit(figures, given, fee);

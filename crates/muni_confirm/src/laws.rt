@@ -26,6 +26,7 @@ use muni_terms::{Boundary, Issue, IssueRow, TermsFault};
 /// A law: the lines of figures have at most 374 bytes.
 #[tactic(auto, unfolding(crate::specs::Figures::figure_text))]
 pub fn figures_fit(figures: &Figures, given: &Given, fee: Fee)
+    // promise 10: the lines of figures fit their room
     ensures { FiguresFit figures.now given.now fee }
 {
     price_lines_fit(figures, given);
@@ -36,6 +37,7 @@ pub fn figures_fit(figures: &Figures, given: &Given, fee: Fee)
 
 /// A law: a confirmation has at most 685 bytes.
 pub fn confirmation_fits(issue: &Issue, key: &Key, number: u32, version: &Version)
+    // promise 10: a confirmation fits its room
     ensures { ConfirmationFits issue.now key.now number version.now }
 {
     let asked = &version.terms.asked;
@@ -49,6 +51,7 @@ pub fn confirmation_fits(issue: &Issue, key: &Key, number: u32, version: &Versio
 
 /// A law: the line of a refusal has at most 82 bytes.
 pub fn refusal_fits(refusal: &Refusal)
+    // promise 10: the line of a refusal fits its room
     ensures { RefusalFits refusal.now }
 {
     name_fits(refusal.number());
@@ -58,6 +61,7 @@ pub fn refusal_fits(refusal: &Refusal)
 /// A law: the line of a redemption candidate has at most 101 bytes.
 #[tactic(auto, unfolding(crate::specs::Each::each_text))]
 pub fn each_fits(redemption: &EachRedemption)
+    // promise 10: the line of a redemption fits its room
     ensures { length (each_text redemption.now) ≤ 101 }
 {
     day_fits(&redemption.date);
@@ -67,6 +71,7 @@ pub fn each_fits(redemption: &EachRedemption)
 
 /// A law: the lines of how a price moves with its yield have at most 141 bytes.
 pub fn risk_fits(risk: Option<Risk>)
+    // promise 10: the lines of how the price moves fit their room
     ensures { length (risk_lines risk) ≤ 141 }
 {
     if let Some(risk) = risk {

@@ -121,7 +121,9 @@ fn push_name(text: &mut ArrayVec<u8, 128>, number: u32)
 /// A version and the next number are whole numbers, and a fault of the terms is given by its number.
 /// Days are as `2024-02-29`.
 pub fn refusal_line(refusal: &Refusal, text: &mut ArrayVec<u8, 128>)
+    // promise 4: the line of a refusal, byte for byte
     ensures items { text.new.items ≡ refusal_text refusal.now }
+    // promise 10: at most 82 bytes
     ensures len { array_vec_len text.new ≤ 82 }
 {
     refusal_fits(refusal);

@@ -13,7 +13,9 @@ use muni_risk::{Risk, Sensitivities, print_millionths, print_thousandths};
 /// yield if there is one, the duration, the convexity and the DV01.
 pub fn push_risk<const ROOM: usize>(text: &mut ArrayVec<u8, ROOM>, risk: Option<Risk>)
     requires { array_vec_len text.old + 141 ≤ ROOM }
+    // promise 1: the lines of how the price moves, byte for byte
     ensures items { text.new.items ≡ text.old.items ++ risk_lines risk }
+    // promise 10: at most 141 bytes
     ensures len { array_vec_len text.new ≤ array_vec_len text.old + 141 }
 {
     risk_fits(risk);

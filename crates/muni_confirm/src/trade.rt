@@ -106,8 +106,10 @@ pub fn confirmation(
     version: &Version,
     text: &mut ArrayVec<u8, 1024>,
 )
+    // promise 6: a confirmation, byte for byte
     ensures items { text.new.items
         ≡ spec.confirmation_text issue.now key.now number version.now }
+    // promise 10: at most 685 bytes
     ensures len { array_vec_len text.new ≤ 685 }
 {
     let asked = &version.terms.asked;

@@ -12,6 +12,7 @@ use muni_rule::Basis;
 ///
 /// The first day is counted and the last is not. The count is negative if the last is earlier.
 pub fn days_by(basis: Basis, first: Day, last: Day) -> i32
+    // promise 1: the days between two dates by either basis
     ensures { result ≡ rule.days_by basis (civil first) (civil last) }
 {
     match basis {
@@ -34,6 +35,7 @@ fn civil_days(first: Day, last: Day) -> i32
 /// 30E/360. The first day is counted and the last is not. The count is negative if the last is
 /// earlier.
 pub fn days360(first: Day, last: Day) -> i32
+    // promise 1: the days between two dates by 30/360
     ensures { result ≡ rule.days360 (civil first) (civil last) }
 {
     days_up_to(last, last_counted(first, last)) as i32

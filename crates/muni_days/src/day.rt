@@ -40,6 +40,7 @@ impl DayFault {
 
     /// The number of the fault, 1 or 2.
     pub fn number(&self) -> u32
+        // promise 4: each fault of a date has its number
         ensures { result ≡ fault_number self.now }
     {
         match self {
@@ -90,6 +91,7 @@ impl Day {
 
     /// Reads a day as `2024-02-29`.
     pub fn read(text: &[u8]) -> Result<Day, DayFault>
+        // promise 4: a date is read exactly by its format and range
         ensures { result ≡ day_reading text.now }
     {
         let (year, month, day) = read_numbers(text).ok_or(DayFault::Form)?;
@@ -98,6 +100,7 @@ impl Day {
 
     /// The day of a year, a month from 1 and a day from 1, if the calendar and the desk have it.
     pub fn of(year: u64, month: u64, day: u64) -> Option<Day>
+        // promise 10: a day is made of a date in the range, and of no other
         ensures { result ≡ if_day (record { year = year; month = month; day = day }) }
     {
         if !is_day(year, month, day) {
@@ -136,6 +139,7 @@ impl Day {
 
     /// Replaces the text by the day as `2024-02-29`.
     pub fn print_into(&self, text: &mut ArrayVec<u8, 32>)
+        // promise 1: a date is written as it is read
         ensures items { text.new.items ≡ day_text (civil self.now) }
         ensures len { array_vec_len text.new ≡ 10 }
     {
@@ -175,6 +179,7 @@ impl PartialEq for Day {
     #[tactic(auto, using(crate::proofs::DayLemmas::day_decides, crate::proofs::OrderLemmas::rank_decides))]
     fn eq(&self, other: &Day) -> bool
         ensures value { result ≡ on place_of nat_eq self.now other.now }
+        // promise 10: days are equal exactly if they are the same
         ensures same { (result ≡ true) ↔ (self.now ≡ other.now) }
     {
         self.rank() == other.rank()

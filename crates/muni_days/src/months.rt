@@ -13,6 +13,7 @@ use crate::Day;
 pub fn months_on(date: Day, months: i32) -> Option<Day>
     requires day { (civil date).day ≤ 28 }
     requires months { (negsuc 1199 ≤ℤ months) × (months ≤ℤ pos 1200) }
+    // promise 1: so many months later, and none when a day leaves the range
     ensures { result ≡ if_day (rule.months_on (civil date) months) }
 {
     let index = month_index_on(date, months);

@@ -68,6 +68,7 @@ impl<const PLACES: usize, const LEAST: u64, const GREATEST: u64> Amount<PLACES, 
 
     /// The number of units.
     pub fn units(&self) -> u64
+        // promise 10: an amount has the number of which it was made
         ensures value { result ≡ self.now }
         ensures range { IsAmount LEAST GREATEST result }
     {
@@ -101,6 +102,7 @@ impl Price {
     /// Reads a price with at most six decimals, as `101.5`.
     #[tactic(auto, unfolding(crate::specs::Values::price_reading))]
     pub fn read(text: &[u8]) -> Result<Price, DecFault>
+        // promise 4: a price is read exactly by its format and range
         ensures { result ≡ price_reading text.now }
     {
         Price::read_places(text)
@@ -108,6 +110,7 @@ impl Price {
 
     /// The price of a number of units, from 0 to 999,999,999.
     pub fn of(units: u64) -> Option<Price>
+        // promise 10: a price is made of a number in its range, and of no other
         ensures { result ≡ if_price units }
     {
         Price::in_range(units)
@@ -115,6 +118,7 @@ impl Price {
 
     /// Replaces the text by the price with all its six decimals.
     pub fn print_into(&self, text: &mut ArrayVec<u8, 32>)
+        // promise 1: a price is written with its decimals
         ensures items { text.new.items ≡ price_text self.now }
         ensures len { array_vec_len text.new ≤ 29 }
     {
@@ -125,6 +129,7 @@ impl Price {
 impl Price3 {
     /// The printed price of a number of units.
     pub fn of(units: u64) -> Option<Price3>
+        // promise 10: a printed price is made of a number in its range, and of no other
         ensures { result ≡ if_printed_price units }
     {
         Price3::in_range(units)
@@ -132,6 +137,7 @@ impl Price3 {
 
     /// Replaces the text by the price with all its three decimals.
     pub fn print_into(&self, text: &mut ArrayVec<u8, 32>)
+        // promise 1: a printed price is written with three decimals
         ensures items { text.new.items ≡ printed_price_text self.now }
         ensures len { array_vec_len text.new ≤ 29 }
     {
@@ -143,6 +149,7 @@ impl Coupon {
     /// Reads a coupon with at most seven decimals, as `4.125`.
     #[tactic(auto, unfolding(crate::specs::Values::coupon_reading))]
     pub fn read(text: &[u8]) -> Result<Coupon, DecFault>
+        // promise 4: a coupon is read exactly by its format and range
         ensures { result ≡ coupon_reading text.now }
     {
         Coupon::read_places(text)
@@ -150,6 +157,7 @@ impl Coupon {
 
     /// The coupon of a number of units, from 0 to 300,000,000.
     pub fn of(units: u64) -> Option<Coupon>
+        // promise 10: a coupon is made of a number in its range, and of no other
         ensures { result ≡ if_coupon units }
     {
         Coupon::in_range(units)
@@ -157,6 +165,7 @@ impl Coupon {
 
     /// Replaces the text by the coupon with all its seven decimals.
     pub fn print_into(&self, text: &mut ArrayVec<u8, 32>)
+        // promise 1: a coupon is written with its decimals
         ensures items { text.new.items ≡ coupon_text self.now }
         ensures len { array_vec_len text.new ≤ 29 }
     {
@@ -171,6 +180,7 @@ impl Fee {
     /// Reads a commission with at most three decimals, as `0.125`.
     #[tactic(auto, unfolding(crate::specs::Values::fee_reading))]
     pub fn read(text: &[u8]) -> Result<Fee, DecFault>
+        // promise 4: a commission is read exactly by its format and range
         ensures { result ≡ fee_reading text.now }
     {
         Fee::read_places(text)
@@ -178,6 +188,7 @@ impl Fee {
 
     /// The commission of a number of units, from 0 to 10,000.
     pub fn of(units: u64) -> Option<Fee>
+        // promise 10: a commission is made of a number in its range, and of no other
         ensures { result ≡ if_fee units }
     {
         Fee::in_range(units)
@@ -185,6 +196,7 @@ impl Fee {
 
     /// Replaces the text by the commission with all its three decimals.
     pub fn print_into(&self, text: &mut ArrayVec<u8, 32>)
+        // promise 1: a commission is written with its decimals
         ensures items { text.new.items ≡ fee_text self.now }
         ensures len { array_vec_len text.new ≤ 29 }
     {
@@ -198,6 +210,7 @@ impl Cents {
 
     /// The amount of a number of cents.
     pub fn of(units: u64) -> Option<Cents>
+        // promise 10: an amount of money is made of a number in its range, and of no other
         ensures { result ≡ if_money units }
     {
         Cents::in_range(units)
@@ -205,6 +218,7 @@ impl Cents {
 
     /// Replaces the text by the amount in dollars with both its decimals.
     pub fn print_into(&self, text: &mut ArrayVec<u8, 32>)
+        // promise 1: money is written in dollars and cents
         ensures items { text.new.items ≡ money_text self.now }
         ensures len { array_vec_len text.new ≤ 29 }
     {

@@ -12,6 +12,7 @@ pub(crate) const LIMIT: u64 = 100_000_000_000;
 
 /// The number that a text writes in a limited number of digits, if it lies in a range.
 pub fn read_number(text: &[u8], most_digits: usize, least: u64, greatest: u64) -> Option<u64>
+    // promise 4: a whole number is read exactly by its format and range
     ensures value { result ≡ number_reading most_digits least greatest text.now }
     ensures range { IfSome result (λ number. (least ≤ number) × (number ≤ greatest)) }
 {

@@ -24,6 +24,7 @@ impl DecFault {
 
     /// The number of the fault, from 1 to 4.
     pub fn number(&self) -> u32
+        // promise 4: each fault of a decimal has its number
         ensures { result ≡ fault_number self.now }
     {
         match self {

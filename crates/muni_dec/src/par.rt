@@ -32,6 +32,7 @@ impl Par {
     /// Reads a par in digits alone, as `25000`.
     #[tactic(auto, unfolding(crate::specs::Values::par_reading))]
     pub fn read(text: &[u8]) -> Result<Par, DecFault>
+        // promise 4: a par is read exactly by its format and range
         ensures { result ≡ par_reading text.now }
     {
         Par::of(read_whole(text)?).ok_or(DecFault::OutOfRange)
@@ -39,6 +40,7 @@ impl Par {
 
     /// The par of a number of dollars, from 1 to 1,000,000,000.
     pub fn of(units: u64) -> Option<Par>
+        // promise 10: a par is made of a number in its range, and of no other
         ensures { result ≡ if_par units }
     {
         match units {
@@ -57,6 +59,7 @@ impl Par {
 
     /// The par in dollars.
     pub fn units(&self) -> u64
+        // promise 10: a par has the number of which it was made
         ensures value { result ≡ self.now }
         ensures range { IsAmount 1 1_000_000_000 result }
     {
@@ -65,6 +68,7 @@ impl Par {
 
     /// Replaces the text by the par in digits alone.
     pub fn print_into(&self, text: &mut ArrayVec<u8, 32>)
+        // promise 1: a par is written as a whole number
         ensures items { text.new.items ≡ decimal self.now }
         ensures len { array_vec_len text.new ≤ 20 }
     {

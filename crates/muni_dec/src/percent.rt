@@ -53,6 +53,7 @@ impl<const PLACES: usize, const BELOW: u32, const GREATEST: u32> Percent<PLACES,
 
     /// The number of units.
     pub fn units(&self) -> i64
+        // promise 10: a percentage has the number of which it was made
         ensures value { result ≡ self.now }
         ensures range { IsPercent BELOW GREATEST result }
     {
@@ -92,6 +93,7 @@ impl Yield {
     /// Reads a yield in percent with at most four decimals, as `-0.5`.
     #[tactic(auto, unfolding(crate::specs::Values::yield_reading))]
     pub fn read(text: &[u8]) -> Result<Yield, DecFault>
+        // promise 4: a yield is read exactly by its format and range
         ensures { result ≡ yield_reading text.now }
     {
         Yield::read_places(text)
@@ -99,6 +101,7 @@ impl Yield {
 
     /// The yield of a number of units, from -999,999 to 9,999,999.
     pub fn of(units: i64) -> Option<Yield>
+        // promise 10: a yield is made of a number in its range, and of no other
         ensures { result ≡ if_yield units }
     {
         Yield::in_range(units)
@@ -106,6 +109,7 @@ impl Yield {
 
     /// Replaces the text by the yield with all its four decimals.
     pub fn print_into(&self, text: &mut ArrayVec<u8, 32>)
+        // promise 2: a yield is written with its decimals
         ensures items { text.new.items ≡ yield_text self.now }
         ensures len { array_vec_len text.new ≤ 29 }
     {
@@ -116,6 +120,7 @@ impl Yield {
 impl Yield3 {
     /// The printed yield of a number of units, from -90,000 to 999,999.
     pub fn of(units: i64) -> Option<Yield3>
+        // promise 10: a printed yield is made of a number in its range, and of no other
         ensures { result ≡ if_printed_yield units }
     {
         Yield3::in_range(units)
@@ -123,6 +128,7 @@ impl Yield3 {
 
     /// Replaces the text by the yield with all its three decimals.
     pub fn print_into(&self, text: &mut ArrayVec<u8, 32>)
+        // promise 2: a printed yield is written with three decimals
         ensures items { text.new.items ≡ printed_yield_text self.now }
         ensures len { array_vec_len text.new ≤ 29 }
     {

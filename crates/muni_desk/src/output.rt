@@ -63,20 +63,25 @@ pub fn desk<
     requires none_out { C.out cabinet.old ≡ None }
 
     // Words that are no command change nothing.
+    // promise 9: Usage exactly if the words are no command
     ensures usage { (result ≡ Status.Usage) ↔ (command_of (map string_bytes words.now) ≡ None) }
+    // promise 7, 9: then nothing has changed
     ensures untouched { result ≡ Status.Usage
         → (input.new ≡ input.old) × (output.new ≡ output.old) × (cabinet.new ≡ cabinet.old) × (door.new ≡ door.old) }
 
     // Words that are a command do what it says, if the objects expose what they hold.
+    // promise 1, 2, 3, 4, 5, 6, 7, 9, 10: what each command reads, changes and prints, and how it ends
     ensures does { IfSome (command_of (map string_bytes words.now)) (λ line.
         Does I.Source O.Sink C.Cabinet D.Door (E.ends encloser.now)
         (traffic D.L.left D.L.bytes D.L.Source.faults D.L.Sink.faults) line.command result
         (lent input.old output.old cabinet.old) (lent input.new output.new cabinet.new)
         door.old door.new) }
+    // promise 7, 9: what a command does not name stays as it is
     ensures spares { IfSome (command_of (map string_bytes words.now)) (λ line.
         Spares line.command result (input.new ≡ input.old) (output.new ≡ output.old) (cabinet.new ≡ cabinet.old) (door.new ≡ door.old)) }
 
     // No keeper stays out.
+    // promise 7: no keeper stays out of the cabinet
     ensures none_out { C.out cabinet.new ≡ None }
 {
     match read(words) {

@@ -56,6 +56,7 @@ impl Status {
 
     /// The status of a check of figures.
     pub fn of_checked(checked: Result<CheckEnd, Fault>) -> Status
+        // promise 9: the status of a check says if all rows are right and no trade is missing
         ensures { result ≡ of_checked checked }
     {
         match checked {

@@ -33,9 +33,12 @@ pub fn write_kept<O: Sink, C: Cabinet>(
     cabinet: &mut C,
 ) -> Result<(), Fault>
     requires { C.out cabinet.old ≡ None }
+    // promise 6, 9: an export, a list or all confirmations are the text that the tables call for, and how it ends
     ensures written { WritesKept O.Sink wanted.now (C.told cabinet.old store.now)
         (Rose (C.faults cabinet.old) (C.faults cabinet.new)) result output.old output.new }
+    // promise 7: no tables change
     ensures leaves { LeavesAll C.Cabinet cabinet.old cabinet.new }
+    // promise 9: a failed write is what it ends by
     ensures writes { ReportsWrites O.Sink result output.old output.new }
     ensures puts_later { O.faults output.old ≤ O.faults output.new }
 {

@@ -37,9 +37,12 @@ pub fn confirm<O: Sink, C: Cabinet>(
     cabinet: &mut C,
 ) -> Result<Answered, Fault>
     requires { C.out cabinet.old ≡ None }
+    // promise 6, 9: the confirmation of the last version, by the terms that it names, or the refusal, and how it ends
     ensures confirmed { Confirmed O.Sink C.Cabinet store.now key.now result
         output.old output.new cabinet.old cabinet.new }
+    // promise 7: no tables change
     ensures leaves { LeavesAll C.Cabinet cabinet.old cabinet.new }
+    // promise 9: a failed write is what it ends by
     ensures writes { ReportsWrites O.Sink result output.old output.new }
     ensures puts_later { O.faults output.old ≤ O.faults output.new }
 {

@@ -42,12 +42,18 @@ pub fn import<
     cabinet: &mut C,
 ) -> Result<(), Fault>
     requires none_out { C.out cabinet.old ≡ None }
+    // promise 5, 9: the first rows are done and no others, each once and in order, with their lines, and how it ends
     ensures imported { Imported I.Source O.Sink C.Cabinet (book_rules book.now.limit (E.ends book.now.calculator.now.encloser.now)) store.now result
         (lent input.old output.old cabinet.old) (lent input.new output.new cabinet.new) }
+    // promise 5: how many lines a report has, their order, and those of bad rows, whatever the store exposes
     ensures reported { IfSome (I.left input.old) (λ text. Reported text result (O.bytes output.old) (O.bytes output.new)) }
+    // promise 10: at most 4,194,304 bytes of the input and one are read
     ensures takes { TakesUpTo I.Source 4_194_305 input.old input.new }
+    // promise 9: a failed read is what it ends by
     ensures reads { ReportsReads I.Source result input.old input.new }
+    // promise 9: a failed write is what it ends by
     ensures writes { ReportsWrites O.Sink result output.old output.new }
+    // promise 7: no other tables change
     ensures leaves { LeavesOthers C.Cabinet store.now cabinet.old cabinet.new }
 {
     let text = read_input(alloc, input, LIMIT)?;

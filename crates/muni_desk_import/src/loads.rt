@@ -34,12 +34,18 @@ pub fn load<R: Threads + Sync, I: Source, O: Sink, C: Cabinet, E: Encloser + Syn
     cabinet: &mut C,
 ) -> Result<(), Fault>
     requires none_out { C.out cabinet.old ≡ None }
+    // promise 5, 9: the first rows are done and no others, each once and in order, with their lines, and how it ends
     ensures loaded { Loaded I.Source O.Sink C.Cabinet (book_rules book.now.limit (E.ends book.now.calculator.now.encloser.now)) store.now result
         (lent input.old output.old cabinet.old) (lent input.new output.new cabinet.new) }
+    // promise 5: how many lines a report has, their order, and those of bad rows, whatever the store exposes
     ensures reported { IfSome (I.left input.old) (λ text. LoadReported text result (O.bytes output.old) (O.bytes output.new)) }
+    // promise 10: of the input first bytes are read, without a limit
     ensures takes { TakesSome I.Source input.old input.new }
+    // promise 9: a failed read is what it ends by
     ensures reads { ReportsReads I.Source result input.old input.new }
+    // promise 9: a failed write is what it ends by
     ensures writes { ReportsWrites O.Sink result output.old output.new }
+    // promise 7: no other tables change
     ensures leaves { LeavesOthers C.Cabinet store.now cabinet.old cabinet.new }
 {
     let mut keeper = cabinet.fetch(store)?;

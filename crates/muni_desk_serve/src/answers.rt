@@ -36,13 +36,16 @@ pub fn answer_one<R: Threads + Sync, L: Link, K: Keeper, E: Encloser + Sync, G: 
     keeper: &mut K,
 ) -> Served
     // What was answered, if the connection exposes its bytes and the keeper its tables.
+    // promise 4, 5, 6: one connection gets the answer due to its bytes, or none, and the tables are those of its step
     ensures served { WasServed (serving_rules book.now.limit (E.ends book.now.calculator.now.encloser.now))
         (K.tables keeper.old) (K.faults keeper.old)
         (traffic L.left L.bytes L.Source.faults L.Sink.faults link.old) result
         (K.tables keeper.new) (K.faults keeper.new)
         (traffic L.left L.bytes L.Source.faults L.Sink.faults link.new) }
     // A take is made only while more of the request is awaited, and none after it.
+    // promise 10: there is no wait once a whole request has come, and none after the answer
     ensures ready { TakesRequest L.Source link.old link.new }
+    // promise 7, 9: 503 only if the keeper's count rose; a bad request leaves the keeper as it was
     ensures leaves { LeavesCounted K.Keeper L.Source L.Sink result keeper.old keeper.new link.old link.new }
 {
     let request = match read_request(routes, alloc, link) {

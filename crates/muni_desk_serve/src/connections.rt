@@ -34,9 +34,11 @@ pub fn serve<R: Threads + Sync, C: Cabinet, D: Door, E: Encloser + Sync, G: Gate
     door: &mut D,
 ) -> Result<(), ServeFault>
     requires none_out { C.out cabinet.old ≡ None }
+    // promise 5, 9, 10: connections are served in order, as a run of the book; a fault ends one alone
     ensures served { ServedStore C.Cabinet D.Door (serving_rules book.now.limit (E.ends book.now.calculator.now.encloser.now))
         (traffic D.L.left D.L.bytes D.L.Source.faults D.L.Sink.faults) store.now port connections result
         cabinet.old cabinet.new door.old door.new }
+    // promise 7: no other tables change
     ensures leaves { LeavesOthers C.Cabinet store.now cabinet.old cabinet.new }
     ensures tells { (other : List ℕ) → is_some (C.told cabinet.new other) ≡ is_some (C.told cabinet.old other) }
     ensures door_later { D.faults door.old ≤ D.faults door.new }

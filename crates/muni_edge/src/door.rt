@@ -27,8 +27,10 @@ pub trait Door {
     /// Binds the door to a port, and leaves the links where they are. What succeeds counts no fault.
     fn bind(&mut self, port: u16) -> Result<(), Failed>
         ensures tells { is_some (state self.new) ≡ is_some (state self.old) }
+        // promise 9: the port that was asked for is bound, and no other
         ensures bound { OnOk result (state self.new ≡ option_map (bound_to port) (state self.old)) }
         ensures unchanged { OnErr result (state self.new ≡ state self.old) }
+        // promise 9: it counts a fault exactly if it says that it failed
         ensures counts { CountsFaults (faults self.old) (faults self.new) result };
 
     /// Gives out the first link that waits, or `None` where none does. A port has to be bound. What
@@ -37,11 +39,13 @@ pub trait Door {
         requires { IfSome (state self.old) (λ door. IsSome door.port) }
 
         ensures tells { is_some (state self.new) ≡ is_some (state self.old) }
+        // promise 9: the connection that waited first, and none exactly if none waits
         ensures first { IfOk result
             (λ given. IfSome (state self.old) (λ door. given ≡ slice_get door.waiting 0)) }
         ensures given_out { IfOk result
             (λ given. state self.new ≡ option_map (after_accept given) (state self.old)) }
         ensures unchanged { OnErr result (state self.new ≡ state self.old) }
+        // promise 9: it counts a fault exactly if it says that it failed
         ensures counts { CountsFaults (faults self.old) (faults self.new) result };
 
     /// Takes back a link that was served. One has to be out.
@@ -117,9 +121,11 @@ impl Door for MemDoor {
     fn bind(&mut self, port: u16) -> Result<(), Failed>
         ensures bound { OnOk result (self.new.door ≡ bound_to port self.old.door) }
         ensures unchanged { OnErr result (self.new.door ≡ self.old.door) }
+        // promise 9: and counts exactly that
         ensures counts { CountsFaults self.old.calls.faults self.new.calls.faults result }
 
         // It fails exactly at the listed calls.
+        // promise 9: a port in memory fails exactly at the listed calls
         ensures fails { is_ok result ≡ not (is_listed self.old.calls) }
         ensures counted { self.new.calls ≡ after_call self.old.calls }
     {
@@ -135,9 +141,11 @@ impl Door for MemDoor {
         ensures given_out { IfOk result
             (λ given. self.new.door ≡ after_accept given self.old.door) }
         ensures unchanged { OnErr result (self.new.door ≡ self.old.door) }
+        // promise 9: and counts exactly that
         ensures counts { CountsFaults self.old.calls.faults self.new.calls.faults result }
 
         // It fails exactly at the listed calls.
+        // promise 9: a port in memory fails exactly at the listed calls
         ensures fails { is_ok result ≡ not (is_listed self.old.calls) }
         ensures counted { self.new.calls ≡ after_call self.old.calls }
     {

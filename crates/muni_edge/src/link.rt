@@ -87,6 +87,7 @@ impl Source for MemLink {
         requires { 0 < length room.old }
 
         // It is a take from its source.
+        // promise 9: a connection in memory fails to read exactly at the listed calls
         ensures fails { is_ok result ≡ not (is_listed self.old.source.calls) }
         ensures count { IfOk result
             (λ count. count ≡ min (length room.old) (length self.old.source.left)) }
@@ -95,6 +96,7 @@ impl Source for MemLink {
         ensures beyond { IfOk result (λ count. drop count room.new ≡ drop count room.old) }
         ensures after { self.new.source ≡ after_take self.old.source (length room.old) }
         ensures keeps { self.new.sink ≡ self.old.sink }
+        // promise 9: and counts exactly that
         ensures counts { CountsFaults self.old.source.calls.faults self.new.source.calls.faults result }
     {
         self.source.take(room)
@@ -110,12 +112,14 @@ impl Sink for MemLink {
 
     fn put(&mut self, piece: &[u8]) -> Result<(), Failed>
         // It is a put into its sink.
+        // promise 9: a connection in memory fails to write exactly at the listed calls, or past its room
         ensures fails { is_ok result ≡ not (fails_to_put self.old.sink (length piece.now)) }
         ensures written { OnOk result (self.new.sink.bytes ≡ self.old.sink.bytes ++ piece.now) }
         ensures part { OnErr result
             ((count : ℕ) × (self.new.sink.bytes ≡ self.old.sink.bytes ++ take count piece.now)) }
         ensures after { self.new.sink ≡ after_put self.old.sink piece.now }
         ensures keeps { self.new.source ≡ self.old.source }
+        // promise 9: and counts exactly that
         ensures counts { CountsFaults self.old.sink.calls.faults self.new.sink.calls.faults result }
     {
         self.sink.put(piece)

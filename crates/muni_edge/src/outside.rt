@@ -37,6 +37,7 @@ impl<L: Ledger> Steps<L> {
     /// Counts one more step.
     pub fn tick(&mut self)
         requires { self.old < 2 ^ 64 - 1 }
+        // promise 10: a step counts one
         ensures { self.new ≡ self.old + 1 }
     {
         self.book.add(&mut self.share, 1);

@@ -24,7 +24,9 @@ pub trait Sink {
 
     /// Appends the piece, or after a failure a prefix of it. What succeeds counts no fault.
     fn put(&mut self, piece: &[u8]) -> Result<(), Failed>
+        // promise 9: a put appends the piece, and after a failure a front part of it
         ensures puts { Puts (bytes self.old) (bytes self.new) piece.now result }
+        // promise 9: a put counts a fault exactly if it says that it failed
         ensures counts { CountsFaults (faults self.old) (faults self.new) result }
         ensures keeps { put_keeps self.old self.new };
 }
@@ -76,11 +78,13 @@ impl Sink for MemSink {
 
     fn put(&mut self, piece: &[u8]) -> Result<(), Failed>
         // It fails exactly at the listed calls and past its room.
+        // promise 9: an output in memory fails exactly at the listed calls, or past its room
         ensures fails { is_ok result ≡ not (fails_to_put self.old (length piece.now)) }
         ensures written { OnOk result (self.new.bytes ≡ self.old.bytes ++ piece.now) }
         ensures part { OnErr result
             ((count : ℕ) × (self.new.bytes ≡ self.old.bytes ++ take count piece.now)) }
         ensures after { self.new ≡ after_put self.old piece.now }
+        // promise 9: and counts exactly that
         ensures counts { CountsFaults self.old.calls.faults self.new.calls.faults result }
     {
         self.calls.make()?;

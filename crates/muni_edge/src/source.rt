@@ -31,7 +31,9 @@ pub trait Source {
         requires { 0 < length room.old }
 
         ensures within { IfOk result (λ count. count ≤ length room.old) }
+        // promise 10: a take moves first bytes of what is left, none only at the end or without room
         ensures takes { Takes (left self.old) (left self.new) room.new result }
+        // promise 9: a take counts a fault exactly if it says that it failed
         ensures counts { CountsFaults (faults self.old) (faults self.new) result }
         ensures keeps { take_keeps self.old self.new };
 }
@@ -77,6 +79,7 @@ impl Source for MemSource {
         requires { 0 < length room.old }
 
         // It fails exactly at the listed calls, and else moves all that is left and fits.
+        // promise 9: an input in memory fails exactly at the listed calls
         ensures fails { is_ok result ≡ not (is_listed self.old.calls) }
         ensures count { IfOk result
             (λ count. count ≡ min (length room.old) (length self.old.left)) }
@@ -84,6 +87,7 @@ impl Source for MemSource {
             (λ count. self.old.left ≡ take count room.new ++ self.new.left) }
         ensures beyond { IfOk result (λ count. drop count room.new ≡ drop count room.old) }
         ensures after { self.new ≡ after_take self.old (length room.old) }
+        // promise 9: and counts exactly that
         ensures counts { CountsFaults self.old.calls.faults self.new.calls.faults result }
     {
         self.calls.make()?;

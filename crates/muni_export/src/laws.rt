@@ -19,6 +19,7 @@ use muni_terms::Issue;
 /// A law: the row of an issue by its terms with a number is read as the command that keeps these terms.
 pub fn issues_are_read_again(number: u32, issue: &Issue)
     requires { number ≤ 999_999_999 }
+    // promise 6: the row of an issue is read as its terms with their number
     ensures { row_of (issue_fields number issue.now) ≡ Ok (issue_command number issue.now) }
 {
     let row = issue.row();
@@ -32,6 +33,7 @@ pub fn issues_are_read_again(number: u32, issue: &Issue)
 /// terms of its issue with the number that is written.
 pub fn versions_are_read_again(key: &Key, number: u32, version: &Version, issue_number: Option<u32>)
     requires { IsWritable number version.now issue_number }
+    // promise 6: that of a version as its entry, correction or cancel, by the terms whose number is written
     ensures { row_of (version_fields key.now number version.now issue_number)
         ≡ Ok (command_of key.now number version.now issue_number) }
 {
@@ -45,6 +47,7 @@ pub fn versions_are_read_again(key: &Key, number: u32, version: &Version, issue_
 
 /// A law: from rows one after another, each is read as its fields say.
 pub fn rows_are_read_again()
+    // promise 6: rows one after another are read each by itself
     ensures { RowsAreReadAgain }
 {}
 

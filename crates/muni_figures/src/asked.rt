@@ -32,6 +32,7 @@ const MOST_FIELDS: usize = 7;
 /// carriage return at its end is no part of its last field.
 #[tactic(auto, unfolding(crate::specs::Rows::row_of))]
 pub fn read_line(line: &[u8]) -> Result<Asked, RowFault>
+    // promise 4: a line is read exactly by its format, and one of more than 4,096 bytes is none
     ensures { result ≡ spec.row_of line.now }
 {
     if line.len() > LONGEST {

@@ -84,15 +84,18 @@ pub fn figures<
     cabinet: &mut C,
 ) -> Result<(), Fault>
     requires { C.out cabinet.old ≡ None }
+    // promise 3, 6, 9: each row has its figures or a refusal, by itself and its issue alone; then the total
     ensures written { IfSome (I.left input.old) (λ text. WroteFigures
         (IsToldOf (IsRightAnswer (E.ends calculator.now.encloser.now)) options.has_risk (C.told cabinet.old store.now))
         (header options) options.first text result (I.left input.new) (O.bytes output.old) (O.bytes output.new)) }
+    // promise 10: of the input first bytes are read, without a limit
     ensures takes { TakesSome I.Source input.old input.new }
     ensures reads { OnOk result (I.faults input.new ≡ I.faults input.old) }
     ensures writes { ReportsWrites O.Sink result output.old output.new }
     ensures read_failed { IsErrOf result Fault.Read → Rose (I.faults input.old) (I.faults input.new) }
     ensures write_failed { IsErrOf result Fault.Write → Rose (O.faults output.old) (O.faults output.new) }
     ensures store_failed { IsErrOf result Fault.Store → Rose (C.faults cabinet.old) (C.faults cabinet.new) }
+    // promise 7: no tables change
     ensures leaves { LeavesAll C.Cabinet cabinet.old cabinet.new }
 {
     let mut keeper = cabinet.fetch(store)?;

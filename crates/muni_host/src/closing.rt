@@ -24,6 +24,7 @@ const SILENT_READS: usize = 120;
 /// The system resets a connection that is closed while bytes come, and the other end may then lose what it
 /// was sent. Nothing is read if reads cannot be timed, since the other end may be silent for ever.
 pub(crate) fn finish<S: Read + OpenStream>(stream: &mut S)
+    // promise 10: after an answer at most 15 MiB of what a client still sends are read away
     ensures few { LosesAtMost 15_728_640 (S.remaining stream.old) (S.remaining stream.new) }
 {
     let wait = Duration::from_millis(WAIT_MILLIS);
@@ -34,6 +35,7 @@ pub(crate) fn finish<S: Read + OpenStream>(stream: &mut S)
 
 /// Reads up to the end, a failure, or the last read of those that are made or that find nothing.
 fn read_away<R: Read>(reader: &mut R)
+    // promise 10: at most 15 MiB are read away
     ensures few { LosesAtMost 15_728_640 (R.remaining reader.old) (R.remaining reader.new) }
 {
     let mut room = [0; ROOM];

@@ -29,7 +29,9 @@ pub fn words(rt: &HostRuntime) -> Result<Vec<String>, NoWords> {
 }
 
 fn past_name(alloc: Global, args: Args) -> Result<Vec<String>, NoWords>
+    // promise 10: the words after the program's name are handed on as they came
     ensures rest { IfOk result (λ words. words.items ≡ drop 1 (into_iter_items args)) }
+    // promise 9: there are none only if no memory is left
     ensures memory { IfErr result (λ fault. fault ≡ NoWords.NoMemory) }
 {
     match args.skip(1).collect::<Vec<String>>(alloc) {
@@ -39,6 +41,7 @@ fn past_name(alloc: Global, args: Args) -> Result<Vec<String>, NoWords>
 }
 
 fn unread(error: Error) -> NoWords
+    // promise 9: an error that is a lack of memory is told as one
     ensures memory { error_kind error ≡ ErrorKind.OutOfMemory → result ≡ NoWords.NoMemory }
     ensures other { error_kind error ≢ ErrorKind.OutOfMemory → result ≡ NoWords.NoText }
 {

@@ -34,8 +34,10 @@ impl<R: io::Read> Source for Input<R> {
 
     fn take(&mut self, room: &mut [u8]) -> Result<usize, Failed>
         ensures within { IfOk result (λ count. count ≤ length room.old) }
+        // promise 10: if the bytes are known, a take moves what the input loses, none only at its end or without room
         ensures bytes { ReadConsumes (R.remaining self.old.reader) (R.remaining self.new.reader)
             result room.new }
+        // promise 9: a read of standard input counts a fault exactly if it says that it failed
         ensures faults { CountsFaults self.old.faults self.new.faults result }
     {
         match read_on(&mut self.reader, room) {

@@ -48,8 +48,10 @@ impl<S: Read> Source for StreamLink<S> {
 
     fn take(&mut self, room: &mut [u8]) -> Result<usize, Failed>
         ensures within { IfOk result (λ count. count ≤ length room.old) }
+        // promise 10: if the bytes are known, a take moves what the connection loses
         ensures bytes { ReadConsumes (S.remaining self.old.stream) (S.remaining self.new.stream)
             result room.new }
+        // promise 9: a read of a connection counts a fault exactly if it says that it failed
         ensures faults { CountsFaults self.old.read_faults self.new.read_faults result }
         ensures keeps { self.new.write_faults ≡ self.old.write_faults }
     {
@@ -68,8 +70,10 @@ impl<S: Write> Sink for StreamLink<S> {
     ghost put_keeps = { λ old new. new.read_faults ≡ old.read_faults };
 
     fn put(&mut self, piece: &[u8]) -> Result<(), Failed>
+        // promise 9: if the bytes are known, a put appends the piece, and after a failure a front part of it
         ensures bytes { AppendsPiece (S.contents self.old.stream) (S.contents self.new.stream)
             result piece.now }
+        // promise 9: a write of a connection counts a fault exactly if it says that it failed
         ensures faults { CountsFaults self.old.write_faults self.new.write_faults result }
         ensures keeps { self.new.read_faults ≡ self.old.read_faults }
     {

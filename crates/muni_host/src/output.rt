@@ -33,8 +33,10 @@ impl<W: io::Write> Sink for Output<W> {
     ghost faults = { λ output. output.faults };
 
     fn put(&mut self, piece: &[u8]) -> Result<(), Failed>
+        // promise 9: if the bytes are known, a put appends the piece, and after a failure a front part of it
         ensures bytes { AppendsPiece (W.contents self.old.writer) (W.contents self.new.writer)
             result piece.now }
+        // promise 9: a write of standard output counts a fault exactly if it says that it failed
         ensures faults { CountsFaults self.old.faults self.new.faults result }
     {
         if write_on(&mut self.writer, piece).is_err() {

@@ -6,6 +6,7 @@ use std::io::{self, ErrorKind, Write};
 
 /// Writes a piece, also where a signal interrupts, and flushes it.
 pub(crate) fn write_on<W: Write>(writer: &mut W, piece: &[u8]) -> io::Result<()>
+    // promise 9: a write appends the piece, and one that fails a front part of it
     ensures { AppendsPiece (W.contents writer.old) (W.contents writer.new) result piece.now }
 {
     let mut at = 0;

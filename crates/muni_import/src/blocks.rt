@@ -45,6 +45,7 @@ impl RowBlocks {
     ///
     /// Out of memory is the only refusal, and nothing is taken then.
     pub fn add(&mut self, piece: &[u8]) -> Result<Vec<u8>, NoMemory>
+        // promise 5: a text is cut after its rows, wherever its bytes come
         ensures cuts { IfOk result (λ block. CutsOff (self.old ++ piece.now) block.items self.new) }
         ensures records { IfOk result (λ block. CutsRecords (self.old ++ piece.now) block.items self.new) }
         ensures refused { OnErr result (self.new ≡ self.old) }

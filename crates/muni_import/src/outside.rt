@@ -11,6 +11,7 @@ use std::alloc::Global;
 /// Reads all rows of a text: the command of each, or why it is none. Running out of memory is the
 /// only refusal.
 pub fn read_rows(alloc: Global, text: &[u8]) -> Result<Vec<Row>, NoMemory>
+    // promise 5: the rows of a text of CSV
     ensures { IfOk result (λ rows. rows.items ≡ rows_of text.now) }
 {
     let mut rows = Vec::new(alloc);

@@ -67,6 +67,7 @@ impl<'a> RowReader<'a> {
     ///
     /// Out of memory is the only refusal, and no row comes after it.
     pub fn next_row(&mut self) -> Result<Option<Row>, NoMemory>
+        // promise 5: the next row of the text
         ensures next { IfOk result (λ row. IfSome self.old (λ left. IsNext left row self.new)) }
         ensures refused { OnErr result (self.new ≡ None) }
     {

@@ -19,6 +19,7 @@ use muni_msg::{Figures, Key, Reply};
 /// `place,bad,1`, or `place,bad,2,COLUMN`. The price and the yield have three decimals, and the total
 /// is in dollars. Of figures and of a list, which no row asks for, only the place is told.
 pub fn report_row(place: u32, said: &RowOutcome, text: &mut ArrayVec<u8, 256>)
+    // promise 5, 6: the line of a row, byte for byte
     ensures items { text.new.items ≡ spec.row_line place said.now }
     ensures len { array_vec_len text.new ≤ 154 }
 {

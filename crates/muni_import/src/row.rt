@@ -39,6 +39,7 @@ pub type RowOutcome = Result<Reply, RowFault>;
 impl RowFault {
     /// The number of the fault, 1 or 2.
     pub fn number(&self) -> u32
+        // promise 4: each fault of a row has its number
         ensures { result ≡ fault_number self.now }
     {
         match self {

@@ -157,16 +157,20 @@ impl<S: Shelf> Cabinet for JournalCabinet<S> {
     fn fetch(&mut self, name: &[u8]) -> Result<JournalKeeper<S::D>, KeepFault>
         requires { self.old.out ≡ None }
 
+        // promise 6: a keeper that is lent has the tables for which its disk stands
         ensures fetched { Fetches ⟦<JournalCabinet<S> as Cabinet>⟧ ⟦<JournalKeeper<S::D> as Keeper>⟧
             name.now result self.old self.new }
 
         // No put is in doubt but that of a keeper that was held. A stop leaves what it might have left before.
+        // promise 8: no put is in doubt when a keeper is lent, unless it was held
         ensures settled { IfNone self.old.held (IfOk result (λ keeper. keeper.in_doubt ≡ None)) }
+        // promise 8: what a stop may leave stays within a fetch
         ensures stands { FetchesAsItStands S.Shelf S.D.Disk name.now result
             self.old.held self.new.held self.old.shelf self.new.shelf }
 
         // It counts a fault only if its shelf failed, the disk of a held keeper did, or the disk of the
         // name failed or is no journal.
+        // promise 9: only a failed shelf, a failed disk, or a disk that is no journal counts
         ensures counted { self.new.faults ≢ self.old.faults
             → Rose (S.faults self.old.shelf) (S.faults self.new.shelf)
             ⊎ HeldFailed S.D.Disk self.old.held self.new.held
@@ -193,13 +197,18 @@ impl<S: Shelf> Cabinet for JournalCabinet<S> {
     fn give_back(&mut self, keeper: JournalKeeper<S::D>)
         requires { IsOutAs ⟦<JournalCabinet<S> as Cabinet>⟧ (lent_as_of (S.D.bytes keeper.disk)) self.old }
 
+        // promise 6: a keeper that is given back leaves its tables under the name
         ensures tables { TellsTables ⟦<JournalCabinet<S> as Cabinet>⟧ keeper.kept self.old self.new }
+        // promise 6: tables are told after it exactly if they were before
         ensures tells { TellsAsBefore ⟦<JournalCabinet<S> as Cabinet>⟧ self.old self.new }
+        // promise 7: the tables of other names stay
         ensures others { KeepsOthers ⟦<JournalCabinet<S> as Cabinet>⟧ self.old self.new }
         ensures none_out { self.new.out ≡ None }
+        // promise 9: a cabinet counts what its keepers counted
         ensures counted { self.new.faults ≡ raised self.old.faults keeper.faults }
 
         // A stop leaves what stands for the tables of the keeper, or for them after the put in doubt.
+        // promise 8: what a stop may leave stays while a keeper is given back
         ensures stands { IfSome self.old.out (λ name. GivesBackAsItStands S.Shelf S.D.Disk
             name.items keeper self.new.held self.old.shelf self.new.shelf) }
     {

@@ -121,6 +121,7 @@ impl<D: Disk> JournalKeeper<D> {
     /// Between two calls every image of its disk stands for its tables, or for them after the put that
     /// is in doubt.
     pub fn images_stand(&self)
+        // promise 8: between two calls a stop leaves the tables, or those after the one put in doubt
         ensures { (c : List ℕ) → D.image self.now.disk c
             → StandsFor self.now.kept self.now.in_doubt None c }
     {}
@@ -137,21 +138,27 @@ impl<D: Disk> Keeper for JournalKeeper<D> {
     ghost lent_as = { λ keeper. lent_as_of (D.bytes keeper.disk) };
 
     fn issue(&mut self, cusip: &[u8; 9]) -> Result<Option<Issue>, KeepFault>
+        // promise 6: it finds what the tables hold
         ensures found { result ≡ Ok (issue_at self.old.kept cusip.now) }
+        // promise 8, 9: it touches no disk and cannot fail
         ensures same { self.new ≡ self.old }
     {
         Ok(self.kept.issue(cusip))
     }
 
     fn issue_numbered(&mut self, cusip: &[u8; 9], number: u32) -> Result<Option<Issue>, KeepFault>
+        // promise 6: it finds what the tables hold
         ensures found { result ≡ Ok (issue_numbered self.old.kept cusip.now number) }
+        // promise 8, 9: it touches no disk and cannot fail
         ensures same { self.new ≡ self.old }
     {
         Ok(self.kept.issue_numbered(cusip, number))
     }
 
     fn last_issue(&mut self, cusip: &[u8; 9]) -> Result<Option<(u32, Issue)>, KeepFault>
+        // promise 6: it finds what the tables hold
         ensures found { result ≡ Ok (last_issue self.old.kept cusip.now) }
+        // promise 8, 9: it touches no disk and cannot fail
         ensures same { self.new ≡ self.old }
     {
         Ok(self.kept.last_issue(cusip))
@@ -160,6 +167,7 @@ impl<D: Disk> Keeper for JournalKeeper<D> {
     fn put_issue(&mut self, number: u32, issue: &Issue) -> Result<(), KeepFault>
         requires { number ≡ next_number (issue_history self.old.kept issue.now.cusip) }
 
+        // promise 8, 9: a stop keeps all that was answered and at most this put; only a disk counts, or a full file
         ensures edits { EditsJournal D.Disk ⟦<JournalKeeper<D> as Keeper>⟧ (put.Issue number issue.now) result
             self.old self.new }
     {
@@ -171,14 +179,18 @@ impl<D: Disk> Keeper for JournalKeeper<D> {
     }
 
     fn version(&mut self, key: &Key, number: u32) -> Result<Option<Version>, KeepFault>
+        // promise 6: it finds what the tables hold
         ensures found { result ≡ Ok (version_at self.old.kept key.now number) }
+        // promise 8, 9: it touches no disk and cannot fail
         ensures same { self.new ≡ self.old }
     {
         Ok(self.kept.version(key, number))
     }
 
     fn last(&mut self, key: &Key) -> Result<Option<(u32, Version)>, KeepFault>
+        // promise 6: it finds what the tables hold
         ensures found { result ≡ Ok (last_at self.old.kept key.now) }
+        // promise 8, 9: it touches no disk and cannot fail
         ensures same { self.new ≡ self.old }
     {
         Ok(self.kept.last(key))
@@ -187,6 +199,7 @@ impl<D: Disk> Keeper for JournalKeeper<D> {
     fn put_version(&mut self, key: &Key, number: u32, version: &Version) -> Result<(), KeepFault>
         requires { number ≡ next_number (trade_at self.old.kept key.now) }
 
+        // promise 8, 9: a stop keeps all that was answered and at most this put; only a disk counts, or a full file
         ensures edits { EditsJournal D.Disk ⟦<JournalKeeper<D> as Keeper>⟧ (put.Version key.now number version.now) result
             self.old self.new }
     {
@@ -199,7 +212,9 @@ impl<D: Disk> Keeper for JournalKeeper<D> {
     }
 
     fn trades(&mut self, desk: &DeskName) -> Result<u32, KeepFault>
+        // promise 6: it finds what the tables hold
         ensures found { result ≡ Ok (trade_count self.old.kept desk.now) }
+        // promise 8, 9: it touches no disk and cannot fail
         ensures same { self.new ≡ self.old }
     {
         Ok(self.kept.trades(desk))
@@ -210,29 +225,37 @@ impl<D: Disk> Keeper for JournalKeeper<D> {
         desk: &DeskName,
         after: &Option<Reference>,
     ) -> Result<ArrayVec<Line, 50>, KeepFault>
+        // promise 6: it finds what the tables hold
         ensures found { result_map_both (λ lines. lines.items) (λ fault. fault) result
             ≡ Ok (page_at self.old.kept desk.now after.now) }
+        // promise 8, 9: it touches no disk and cannot fail
         ensures same { self.new ≡ self.old }
     {
         Ok(self.kept.page(desk, after))
     }
 
     fn before_latest(&mut self, desk: &DeskName) -> Result<Option<Reference>, KeepFault>
+        // promise 6: it finds what the tables hold
         ensures found { result ≡ Ok (before_latest self.old.kept desk.now) }
+        // promise 8, 9: it touches no disk and cannot fail
         ensures same { self.new ≡ self.old }
     {
         Ok(self.kept.before_latest(desk))
     }
 
     fn issue_past(&mut self, after: &Option<[u8; 9]>) -> Result<Option<([u8; 9], Issue)>, KeepFault>
+        // promise 6: it finds what the tables hold
         ensures found { result ≡ Ok (issue_past self.old.kept after.now) }
+        // promise 8, 9: it touches no disk and cannot fail
         ensures same { self.new ≡ self.old }
     {
         Ok(self.kept.issue_past(after))
     }
 
     fn desk_past(&mut self, after: &Option<DeskName>) -> Result<Option<DeskName>, KeepFault>
+        // promise 6: it finds what the tables hold
         ensures found { result ≡ Ok (desk_past self.old.kept after.now) }
+        // promise 8, 9: it touches no disk and cannot fail
         ensures same { self.new ≡ self.old }
     {
         Ok(self.kept.desk_past(after))

@@ -29,10 +29,13 @@ pub(crate) struct Unsettled<D: Disk> {
 
 /// The keeper of the tables for which a disk stands. The disk is synced first.
 pub fn open<D: Disk + Drop>(alloc: Global, disk: D) -> Result<JournalKeeper<D>, Unfetched<D>>
+    // promise 8: a disk that holds a journal is opened with its tables, and no put is in doubt
     ensures found { IfOk result (IsKeeperOf D.Disk disk) }
+    // promise 8: a disk that holds none is refused
     ensures refused { IfErr result (IsUnfetched D.Disk disk) }
 
     // What the disk reads as stays, and no image comes, nor does one within the call.
+    // promise 8: what a stop may leave stays while it is opened
     ensures stays { Stays D.Disk disk (left result) }
 {
     let mut disk = disk;

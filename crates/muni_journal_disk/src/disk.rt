@@ -42,14 +42,17 @@ pub trait Disk {
         ensures written { OnOk result (IfRead (bytes self.new) (StandsAt place piece.now)) }
 
         // Nothing outside the range of the piece changes, neither in what it reads as nor in an image.
+        // promise 8: the model: a write that is not synced leaves all bytes outside its range
         ensures outside { IsTorn place (length piece.now) (ReadsAs (bytes self.old))
             (ReadsAs (bytes self.new)) }
+        // promise 8: a stop after it may leave any bytes in its range, also if it was refused
         ensures images { IsTorn place (length piece.now) (image self.old) (image self.new) }
         ensures same { IsSame bytes faults DiskFault.Failed result self.old self.new }
         ensures time { TakesTime clock since image self.old self.new };
 
     /// Sees that what was written stays: after a success, a stop leaves what the disk reads as.
     fn sync(&mut self) -> Result<(), DiskFault>
+        // promise 8: after a sync a stop leaves what the disk reads as
         ensures only { OnOk result ((c : List ℕ) → image self.new c → ReadsAs (bytes self.old) c) }
         ensures keeps { Keeps bytes image faults DiskFault.Failed result self.old self.new }
         ensures time { TakesTime clock since image self.old self.new };

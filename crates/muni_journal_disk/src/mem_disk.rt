@@ -145,6 +145,7 @@ impl Disk for MemDisk {
             (λ c. room.new ≡ bytes_at c place (length room.old))) }
         ensures keeps { KeepsBytes ⟦<MemDisk as Disk>⟧ DiskFault.Failed result self.old self.new }
         ensures time { Elapses ⟦<MemDisk as Disk>⟧ self.old self.new }
+        // promise 9: a disk in memory fails exactly at the listed calls, and records each
         ensures called { MakesCall (λ _. IsRead) result self.old self.new }
     {
         let listed = self.is_listed();
@@ -168,6 +169,7 @@ impl Disk for MemDisk {
             (IsImage self.new.first.items self.new.past.items) }
         ensures same { SameDisk ⟦<MemDisk as Disk>⟧ DiskFault.Failed result self.old self.new }
         ensures time { Elapses ⟦<MemDisk as Disk>⟧ self.old self.new }
+        // promise 9: so of a write, with what was to be written where
         ensures called { MakesCall (λ _. IsWrite place piece.now) result self.old self.new }
     {
         let listed = self.is_listed();
@@ -188,6 +190,7 @@ impl Disk for MemDisk {
             → IsImage self.new.first.items self.new.past.items c → ReadsAs (Some self.old.bytes.items) c) }
         ensures keeps { KeepsBytes ⟦<MemDisk as Disk>⟧ DiskFault.Failed result self.old self.new }
         ensures time { Elapses ⟦<MemDisk as Disk>⟧ self.old self.new }
+        // promise 9: so of a sync
         ensures called { MakesCall IsSync result self.old self.new }
     {
         let listed = self.is_listed();

@@ -128,7 +128,9 @@ impl Shelf for MemShelf {
         ensures taken { Takes ⟦<MemShelf as Shelf>⟧ ⟦<MemDisk as Disk>⟧ name.now result self.old self.new }
 
         // It fails exactly at the listed calls.
+        // promise 9: a shelf in memory fails exactly at the listed calls
         ensures failed { IsErrOf result DiskFault.Failed ↔ (is_listed self.old.calls ≡ true) }
+        // promise 9: and counts exactly that
         ensures counted { self.new.calls ≡ after_call self.old.calls }
     {
         if self.calls.make().is_err() {

@@ -38,9 +38,11 @@ pub fn put_slot<D: Disk>(disk: &mut D, gate: u64, piece: &[u8]) -> Result<(), Sl
     requires closed { AllImages (D.image disk.old) (λ c. byte_at c gate ≢ 1) }
 
     // Each image since the call began is one from before it, with the whole slot or with a closed gate.
+    // promise 8: a stop within a put leaves its slot whole or not at all
     ensures stops { StopsLeave D.clock D.since disk.old disk.new
         (ComesFrom (IsStep gate piece.now) (D.image disk.old)) }
     // Which of them the images are at the end.
+    // promise 8: what a stop after the put may leave
     ensures leaves { Leaves gate piece.now (D.image disk.old) (D.image disk.new) result }
 
     ensures same { SameDisk D.Disk (SlotFault.Unopened DiskFault.Failed) result disk.old disk.new }
@@ -67,10 +69,12 @@ pub fn take_back<D: Disk>(disk: &mut D, gate: u64) -> Result<(), DiskFault>
     requires { gate + 1 < 2 ^ 41 }
 
     // Each image since the call began is one from before it, but for the gate.
+    // promise 8: a stop while a put is taken back leaves it whole or not at all
     ensures stops { StopsLeave D.clock D.since disk.old disk.new
         (ComesFrom (IsSameOutside gate 1) (D.image disk.old)) }
     ensures images { AllImages (D.image disk.new)
         (ComesFrom (IsSameOutside gate 1) (D.image disk.old)) }
+    // promise 8: a put that is taken back has the gate 0
     ensures closed { OnOk result
         (AllImages (D.image disk.new) (ComesFrom (IsTakenBack gate) (D.image disk.old))) }
 

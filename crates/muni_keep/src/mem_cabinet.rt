@@ -144,6 +144,7 @@ impl Cabinet for MemCabinet {
             (λ keeper. keeper ≡ uncounted (keeper_at self.old.keepers name.now)) }
         ensures lent { OnOk result (self.new ≡ after_fetch name.now self.old) }
         ensures refused { OnErr result (self.new ≡ after_refusal self.old) }
+        // promise 9: a cabinet in memory fails exactly at the listed calls
         ensures failed { IsErrOf result KeepFault.Failed ↔ (is_listed self.old.calls ≡ true) }
         ensures later { self.old.calls.faults ≤ self.new.calls.faults }
         ensures others { (other : List ℕ) → other ≢ name.now → tables_at self.new other ≡ tables_at self.old other }

@@ -77,6 +77,7 @@ impl Keeper for MemKeeper {
     ghost lent_as = { λ _. 0 };
 
     fn issue(&mut self, cusip: &[u8; 9]) -> Result<Option<Issue>, KeepFault>
+        // promise 9: a keeper in memory fails exactly at the listed calls, and else finds what is kept
         ensures { LooksUp result (issue_at self.old.tables cusip.now) self.old self.new }
     {
         self.calls.make()?;
@@ -84,6 +85,7 @@ impl Keeper for MemKeeper {
     }
 
     fn issue_numbered(&mut self, cusip: &[u8; 9], number: u32) -> Result<Option<Issue>, KeepFault>
+        // promise 9: a keeper in memory fails exactly at the listed calls, and else finds what is kept
         ensures { LooksUp result (issue_numbered self.old.tables cusip.now number) self.old self.new }
     {
         self.calls.make()?;
@@ -91,6 +93,7 @@ impl Keeper for MemKeeper {
     }
 
     fn last_issue(&mut self, cusip: &[u8; 9]) -> Result<Option<(u32, Issue)>, KeepFault>
+        // promise 9: a keeper in memory fails exactly at the listed calls, and else finds what is kept
         ensures { LooksUp result (last_issue self.old.tables cusip.now) self.old self.new }
     {
         self.calls.make()?;
@@ -100,6 +103,7 @@ impl Keeper for MemKeeper {
     fn put_issue(&mut self, number: u32, issue: &Issue) -> Result<(), KeepFault>
         requires { number ≡ next_number (issue_history self.old.tables issue.now.cusip) }
 
+        // promise 9: a put in memory fails exactly at the listed calls, and else is kept
         ensures { Puts (with_issue issue.now) result self.old self.new }
     {
         self.calls.make()?;
@@ -108,6 +112,7 @@ impl Keeper for MemKeeper {
     }
 
     fn version(&mut self, key: &Key, number: u32) -> Result<Option<Version>, KeepFault>
+        // promise 9: a keeper in memory fails exactly at the listed calls, and else finds what is kept
         ensures { LooksUp result (version_at self.old.tables key.now number) self.old self.new }
     {
         self.calls.make()?;
@@ -115,6 +120,7 @@ impl Keeper for MemKeeper {
     }
 
     fn last(&mut self, key: &Key) -> Result<Option<(u32, Version)>, KeepFault>
+        // promise 9: a keeper in memory fails exactly at the listed calls, and else finds what is kept
         ensures { LooksUp result (last_at self.old.tables key.now) self.old self.new }
     {
         self.calls.make()?;
@@ -124,6 +130,7 @@ impl Keeper for MemKeeper {
     fn put_version(&mut self, key: &Key, number: u32, version: &Version) -> Result<(), KeepFault>
         requires { number ≡ next_number (trade_at self.old.tables key.now) }
 
+        // promise 9: a put in memory fails exactly at the listed calls, and else is kept
         ensures { Puts (with_version key.now version.now) result self.old self.new }
     {
         self.calls.make()?;
@@ -132,6 +139,7 @@ impl Keeper for MemKeeper {
     }
 
     fn trades(&mut self, desk: &DeskName) -> Result<u32, KeepFault>
+        // promise 9: a keeper in memory fails exactly at the listed calls, and else finds what is kept
         ensures { LooksUp result (trade_count self.old.tables desk.now) self.old self.new }
     {
         self.calls.make()?;
@@ -143,6 +151,7 @@ impl Keeper for MemKeeper {
         desk: &DeskName,
         after: &Option<Reference>,
     ) -> Result<ArrayVec<Line, 50>, KeepFault>
+        // promise 9: a keeper in memory fails exactly at the listed calls, and else finds what is kept
         ensures { LooksUp (result_map_both (λ lines. lines.items) (λ fault. fault) result)
             (page_at self.old.tables desk.now after.now) self.old self.new }
     {
@@ -151,6 +160,7 @@ impl Keeper for MemKeeper {
     }
 
     fn before_latest(&mut self, desk: &DeskName) -> Result<Option<Reference>, KeepFault>
+        // promise 9: a keeper in memory fails exactly at the listed calls, and else finds what is kept
         ensures { LooksUp result (before_latest self.old.tables desk.now) self.old self.new }
     {
         self.calls.make()?;
@@ -158,6 +168,7 @@ impl Keeper for MemKeeper {
     }
 
     fn issue_past(&mut self, after: &Option<[u8; 9]>) -> Result<Option<([u8; 9], Issue)>, KeepFault>
+        // promise 9: a keeper in memory fails exactly at the listed calls, and else finds what is kept
         ensures { LooksUp result (issue_past self.old.tables after.now) self.old self.new }
     {
         self.calls.make()?;
@@ -165,6 +176,7 @@ impl Keeper for MemKeeper {
     }
 
     fn desk_past(&mut self, after: &Option<DeskName>) -> Result<Option<DeskName>, KeepFault>
+        // promise 9: a keeper in memory fails exactly at the listed calls, and else finds what is kept
         ensures { LooksUp result (desk_past self.old.tables after.now) self.old self.new }
     {
         self.calls.make()?;

@@ -22,6 +22,7 @@ use muni_import::line::{
 /// `place,bad,2,COLUMN`. The price has three decimals, and the total is in dollars.
 pub fn mark_line(place: u32, said: &MarkSaid, text: &mut ArrayVec<u8, 256>)
     requires { spec.HasName said.now }
+    // promise 6: the line of a row, byte for byte
     ensures items { text.new.items ≡ spec.mark_line place said.now }
     ensures len { array_vec_len text.new ≤ 150 }
 {
@@ -68,7 +69,9 @@ fn push_worth(text: &mut ArrayVec<u8, 256>, price: &Price3, redemption: &Day, to
 
 /// How many rows are marked, and the sum of what they are worth, in cents.
 pub fn total(said: &[MarkSaid]) -> (u64, i128)
+    // promise 6: how many rows are marked
     ensures count { result.0 ≡ spec.marked_count said.now }
+    // promise 6: the sum of their worth
     ensures sum { result.1 ≡ pos (spec.marked_sum said.now) }
 {
     let mut count = 0u64;

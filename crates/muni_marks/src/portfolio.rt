@@ -50,12 +50,16 @@ pub fn mark<R: Threads + Sync, I: Source, O: Sink, C: Cabinet, E: Encloser + Syn
     encloser: &E,
 ) -> Result<(), Fault>
     requires { C.out cabinet.old ≡ None }
+    // promise 3, 6, 9: each row is marked by itself and its issue alone, and how it ends
     ensures marked { Marked I.Source O.Sink C.Cabinet (IsRightAnswer (E.ends encloser.now)) store.now result
         (lent input.old output.old cabinet.old) (lent input.new output.new cabinet.new) }
+    // promise 6: how many lines there are, their order, and those of bad rows, whatever the store exposes
     ensures reported { IfSome (I.left input.old) (λ text. MarksReported text result (O.bytes output.old) (O.bytes output.new)) }
+    // promise 10: at most 1,048,576 bytes of the input and one are read
     ensures takes { TakesUpTo I.Source 1_048_577 input.old input.new }
     ensures reads { ReportsReads I.Source result input.old input.new }
     ensures writes { ReportsWrites O.Sink result output.old output.new }
+    // promise 7: no tables change
     ensures leaves { LeavesAll C.Cabinet cabinet.old cabinet.new }
 {
     let text = read_input(alloc, input, LIMIT)?;

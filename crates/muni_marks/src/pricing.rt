@@ -97,6 +97,7 @@ pub fn marks<R: Threads + Sync, E: Encloser + Sync>(
     issues: &BTreeMap<[u8; 9], Issue>,
     encloser: &E,
 ) -> Result<Vec<MarkSaid>, NoMemory>
+    // promise 3: a mark is what is said of its row alone, however the work is cut
     ensures { IfOk result (λ said.
         spec.AreMarks (IsRightAnswer (E.ends encloser.now)) (tree.get by_bytes issues.now) rows.now said.items) }
 {

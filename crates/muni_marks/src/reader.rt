@@ -18,6 +18,7 @@ use std::alloc::Global;
 ///
 /// A row has four fields: a CUSIP, a par, a settlement and a yield. It has no name.
 pub fn read_marks(alloc: Global, text: &[u8]) -> Result<Vec<Result<Asked, RowFault>>, NoMemory>
+    // promise 6: the rows of a portfolio
     ensures { IfOk result (λ rows. rows.items ≡ spec.rows_of text.now) }
 {
     let reader = ReaderBuilder::new()

@@ -103,6 +103,7 @@ impl PartialEq for Asked {
     #[tactic(auto, using(crate::proofs::AskedLemmas::asked_decides))]
     fn eq(&self, other: &Asked) -> bool
         ensures value { result ≡ asked_eq self.now other.now }
+        // promise 5: requests are equal exactly if they are the same
         ensures same { (result ≡ true) ↔ (self.now ≡ other.now) }
     {
         let same_amount = self.cusip == other.cusip && self.par == other.par;
@@ -125,6 +126,7 @@ impl PartialEq for Terms {
     #[tactic(auto, using(crate::proofs::AskedLemmas::terms_decides))]
     fn eq(&self, other: &Terms) -> bool
         ensures value { result ≡ terms_eq self.now other.now }
+        // promise 5: terms of trades are equal exactly if they are the same
         ensures same { (result ≡ true) ↔ (self.now ≡ other.now) }
     {
         self.asked == other.asked

@@ -12,6 +12,7 @@ use muni_terms::Call;
 /// At most 40 calls, as `2027-01-01:102 2028-01-01:100+`. An empty text names none.
 #[tactic(auto, unfolding(crate::specs::Calls::calls_field))]
 pub fn read_calls(text: &[u8]) -> Option<ArrayVec<Call, 40>>
+    // promise 4: calls are read exactly by their format, 40 at most
     ensures { option_map (λ calls. calls.items) result ≡ spec.calls_field text.now }
 {
     if text.is_empty() {

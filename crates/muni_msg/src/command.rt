@@ -124,6 +124,7 @@ impl PartialEq for Key {
     #[tactic(auto, using(crate::proofs::KeyLemmas::key_decides))]
     fn eq(&self, other: &Key) -> bool
         ensures value { result ≡ key_eq self.now other.now }
+        // promise 5: keys of trades are equal exactly if they are the same
         ensures same { (result ≡ true) ↔ (self.now ≡ other.now) }
     {
         self.desk == other.desk && self.reference == other.reference

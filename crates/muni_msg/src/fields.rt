@@ -15,6 +15,7 @@ use muni_terms::{Call, CallTerm, Kind};
 ///
 /// A first interest date is given exactly if the kind is `periodic`.
 pub fn read_kind(text: &[u8], first: Option<&[u8]>) -> Option<Kind>
+    // promise 4: a kind is read exactly by its format
     ensures { result ≡ spec.kind_reading text.now (option_map (λ f. f.now) first.entry) }
 {
     let Some(first) = first else {
@@ -44,6 +45,7 @@ fn read_plain_kind(text: &[u8]) -> Option<Kind>
 
 /// The call that a text names: its date, a colon, its price and its mark, as `2027-01-01:102.5+`.
 pub fn read_call(text: &[u8]) -> Option<Call>
+    // promise 4: a call is read exactly by its format
     ensures { result ≡ spec.call_reading text.now }
 {
     let colon = find(text, b':')?;
@@ -80,6 +82,7 @@ fn split_mark(text: &[u8]) -> (&[u8], CallTerm)
 
 /// The day count basis that a text names: `30/360` or `actual/365`.
 pub fn read_basis(text: &[u8]) -> Option<Basis>
+    // promise 4: a basis is read exactly by its format
     ensures { result ≡ spec.basis_reading text.now }
 {
     if text == b"30/360".as_slice() {
@@ -103,6 +106,7 @@ pub fn read_basis_field(text: &[u8]) -> Option<Basis>
 
 /// The side that a text names: `buy` or `sell`.
 pub fn read_side(text: &[u8]) -> Option<Side>
+    // promise 4: a side is read exactly by its format
     ensures { result ≡ spec.side_reading text.now }
 {
     if text == b"buy".as_slice() {
@@ -117,6 +121,7 @@ pub fn read_side(text: &[u8]) -> Option<Side>
 /// What is given by a basis, which is `yield`, `price` or `rate`, and by its value: a price in
 /// dollars per 100 of par, or a yield or a discount rate in percent.
 pub fn read_given(basis: &[u8], value: &[u8]) -> Option<Given>
+    // promise 4: what is given, a yield, a price or a rate, is read exactly by its format
     ensures { result ≡ spec.given_reading basis.now value.now }
 {
     if basis == b"yield".as_slice() {

@@ -30,6 +30,7 @@ pub enum NameFault {
 impl NameFault {
     /// The number of the fault, from 1 to 3. The tests are made in this order.
     pub fn number(&self) -> u32
+        // promise 4: each fault of a name has its number
         ensures { result ≡ fault_number self.now }
     {
         match self {
@@ -211,6 +212,7 @@ impl Model for DeskName {
 impl DeskName {
     /// Reads the name of a desk.
     pub fn read(text: &[u8]) -> Result<DeskName, NameFault>
+        // promise 4: the name of a desk is read exactly by its format
         ensures { result ≡ name_reading is_desk_letter 16 text.now }
     {
         Ok(DeskName(Letters::read(text, bad_desk_byte(text))?))
@@ -254,6 +256,7 @@ impl Model for Reference {
 impl Reference {
     /// Reads a reference.
     pub fn read(text: &[u8]) -> Result<Reference, NameFault>
+        // promise 4: a reference is read exactly by its format
         ensures { result ≡ name_reading is_ascii_alphanumeric 20 text.now }
     {
         Ok(Reference(Letters::read(text, bad_reference_byte(text))?))

@@ -71,7 +71,9 @@ impl Range {
 impl Refusal {
     /// The number of the refusal, from 1 to 15.
     pub fn number(&self) -> u32
+        // promise 4: each refusal has its number
         ensures value { result ≡ number_of self.now }
+        // promise 4: from 1 to 15
         ensures range { (1 ≤ result) × (result ≤ 15) }
     {
         match self {

@@ -43,7 +43,9 @@ impl Discount {
     pub fn at(y: i32, a: u32) -> Discount
         requires y { IsManyPeriodsBoundary y }
         requires a { a ≤ 180 }
+        // promise 1: a discount is that of the yield asked for
         ensures y { result.y ≡ y }
+        // promise 1: and of the days left of a period
         ensures a { result.a ≡ a }
     {
         let half_year = recip(y);
@@ -61,7 +63,9 @@ impl Discount {
     pub fn kept_or_at(kept: Option<&Discount>, y: i32, a: u32) -> Discount
         requires y { IsManyPeriodsBoundary y }
         requires a { a ≤ 180 }
+        // promise 1: a discount that is kept is that of the yield asked for
         ensures y { result.y ≡ y }
+        // promise 1: and of the days left of a period
         ensures a { result.a ≡ a }
     {
         match kept {

@@ -20,12 +20,14 @@ pub trait Encloser {
     fn pv(&self, flows: &Flows, y: i32) -> Worth
         requires many { 2 ≤ flows.now.n }
         requires y { IsManyPeriodsBoundary y }
+        // promise 1: an encloser holds the worth of 2 to 100 payments, by its own ends
         ensures { enclosure_ends result.lo result.hi ≡ ends self.now flows.now y };
 
     /// The same ends, if the discount factors on the day of the settlement are known.
     fn pv_at(&self, flows: &Flows, discount: &Discount) -> Worth
         requires many { 2 ≤ flows.now.n }
         requires days { discount.now.a ≡ flows.now.a }
+        // promise 1: the same at a discount that is computed once
         ensures { enclosure_ends result.lo result.hi ≡ ends self.now flows.now discount.now.y }
     {
         self.pv(flows, discount.y())

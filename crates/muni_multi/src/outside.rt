@@ -60,11 +60,15 @@ fn discounted_sum(flows: &Flows, discount: Span) -> Worth
 pub fn printed_price<E: Encloser>(encloser: &E, flows: &Flows, y: Yield) -> PriceAnswer
     requires many { 2 ≤ flows.now.n }
     requires y { IsManyPeriodsBoundary y }
+    // promise 1: with more than six months left a decided price is the exact one, truncated
     ensures exact { IsSeriesPrice (AtLeast (to_come flows.now) y) result }
+    // promise 4: it is undecided only in doubt at the boundary named
     ensures undecided { IsDoubtfulAnswer flows.now y result }
+    // promise 4: undecided exactly by the ends of the encloser, below zero only if the exact price is
     ensures outcome { IsSeriesPriceOutcome (λ t. at_least_verdict
         (ends_of flows.now y (E.ends encloser.now flows.now y))
         (dirty_thousandths flows.now.accrued t)) result }
+    // promise 10: a price is at most 100,000 dollars
     ensures small { figure result ≤ 100_000_000 }
 {
     printed_price_at(encloser, flows, &Discount::at(y.units() as i32, flows.a()))
@@ -76,12 +80,16 @@ pub fn printed_price<E: Encloser>(encloser: &E, flows: &Flows, y: Yield) -> Pric
 pub fn at_least<E: Encloser>(encloser: &E, flows: &Flows, y: i32, price: Price) -> Verdict
     requires many { 2 ≤ flows.now.n }
     requires y { IsManyPeriodsBoundary y }
+    // promise 4: a comparison is unsure exactly by the ends of the encloser
     ensures verdict { result ≡ at_least_verdict
         (ends_of flows.now y (E.ends encloser.now flows.now y))
         (360_000 * price + flows.now.accrued) }
+    // promise 1: yes only if the exact price reaches this one
     ensures yes { result ≡ Verdict.Yes → AtLeast (to_come flows.now) y (pos (360_000 * price)) }
+    // promise 1: no only if it does not
     ensures no { result ≡ Verdict.No →
         ¬ (AtLeast (to_come flows.now) y (pos (360_000 * price))) }
+    // promise 4: unsure only within 10^-9 dollars of the boundary, and in no exact case
     ensures unsure { result ≡ Verdict.Unsure →
         IsDoubtful flows.now y (pos (360_000 * price)) }
 {
@@ -92,11 +100,15 @@ pub fn at_least<E: Encloser>(encloser: &E, flows: &Flows, y: i32, price: Price) 
 pub fn more<E: Encloser>(encloser: &E, flows: &Flows, y: i32, price: Price) -> Verdict
     requires many { 2 ≤ flows.now.n }
     requires y { IsManyPeriodsBoundary y }
+    // promise 4: a comparison is unsure exactly by the ends of the encloser
     ensures verdict { result ≡ more_verdict
         (ends_of flows.now y (E.ends encloser.now flows.now y))
         (360_000 * price + flows.now.accrued) }
+    // promise 2: yes only if the exact price is more than this one
     ensures yes { result ≡ Verdict.Yes → More (to_come flows.now) y (pos (360_000 * price)) }
+    // promise 2: no only if it is not
     ensures no { result ≡ Verdict.No → ¬ (More (to_come flows.now) y (pos (360_000 * price))) }
+    // promise 4: unsure only within 10^-9 dollars of the boundary, and in no exact case
     ensures unsure { result ≡ Verdict.Unsure →
         IsDoubtful flows.now y (pos (360_000 * price)) }
 {

@@ -34,11 +34,15 @@ pub fn printed_price_at<E: Encloser>(
 ) -> PriceAnswer
     requires many { 2 ≤ flows.now.n }
     requires days { discount.now.a ≡ flows.now.a }
+    // promise 1: the same as the program calls it, at a discount computed once: the exact price, truncated
     ensures exact { IsSeriesPrice (AtLeast (to_come flows.now) discount.now.y) result }
+    // promise 4: it is undecided only in doubt at the boundary named
     ensures undecided { IsDoubtfulAnswer flows.now discount.now.y result }
+    // promise 4: undecided exactly by the ends of the encloser, below zero only if the exact price is
     ensures outcome { IsSeriesPriceOutcome (λ t. at_least_verdict
         (ends_of flows.now discount.now.y (E.ends encloser.now flows.now discount.now.y))
         (dirty_thousandths flows.now.accrued t)) result }
+    // promise 10: a price is at most 100,000 dollars
     ensures small { figure result ≤ 100_000_000 }
 {
     let accrued = flows.accrued();

@@ -33,9 +33,11 @@ pub fn at_least_at<E: Encloser>(
 ) -> Reading
     requires many { 2 ≤ flows.now.n }
     requires days { discount.now.a ≡ flows.now.a }
+    // promise 1, 4: the verdict of the program's comparison, by the ends of the encloser
     ensures verdict { result.verdict ≡ at_least_verdict
         (ends_of flows.now discount.now.y (E.ends encloser.now flows.now discount.now.y))
         (360_000 * price + flows.now.accrued) }
+    // promise 4: whether it is the same for a price 10^-9 dollars nearer to the exact one
     ensures clear { result.clear ≡ is_clear result.verdict
         (ends_of flows.now discount.now.y (E.ends encloser.now flows.now discount.now.y))
         (360_000 * price + flows.now.accrued) }
@@ -54,9 +56,11 @@ pub fn more_at<E: Encloser>(
 ) -> Reading
     requires many { 2 ≤ flows.now.n }
     requires days { discount.now.a ≡ flows.now.a }
+    // promise 2, 4: the verdict of the program's comparison, by the ends of the encloser
     ensures verdict { result.verdict ≡ more_verdict
         (ends_of flows.now discount.now.y (E.ends encloser.now flows.now discount.now.y))
         (360_000 * price + flows.now.accrued) }
+    // promise 4: whether it is the same for a price 10^-9 dollars nearer to the exact one
     ensures clear { result.clear ≡ is_clear result.verdict
         (ends_of flows.now discount.now.y (E.ends encloser.now flows.now discount.now.y))
         (360_000 * price + flows.now.accrued) }

@@ -52,12 +52,14 @@ impl<K: Keeper> Keeper for Following<K> {
     ghost lent_as = { λ keeper. K.lent_as keeper.positioned.inner };
 
     fn issue(&mut self, cusip: &[u8; 9]) -> Result<Option<Issue>, KeepFault>
+        // promise 6: a look-up finds what the keeper inside keeps, and keeps the watch
         ensures { FindsInside K.Keeper result (λ t. issue_at t cusip.now) self.old.positioned self.new.positioned }
     {
         self.positioned.issue(cusip)
     }
 
     fn issue_numbered(&mut self, cusip: &[u8; 9], number: u32) -> Result<Option<Issue>, KeepFault>
+        // promise 6: a look-up finds what the keeper inside keeps, and keeps the watch
         ensures { FindsInside K.Keeper result (λ t. issue_numbered t cusip.now number)
             self.old.positioned self.new.positioned }
     {
@@ -65,6 +67,7 @@ impl<K: Keeper> Keeper for Following<K> {
     }
 
     fn last_issue(&mut self, cusip: &[u8; 9]) -> Result<Option<(u32, Issue)>, KeepFault>
+        // promise 6: a look-up finds what the keeper inside keeps, and keeps the watch
         ensures { FindsInside K.Keeper result (λ t. last_issue t cusip.now) self.old.positioned self.new.positioned }
     {
         self.positioned.last_issue(cusip)
@@ -76,18 +79,21 @@ impl<K: Keeper> Keeper for Following<K> {
 
         ensures edits { EditsTables K.Keeper (with_issue issue.now) result
             self.old.positioned.inner self.new.positioned.inner }
+        // promise 6: a put of terms keeps the watch
         ensures watch { KeepsWatch self.old.positioned self.new.positioned }
     {
         self.positioned.put_issue(number, issue)
     }
 
     fn version(&mut self, key: &Key, number: u32) -> Result<Option<Version>, KeepFault>
+        // promise 6: a look-up finds what the keeper inside keeps, and keeps the watch
         ensures { FindsInside K.Keeper result (λ t. version_at t key.now number) self.old.positioned self.new.positioned }
     {
         self.positioned.version(key, number)
     }
 
     fn last(&mut self, key: &Key) -> Result<Option<(u32, Version)>, KeepFault>
+        // promise 6: a look-up finds what the keeper inside keeps, and keeps the watch
         ensures { FindsInside K.Keeper result (λ t. last_at t key.now) self.old.positioned self.new.positioned }
     {
         self.positioned.last(key)
@@ -100,8 +106,10 @@ impl<K: Keeper> Keeper for Following<K> {
             self.old self.new }
 
         // The watch ends only if the desk has no room, and no other desk is watched then.
+        // promise 6: a put for which there is no room ends the watch, and no other does
         ensures watch { self.new.positioned.desk ≢ self.old.positioned.desk
             → IfSome (K.tables self.old.positioned.inner) (λ t. HasNoRoomFor self.old.positioned.desk key.now version.now t) }
+        // promise 6: and then no desk is watched
         ensures none { self.new.positioned.desk ≢ self.old.positioned.desk → self.new.positioned.desk ≡ None }
     {
         match self.positioned.put(key, number, version) {
@@ -115,6 +123,7 @@ impl<K: Keeper> Keeper for Following<K> {
     }
 
     fn trades(&mut self, desk: &DeskName) -> Result<u32, KeepFault>
+        // promise 6: a look-up finds what the keeper inside keeps, and keeps the watch
         ensures { FindsInside K.Keeper result (λ t. trade_count t desk.now) self.old.positioned self.new.positioned }
     {
         self.positioned.trades(desk)
@@ -125,26 +134,31 @@ impl<K: Keeper> Keeper for Following<K> {
         desk: &DeskName,
         after: &Option<Reference>,
     ) -> Result<ArrayVec<Line, 50>, KeepFault>
+        // promise 6: a page is that of the keeper inside
         ensures found { IfOk result (λ lines. IfSome (K.tables self.old.positioned.inner)
             (λ t. lines.items ≡ page_at t desk.now after.now)) }
+        // promise 6: a page keeps the watch
         ensures looks { LooksInside K.Keeper result self.old.positioned self.new.positioned }
     {
         self.positioned.page(desk, after)
     }
 
     fn before_latest(&mut self, desk: &DeskName) -> Result<Option<Reference>, KeepFault>
+        // promise 6: a look-up finds what the keeper inside keeps, and keeps the watch
         ensures { FindsInside K.Keeper result (λ t. before_latest t desk.now) self.old.positioned self.new.positioned }
     {
         self.positioned.before_latest(desk)
     }
 
     fn issue_past(&mut self, after: &Option<[u8; 9]>) -> Result<Option<([u8; 9], Issue)>, KeepFault>
+        // promise 6: a look-up finds what the keeper inside keeps, and keeps the watch
         ensures { FindsInside K.Keeper result (λ t. issue_past t after.now) self.old.positioned self.new.positioned }
     {
         self.positioned.issue_past(after)
     }
 
     fn desk_past(&mut self, after: &Option<DeskName>) -> Result<Option<DeskName>, KeepFault>
+        // promise 6: a look-up finds what the keeper inside keeps, and keeps the watch
         ensures { FindsInside K.Keeper result (λ t. desk_past t after.now) self.old.positioned self.new.positioned }
     {
         self.positioned.desk_past(after)

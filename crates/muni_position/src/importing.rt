@@ -45,8 +45,10 @@ pub fn import_with_positions<
     cabinet: &mut C,
 ) -> Result<(), Fault>
     requires none_out { C.out cabinet.old ≡ None }
+    // promise 5, 9: after the report of an import the positions of a desk follow, and how it ends
     ensures imported { ImportedWith I.Source O.Sink C.Cabinet (book_rules book.now.limit (E.ends book.now.calculator.now.encloser.now)) store.now desk.now result
         (lent input.old output.old cabinet.old) (lent input.new output.new cabinet.new) }
+    // promise 9: with more than 100,000,000 trades of the desk no row is done and nothing is written
     ensures too_many { DoesNoneOfTooMany C.Cabinet store.now desk.now
         (lent input.old output.old cabinet.old) (lent input.new output.new cabinet.new) }
     ensures takes { TakesUpTo I.Source 4_194_305 input.old input.new }

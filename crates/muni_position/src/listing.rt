@@ -25,8 +25,10 @@ pub fn positions<O: Sink, C: Cabinet>(
     cabinet: &mut C,
 ) -> Result<(), Fault>
     requires { C.out cabinet.old ≡ None }
+    // promise 6, 9: the positions of a desk are listed, and how it ends
     ensures listed { Listed O.Sink desk.now (C.told cabinet.old store.now)
         (Rose (C.faults cabinet.old) (C.faults cabinet.new)) result output.old output.new }
+    // promise 7: no tables change
     ensures leaves { LeavesAll C.Cabinet cabinet.old cabinet.new }
     ensures writes { ReportsWrites O.Sink result output.old output.new }
     ensures puts_later { O.faults output.old ≤ O.faults output.new }

@@ -94,6 +94,7 @@ impl<K: Keeper> Positioned<K> {
         requires { IsSome self.now.desk }
 
         // If the keeper exposes its tables, it is the sum over them as they are now.
+        // promise 6: a position is the sum over the trades that stand
         ensures { IfSome self.now.desk (λ desk. IfSome (K.tables self.now.inner)
             (λ t. result ≡ position_of cusip.now (last_versions desk t))) }
     {
@@ -104,6 +105,7 @@ impl<K: Keeper> Positioned<K> {
     /// nothing.
     pub fn next(&self, after: &Option<[u8; 9]>) -> Option<([u8; 9], Position)>
         requires { IsSome self.now.desk }
+        // promise 6: the next CUSIP that has one
         ensures { IfSome self.now.desk (λ desk. IfSome (K.tables self.now.inner)
             (λ t. result ≡ slice_get (past after.now (positions_of (last_versions desk t))) 0)) }
     {
@@ -197,8 +199,10 @@ impl<K: Keeper> Keeper for Positioned<K> {
         ensures totals { OnErr result ((cusip : List ℕ) → kept self.new.holdings cusip ≡ kept self.old.holdings cusip) }
 
         // Its own count rises only if the desk that is watched has no room, and then nothing is put.
+        // promise 9: it counts a fault of its own only if the desk has no room
         ensures own { self.new.faults ≢ self.old.faults
             → IfSome (K.tables self.old.inner) (λ t. HasNoRoomFor self.old.desk key.now version.now t) }
+        // promise 6: after a put the desk has at most 100,000,000 live trades in a CUSIP
         ensures room { OnOk result
             (IfSome (K.tables self.old.inner) (λ t. ¬ (HasNoRoomFor self.old.desk key.now version.now t))) }
     {

@@ -46,6 +46,7 @@ fn main(rt: HostRuntime) -> ExitCode {
 
 /// What the files of stores are trusted by. A check trusts nothing.
 fn trust_of(words: &[String]) -> Trust
+    // promise 8: a check of a store trusts no seal
     ensures check { is_check (map string_bytes words.now) ≡ true → result ≡ Trust.Nothing }
     ensures other { is_check (map string_bytes words.now) ≡ false → result ≡ Trust.Seal }
 {
@@ -70,7 +71,9 @@ fn missing_of(words: &[String]) -> Missing
 
 /// The status if there are no words: a word that is not text is no command.
 fn without_words(fault: NoWords) -> Status
+    // promise 9: no words for lack of memory end with status 8
     ensures memory { fault ≡ NoWords.NoMemory → result ≡ Status.NoMemory }
+    // promise 9: a word that is no text ends with status 2
     ensures no_text { fault ≡ NoWords.NoText → result ≡ Status.Usage }
 {
     match fault {

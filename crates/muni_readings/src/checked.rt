@@ -33,10 +33,13 @@ pub fn check_figures<R: Threads + Sync, E: Encloser + Sync, G: Gate + Sync>(
     stated: &Stated,
     schedule: &mut Schedule,
 ) -> Checked
+    // promise 6: figures are right exactly if each that is stated is the rule's
     ensures right { (result ≡ Checked.Right)
         ↔ (spec.first_difference answered.now.figures.now stated.now ≡ None) }
+    // promise 6: else the first in order is named that is not
     ensures field { field_of result
         ≡ spec.first_difference answered.now.figures.now stated.now }
+    // promise 6: with the first formula that gives just the stated figure
     ensures reading { IsRightAnswer (E.ends calculator.now.encloser.now) answered.now.issue.now
         answered.now.asked.now (Ok answered.now.figures.now)
         → NamesReading (E.ends calculator.now.encloser.now) answered.now.issue.now
@@ -60,6 +63,7 @@ pub fn reading_of<R: Threads + Sync, E: Encloser + Sync, G: Gate + Sync>(
     stated: &Stated,
     schedule: &mut Schedule,
 ) -> Option<Reading>
+    // promise 6: the first formula that gives a stated figure
     ensures { IsRightAnswer (E.ends calculator.now.encloser.now) answered.now.issue.now
         answered.now.asked.now (Ok answered.now.figures.now)
         → IsFirstReading (E.ends calculator.now.encloser.now) answered.now.issue.now

@@ -57,6 +57,7 @@ pub fn figures_by<R: Threads + Sync, E: Encloser + Sync, G: Gate + Sync>(
     reading: Reading,
     schedule: &mut Schedule,
 ) -> Option<Figures>
+    // promise 6: the figures by one formula; a price that an enclosure leaves open is given by none
     ensures { IsRightAnswer (E.ends calculator.now.encloser.now) answered.now.issue.now
         answered.now.asked.now (Ok answered.now.figures.now)
         → IsBy (E.ends calculator.now.encloser.now) answered.now.issue.now

@@ -23,10 +23,13 @@ const LAST_DIGIT: u128 = 1_296_000_000_000 << 44;
 pub fn series_sensitivities(flows: &Flows, discount: &Discount) -> Sensitivities
     requires many { 2 ≤ flows.now.n }
     requires days { discount.now.a ≡ flows.now.a }
+    // promise 1: a duration within half a last digit and 10^-6 of one of the exact one
     ensures duration { IsPrintedThousandths (duration (to_come flows.now) discount.now.y)
         result.duration }
+    // promise 1: a convexity within half a last digit and 10^-6 of one
     ensures convexity { IsPrintedThousandths (convexity (to_come flows.now) discount.now.y)
         result.convexity }
+    // promise 1: the DV01 is the duration times the worth with the accrued interest / 10,000, as near
     ensures dv01 { IsPrintedDv01 (to_come flows.now) discount.now.y result.dv01 }
 {
     let first = first_paid(flows);

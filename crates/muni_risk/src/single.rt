@@ -14,10 +14,13 @@ use muni_simple::{Shape1, Single, growth};
 pub fn single_sensitivities(single: &Single, shape: Shape1, y: Yield) -> Sensitivities
     requires single { IsSingle shape single.now }
     requires y { IsGivenYield shape y }
+    // promise 1: with one payment to come a duration as near
     ensures duration { IsPrintedThousandths (single_duration (payment_of single.now) y)
         result.duration }
+    // promise 1: a convexity as near
     ensures convexity { IsPrintedThousandths (single_convexity (payment_of single.now) y)
         result.convexity }
+    // promise 1: a DV01 as near
     ensures dv01 { IsPrintedFor (single_dv01 (payment_of single.now) y) result.dv01 }
 {
     let left = single.left as u128;

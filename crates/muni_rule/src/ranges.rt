@@ -41,7 +41,9 @@ impl YieldRange {
 
     /// The side on which a yield leaves the range, if it does.
     pub fn side_of(&self, yield_units: i64) -> Option<Ordering>
+        // promise 2: the side on which a yield leaves its range
         ensures side { result ≡ spec.side_of self.now yield_units }
+        // promise 2: none exactly if it is within the range
         ensures within { (result ≡ None) ↔ IsWithin self.now yield_units }
     {
         if yield_units < self.least {

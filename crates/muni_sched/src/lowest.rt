@@ -11,9 +11,11 @@ use crate::Ranked;
 /// outcomes are in order of date. With no candidate it is 0, and the lowest is `Above`.
 pub fn lowest_of<O: Ranked>(outcomes: &[O]) -> usize
     requires { All (IsOf O.kind) (map O.outcome outcomes.now) }
+    // promise 3: the lowest outcome, and the earliest of equal ones
     ensures lowest { IsLowest (least_unsure O.kind) (map O.outcome outcomes.now)
         (decided_at (map O.outcome outcomes.now) result) }
     ensures ranked { IsFirstOfLeastRank (least_unsure O.kind) (map O.outcome outcomes.now) result }
+    // promise 3: of the redemption that has it
     ensures candidate { IsLowestOf O.kind (length outcomes.now)
         (decided_at (map O.outcome outcomes.now) result) }
     ensures inside { 0 < length outcomes.now → result < length outcomes.now }

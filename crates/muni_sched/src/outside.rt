@@ -31,8 +31,10 @@ use std::thread::Threads;
 /// unless it has been called. A note has its maturity alone.
 pub fn candidates(issue: &Issue, settlement: Day) -> ArrayVec<Candidate, 100>
     requires { settles issue.now settlement ≡ true }
+    // promise 3: the redemptions to come, with their labels
     ensures candidates { AreCandidates issue.now settlement result.items }
     ensures some { 0 < length result.items }
+    // promise 3: in order of date
     ensures rising { AllPairs IsRedeemedEarlier result.items }
 {
     let mut slots = [Candidate::default(); 100];
@@ -61,6 +63,7 @@ pub fn lowest_price<E: Encloser>(list: &[Candidate], y: Yield, encloser: &E) -> 
     requires candidates { All IsCandidate list.now }
     requires basis { All IsAtYield list.now }
     requires in_range { All (IsGivenFor y) list.now }
+    // promise 3, 4: the lowest price, the earliest redemption that has it, undecided exactly by the rule
     ensures { IsLowestAnswer (E.ends encloser.now) (at_yield y) list.now result }
 {
     LowAnswer::of_price(price_to_worst(list, y, encloser))
@@ -86,8 +89,11 @@ pub fn lowest_yield<R: Threads + Sync, E: Encloser + Sync, G: Gate + Sync, L: Le
     requires price { 0 < price }
     requires workers { (1 ≤ workers) × (workers ≤ 16) }
     requires room { steps.old + 19 < 2 ^ 64 }
+    // promise 3, 4: the lowest yield, the earliest redemption that has it, and no time, below, above or undecided
     ensures answer { IsLowestAnswer (E.ends encloser.now) (at_price price) list.now result }
+    // promise 10: the rounds that a search takes leave nothing to ask, and no fewer do
     ensures rounds { CountsRounds (E.ends encloser.now) price list.now steps.old steps.new }
+    // promise 10: at most 19 rounds
     ensures few { steps.new ≤ steps.old + 19 }
 {
     let mut slots = [OpenSearch::default(); 100];

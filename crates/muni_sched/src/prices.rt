@@ -34,6 +34,7 @@ pub fn price_to_worst<E: Encloser>(
     requires candidates { All IsCandidate list.now }
     requires basis { All IsAtYield list.now }
     requires in_range { All (IsGivenFor y) list.now }
+    // promise 3, 4: the program's lowest price, the earliest redemption that has it, undecided exactly by the rule
     ensures { IsLowestAnswer (E.ends encloser.now) (at_yield y) list.now (low_price result) }
 {
     let prices = prices_at(encloser, list, y);

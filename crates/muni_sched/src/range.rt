@@ -16,7 +16,9 @@ use std::cmp::Ordering;
 /// percent with six months or less, and from -45 to 999.999 percent with interest at redemption.
 /// For a discounted note it is a rate, from 0 to 30 percent.
 pub fn out_of_range(list: &[Candidate], y: Yield) -> Option<Ordering>
+    // promise 4: no side exactly if the yield is in the range of every redemption
     ensures inside { (result ≡ None) ↔ All (IsGivenFor y) list.now }
+    // promise 4: else the side on which it leaves the range of the first that excludes it
     ensures first { result ≡ spec.side_of_first y list.now }
 {
     for candidate in list {

@@ -21,8 +21,11 @@ use muni_terms::{Call, Issue, Label, half_years_on};
 pub fn put_candidates(slots: &mut [Candidate], issue: &Issue, settlement: Day) -> usize
     requires settled { settles issue.now settlement ≡ true }
     requires room { 100 ≤ length slots.old }
+    // promise 3: the redemptions to come, with their labels; the maturity is none if the issue has been called
     ensures candidates { AreCandidates issue.now settlement (take result slots.new) }
+    // promise 3: 1 to 100 of them
     ensures count { (1 ≤ result) × (result ≤ 100) }
+    // promise 3: in order of date
     ensures rising { AllPairs IsRedeemedEarlier (take result slots.new) }
     ensures len { length slots.new ≡ length slots.old }
 {

@@ -59,6 +59,7 @@ impl Schedule {
     /// Puts the candidates of an issue in place of those at hand.
     pub fn fill(&mut self, issue: &Issue, settlement: Day)
         requires { settles issue.now settlement ≡ true }
+        // promise 3: a schedule has the redemptions to come
         ensures candidates { AreCandidates issue.now settlement self.new.candidates }
         ensures count { (1 ≤ length self.new.candidates) × (length self.new.candidates ≤ 100) }
     {
@@ -82,7 +83,9 @@ impl Schedule {
 
     /// How many rounds its last search for a yield took.
     pub fn rounds(&self) -> u32
+        // promise 10: the rounds of the last search
         ensures value { result ≡ self.now.rounds }
+        // promise 10: at most 19
         ensures few { result ≤ 19 }
     {
         self.rounds
@@ -97,10 +100,13 @@ impl Schedule {
     ) -> Result<LowestYield, NoYield>
         requires candidates { All IsCandidate self.old.candidates }
         requires price { 0 < price }
+        // promise 3, 4: the program's lowest yield, the earliest redemption that has it, or why there is none
         ensures lowest { IsLowestAnswer (E.ends calculator.now.encloser.now) (at_price price)
             self.old.candidates (low_yield result) }
+        // promise 10: the rounds that it says it took leave nothing to ask, and no fewer do
         ensures rounds { CountsRounds (E.ends calculator.now.encloser.now) price
             self.old.candidates 0 self.new.rounds }
+        // promise 10: at most 19 rounds
         ensures few { self.new.rounds ≤ 19 }
         ensures same { self.new.candidates ≡ self.old.candidates }
     {

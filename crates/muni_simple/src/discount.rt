@@ -21,6 +21,7 @@ const LEAST_RETURN: u64 = 45_000;
 pub fn rate_price(rate: Yield, days: i32, basis: Basis) -> Price3
     requires rate { IsDiscountRate rate }
     requires days { (pos 0 ≤ℤ days) × (days ≤ℤ pos 720) }
+    // promise 1: the price at a discount rate is the exact one, truncated
     ensures value { TruncatesBy basis (Reaches (rule.discount_price basis rate days)) result }
     ensures range { result ≤ 100_000 }
 {
@@ -34,8 +35,10 @@ pub fn rate_price(rate: Yield, days: i32, basis: Basis) -> Price3
 pub fn rate_return(rate: Yield, days: i32, basis: Basis) -> SimpleYield
     requires rate { IsDiscountRate rate }
     requires days { (pos 0 ≤ℤ days) × (days ≤ℤ pos 720) }
+    // promise 2: the return at a discount rate is exact; there is no time exactly if no day is left
     ensures exact { IsYieldAnswer at_redemption_prints.least (rule.discounted basis days)
         (rule.discount_price basis rate days) result }
+    // promise 2: it is never out of the range
     ensures inside { (result ≢ Below) × (result ≢ Above) }
     ensures range { PrintsWithin at_redemption_prints result }
 {
@@ -50,6 +53,7 @@ pub fn rate_return(rate: Yield, days: i32, basis: Basis) -> SimpleYield
 pub fn discount_return(price: Price, days: i32, basis: Basis) -> SimpleYield
     requires price { 0 < price }
     requires days { (pos 0 ≤ℤ days) × (days ≤ℤ pos 720) }
+    // promise 2: the return at a price is exact; no time, below and above exactly so
     ensures exact { IsYieldAnswer at_redemption_prints.least (rule.discounted basis days)
         (price_amount basis price) result }
     ensures range { PrintsWithin at_redemption_prints result }

@@ -25,8 +25,10 @@ pub enum SimplePrice {
 pub fn single_price(single: &Single, shape: Shape1, y: Yield) -> SimplePrice
     requires single { IsSingle shape single.now }
     requires y { IsGivenYield shape y }
+    // promise 1: the price with one payment to come is the exact one, truncated
     ensures exact { IsPriceAnswer single.now.basis (rule.AtLeast (payment_of single.now) y)
         result }
+    // promise 4: it is refused as below zero exactly if the exact price is
     ensures below_zero { (result ≡ SimplePrice.BelowZero)
         ↔ IsBelowZero (rule.AtLeast (payment_of single.now) y) }
     ensures range { PrintsAtMost 100_000_000 result }

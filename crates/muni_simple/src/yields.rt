@@ -31,6 +31,7 @@ pub enum SimpleYield {
 pub fn single_yield(single: &Single, shape: Shape1, price: Price) -> SimpleYield
     requires single { IsSingle shape single.now }
     requires price { 0 < price }
+    // promise 2: the yield with one payment to come is exact; no time, below and above exactly so
     ensures exact { IsYieldAnswer (least_printed shape) (payment_of single.now)
         (price_amount single.now.basis price) result }
     ensures range { PrintsWithin (printed_range shape) result }

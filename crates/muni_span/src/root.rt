@@ -46,13 +46,19 @@ pub fn root180(v: Span) -> Span
     requires least { 6 * 2 ^ 60 ≤ 10 * v.lo }
     requires greatest { 100 * v.hi ≤ 103 * 2 ^ 60 }
     requires narrow { v.hi ≤ v.lo + 1 }
+    // promise 1: the lower end of a 180th root, as a whole number
     ensures lo { result.lo ≡ root_low v.lo }
+    // promise 1: its upper end
     ensures hi { result.hi ≡ root_high v.hi }
 
+    // promise 1: its lower end is not above the root of the lower end
     ensures below { IsAtMost (result.lo ^ 180) ((2 ^ 60) ^ 180) v.lo (2 ^ 60) }
+    // promise 1: its upper end is not below that of the upper end
     ensures above { IsAtMost v.hi (2 ^ 60) (result.hi ^ 180) ((2 ^ 60) ^ 180) }
+    // promise 1: a 180th root stands between its ends
     ensures encloses { (j n d : ℕ) → HoldsPower (2 ^ 60) v.lo v.hi j n d →
         HoldsPower (2 ^ 60) result.lo result.hi (180 * j) n d }
+    // promise 1: its ends are at most 64 apart
     ensures width { result.hi ≤ result.lo + 64 }
 {
     let excess = root_excess(v.lo());

@@ -57,13 +57,19 @@ impl Span {
     pub fn power(self, k: u32) -> Span
         requires few { k ≤ 180 }
         requires bounded { self.hi ^ k ≤ 15 * (2 ^ 60) ^ k }
+        // promise 1: the lower end of a power, as a whole number
         ensures lo { result.lo ≡ power_low self.lo k }
+        // promise 1: its upper end
         ensures hi { result.hi ≡ power_high self.hi k }
 
+        // promise 1: its lower end is not above the power of the lower end
         ensures below { IsAtMost result.lo (2 ^ 60) (self.lo ^ k) ((2 ^ 60) ^ k) }
+        // promise 1: its upper end is not below that of the upper end
         ensures above { IsAtMost (self.hi ^ k) ((2 ^ 60) ^ k) result.hi (2 ^ 60) }
+        // promise 1: a power stands between its ends
         ensures encloses { (j n d : ℕ) → HoldsPower (2 ^ 60) self.lo self.hi j n d →
             HoldsPower (2 ^ 60) result.lo result.hi j (n ^ k) (d ^ k) }
+        // promise 1: its ends are at most k * (w + 2) * m apart
         ensures width { result.hi - result.lo ≤
             k * (self.hi - self.lo + 2) * whole_above result.hi }
     {
@@ -88,12 +94,16 @@ impl Span {
 /// yield lies between -50,005 and 1,000,005.
 pub fn recip(y: i32) -> Span
     requires { IsManyPeriodsBoundary y }
+    // promise 1: the lower end of a discount factor, as a whole number
     ensures lo { result.lo ≡ 2_000_000 * 2 ^ 60 / discount_divisor y }
+    // promise 1: its upper end
     ensures hi { result.hi
         ≡ (2_000_000 * 2 ^ 60 + (discount_divisor y - 1)) / discount_divisor y }
 
+    // promise 1: a discount factor stands between its ends
     ensures encloses { (j : ℕ) →
         HoldsPower (2 ^ 60) result.lo result.hi j (2_000_000 ^ j) (discount_divisor y ^ j) }
+    // promise 1: which are at most 1 apart
     ensures width { result.hi ≤ result.lo + 1 }
     ensures at_least { 6 * 2 ^ 60 ≤ 10 * result.lo }
     ensures at_most { 10_000 * result.hi ≤ 10_257 * 2 ^ 60 }

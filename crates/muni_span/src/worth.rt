@@ -29,8 +29,11 @@ impl Model for Worth {
 /// An amount of whole units, exactly: both ends are it.
 pub fn of(units: u64) -> Worth
     requires { units < 2 ^ 52 }
+    // promise 1: the lower end of an amount, as a whole number
     ensures lo { result.lo ≡ 4096 * units }
+    // promise 1: its upper end
     ensures hi { result.hi ≡ 4096 * units }
+    // promise 1: an amount stands between its ends
     ensures encloses { (j : ℕ) → HoldsPower 4096 result.lo result.hi j (units ^ j) 1 }
 {
     let amount = (units as u128) << 12;
@@ -64,10 +67,13 @@ impl Worth {
     /// The sum, with nothing rounded.
     pub fn add(self, other: Worth) -> Worth
         requires bounded { self.hi + other.hi < 2 ^ 127 }
+        // promise 1: the lower end of a sum, as a whole number
         ensures lo { result.lo ≡ self.lo + other.lo }
+        // promise 1: its upper end
         ensures hi { result.hi ≡ self.hi + other.hi }
 
         // Sums of fractions. Their powers have no law of this kind.
+        // promise 1: a sum stands between its ends
         ensures encloses { (n d m e : ℕ) → HoldsPower 4096 self.lo self.hi 1 n d →
             HoldsPower 4096 other.lo other.hi 1 m e →
             HoldsPower 4096 result.lo result.hi 1 (n * e + m * d) (d * e) }
@@ -78,9 +84,12 @@ impl Worth {
     /// The product with a fraction. The product of the upper ends is below 2^127.
     pub fn scale(self, factor: Span) -> Worth
         requires bounded { self.hi * factor.hi < 2 ^ 127 * 2 ^ 60 }
+        // promise 1: the lower end of a scaled amount, as a whole number
         ensures lo { result.lo ≡ self.lo * factor.lo / 2 ^ 60 }
+        // promise 1: its upper end
         ensures hi { result.hi ≡ (self.hi * factor.hi + (2 ^ 60 - 1)) / 2 ^ 60 }
 
+        // promise 1: a scaled amount stands between its ends
         ensures encloses { (j n d m e : ℕ) → HoldsPower 4096 self.lo self.hi j n d →
             HoldsPower (2 ^ 60) factor.lo factor.hi j m e →
             HoldsPower 4096 result.lo result.hi j (n * m) (d * e) }

@@ -29,6 +29,7 @@ pub(crate) fn prepare_tables<S: Alter>(
     database: &mut Connection<S>,
     trust: Trust,
 ) -> Result<bool, StoreFault>
+    // promise 8: once its tables are made or moved no transaction is open
     ensures idle { OnOk result (database.new.in_transaction ≡ false) }
 {
     let moved = move_old_tables(alloc, database)?;

@@ -138,6 +138,7 @@ fn lists_table(rows: &[Row]) -> bool
 /// Whether a database that lists these is a store: it lists nothing yet, or a table of a store and nothing that
 /// must not be on one.
 pub(crate) fn is_store(rows: &[Row]) -> bool
+    // promise 8: a database is a store if it lists nothing yet, or a store's table and nothing forbidden on one
     ensures { result ≡ spec.is_store rows.now }
 {
     rows.is_empty() || (lists_table(rows) && !lists_barred(rows))
@@ -167,6 +168,7 @@ fn tree_number(row: &Row) -> Option<u32>
 /// Which trees the tables of a store are, if the list has them and their indexes, nothing that must not be on
 /// them, and no table of an earlier version of the program.
 pub(crate) fn places_of(rows: &[Row]) -> Option<Places>
+    // promise 8: the two tables and their indexes are those that are listed so, and nothing else is on them
     ensures { IfSome result (λ places. spec.ArePlaces rows.now places) }
 {
     if lists_barred(rows) || rows.iter().any(|row| kind_of_row(row) == Listed::Old) {

@@ -135,8 +135,10 @@ impl<S: Store + Drop, F: OpensAnew<S> + Drop> Keeper for SqlKeeper<S, F> {
     ghost lent_as = { λ _. 0 };
 
     fn issue(&mut self, cusip: &[u8; 9]) -> Result<Option<Issue>, KeepFault>
+        // promise 6, 8: it holds of a file too, in each call on an open file
         ensures finds { WhileOpen self.old.state self.new.state (Finds S.Store.view S.Store.recovers
             (λ places trees. found.IsIssue places trees cusip.now) result) }
+        // promise 8, 9: an answered call ran on an open file; a failed one counts once
         ensures ends { Ends result self.old self.new }
     {
         let mut keeper = self.take()?;
@@ -145,8 +147,10 @@ impl<S: Store + Drop, F: OpensAnew<S> + Drop> Keeper for SqlKeeper<S, F> {
     }
 
     fn issue_numbered(&mut self, cusip: &[u8; 9], number: u32) -> Result<Option<Issue>, KeepFault>
+        // promise 6, 8: it holds of a file too, in each call on an open file
         ensures finds { WhileOpen self.old.state self.new.state (Finds S.Store.view S.Store.recovers
             (λ places trees. found.IsIssueNumbered places trees cusip.now number) result) }
+        // promise 8, 9: an answered call ran on an open file; a failed one counts once
         ensures ends { Ends result self.old self.new }
     {
         let mut keeper = self.take()?;
@@ -155,8 +159,10 @@ impl<S: Store + Drop, F: OpensAnew<S> + Drop> Keeper for SqlKeeper<S, F> {
     }
 
     fn last_issue(&mut self, cusip: &[u8; 9]) -> Result<Option<(u32, Issue)>, KeepFault>
+        // promise 6, 8: it holds of a file too, in each call on an open file
         ensures finds { WhileOpen self.old.state self.new.state (Finds S.Store.view S.Store.recovers
             (λ places trees. found.IsLastIssue places trees cusip.now) result) }
+        // promise 8, 9: an answered call ran on an open file; a failed one counts once
         ensures ends { Ends result self.old self.new }
     {
         let mut keeper = self.take()?;
@@ -165,8 +171,10 @@ impl<S: Store + Drop, F: OpensAnew<S> + Drop> Keeper for SqlKeeper<S, F> {
     }
 
     fn put_issue(&mut self, number: u32, issue: &Issue) -> Result<(), KeepFault>
+        // promise 7, 8: it holds of a file too, in each call on an open file
         ensures adds { WhileOpen self.old.state self.new.state (λ was. Adds S.Store.view S.Store.recovers
             (λ places. puts.AddsIssue places number issue.now) was.trades result was) }
+        // promise 8, 9: an answered call ran on an open file; a failed one counts once
         ensures ends { Ends result self.old self.new }
     {
         let mut keeper = self.take()?;
@@ -175,8 +183,10 @@ impl<S: Store + Drop, F: OpensAnew<S> + Drop> Keeper for SqlKeeper<S, F> {
     }
 
     fn version(&mut self, key: &Key, number: u32) -> Result<Option<Version>, KeepFault>
+        // promise 6, 8: it holds of a file too, in each call on an open file
         ensures finds { WhileOpen self.old.state self.new.state (Finds S.Store.view S.Store.recovers
             (λ places trees. found.IsVersion places trees key.now number) result) }
+        // promise 8, 9: an answered call ran on an open file; a failed one counts once
         ensures ends { Ends result self.old self.new }
     {
         let mut keeper = self.take()?;
@@ -185,8 +195,10 @@ impl<S: Store + Drop, F: OpensAnew<S> + Drop> Keeper for SqlKeeper<S, F> {
     }
 
     fn last(&mut self, key: &Key) -> Result<Option<(u32, Version)>, KeepFault>
+        // promise 6, 8: it holds of a file too, in each call on an open file
         ensures finds { WhileOpen self.old.state self.new.state (Finds S.Store.view S.Store.recovers
             (λ places trees. found.IsLast places trees key.now) result) }
+        // promise 8, 9: an answered call ran on an open file; a failed one counts once
         ensures ends { Ends result self.old self.new }
     {
         let mut keeper = self.take()?;
@@ -195,9 +207,11 @@ impl<S: Store + Drop, F: OpensAnew<S> + Drop> Keeper for SqlKeeper<S, F> {
     }
 
     fn put_version(&mut self, key: &Key, number: u32, version: &Version) -> Result<(), KeepFault>
+        // promise 7, 8: it holds of a file too, in each call on an open file
         ensures adds { WhileOpen self.old.state self.new.state (λ was. Adds S.Store.view S.Store.recovers
             (λ places. puts.AddsVersion places key.now number version.now)
             (after_put key.now.desk number (is_ok result) was.trades) result was) }
+        // promise 8, 9: an answered call ran on an open file; a failed one counts once
         ensures ends { Ends result self.old self.new }
     {
         let mut keeper = self.take()?;
@@ -206,8 +220,10 @@ impl<S: Store + Drop, F: OpensAnew<S> + Drop> Keeper for SqlKeeper<S, F> {
     }
 
     fn trades(&mut self, desk: &DeskName) -> Result<u32, KeepFault>
+        // promise 6, 8: it holds of a file too, in each call on an open file
         ensures counts { WhileOpen self.old.state self.new.state (CountsTrades S.Store.view S.Store.recovers
             desk.now result) }
+        // promise 8, 9: an answered call ran on an open file; a failed one counts once
         ensures ends { Ends result self.old self.new }
     {
         let mut keeper = self.take()?;
@@ -220,8 +236,10 @@ impl<S: Store + Drop, F: OpensAnew<S> + Drop> Keeper for SqlKeeper<S, F> {
         desk: &DeskName,
         after: &Option<Reference>,
     ) -> Result<ArrayVec<Line, 50>, KeepFault>
+        // promise 6, 8: it holds of a file too, in each call on an open file
         ensures finds { WhileOpen self.old.state self.new.state (Finds S.Store.view S.Store.recovers
             (λ places trees lines. found.IsPage places trees desk.now after.now lines.items) result) }
+        // promise 8, 9: an answered call ran on an open file; a failed one counts once
         ensures ends { Ends result self.old self.new }
     {
         let mut keeper = self.take()?;
@@ -230,8 +248,10 @@ impl<S: Store + Drop, F: OpensAnew<S> + Drop> Keeper for SqlKeeper<S, F> {
     }
 
     fn before_latest(&mut self, desk: &DeskName) -> Result<Option<Reference>, KeepFault>
+        // promise 6, 8: it holds of a file too, in each call on an open file
         ensures finds { WhileOpen self.old.state self.new.state (Finds S.Store.view S.Store.recovers
             (λ places trees. found.IsBeforeLatest places trees desk.now) result) }
+        // promise 8, 9: an answered call ran on an open file; a failed one counts once
         ensures ends { Ends result self.old self.new }
     {
         let mut keeper = self.take()?;
@@ -240,8 +260,10 @@ impl<S: Store + Drop, F: OpensAnew<S> + Drop> Keeper for SqlKeeper<S, F> {
     }
 
     fn issue_past(&mut self, after: &Option<[u8; 9]>) -> Result<Option<([u8; 9], Issue)>, KeepFault>
+        // promise 6, 8: it holds of a file too, in each call on an open file
         ensures finds { WhileOpen self.old.state self.new.state (Finds S.Store.view S.Store.recovers
             (λ places trees. found.IsIssuePast places trees after.now) result) }
+        // promise 8, 9: an answered call ran on an open file; a failed one counts once
         ensures ends { Ends result self.old self.new }
     {
         let mut keeper = self.take()?;
@@ -250,8 +272,10 @@ impl<S: Store + Drop, F: OpensAnew<S> + Drop> Keeper for SqlKeeper<S, F> {
     }
 
     fn desk_past(&mut self, after: &Option<DeskName>) -> Result<Option<DeskName>, KeepFault>
+        // promise 6, 8: it holds of a file too, in each call on an open file
         ensures finds { WhileOpen self.old.state self.new.state (Finds S.Store.view S.Store.recovers
             (λ places trees. found.IsDeskPast places trees after.now) result) }
+        // promise 8, 9: an answered call ran on an open file; a failed one counts once
         ensures ends { Ends result self.old self.new }
     {
         let mut keeper = self.take()?;

@@ -178,6 +178,7 @@ fn kind_of_file(file: &File, is_log_begun: bool) -> Result<Kind, StoreFault> {
 /// The kind of a file by its first 16 bytes. The first byte of a database is written last when it is
 /// made, beside a log that is begun before.
 fn kind_of(head: &[u8], is_log_begun: bool) -> Kind
+    // promise 8: a file by its first 16 bytes is a database, not made yet, or of another kind
     ensures { result ≡ spec.kind_of head.now is_log_begun }
 {
     if head.is_empty() || (head[0] == 0 && is_log_begun) {

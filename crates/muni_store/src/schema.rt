@@ -119,6 +119,7 @@ pub(crate) fn is_above_zero(row: Option<Row>) -> Result<bool, StoreFault> {
 /// The row that a query found, if it found one.
 pub(crate) fn if_found(row: Result<Row, Error>) -> Result<Option<Row>, StoreFault>
     ensures found { IfOk result (λ found. row ≡ answer_of found) }
+    // promise 9: so of a look-up
     ensures fault { IfErr result (λ fault. (error : Failure) × (row ≡ Err error) × (fault ≡ fault_in error)) }
 {
     match row {
@@ -131,6 +132,7 @@ pub(crate) fn if_found(row: Result<Row, Error>) -> Result<Option<Row>, StoreFaul
 /// What `sqlite` answered, or the fault of its refusal.
 pub(crate) fn answered<T>(answer: Result<T, Error>) -> Result<T, StoreFault>
     ensures value { IfOk result (λ value. answer ≡ Ok value) }
+    // promise 9: a refusal of SQLite is a lack of memory exactly if it says so, and else a failure
     ensures fault { IfErr result (λ fault. (error : Failure) × (answer ≡ Err error) × (fault ≡ fault_in error)) }
 {
     match answer {

@@ -42,9 +42,11 @@ impl Seal {
     /// gives all these times by one clock, so what changes a file later gives it other times. A text that is
     /// no seal is of nothing.
     pub(crate) fn is_of(&self, seen: &Seen) -> bool
+        // promise 8: a seal fits if it has the text of what is seen of the files, and is younger than both
         ensures text { IsTrue result
             ↔ ((self.now.text.items ≡ text seen.now) × AreUntouchedSince self.now.made seen.now) }
         // If the seal was written for what is recorded.
+        // promise 8: two texts are equal only if all that they tell is
         ensures recorded { (recorded : Seen) → IsSeen recorded → IsSeen seen.now
             → self.now.text.items ≡ text recorded
             → (IsTrue result ↔ ((recorded ≡ seen.now) × AreUntouchedSince self.now.made recorded)) }

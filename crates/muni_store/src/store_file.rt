@@ -40,6 +40,7 @@ pub struct StoreFile {
 impl StoreFile {
     pub(crate) fn new(rt: HostRuntime, path: Vec<u8>, trust: Trust, missing: Missing) -> StoreFile
         ensures path { result.path ≡ path }
+        // promise 8: a check of a store trusts no seal
         ensures trust { result.trust ≡ trust }
     {
         StoreFile {

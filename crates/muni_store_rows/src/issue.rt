@@ -61,6 +61,7 @@ impl IssueColumns {
 
 /// The columns of an issue.
 pub fn issue_columns(issue: &Issue) -> IssueColumns
+    // promise 8: terms are written in the format's columns
     ensures { result ≡ spec.columns_of issue.now }
 {
     row_columns(issue.row())
@@ -102,6 +103,7 @@ impl Model for NumberedColumns {
 /// The columns of an issue by its terms with this number.
 #[tactic(auto, unfolding(crate::specs::Issue::numbered_columns))]
 pub fn numbered_columns(number: u32, issue: &Issue) -> NumberedColumns
+    // promise 8: terms and their number are written in the format's columns
     ensures { result ≡ spec.numbered_columns number issue.now }
 {
     NumberedColumns {
@@ -131,6 +133,7 @@ pub fn issue_1(
     coupon: i64,
     calls: &str,
 ) -> Option<Issue>
+    // promise 8: those of the first tables: 30/360, terms of number 1
     ensures read { result ≡ spec.issue_of (spec.columns_1 cusip.now name.now kind dated.now first.now
         maturity.now coupon calls.now) }
 {
@@ -151,6 +154,7 @@ pub fn issue_2(
     calls: &str,
     basis: i64,
 ) -> Option<Issue>
+    // promise 8: those of tables before: terms of number 1
     ensures read { result ≡ spec.issue_of (spec.columns_2 cusip.now name.now kind dated.now first.now
         maturity.now coupon calls.now basis) }
 {
@@ -181,6 +185,7 @@ pub fn issue_3(
     calls: &str,
     basis: i64,
 ) -> Option<(u32, Issue)>
+    // promise 8: the columns of an issue are read as its terms with their number, or as none
     ensures read { result ≡ spec.numbered_of (spec.columns_3 cusip.now number name.now kind dated.now first.now
         maturity.now coupon calls.now basis) }
 {

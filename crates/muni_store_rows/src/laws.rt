@@ -21,6 +21,7 @@ use muni_terms::{Issue, Label};
 /// these terms.
 #[tactic(auto, unfolding(crate::specs::Issue::numbered_of, crate::specs::Issue::numbered_columns))]
 pub fn issues_are_read_again(number: u32, issue: &Issue)
+    // promise 8: what is written of terms with their number is read as these
     ensures { issues.numbered_of (issues.numbered_columns number issue.now) ≡ Some (number, issue.now) }
 {
     number_is_read_again(number);
@@ -39,6 +40,7 @@ fn terms_are_read_again(issue: &Issue)
 
 /// A law: columns that are read as numbered terms of an issue are those in which they are written.
 pub fn issues_are_read_as_written()
+    // promise 8: and no other columns are read as these terms
     ensures { ReadsIssuesAsWritten }
 {}
 
@@ -50,6 +52,7 @@ fn nine_characters(cusip: &[u8; 9])
 /// its number.
 #[tactic(auto, unfolding(crate::specs::Version::trade_of, crate::specs::Version::columns_of))]
 pub fn versions_are_read_again(key: &Key, number: u32, version: &Version)
+    // promise 8: what is written of a version is read as it
     ensures { versions.trade_of (versions.columns_of key.now number version.now)
         ≡ Some (key.now, number, version.now) }
 {
@@ -63,6 +66,7 @@ pub fn versions_are_read_again(key: &Key, number: u32, version: &Version)
 
 /// A law: columns that are read as a version of a trade are those in which it is written.
 pub fn versions_are_read_as_written()
+    // promise 8: and no other columns are read as this version
     ensures { ReadsVersionsAsWritten }
 {}
 

@@ -29,6 +29,7 @@ pub fn version_1(
     accrued: i64,
     total: i64,
 ) -> Option<(Key, u32, Version)>
+    // promise 8: those of the first tables: no fee and no commission, by terms of number 1
     ensures read { result ≡ spec.trade_of (spec.columns_1 desk.now reference.now number act cusip.now side
         par settle.now basis value price yld redemption.now at_price label days principal accrued total) }
 {
@@ -63,6 +64,7 @@ pub fn version_2(
     fee: i64,
     commission: i64,
 ) -> Option<(Key, u32, Version)>
+    // promise 8: those of tables before: by terms of number 1
     ensures read { result ≡ spec.trade_of (spec.columns_2 desk.now reference.now number act cusip.now side
         par settle.now basis value price yld redemption.now at_price label days principal accrued total
         fee commission) }

@@ -151,6 +151,7 @@ impl<'a> TradeRow<'a> {
     /// The trade, the number and the version with these columns, if there are such.
     #[tactic(auto, unfolding(crate::specs::Version::trade_of))]
     pub fn trade(&self) -> Option<(Key, u32, Version)>
+        // promise 8: the columns of a version are read as the one value of the format, or as none
         ensures { result ≡ spec.trade_of self.now }
     {
         let key = read_key(self.desk, self.reference)?;

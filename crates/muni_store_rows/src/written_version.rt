@@ -52,6 +52,7 @@ impl<'a> WrittenVersion<'a> {
     /// Its columns.
     #[tactic(auto, unfolding(crate::specs::Version::columns_of))]
     pub fn row(&self) -> TradeRow<'_>
+        // promise 8: a version is written in the format's columns
         ensures { result ≡ spec.columns_of self.now.0 self.now.1 self.now.2 }
     {
         TradeRow {

@@ -111,8 +111,10 @@ impl<S: Store + Drop> Keeper for TreeKeeper<S> {
     ghost lent_as = { λ _. 0 };
 
     fn issue(&mut self, cusip: &[u8; 9]) -> Result<Option<Issue>, KeepFault>
+        // promise 6, 8: the last terms of an issue, at the last entry of its CUSIP; a stop leaves the same
         ensures finds { Finds S.Store.view S.Store.recovers (λ places trees. found.IsIssue places trees cusip.now)
             result self.old self.new }
+        // promise 9: a failed call counts once, a lack of memory and an answer never
         ensures counted { CountsFailure result self.old.faults self.new.faults }
     {
         let found = find_issue(&mut self.store, self.places, self.alloc, cusip);
@@ -120,8 +122,10 @@ impl<S: Store + Drop> Keeper for TreeKeeper<S> {
     }
 
     fn issue_numbered(&mut self, cusip: &[u8; 9], number: u32) -> Result<Option<Issue>, KeepFault>
+        // promise 6, 8: the row to which the entry of the number leads, none exactly without one
         ensures finds { Finds S.Store.view S.Store.recovers (λ places trees. found.IsIssueNumbered places trees cusip.now number)
             result self.old self.new }
+        // promise 9: a failed call counts once, a lack of memory and an answer never
         ensures counted { CountsFailure result self.old.faults self.new.faults }
     {
         let found = find_issue_numbered(&mut self.store, self.places, self.alloc, cusip, number);
@@ -129,8 +133,10 @@ impl<S: Store + Drop> Keeper for TreeKeeper<S> {
     }
 
     fn last_issue(&mut self, cusip: &[u8; 9]) -> Result<Option<(u32, Issue)>, KeepFault>
+        // promise 6, 8: the last terms of an issue with their number, at the last entry of its CUSIP
         ensures finds { Finds S.Store.view S.Store.recovers (λ places trees. found.IsLastIssue places trees cusip.now)
             result self.old self.new }
+        // promise 9: a failed call counts once, a lack of memory and an answer never
         ensures counted { CountsFailure result self.old.faults self.new.faults }
     {
         let found = find_last_issue(&mut self.store, self.places, self.alloc, cusip);
@@ -138,8 +144,10 @@ impl<S: Store + Drop> Keeper for TreeKeeper<S> {
     }
 
     fn put_issue(&mut self, number: u32, issue: &Issue) -> Result<(), KeepFault>
+        // promise 7, 8: one row and its entry, both committed, or what was before; a stop leaves one of the two
         ensures adds { Adds S.Store.view S.Store.recovers (λ places. puts.AddsIssue places number issue.now)
             self.old.trades result self.old self.new }
+        // promise 9: a failed call counts once, a lack of memory and an answer never
         ensures counted { CountsFailure result self.old.faults self.new.faults }
     {
         self.is_changed = true;
@@ -148,8 +156,10 @@ impl<S: Store + Drop> Keeper for TreeKeeper<S> {
     }
 
     fn version(&mut self, key: &Key, number: u32) -> Result<Option<Version>, KeepFault>
+        // promise 6, 8: the row to which the entry of the version leads, none exactly without one
         ensures finds { Finds S.Store.view S.Store.recovers (λ places trees. found.IsVersion places trees key.now number)
             result self.old self.new }
+        // promise 9: a failed call counts once, a lack of memory and an answer never
         ensures counted { CountsFailure result self.old.faults self.new.faults }
     {
         let found = find_version(&mut self.store, self.places, self.alloc, key, number);
@@ -157,8 +167,10 @@ impl<S: Store + Drop> Keeper for TreeKeeper<S> {
     }
 
     fn last(&mut self, key: &Key) -> Result<Option<(u32, Version)>, KeepFault>
+        // promise 6, 8: the last version of a trade, at the last entry of the trade
         ensures finds { Finds S.Store.view S.Store.recovers (λ places trees. found.IsLast places trees key.now)
             result self.old self.new }
+        // promise 9: a failed call counts once, a lack of memory and an answer never
         ensures counted { CountsFailure result self.old.faults self.new.faults }
     {
         let found = find_last(&mut self.store, self.places, self.alloc, key);
@@ -166,8 +178,10 @@ impl<S: Store + Drop> Keeper for TreeKeeper<S> {
     }
 
     fn put_version(&mut self, key: &Key, number: u32, version: &Version) -> Result<(), KeepFault>
+        // promise 7, 8: one row and its entry, both committed, or what was before; a stop leaves one of the two
         ensures adds { Adds S.Store.view S.Store.recovers (λ places. puts.AddsVersion places key.now number
             version.now) (after_put key.now.desk number (is_ok result) self.old.trades) result self.old self.new }
+        // promise 9: a failed call counts once, a lack of memory and an answer never
         ensures counted { CountsFailure result self.old.faults self.new.faults }
     {
         self.is_changed = true;
@@ -184,7 +198,9 @@ impl<S: Store + Drop> Keeper for TreeKeeper<S> {
     }
 
     fn trades(&mut self, desk: &DeskName) -> Result<u32, KeepFault>
+        // promise 6, 8: as many trades as the index has entries with the number 1; a count that is kept goes on
         ensures counts { CountsTrades S.Store.view S.Store.recovers desk.now result self.old self.new }
+        // promise 9: a failed call counts once, a lack of memory and an answer never
         ensures counted { CountsFailure result self.old.faults self.new.faults }
     {
         if let Some(count) = self.trades.of(desk) {
@@ -201,8 +217,10 @@ impl<S: Store + Drop> Keeper for TreeKeeper<S> {
         desk: &DeskName,
         after: &Option<Reference>,
     ) -> Result<ArrayVec<Line, 50>, KeepFault>
+        // promise 6, 8: a line for each of the first 50 trades after a reference, read at the last entry of each
         ensures finds { Finds S.Store.view S.Store.recovers (λ places trees lines. found.IsPage places trees desk.now after.now lines.items)
             result self.old self.new }
+        // promise 9: a failed call counts once, a lack of memory and an answer never
         ensures counted { CountsFailure result self.old.faults self.new.faults }
     {
         let mut lines = ArrayVec::new();
@@ -219,8 +237,10 @@ impl<S: Store + Drop> Keeper for TreeKeeper<S> {
     }
 
     fn before_latest(&mut self, desk: &DeskName) -> Result<Option<Reference>, KeepFault>
+        // promise 6, 8: the reference before a desk's latest trades
         ensures finds { Finds S.Store.view S.Store.recovers (λ places trees. found.IsBeforeLatest places trees desk.now)
             result self.old self.new }
+        // promise 9: a failed call counts once, a lack of memory and an answer never
         ensures counted { CountsFailure result self.old.faults self.new.faults }
     {
         let found = find_before_latest(&mut self.store, self.places, self.alloc, desk);
@@ -228,8 +248,10 @@ impl<S: Store + Drop> Keeper for TreeKeeper<S> {
     }
 
     fn issue_past(&mut self, after: &Option<[u8; 9]>) -> Result<Option<([u8; 9], Issue)>, KeepFault>
+        // promise 6, 8: the last terms of the next CUSIP, at the first entry after a key
         ensures finds { Finds S.Store.view S.Store.recovers (λ places trees. found.IsIssuePast places trees after.now)
             result self.old self.new }
+        // promise 9: a failed call counts once, a lack of memory and an answer never
         ensures counted { CountsFailure result self.old.faults self.new.faults }
     {
         let found = find_issue_past(&mut self.store, self.places, self.alloc, after);
@@ -237,8 +259,10 @@ impl<S: Store + Drop> Keeper for TreeKeeper<S> {
     }
 
     fn desk_past(&mut self, after: &Option<DeskName>) -> Result<Option<DeskName>, KeepFault>
+        // promise 6, 8: the next desk, at the first entry after a key
         ensures finds { Finds S.Store.view S.Store.recovers (λ places trees. found.IsDeskPast places trees after.now)
             result self.old self.new }
+        // promise 9: a failed call counts once, a lack of memory and an answer never
         ensures counted { CountsFailure result self.old.faults self.new.faults }
     {
         let found = find_desk_past(&mut self.store, self.places, self.alloc, after);

@@ -76,6 +76,7 @@ impl Flows {
     /// The number of payments.
     pub fn n(&self) -> u32
         ensures value { result ≡ self.now.n }
+        // promise 1: there are 1 to 100 payments
         ensures range { (1 ≤ result) × (result ≤ 100) }
         ensures bounds { IsSeries self.now }
     {
@@ -120,6 +121,7 @@ impl Flows {
 
     /// The interest that has accrued at the settlement.
     pub fn accrued(&self) -> u64
+        // promise 1: the accrued interest is that of the series
         ensures value { result ≡ self.now.accrued }
         ensures range { result ≤ 10_800_000_000_000 }
         ensures bounds { IsSeries self.now }
@@ -130,6 +132,7 @@ impl Flows {
     /// The days from the last quasi-coupon date not after the settlement up to the settlement.
     pub fn a(&self) -> u32
         ensures value { result ≡ self.now.a }
+        // promise 1: A is at most 180
         ensures range { result ≤ 180 }
         ensures bounds { IsSeries self.now }
     {

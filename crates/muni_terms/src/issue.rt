@@ -48,6 +48,7 @@ impl Model for Issue {
 /// each call in turn is tested: its date, that it rises, and its price; and at last that a call that is
 /// certain is the last.
 pub fn check(row: IssueRow) -> Result<Issue, TermsFault>
+    // promise 4: a fault is told exactly if its test fails and those before it hold, with the date of the call
     ensures { result ≡ checked row }
 {
     match fault_of(&row) {
@@ -65,6 +66,7 @@ impl PartialEq for Issue {
 
     fn eq(&self, other: &Issue) -> bool
         ensures value { result ≡ row_eq self.now other.now }
+        // promise 10: issues are equal exactly if they are the same
         ensures same { (result ≡ true) ↔ (self.now ≡ other.now) }
     {
         self.row == other.row
@@ -78,6 +80,7 @@ impl Eq for Issue {
 impl Issue {
     /// An issue of equal value.
     pub fn copy(&self) -> Issue
+        // promise 10: a copy of an issue is equal
         ensures { result ≡ self.now }
     {
         Issue {
@@ -88,6 +91,7 @@ impl Issue {
     /// The terms, which pass every test.
     pub fn row(&self) -> &IssueRow
         ensures value { result.now ≡ self.now }
+        // promise 4, 6: an issue has passed every test of its terms
         ensures passed { fault_of self.now ≡ None }
     {
         &self.row
@@ -96,6 +100,7 @@ impl Issue {
     /// Whether a trade can settle on a day: from the dated date on, and before the day on which the issue is
     /// redeemed for certain.
     pub fn settles(&self, settlement: Day) -> bool
+        // promise 4: a day settles from the dated date on, before maturity or the day for which it was called
         ensures { result ≡ spec.settles self.now settlement }
     {
         self.row.dated <= settlement && settlement < self.last_day()
@@ -114,6 +119,7 @@ impl Issue {
 
     /// The day on which it is redeemed for certain: its maturity, or the day for which it has been called.
     pub fn last_day(&self) -> Day
+        // promise 4: the maturity, or the day for which the issue has been called
         ensures { civil result ≡ spec.last_day_of self.now }
     {
         match self.row.calls.last() {
@@ -132,8 +138,10 @@ impl Issue {
     /// one, or as many as there are quasi-coupon dates from its day on and before the next call or maturity.
     pub fn call_days(&self, place: usize) -> u32
         requires { place < length self.now.calls.items }
+        // promise 3: the days on which a call may redeem
         ensures days { spec.days_at self.now place
             ≡ map (half_years_after (spec.day_at self.now place)) (range_with_len 0 result) }
+        // promise 3: up to the next call or maturity
         ensures end { month_index (spec.day_at self.now place) + 6 * result
             ≤ month_index (spec.day_at self.now (place + 1)) }
     {
@@ -157,6 +165,7 @@ impl Issue {
     /// The days for which interest has accrued at a settlement.
     pub fn accrued_days(&self, settlement: Day) -> i32
         requires { spec.settles self.now settlement ≡ true }
+        // promise 1: the accrued days of a settlement are those of the rule
         ensures days { Some result ≡ spec.accrued_days self.now settlement }
         ensures range { (pos 0 ≤ℤ result) × (result ≤ℤ pos 720) }
     {
@@ -178,7 +187,9 @@ impl Issue {
         requires settled { spec.settles self.now settlement ≡ true }
         requires later { order_of (civil settlement) < order_of (civil redemption) }
         requires redeemed { IsRedemption self.now redemption price }
+        // promise 1: the payments after a settlement are those of the rule, as numbers
         ensures numbers { Some result ≡ series_of self.now settlement redemption price }
+        // promise 1: and as a list
         ensures payments { payments_of result
             ≡ payments self.now settlement redemption price }
     {
@@ -212,6 +223,7 @@ impl Issue {
         requires settled { spec.settles self.now settlement ≡ true }
         requires later { order_of (civil settlement) < order_of (civil redemption) }
         requires redeemed { IsRedemption self.now redemption price }
+        // promise 1: the payments to an earlier redemption are those of the rule too
         ensures { Some result ≡ series_of self.now settlement redemption price }
     {
         known.redeemed_earlier(half_years(redemption, self.row.maturity), price)

@@ -134,6 +134,7 @@ pub enum TermsFault {
 impl TermsFault {
     /// The number of the fault, from 1 to 12.
     pub fn number(&self) -> u32
+        // promise 4: each fault of terms has its number
         ensures { result ≡ fault_number self.now }
     {
         match self {
@@ -216,6 +217,7 @@ impl PartialEq for IssueRow {
 
     fn eq(&self, other: &IssueRow) -> bool
         ensures value { result ≡ row_eq self.now other.now }
+        // promise 10: terms are equal exactly if they are the same
         ensures same { (result ≡ true) ↔ (self.now ≡ other.now) }
     {
         let same_dates = self.dated == other.dated && self.maturity == other.maturity;
@@ -236,6 +238,7 @@ impl Eq for IssueRow {
 impl IssueRow {
     /// A row of equal value.
     pub fn copy(&self) -> IssueRow
+        // promise 10: a copy of terms is equal
         ensures { result ≡ self.now }
     {
         IssueRow {

@@ -31,6 +31,7 @@ pub fn write_reply<L: Link>(
     reply: &Reply,
     details: &Details,
 ) -> Result<HttpStatus, Failed>
+    // promise 6, 9: the answer to a request, byte for byte; a failed write is counted, with a front part written
     ensures { Answers L.Source L.Sink (status_of_reply reply.now)
         (spec.answer_to_reply reply.now details.now) result link.old link.new }
 {
@@ -77,6 +78,7 @@ pub fn write_success<L: Link>(link: &mut L, answer: &[u8]) -> Result<HttpStatus,
 ///
 /// After a failure the connection may hold a part of the answer.
 pub fn write_bad<L: Link>(link: &mut L, bad: Bad) -> Result<HttpStatus, Failed>
+    // promise 4, 9: the answer to what is no request, byte for byte; a failed write is counted
     ensures { Answers L.Source L.Sink (status_of_bad bad) (spec.answer_to_bad bad) result link.old link.new }
 {
     write_status(link, HttpStatus::of_bad(bad), allowed(bad))
@@ -86,6 +88,7 @@ pub fn write_bad<L: Link>(link: &mut L, bad: Bad) -> Result<HttpStatus, Failed>
 ///
 /// After a failure the connection may hold a part of the answer.
 pub fn write_unavailable<L: Link>(link: &mut L) -> Result<HttpStatus, Failed>
+    // promise 9: the answer 503, byte for byte; a failed write is counted
     ensures { Answers L.Source L.Sink HttpStatus.Unavailable spec.unavailable result link.old link.new }
 {
     write_status(link, HttpStatus::Unavailable, b"")

@@ -27,10 +27,15 @@ pub fn read_request<L: Link>(
     alloc: Global,
     link: &mut L,
 ) -> Result<Request, WireFault>
+    // promise 4: what is answered of a request is allowed by its bytes, however they are cut
     ensures allowed { IfSome (L.left link.old) (λ bytes. Allows bytes result) }
+    // promise 4, 9: a bad request is the first fault of the bytes; Gone exactly if they end and no read failed
     ensures only { IfSome (L.left link.old) (λ bytes. IsTheAnswer bytes result) }
+    // promise 10: no more is read than the head and its body, or 1,024 bytes after the head, or 16,384
     ensures no_further { ReadsNoFurther (L.left link.old) (L.left link.new) }
+    // promise 10: it reads only while more of the request is awaited
     ensures ready { TakesOnlyWhile L.Source AwaitsMore link.old link.new }
+    // promise 9: a fault of the connection is told only if its count of reads rose
     ensures takes { TakesAndTells L.Source L.Sink result link.old link.new }
 {
     let (head, mut bytes) = read_head(routes, alloc, link)?;

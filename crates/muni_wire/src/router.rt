@@ -63,6 +63,7 @@ impl Routes {
     pub(crate) fn find(&self, path: &[u8]) -> Option<Target>
         requires { IsUtf8 path.now }
 
+        // promise 4: a server finds the request of a path by its routes
         ensures { result ≡ spec.target_of path.now }
     {
         let Ok(path) = str::from_utf8(path) else {

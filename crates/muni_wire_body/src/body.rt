@@ -24,6 +24,7 @@ use std::alloc::Global;
 
 /// What a body of this form asks for.
 pub fn read_body(alloc: Global, form: Form, body: &[u8]) -> Result<Request, WireFault>
+    // promise 6: a body is read as the request of its form, with the columns of a check in their order
     ensures whole { IfOk result (λ request. spec.request_of form body.now ≡ Some request) }
     ensures bad { (kind : _) → result ≡ Err (WireFault.Bad kind)
         → (kind ≡ Bad.BadRequest) × (spec.request_of form body.now ≡ None) }

@@ -106,6 +106,7 @@ impl Bracket {
     /// How often it was halved.
     pub fn halvings(&self) -> u32
         ensures value { result ≡ self.now.halvings }
+        // promise 10: no bracket is halved more than 19 times
         ensures few { result ≤ 19 }
     {
         self.halvings
@@ -113,6 +114,7 @@ impl Bracket {
 
     /// The outcome, once the two are neighbours.
     pub fn settled(&self) -> Option<Outcome>
+        // promise 2: none exactly if its questions are not at their end
         ensures { result ≡ settled_as self.now }
     {
         if self.high.follows(self.low) {
@@ -126,6 +128,7 @@ impl Bracket {
     /// other verdict lowers the higher one to it.
     pub fn halve_known(&mut self, verdict: Verdict)
         requires open { spec.is_settled self.old ≡ false }
+        // promise 2: a verdict that is known halves a bracket as if it had been asked
         ensures halved { (verdicts : PaymentSeries → ℕ → ℕ → Verdict)
             → verdicts self.old.series self.old.price (spec.question self.old) ≡ verdict
             → self.new ≡ spec.halved verdicts self.old }

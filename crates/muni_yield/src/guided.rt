@@ -31,6 +31,7 @@ impl GuidedSearch {
     pub fn start(flows: Flows, price: Price) -> GuidedSearch
         requires many { 2 ≤ flows.n }
         requires price { 0 < price }
+        // promise 2: what a search knows at first is what the sum of the payments tells
         ensures { result ≡ guided_start flows price }
     {
         let window = Window::first(&flows, price);
@@ -109,8 +110,10 @@ impl GuidedSearch {
     pub fn halve<E: Encloser>(&mut self, encloser: &E, aim: Question, discounts: &Discounts)
         requires open { bracket.is_settled self.old.bracket ≡ false }
         requires known { IsGuided (place_verdict (E.ends encloser.now)) self.old }
+        // promise 2: a search that knows verdicts halves its bracket as if it had asked
         ensures halved { self.new.bracket
             ≡ bracket.halved (place_verdict (E.ends encloser.now)) self.old.bracket }
+        // promise 2: and what it knows stays right
         ensures known { IsGuided (place_verdict (E.ends encloser.now)) self.new }
     {
         let verdict = self.answer(encloser, aim, discounts);

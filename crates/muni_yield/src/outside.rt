@@ -28,10 +28,15 @@ pub fn printed_yield<E: Encloser, L: Ledger>(
     requires many { 2 ≤ flows.now.n }
     requires price { 0 < price }
     requires room { steps.old + 19 < 2 ^ 64 }
+    // promise 2: below or above the range only if the exact yield is, and else the exact yield, rounded
     ensures exact { IsExactOutcome flows.now price result }
+    // promise 4: unsure only in doubt at the boundary above a yield that is reached, or above -5.001 percent
     ensures doubtful { IsDoubtfulOutcome flows.now price result }
+    // promise 2: a yield is in its range
     ensures range { IsOutcomeInRange result }
+    // promise 4: unsure exactly by the verdicts and the order of the questions
     ensures searched { IsSearchOutcome (E.ends encloser.now) flows.now price result }
+    // promise 10: a search takes at most 19 halvings
     ensures steps { CountsHalvings (place_verdict (E.ends encloser.now)) flows.now price
         steps.old steps.new }
 {
@@ -50,6 +55,7 @@ impl Bracket {
     /// Halves a search that is not settled by asking its next question.
     pub fn halve<E: Encloser>(&mut self, encloser: &E)
         requires { is_settled self.old ≡ false }
+        // promise 2: a halving goes by the verdict on its question
         ensures { HalvesBy (place_verdict (E.ends encloser.now)) self.old self.new }
     {
         let discount = self.discount();
@@ -60,7 +66,9 @@ impl Bracket {
     /// long as their answers are the same.
     pub fn discount(&self) -> Discount
         requires { is_settled self.now ≡ false }
+        // promise 2: the discount of a question is that of its yield
         ensures y { result.y ≡ boundary (yield_at (question self.now)) }
+        // promise 2: and of the days left of a period
         ensures a { result.a ≡ self.now.series.a }
     {
         Discount::at(self.question().boundary(), self.flows().a())
@@ -69,6 +77,7 @@ impl Bracket {
     /// Halves with a discount at hand. If it is not that of the question, that one is computed.
     pub fn halve_at<E: Encloser>(&mut self, encloser: &E, discount: &Discount)
         requires { is_settled self.old ≡ false }
+        // promise 2: the same at a discount that is computed once
         ensures { HalvesBy (place_verdict (E.ends encloser.now)) self.old self.new }
     {
         searches_are_in_order(self);
