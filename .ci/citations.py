@@ -18,6 +18,7 @@ import collections
 import glob
 import os
 import re
+from typing import NamedTuple
 
 SPAN = r"`([^`\n]+)`"
 SPANS = SPAN + r"(?:(?:, | and |, and )" + SPAN + r")*"
@@ -41,12 +42,24 @@ class Function:
         self.body = []
 
 
-def functions_of(path, crate):
-    """The functions of a source. A law, which has no body, has the fields of its fact for clauses."""
+class Note(NamedTuple):
+    """A comment `// promise ..` with the function and the name of the clause that it stands directly above: none if it
+    stands above no clause, and an empty one if the clause has no name."""
+
+    path: str
+    crate: str
+    function: str
+    clause: str | None
+    words: str
+
+
+def functions_of(path, crate, notes):
+    """The functions of a source. A law, which has no body, has the fields of its fact for clauses. The comments on
+    promises are added to the notes."""
     module = os.path.splitext(os.path.basename(path))[0]
-    owner, function = "", None
+    owner, function, words = "", None, None
     with open(path, encoding="utf-8") as file:
-        for line in file:
+        for line in [*file, ""]:
             head = re.match(r"(?:pub(?:\(\w+\))? )?(?:unsafe )?(?:impl\b(?:<.*?>)? (?:.* for )?(\w+)|trait (\w+))", line)
             if head:
                 owner = head[1] or head[2]
@@ -57,10 +70,16 @@ def functions_of(path, crate):
             if found:
                 function = Function(crate, module, owner if line.startswith(" ") else "", found[1])
                 yield function
+            clause = re.match(r"\s*(ensures|requires) (?:(\w+) )?\{", line)
+            if words is not None:
+                named = "::".join(filter(None, (function.owner, function.name))) if function else ""
+                is_above = clause and clause[1] == "ensures"
+                notes.append(Note(path, crate, named, (clause[2] or "") if is_above else None, words))
+            promise = re.match(r"\s*// promises?\b(?: |$)(.*)", line)
+            words = promise and promise[1]
             if function:
-                clause = re.match(r"\s*(?:ensures|requires) (?:(\w+) )?\{", line)
-                if clause and clause[1]:
-                    function.clauses.add(clause[1])
+                if clause and clause[2]:
+                    function.clauses.add(clause[2])
                 fact = re.match(r"\s*ensures \{ (\w+) \}", line)
                 if fact:
                     function.facts.add(fact[1])
@@ -91,6 +110,7 @@ class Sources:
     def __init__(self, root):
         self.root = root
         self.functions = collections.defaultdict(list)
+        self.notes = []
         self.fields = collections.defaultdict(set)
         self.of_crate = collections.defaultdict(set)
         self.names = set(FOREIGN)
@@ -114,7 +134,7 @@ class Sources:
             self.files.add(os.path.basename(path))
             if path.endswith(".rt"):
                 names.add(os.path.splitext(os.path.basename(path))[0])
-                for function in list(functions_of(path, crate)):
+                for function in list(functions_of(path, crate, self.notes)):
                     self.functions[function.name].append(function)
                     names |= {function.name} | function.clauses
                 with open(path, encoding="utf-8") as file:
@@ -273,12 +293,11 @@ def fault_of_walk(sources, number, names):
     return None
 
 
-def check(root, documents):
+def check(sources, documents):
     """How many citations of the documents hold, and a line for each that does not."""
-    sources = Sources(root)
     passed, faults = 0, []
     for document in documents:
-        with open(os.path.join(root, document), encoding="utf-8") as file:
+        with open(os.path.join(sources.root, document), encoding="utf-8") as file:
             for place, line in enumerate(file, 1):
                 count, of_line = faults_of_line(sources, line)
                 passed += count - len(of_line)
