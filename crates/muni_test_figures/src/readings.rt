@@ -1,8 +1,10 @@
-use crate::trade::{NOTHING, Trade};
+mod trade;
+
 use muni_days::Day;
 use muni_dec::{Cents, Price3, Yield3};
 use muni_readings::{Checked, Field, Reading, Stated};
 use std::thread::Threads;
+use trade::{NOTHING, Trade};
 
 const CALLED: &str =
     "periodic dated=2022-01-01 first=2022-07-01 maturity=2044-01-01 coupon=4 call=2034-01-01:100 settle=2024-01-01 par=250000 yield=3";
