@@ -116,7 +116,7 @@ def test_a_line_that_is_none_of_the_desk_is_told(text: str) -> None:
         answered(text, lambda desk: desk.check({}))
 
 
-def test_the_formulas_are_those_of_the_page_of_formats() -> None:
-    formats = (ROOT / "docs/FORMATS.md").read_text()
-    table = formats[formats.index("| READING | the formula"):].split("\n\n")[0]
+def test_the_formulas_are_those_of_the_page_of_rules() -> None:
+    rules = (ROOT / "docs/RULES.md").read_text()
+    table = rules[rules.index("| name | their formula |"):].split("\n\n")[0]
     assert [each.value for each in Reading] == re.findall(r"^\| `([A-Z ]+)` \|", table, re.M)

@@ -86,8 +86,8 @@ def test_a_formula_of_theirs_is_told_in_words(page, name):
 
 
 def test_there_are_words_for_each_reading_and_no_other(page):
-    formats = (ROOT / "docs/FORMATS.md").read_text()
-    table = formats[formats.index("| READING | the formula"):].split("\n\n")[0]
+    rules = (ROOT / "docs/RULES.md").read_text()
+    table = rules[rules.index("| name | their formula |"):].split("\n\n")[0]
     names = page.browser.js_later("return Object.keys((await import('/page/verdicts.js')).READINGS)")
     assert names == re.findall(r"^\| `([A-Z ]+)` \|", table, re.M)
 

@@ -40,7 +40,7 @@ class Verdict(enum.Enum):
 
 
 class Reading(enum.Enum):
-    """A formula by which figures come out that are not those of the rule. docs/FORMATS.md says what each does."""
+    """A formula by which figures come out that are not those of the rule. docs/RULES.md says what each does."""
 
     MATURITY = "MATURITY"
     FIRST_CALL = "FIRST CALL"
