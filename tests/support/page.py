@@ -29,6 +29,11 @@ WORDS = """
 const told = await import("/page/tell.js");
 return { refusals: told.REFUSALS, statuses: told.STATUSES, faults: told.FAULTS };
 """
+# Whether the page is opened, or "other" if what is loaded is another page.
+OPENED = """
+const user = document.getElementById("house-user");
+return user ? user.textContent !== "" : document.readyState === "complete" && "other";
+"""
 # What comes before this is over: nothing is under way, and the page has asked the site once more.
 SETTLED = "while (document.querySelector('[aria-busy]')) await new Promise(requestAnimationFrame); await fetch('/me');"
 
@@ -46,11 +51,16 @@ class Page:
         """Opens the page anew as a user who has logged in, at the usual size and in light colours."""
         self.browser.size(1280, 900)
         self.browser.scheme("light")
-        if self.user != user:
-            self.user = user
-            self.browser.go(f"https://{user}:{self.site.passwords[user]}@{NAME}:{self.site.port}/")
-        self.browser.go(f"https://{NAME}:{self.site.port}/")
-        self.until("return document.getElementById('house-user').textContent !== ''")
+        for _ in range(3):
+            if self.user != user:
+                self.user = user
+                self.browser.go(f"https://{user}:{self.site.passwords[user]}@{NAME}:{self.site.port}/")
+            self.browser.go(f"https://{NAME}:{self.site.port}/")
+            if self.until(OPENED) is True:
+                break
+            # A busy machine may be too late for nginx or for the browser, which then has another page or none.
+            self.user = ""
+            self.browser.log()
         self.settle()
 
     def settle(self) -> None:
